@@ -16,7 +16,7 @@ use Rattle.dnp_outstation.specs.State.{State, Step}
 use Rattle.dnp_world.specs.declared.link_event.LinkEvent.{LinkEvent}
 use Rattle.dnp_world.specs.declared.link_event.LinkEvent.TheVariants as event
 use Rattle.dnp_world.specs.declared.link_event.Way.TheVariants as way
-use Rattle.dnp_world.specs.Behind.{rows_of}
+use Rattle.dnp_world.specs.Behind.{Elsewhere, rows_of}
 use Rattle.dnp_world.specs.Channels.{ChannelState}
 use Rattle.dnp_world.specs.Joined.{rows_made_by}
 use Rattle.dnp_world.specs.Link.{Link}
@@ -39,10 +39,10 @@ heard_lines left port s = record s.above { down = left s.above.down; outstation_
 abbrev IsComing : (LineState → LineState) → LinkEvent → Type 0
 IsComing left e = (s s' : LinkState ⊤) (panel : Panel) → ComesDown panel (left s.channel.down) s s' → HappensOn no_sink panel s e s'
 
-answered : Grounds → ComingLaws → (left : LineState → LineState) (e : LinkEvent) → IsComing left e → (old new : System) (h : IsStanding old)
+answered : Grounds → ComingLaws → (left : LineState → LineState) (e : LinkEvent) → IsComing left e → (old new : System) {el : Elsewhere} (h : IsStanding el old)
     → (station : ℕ) (port : PortState) (given : List (List ℕ)) → HearsIfAny (front_of old.above.down) old.above.outstation_port port [] given
     → rows_made_by old.concentrator.core.points (e ∷ []) ≡ []
-    → MiddleAnswers given (record old { above = heard_lines left port old }) new → Keeps station [] old new
+    → MiddleAnswers given (record old { above = heard_lines left port old }) new → Keeps el station [] old new
 answered grounds laws left e as_event old new h station port [] heard made came =
     let lists : RowLists = lists_of h.links.above in
     quiet_above grounds old new h station (middle_of old.concentrator) old.centre.link (heard_lines left port old) e refl made
@@ -89,17 +89,17 @@ answered grounds laws left e as_event old new h station port (fragment ∷ other
     (as_event (seen_above old (lists_of l)) s' panel (record { port = port; given = fragment ∷ others; heard = heard; came = steps }))
     came.after
 
-comes : Grounds → ComingLaws → (left : LineState → LineState) (e : LinkEvent) → IsComing left e → (old new : System) (station : ℕ) → IsStanding old
-    → rows_made_by old.concentrator.core.points (e ∷ []) ≡ [] → ComesDownAbove left old new → Keeps station [] old new
+comes : Grounds → ComingLaws → (left : LineState → LineState) (e : LinkEvent) → IsComing left e → (old new : System) {el : Elsewhere} (station : ℕ)
+    → IsStanding el old → rows_made_by old.concentrator.core.points (e ∷ []) ≡ [] → ComesDownAbove left old new → Keeps el station [] old new
 comes grounds laws left e as_event old new station h made c =
     answered grounds laws left e as_event old new h station c.port c.given c.heard made c.came
 
-pub delivers_to_concentrator : Grounds → ComingLaws → (old new : System) (station : ℕ) → IsStanding old → ComesDownAbove delivered_on old new
-    → Keeps station [] old new
+pub delivers_to_concentrator : Grounds → ComingLaws → (old new : System) {el : Elsewhere} (station : ℕ) → IsStanding el old
+    → ComesDownAbove delivered_on old new → Keeps el station [] old new
 delivers_to_concentrator grounds laws old new station h c =
     comes grounds laws delivered_on (event.Deliver way.Down) (λ s s' panel come. come) old new station h refl c
 
-pub repeats_to_concentrator : Grounds → ComingLaws → (old new : System) (station : ℕ) → IsStanding old → ComesDownAbove repeated_on old new
-    → Keeps station [] old new
+pub repeats_to_concentrator : Grounds → ComingLaws → (old new : System) {el : Elsewhere} (station : ℕ) → IsStanding el old → ComesDownAbove repeated_on old new
+    → Keeps el station [] old new
 repeats_to_concentrator grounds laws old new station h c =
     comes grounds laws repeated_on (event.Repeat way.Down) (λ s s' panel come. come) old new station h refl c

@@ -13,6 +13,8 @@ use Rattle.dnp_outstation.specs.Calls.{opened_of, tick_of}
 use Rattle.dnp_outstation.specs.Connection.{closed}
 use Rattle.dnp_outstation.specs.Links.{ReleasesNone}
 use Rattle.dnp_outstation.specs.State.{State, Step}
+use Rattle.dnp_world.specs.Behind.{Elsewhere}
+use Rattle.dnp_world.specs.declared.event.Link.{Link}
 use Rattle.dnp_world.specs.declared.event.Link.TheVariants as link
 use Rattle.dnp_world.specs.declared.link_event.End.TheVariants as end
 use Rattle.dnp_world.specs.declared.link_event.LinkEvent.{LinkEvent}
@@ -30,6 +32,10 @@ use Rattle.dnp_world.proofs.BelowEvents.{none_behind}
 use Rattle.dnp_world.proofs.BelowKeeps.{Grounds, none_used}
 use Rattle.dnp_world.proofs.Issuing.{same_keeps}
 
+-- the link between concentrator and centre
+abbrev pub on : Link
+on = link.Above
+
 -- ---- events at which no row is released or taken
 
 -- nothing of the concentrator's queue and of the journal changes
@@ -37,12 +43,12 @@ abbrev pub with_ends : System → State → Relaying → ChannelState → Above
 with_ends s outstation r lines =
     record { core = outstation.core; queue = outstation.lanes; commands = []; link = r; journal = s.centre.journal; lines = lines }
 
-pub quiet_above : Grounds → (old new : System) (h : IsStanding old) (station : ℕ) (outstation : State) (r : Relaying) (lines : ChannelState) (e : LinkEvent)
-    → outstation.lanes ≡ old.concentrator.queue
+pub quiet_above : Grounds → (old new : System) {el : Elsewhere} (h : IsStanding el old) (station : ℕ) (outstation : State) (r : Relaying)
+    (lines : ChannelState) (e : LinkEvent) → outstation.lanes ≡ old.concentrator.queue
     → rows_made_by old.concentrator.core.points (e ∷ []) ≡ []
     → HappensOn no_sink (middle_panel old.concentrator) (seen_above old (lists_of h.links.above)) e
     (seen_above (changed_above (with_ends old outstation r lines) old) (lists_of h.links.above))
-    → new ≡ changed_above (with_ends old outstation r lines) old → Keeps station [] old new
+    → new ≡ changed_above (with_ends old outstation r lines) old → Keeps el station [] old new
 quiet_above grounds old new h station outstation r lines e queue none happens after =
     let a : Above = with_ends old outstation r lines in
     above_keeps grounds old new h station a [] [] (lists_of h.links.above) e
@@ -50,33 +56,36 @@ quiet_above grounds old new h station outstation r lines e queue none happens af
     (none_listed h.links.above) none happens after
 
 -- the lines alone change
-pub loses_above : Grounds → (old new : System) (station : ℕ) (w : Way) → IsStanding old → LosesOn link.Above w old new → Keeps station [] old new
+pub loses_above : Grounds → (old new : System) {el : Elsewhere} (station : ℕ) (w : Way) → IsStanding el old → LosesOn on w old new
+    → Keeps el station [] old new
 loses_above grounds old new station w h e =
     quiet_above grounds old new h station (middle_of old.concentrator) old.centre.link (lost_at w old.above) (event.Lose w) refl refl refl
     (e.1 ∙ ap (λ (c : ChannelState). record old { above = c }) e.0)
 
-pub damages_above : Grounds → (old new : System) (station : ℕ) (w : Way) (octets : List ℕ) → IsStanding old
-    → LinesChange link.Above (DamagesAt w octets) old new → Keeps station [] old new
+pub damages_above : Grounds → (old new : System) {el : Elsewhere} (station : ℕ) (w : Way) (octets : List ℕ) → IsStanding el old
+    → LinesChange on (DamagesAt w octets) old new → Keeps el station [] old new
 damages_above grounds old new station w octets h e =
     quiet_above grounds old new h station (middle_of old.concentrator) old.centre.link new.above (event.Damage w (record { items = octets })) refl refl
     (record { damages = e.0; after = refl }) e.1
 
 -- ---- an end hangs up
 
-pub centre_hangs_up : Grounds → (old new : System) (station : ℕ) → IsStanding old → HangsUpOn link.Above end.Master old new → Keeps station [] old new
+pub centre_hangs_up : Grounds → (old new : System) {el : Elsewhere} (station : ℕ) → IsStanding el old → HangsUpOn on end.Master old new
+    → Keeps el station [] old new
 centre_hangs_up grounds old new station h e =
     quiet_above grounds old new h station (middle_of old.concentrator) (relaying.hung_up old.centre.link) (hung_up_at end.Master old.above)
     (event.HangUp end.Master) refl refl refl e
 
-pub concentrator_hangs_up : Grounds → (old new : System) (station : ℕ) → IsStanding old → HangsUpOn link.Above end.Outstation old new
-    → Keeps station [] old new
+pub concentrator_hangs_up : Grounds → (old new : System) {el : Elsewhere} (station : ℕ) → IsStanding el old → HangsUpOn on end.Outstation old new
+    → Keeps el station [] old new
 concentrator_hangs_up grounds old new station h e =
     quiet_above grounds old new h station (record (middle_of old.concentrator) { core = closed old.concentrator.core }) old.centre.link
     (hung_up_at end.Outstation old.above) (event.HangUp end.Outstation) refl refl refl e
 
 -- ---- timers
 
-pub centre_ticks : Grounds → (old new : System) (station : ℕ) → IsStanding old → MasterTicks link.Above old new → Keeps station [] old new
+pub centre_ticks : Grounds → (old new : System) {el : Elsewhere} (station : ℕ) → IsStanding el old → MasterTicks on old new
+    → Keeps el station [] old new
 centre_ticks grounds old new station h e =
     quiet_above grounds old new h station (middle_of old.concentrator) (relaying.ticked old.centre.link old.now) old.above
     (event.Tick end.Master) refl refl refl e
@@ -91,13 +100,13 @@ pub record AboveLaws : Type 0 where
   pub tick_performs : (s : State) (now : ℕ) → (tick_of s now).state.performed ≡ s.performed
 
 -- a step that releases and performs nothing, over these lines and with this link
-step_above : Grounds → (old new : System) (h : IsStanding old) (station : ℕ) (step : Step) (r : Relaying) (lines : ChannelState) (e : LinkEvent)
-    → ReleasesNone (middle_of old.concentrator) step
+step_above : Grounds → (old new : System) {el : Elsewhere} (h : IsStanding el old) (station : ℕ) (step : Step) (r : Relaying) (lines : ChannelState)
+    (e : LinkEvent) → ReleasesNone (middle_of old.concentrator) step
     → step.state.performed ≡ (middle_of old.concentrator).performed
     → rows_made_by old.concentrator.core.points (e ∷ []) ≡ []
     → ((s' : LinkState ⊤) → Steps step (seen (middle_of old.concentrator) r.master lines old.now (lists_of h.links.above)) s'
     → HappensOn no_sink (middle_panel old.concentrator) (seen_above old (lists_of h.links.above)) e s')
-    → MiddleSteps step [] lines (record old { centre = record old.centre { link = r } }) new → Keeps station [] old new
+    → MiddleSteps step [] lines (record old { centre = record old.centre { link = r } }) new → Keeps el station [] old new
 step_above grounds old new h station step r lines e none same made as_event m =
     let a : Above = with_ends old step.state r new.above in
     let lists : RowLists = lists_of h.links.above in
@@ -111,14 +120,15 @@ step_above grounds old new h station step r lines e none same made as_event m =
     quiet_above grounds old new h station step.state r new.above e none.lanes made
     (as_event (seen_above (changed_above a old) lists) (record { goes = m.sent; after = there })) m.after
 
-pub opens_above : Grounds → AboveLaws → (old new : System) (station : ℕ) → IsStanding old → OpensOn link.Above old new → Keeps station [] old new
+pub opens_above : Grounds → AboveLaws → (old new : System) {el : Elsewhere} (station : ℕ) → IsStanding el old → OpensOn on old new
+    → Keeps el station [] old new
 opens_above grounds laws old new station h e =
     let s : State = middle_of old.concentrator in
     step_above grounds old new h station (opened_of s old.now) (relaying.opened old.centre.link) (cleared old.above) event.Open
     (laws.open_none s old.now) (laws.open_performs s old.now) refl (λ s' steps. steps) e
 
-pub concentrator_ticks : Grounds → AboveLaws → (old new : System) (station : ℕ) → IsStanding old → OutstationTicks link.Above old new
-    → Keeps station [] old new
+pub concentrator_ticks : Grounds → AboveLaws → (old new : System) {el : Elsewhere} (station : ℕ) → IsStanding el old → OutstationTicks on old new
+    → Keeps el station [] old new
 concentrator_ticks grounds laws old new station h e =
     let s : State = middle_of old.concentrator in
     step_above grounds old new h station (tick_of s old.now) old.centre.link old.above (event.Tick end.Outstation)
@@ -136,8 +146,8 @@ asked_so old task lines lists (Err fault) answer down =
     ap (λ (c : ChannelState). seen (middle_of old.concentrator) (relaying.asking r old.now task).master c old.now lists) (none_goes old.above lines down)
     ∙ ap (λ (a : Result (List ℕ) AskFault). seen (middle_of old.concentrator) (asked_by r.master old.now task a) old.above old.now lists) answer
 
-asks_if : Grounds → (old new : System) (station : ℕ) (task : Task) (own : Bool) → is_own task ≡ own → IsStanding old
-    → AsksOn own link.Above task old new → Keeps station [] old new
+asks_if : Grounds → (old new : System) {el : Elsewhere} (station : ℕ) (task : Task) (own : Bool) → is_own task ≡ own → IsStanding el old
+    → AsksOn own on task old new → Keeps el station [] old new
 asks_if grounds old new station task true own h e =
     let r : Relaying = old.centre.link in
     let lists : RowLists = lists_of h.links.above in
@@ -148,6 +158,6 @@ asks_if grounds old new station task true own h e =
     e.1
 asks_if grounds old new station task false own h e = same_keeps station old new h e
 
-pub asks_above : Grounds → (old new : System) (station : ℕ) (task : Task) → IsStanding old → AsksOn (is_own task) link.Above task old new
-    → Keeps station [] old new
+pub asks_above : Grounds → (old new : System) {el : Elsewhere} (station : ℕ) (task : Task) → IsStanding el old → AsksOn (is_own task) on task old new
+    → Keeps el station [] old new
 asks_above grounds old new station task h e = asks_if grounds old new station task (is_own task) refl h e

@@ -15,7 +15,7 @@ use Rattle.dnp_objects.specs.declared.command.Command.{Command}
 use Rattle.dnp_objects.specs.declared.row.Row.{Row}
 use Rattle.dnp_outstation.specs.State.{Core}
 use Rattle.dnp_world.specs.declared.link_event.LinkEvent.{LinkEvent}
-use Rattle.dnp_world.specs.Behind.{does_nothing, rows_of, with_links, Grows, Turn}
+use Rattle.dnp_world.specs.Behind.{Elsewhere, does_nothing, rows_of, with_links, Grows, Turn}
 use Rattle.dnp_world.specs.Channels.{ChannelState}
 use Rattle.dnp_world.specs.Joined.{Follows, rows_made_by}
 use Rattle.dnp_world.specs.Kept.{commands_below, commands_in, kept_in, orders_in, used_commands, used_orders}
@@ -77,8 +77,8 @@ pub record ListsMore (l : Link) (taken released : List Row) (lists : RowLists) :
 pub none_listed : (l : Link) → ListsMore l [] [] (lists_of l)
 none_listed l = record { taken_is = sym (append-nil (rows_of l.took)); released_is = sym (append-nil (rows_of l.released)); left_is = refl }
 
-turn_above : (old : System) (h : IsStanding old) (station : ℕ) (a : Above) (orders : Ledger) (taken released : List Row) (asked : List Command)
-    (link : Link) → StoresShow old a orders taken asked
+turn_above : (old : System) {el : Elsewhere} (h : IsStanding el old) (station : ℕ) (a : Above) (orders : Ledger) (taken released : List Row)
+    (asked : List Command) (link : Link) → StoresShow old a orders taken asked
     → Grows h.links.above link (record does_nothing { discarded = released; taken = taken; asked = asked; performed = a.commands })
     → HasSameCounts (rows_of link.lanes) (kept_in (with_orders orders (changed_above a old))).queue
     → Turn old.indices station h.links (kept_in old) (kept_in (with_orders orders (changed_above a old)))
@@ -118,10 +118,10 @@ turn_above old h station a orders taken released asked link shows grows lanes =
     }
 
 -- The link by itself moves so.
-pub above_follows : TurnLaws → (old : System) (h : IsStanding old) (station : ℕ) (a : Above) (orders : Ledger) (taken released : List Row)
+pub above_follows : TurnLaws → (old : System) {el : Elsewhere} (h : IsStanding el old) (station : ℕ) (a : Above) (orders : Ledger) (taken released : List Row)
     (asked : List Command) (lists : RowLists) → StoresShow old a orders taken asked → ListsMore h.links.above taken released lists
     → Follows [] [] asked (middle_panel old.concentrator).performed h.links.above (seen_above (changed_above a old) lists)
-    → Keeps station [] old (with_orders orders (changed_above a old))
+    → Keeps el station [] old (with_orders orders (changed_above a old))
 unfolding turn_above
 above_follows laws old h station a orders taken released asked lists shows listed f =
     let l : Link = h.links.above in
@@ -149,16 +149,16 @@ above_follows laws old h station a orders taken released asked lists shows liste
     }
 
 -- The event is one of the link by itself, at which no point changes, and which asks for no command.
-pub above_keeps : Grounds → (old new : System) (h : IsStanding old) (station : ℕ) (a : Above) (taken released : List Row) (lists : RowLists)
+pub above_keeps : Grounds → (old new : System) {el : Elsewhere} (h : IsStanding el old) (station : ℕ) (a : Above) (taken released : List Row) (lists : RowLists)
     (e : LinkEvent) → StoresShow old a old.centre.orders taken [] → ListsMore h.links.above taken released lists
     → rows_made_by old.concentrator.core.points (e ∷ []) ≡ []
     → HappensOn no_sink (middle_panel old.concentrator) (seen_above old (lists_of h.links.above)) e
-    (seen_above (changed_above a old) lists) → new ≡ changed_above a old → Keeps station [] old new
-above_keeps grounds old new h station a taken released lists e shows listed none happens after =
+    (seen_above (changed_above a old) lists) → new ≡ changed_above a old → Keeps el station [] old new
+above_keeps grounds old new {el = el} h station a taken released lists e shows listed none happens after =
     let s : LinkState ⊤ = seen_above old (lists_of h.links.above) in
     let s' : LinkState ⊤ = seen_above (changed_above a old) lists in
     let panel : Panel = middle_panel old.concentrator in
-    subst (λ (x : System). Keeps station [] old x) (sym after)
+    subst (λ (x : System). Keeps el station [] old x) (sym after)
     (above_follows grounds.turns old h station a old.centre.orders taken released [] lists shows listed
     (subst (λ (rows : List Row). Follows [] rows [] panel.performed h.links.above s') none
     (grounds.happens panel s s' e h.links.above (shown_above old) h.behind.above_stands h.above happens)))

@@ -12,11 +12,10 @@ use Rattle.dnp_line.specs.Ways.{HearsIfAny}
 use Rattle.dnp_master.specs.Calls.{Taking, receive_of}
 use Rattle.dnp_master.specs.declared.fault.MasterFault.{MasterFault}
 use Rattle.dnp_objects.specs.declared.row.Row.{Row}
-use Rattle.dnp_world.specs.declared.event.Link.TheVariants as link
 use Rattle.dnp_world.specs.declared.link_event.LinkEvent.{LinkEvent}
 use Rattle.dnp_world.specs.declared.link_event.LinkEvent.TheVariants as event
 use Rattle.dnp_world.specs.declared.link_event.Way.TheVariants as way
-use Rattle.dnp_world.specs.Behind.{rows_of}
+use Rattle.dnp_world.specs.Behind.{Elsewhere, rows_of}
 use Rattle.dnp_world.specs.Channels.{ChannelState}
 use Rattle.dnp_world.specs.Joined.{rows_made_by}
 use Rattle.dnp_world.specs.Link.{Link}
@@ -25,7 +24,7 @@ use Rattle.dnp_world.specs.OneLinkEvents.{HappensOn, LinkState, Receives, Takes}
 use Rattle.dnp_world.specs.SystemEvents.{ComesUp, MasterReceives, MasterTakes}
 use Rattle.dnp_world.specs.SystemStanding.{RowLists, lists_of, no_sink, seen, seen_above, IsStanding, Keeps}
 use Rattle.dnp_world.specs.Systems.{System, middle_of, middle_panel}
-use Rattle.dnp_world.proofs.AboveEvents.{quiet_above}
+use Rattle.dnp_world.proofs.AboveEvents.{on, quiet_above}
 use Rattle.dnp_world.proofs.AboveKeeps.{Above, above_keeps, changed_above}
 use Rattle.dnp_world.proofs.BelowEvents.{none_behind}
 use Rattle.dnp_world.proofs.BelowKeeps.{Grounds, none_used}
@@ -44,11 +43,11 @@ abbrev IsComing : (LineState → LineState) → LinkEvent → Type 0
 IsComing left e = (s s' : LinkState ⊤) (panel : Panel) → one.ComesUp no_sink (left s.channel.up) s s' → HappensOn no_sink panel s e s'
 
 -- nothing is taken
-untaken : Grounds → (left : LineState → LineState) (e : LinkEvent) → IsComing left e → (old new : System) (h : IsStanding old) (station : ℕ)
+untaken : Grounds → (left : LineState → LineState) (e : LinkEvent) → IsComing left e → (old new : System) {el : Elsewhere} (h : IsStanding el old) (station : ℕ)
     → (port : PortState) (given : List (List ℕ)) → HearsIfAny (front_of old.above.up) old.above.master_port port [] given
     → rows_made_by old.concentrator.core.points (e ∷ []) ≡ []
     → (let base : LinkState ⊤ = seen_above (record old { above = heard_lines left port old }) (lists_of h.links.above) in one.ComeUp no_sink given base base)
-    → new ≡ record old { above = heard_lines left port old } → Keeps station [] old new
+    → new ≡ record old { above = heard_lines left port old } → Keeps el station [] old new
 untaken grounds left e as_event old new h station port given heard made came after =
     let lists : RowLists = lists_of h.links.above in
     quiet_above grounds old new h station (middle_of old.concentrator) old.centre.link (heard_lines left port old) e refl made
@@ -57,12 +56,12 @@ untaken grounds left e as_event old new h station port given heard made came aft
     after
 
 -- the centre takes the fragment, or refuses it
-received : Grounds → (left : LineState → LineState) (e : LinkEvent) → IsComing left e → (old new : System) (h : IsStanding old) (station : ℕ)
-    → (port : PortState) (fragment : List ℕ) (others : List (List ℕ))
+received : Grounds → (left : LineState → LineState) (e : LinkEvent) → IsComing left e
+    → (old new : System) {el : Elsewhere} (h : IsStanding el old) (station : ℕ) → (port : PortState) (fragment : List ℕ) (others : List (List ℕ))
     → HearsIfAny (front_of old.above.up) old.above.master_port port [] (fragment ∷ others)
     → rows_made_by old.concentrator.core.points (e ∷ []) ≡ []
     → (r : Result Taking MasterFault) → receive_of old.centre.link.master old.now fragment ≡ r
-    → MasterReceives link.Above r (record old { above = heard_lines left port old }) new → Keeps station [] old new
+    → MasterReceives on r (record old { above = heard_lines left port old }) new → Keeps el station [] old new
 received grounds left e as_event old new h station port fragment others heard made (Ok t) is (room, (down, after)) =
     let l : Link = h.links.above in
     let lines : ChannelState = heard_lines left port old in
@@ -106,30 +105,31 @@ received grounds left e as_event old new h station port fragment others heard ma
     untaken grounds left e as_event old new h station port (fragment ∷ others) heard made
     (subst (λ (x : Result Taking MasterFault). Receives no_sink x base base) (sym is) refl) after
 
-taken_in : Grounds → (left : LineState → LineState) (e : LinkEvent) → IsComing left e → (old new : System) (h : IsStanding old) (station : ℕ)
+taken_in : Grounds → (left : LineState → LineState) (e : LinkEvent) → IsComing left e
+    → (old new : System) {el : Elsewhere} (h : IsStanding el old) (station : ℕ)
     → (port : PortState) (given : List (List ℕ)) → HearsIfAny (front_of old.above.up) old.above.master_port port [] given
     → rows_made_by old.concentrator.core.points (e ∷ []) ≡ []
-    → MasterTakes link.Above given (record old { above = heard_lines left port old }) new → Keeps station [] old new
+    → MasterTakes on given (record old { above = heard_lines left port old }) new → Keeps el station [] old new
 taken_in grounds left e as_event old new h station port [] heard made came =
     untaken grounds left e as_event old new h station port [] heard made refl came
 taken_in grounds left e as_event old new h station port (fragment ∷ others) heard made came =
     received grounds left e as_event old new h station port fragment others heard made (receive_of old.centre.link.master old.now fragment) refl came
 
-comes : Grounds → (left : LineState → LineState) (e : LinkEvent) → IsComing left e → (old new : System) (station : ℕ) → IsStanding old
-    → rows_made_by old.concentrator.core.points (e ∷ []) ≡ [] → ComesUp left link.Above old new → Keeps station [] old new
+comes : Grounds → (left : LineState → LineState) (e : LinkEvent) → IsComing left e → (old new : System) {el : Elsewhere} (station : ℕ) → IsStanding el old
+    → rows_made_by old.concentrator.core.points (e ∷ []) ≡ [] → ComesUp left on old new → Keeps el station [] old new
 comes grounds left e as_event old new station h made c =
     let port : PortState = c.between.above.master_port in
     let is : c.between ≡ record old { above = heard_lines left port old } =
     c.heard.1 ∙ ap (λ (lines : ChannelState). record old { above = lines }) c.heard.0.after in
     taken_in grounds left e as_event old new h station port c.given c.heard.0.heard made
-    (subst (λ (s : System). MasterTakes link.Above c.given s new) is c.came)
+    (subst (λ (s : System). MasterTakes on c.given s new) is c.came)
 
-pub delivers_to_centre : Grounds → (old new : System) (station : ℕ) → IsStanding old → ComesUp delivered_on link.Above old new
-    → Keeps station [] old new
+pub delivers_to_centre : Grounds → (old new : System) {el : Elsewhere} (station : ℕ) → IsStanding el old → ComesUp delivered_on on old new
+    → Keeps el station [] old new
 delivers_to_centre grounds old new station h c =
     comes grounds delivered_on (event.Deliver way.Up) (λ s s' panel come. come) old new station h refl c
 
-pub repeats_to_centre : Grounds → (old new : System) (station : ℕ) → IsStanding old → ComesUp repeated_on link.Above old new
-    → Keeps station [] old new
+pub repeats_to_centre : Grounds → (old new : System) {el : Elsewhere} (station : ℕ) → IsStanding el old → ComesUp repeated_on on old new
+    → Keeps el station [] old new
 repeats_to_centre grounds old new station h c =
     comes grounds repeated_on (event.Repeat way.Up) (λ s s' panel come. come) old new station h refl c

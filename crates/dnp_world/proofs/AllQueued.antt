@@ -13,6 +13,7 @@ use Rattle.dnp_concentrator.specs.declared.span.Spans.{Spans}
 use Rattle.dnp_master.specs.Rows.{is_reported}
 use Rattle.dnp_objects.specs.declared.row.Row.{Row}
 use Rattle.dnp_pointdb.specs.Plan as points
+use Rattle.dnp_world.specs.Behind.{Elsewhere}
 use Rattle.dnp_world.specs.Movement.{rows_queued}
 use Rattle.dnp_world.specs.SystemStanding.{IsOfPlan, IsStanding}
 use Rattle.dnp_world.specs.Systems.{System, link_at}
@@ -24,7 +25,7 @@ QueuedLaw = (plan : Plan) (station : ℕ) (substation : SubPlan) (events : List 
     → slice_get plan.substations station ≡ Some substation → All (λ event. is_reported (points_below substation) event ≡ true) events
     → length (queued_rows (map_of plan) (points_above plan) station events) ≡ length events
 
-pub all_are_queued : QueuedLaw → (s : System) (station : ℕ) → IsStanding s → station < length s.concentrator.links → (rows : List Row)
+pub all_are_queued : QueuedLaw → (s : System) {el : Elsewhere} (station : ℕ) → IsStanding el s → station < length s.concentrator.links → (rows : List Row)
     → All (λ row. is_reported (link_at s.concentrator station).master.plan row ≡ true) rows
     → length (rows_queued s.concentrator station rows) ≡ length rows
 all_are_queued law s station standing low rows asked =

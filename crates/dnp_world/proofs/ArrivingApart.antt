@@ -11,6 +11,7 @@ use Rattle.dnp_master.specs.State.{is_idle}
 use Rattle.dnp_master.specs.declared.fault.MasterFault.{MasterFault}
 use Rattle.dnp_outstation.specs.State.{is_quiet}
 use Rattle.dnp_world.specs.Arriving.{Arrive, HearsAt, IsClearOn, StandOn, TakesOn, channel_at, channel_on}
+use Rattle.dnp_world.specs.Behind.{Elsewhere}
 use Rattle.dnp_world.specs.Channels.{ChannelState, GoDown, are_quiet, is_quiet_line}
 use Rattle.dnp_world.specs.Joined.{Carries}
 use Rattle.dnp_world.specs.Rounds.{is_quiet_at, is_quiet_on}
@@ -61,7 +62,7 @@ nothing_stands line sender receiver is_open rest quiet c =
       history = record { heard = port.heard; answers = port.answers; pushed = port.pushed; stands = port.stands };
     }
 
-quiet_below : (s : System) (station : ℕ) (o : Option SubstationState) → IsStanding s → slice_get s.substations station ≡ o
+quiet_below : (s : System) {el : Elsewhere} (station : ℕ) (o : Option SubstationState) → IsStanding el s → slice_get s.substations station ≡ o
     → has_station s station ≡ true → is_quiet_at o ≡ true → IsClearOn (Below station) s
 quiet_below s station None h there has e = absurd (cc)
 quiet_below s station (Some was) h there has e =
@@ -78,7 +79,7 @@ quiet_below s station (Some was) h there has e =
       up_is = nothing_stands lines.up lines.outstation_port lines.master_port was.core.is_open _ parts.1 joined.up;
     }
 
-pub quiet_is_clear : (on : Link) (s : System) → IsStanding s → is_quiet_on s on ≡ true → IsClearOn on s
+pub quiet_is_clear : (on : Link) (s : System) {el : Elsewhere} → IsStanding el s → is_quiet_on s on ≡ true → IsClearOn on s
 quiet_is_clear (Below station) s h e =
     let idle : Bool = is_idle (link_at s.concentrator station).master in
     let quiet : Bool = is_quiet_at (slice_get s.substations station) in

@@ -23,7 +23,7 @@ use Rattle.dnp_world.specs.declared.event.Link.TheVariants.{Below}
 use Rattle.dnp_world.specs.declared.link_event.LinkEvent.{LinkEvent}
 use Rattle.dnp_world.specs.declared.link_event.LinkEvent.TheVariants as event
 use Rattle.dnp_world.specs.declared.link_event.Way.TheVariants as way
-use Rattle.dnp_world.specs.Behind.{rows_of}
+use Rattle.dnp_world.specs.Behind.{Elsewhere, rows_of}
 use Rattle.dnp_world.specs.Channels.{ChannelState, GoDown}
 use Rattle.dnp_world.specs.Happened.{HappenedAsEvents}
 use Rattle.dnp_world.specs.Joined.{rows_made_by}
@@ -68,22 +68,22 @@ record Comes (left : LineState → LineState) (e : LinkEvent) (old : System) (st
   made : rows_made_by was.core.points (e ∷ []) ≡ []
 
 -- nothing is taken
-untaken : Grounds → (left : LineState → LineState) (e : LinkEvent) (old new : System) (h : IsStanding old) (station : ℕ)
+untaken : Grounds → (left : LineState → LineState) (e : LinkEvent) (old new : System) {el : Elsewhere} (h : IsStanding el old) (station : ℕ)
     (c : Comes left e old station)
     → (let base : LinkState ⊤ = seen_at old station (heard_at left c.port c.was) (lists_of (h.links.below station)) in
     one.ComeUp no_sink c.given base base)
-    → new ≡ with_substation old station (heard_at left c.port c.was) → Keeps station [] old new
-untaken grounds left e old new h station c came after =
+    → new ≡ with_substation old station (heard_at left c.port c.was) → Keeps el station [] old new
+untaken grounds left e old new {el = el} h station c came after =
     let lists : RowLists = lists_of (h.links.below station) in
     let is : SubstationState = heard_at left c.port c.was in
-    subst (λ (rows : List Row). Keeps station rows old new) c.made
+    subst (λ (rows : List Row). Keeps el station rows old new) c.made
     (quiet grounds old new h station c.was is e c.there refl
     (c.is_event (seen_at old station c.was lists) (seen_at old station is lists) (panel_of c.was)
     (record { port = c.port; given = c.given; heard = c.heard; came = came })) after)
 
 -- the events that the concentrator takes are all queued
-taken_queued : ArrivalLaws → (old : System) (h : IsStanding old) (station : ℕ) → has_station old station ≡ true → (fragment : List ℕ) (t : Taking)
-    → receive_of (link_in old.concentrator.links station).master old.now fragment ≡ Ok t
+taken_queued : ArrivalLaws → (old : System) {el : Elsewhere} (h : IsStanding el old) (station : ℕ) → has_station old station ≡ true
+    → (fragment : List ℕ) (t : Taking) → receive_of (link_in old.concentrator.links station).master old.now fragment ≡ Ok t
     → length (queued_for old station t.events) ≡ length t.events
 taken_queued laws old h station has fragment t is =
     let r : Relaying = link_in old.concentrator.links station in
@@ -100,10 +100,10 @@ taken_queued laws old h station has fragment t is =
 
 -- the concentrator takes the fragment, or refuses it
 received : Grounds → ArrivalLaws
-    → (left : LineState → LineState) (e : LinkEvent) (old new : System) (h : IsStanding old) (station : ℕ) (c : Comes left e old station)
+    → (left : LineState → LineState) (e : LinkEvent) (old new : System) {el : Elsewhere} (h : IsStanding el old) (station : ℕ) (c : Comes left e old station)
     → HappenedAsEvents old → (fragment : List ℕ) (others : List (List ℕ)) → c.given ≡ fragment ∷ others → (r : Result Taking MasterFault)
     → receive_of (link_in old.concentrator.links station).master old.now fragment ≡ r
-    → MasterReceives (Below station) r (with_substation old station (heard_at left c.port c.was)) new → Keeps station [] old new
+    → MasterReceives (Below station) r (with_substation old station (heard_at left c.port c.was)) new → Keeps el station [] old new
 received grounds laws left e old new h station c events fragment others given (Ok t) is (room, change) =
     let l : Link = h.links.below station in
     let r : Relaying = link_in old.concentrator.links station in
@@ -150,9 +150,9 @@ received grounds laws left e old new h station c events fragment others given (E
     (subst (λ (x : Result Taking MasterFault). Receives no_sink x base base) (sym is) refl)) after
 
 taken_in : Grounds → ArrivalLaws
-    → (left : LineState → LineState) (e : LinkEvent) (old new : System) (h : IsStanding old) (station : ℕ) (c : Comes left e old station)
+    → (left : LineState → LineState) (e : LinkEvent) (old new : System) {el : Elsewhere} (h : IsStanding el old) (station : ℕ) (c : Comes left e old station)
     → HappenedAsEvents old → (given : List (List ℕ)) → c.given ≡ given
-    → MasterTakes (Below station) given (with_substation old station (heard_at left c.port c.was)) new → Keeps station [] old new
+    → MasterTakes (Below station) given (with_substation old station (heard_at left c.port c.was)) new → Keeps el station [] old new
 taken_in grounds laws left e old new h station c events [] given after =
     let base : LinkState ⊤ = seen_at old station (heard_at left c.port c.was) (lists_of (h.links.below station)) in
     untaken grounds left e old new h station c (subst (λ (xs : List (List ℕ)). one.ComeUp no_sink xs base base) (sym given) refl) after
@@ -160,9 +160,9 @@ taken_in grounds laws left e old new h station c events (fragment ∷ others) gi
     received grounds laws left e old new h station c events fragment others given
     (receive_of (link_in old.concentrator.links station).master old.now fragment) refl came
 
-comes : Grounds → ArrivalLaws → (left : LineState → LineState) (e : LinkEvent) → IsComing left e → (old new : System) (station : ℕ)
-    → has_station old station ≡ true → IsStanding old → HappenedAsEvents old
-    → ((was : SubstationState) → rows_made_by was.core.points (e ∷ []) ≡ []) → ComesUp left (Below station) old new → Keeps station [] old new
+comes : Grounds → ArrivalLaws → (left : LineState → LineState) (e : LinkEvent) → IsComing left e → (old new : System) {el : Elsewhere} (station : ℕ)
+    → has_station old station ≡ true → IsStanding el old → HappenedAsEvents old
+    → ((was : SubstationState) → rows_made_by was.core.points (e ∷ []) ≡ []) → ComesUp left (Below station) old new → Keeps el station [] old new
 comes grounds laws left e is_event old new station has h events made c =
     let was : SubstationState = c.heard.was in
     let port : PortState = c.heard.is.channel.master_port in
@@ -184,12 +184,12 @@ comes grounds laws left e is_event old new station has h events made c =
     events c.given refl
     (subst (λ (s : System). MasterTakes (Below station) c.given s new) is c.came)
 
-pub delivers_below : Grounds → ArrivalLaws → (old new : System) (station : ℕ) → has_station old station ≡ true → IsStanding old → HappenedAsEvents old
-    → ComesUp delivered_on (Below station) old new → Keeps station [] old new
+pub delivers_below : Grounds → ArrivalLaws → (old new : System) {el : Elsewhere} (station : ℕ) → has_station old station ≡ true → IsStanding el old
+    → HappenedAsEvents old → ComesUp delivered_on (Below station) old new → Keeps el station [] old new
 delivers_below grounds laws old new station has h events c =
     comes grounds laws delivered_on (event.Deliver way.Up) (λ s s' panel come. come) old new station has h events (λ was. refl) c
 
-pub repeats_below : Grounds → ArrivalLaws → (old new : System) (station : ℕ) → has_station old station ≡ true → IsStanding old → HappenedAsEvents old
-    → ComesUp repeated_on (Below station) old new → Keeps station [] old new
+pub repeats_below : Grounds → ArrivalLaws → (old new : System) {el : Elsewhere} (station : ℕ) → has_station old station ≡ true → IsStanding el old
+    → HappenedAsEvents old → ComesUp repeated_on (Below station) old new → Keeps el station [] old new
 repeats_below grounds laws old new station has h events c =
     comes grounds laws repeated_on (event.Repeat way.Up) (λ s s' panel come. come) old new station has h events (λ was. refl) c

@@ -23,7 +23,7 @@ use Rattle.dnp_world.specs.declared.event.Link.TheVariants.{Below}
 use Rattle.dnp_world.specs.declared.link_event.End.TheVariants as end
 use Rattle.dnp_world.specs.declared.link_event.LinkEvent.TheVariants as event
 use Rattle.dnp_world.specs.declared.link_event.Way.{Way}
-use Rattle.dnp_world.specs.Behind.{rows_of}
+use Rattle.dnp_world.specs.Behind.{Elsewhere, rows_of}
 use Rattle.dnp_world.specs.Channels.{ChannelState, DamagesAt, GoDown, cleared}
 use Rattle.dnp_world.specs.Link.{Link}
 use Rattle.dnp_world.specs.OneLinkEvents.{AsksBy, AsksIfOwn, Steps, is_own, opening}
@@ -75,16 +75,16 @@ lost_keeps laws s station r same = record {
 
 -- ---- damage
 
-pub damages : Grounds → (old new : System) (station : ℕ) (w : Way) (octets : List ℕ) → IsStanding old
-    → LinesChange (Below station) (DamagesAt w octets) old new → Keeps station [] old new
+pub damages : Grounds → (old new : System) {el : Elsewhere} (station : ℕ) (w : Way) (octets : List ℕ) → IsStanding el old
+    → LinesChange (Below station) (DamagesAt w octets) old new → Keeps el station [] old new
 damages grounds old new station w octets h e =
     quiet grounds old new h station e.was (record e.was { channel = e.is.channel }) (event.Damage w (record { items = octets })) e.there refl
     (record { damages = e.changed.0; after = refl }) (e.after ∙ ap (λ (s : SubstationState). with_substation old station s) e.changed.1)
 
 -- ---- an opening
 
-pub opens : Grounds → CallLaws → (old new : System) (station : ℕ) → has_station old station ≡ true → IsStanding old
-    → OpensOn (Below station) old new → Keeps station [] old new
+pub opens : Grounds → CallLaws → (old new : System) {el : Elsewhere} (station : ℕ) → has_station old station ≡ true → IsStanding el old
+    → OpensOn (Below station) old new → Keeps el station [] old new
 opens grounds laws old new station has h e =
     let was : SubstationState = e.was in
     let is : SubstationState = e.is in
@@ -133,8 +133,8 @@ asked_so old station was is task lists (Err fault) answer down =
     (none_goes was.channel is.channel down)
     ∙ ap (λ (a : Result (List ℕ) AskFault). seen_below old.now (record r { master = asked_by r.master old.now task a }) was lists) answer
 
-asks_if : Grounds → (old new : System) (station : ℕ) (task : Task) (own : Bool) → is_own task ≡ own → has_station old station ≡ true → IsStanding old
-    → AsksOn own (Below station) task old new → Keeps station [] old new
+asks_if : Grounds → (old new : System) {el : Elsewhere} (station : ℕ) (task : Task) (own : Bool) → is_own task ≡ own → has_station old station ≡ true
+    → IsStanding el old → AsksOn own (Below station) task old new → Keeps el station [] old new
 asks_if grounds old new station task true own has h e =
     let was : SubstationState = e.was in
     let r : Relaying = link_in old.concentrator.links station in
@@ -150,14 +150,14 @@ asks_if grounds old new station task true own has h e =
     (e.after ∙ ap (λ (s : SubstationState). with_both old station s (with_link_to old station next)) e.changed.1)
 asks_if grounds old new station task false own has h e = same_keeps station old new h e
 
-pub asks : Grounds → (old new : System) (station : ℕ) (task : Task) → has_station old station ≡ true → IsStanding old
-    → AsksOn (is_own task) (Below station) task old new → Keeps station [] old new
+pub asks : Grounds → (old new : System) {el : Elsewhere} (station : ℕ) (task : Task) → has_station old station ≡ true → IsStanding el old
+    → AsksOn (is_own task) (Below station) task old new → Keeps el station [] old new
 asks grounds old new station task has h e = asks_if grounds old new station task (is_own task) refl has h e
 
 -- ---- the master hangs up
 
-pub hangs_up_below : Grounds → CallLaws → (old new : System) (station : ℕ) → has_station old station ≡ true → IsStanding old
-    → HangsUpOn (Below station) end.Master old new → Keeps station [] old new
+pub hangs_up_below : Grounds → CallLaws → (old new : System) {el : Elsewhere} (station : ℕ) → has_station old station ≡ true → IsStanding el old
+    → HangsUpOn (Below station) end.Master old new → Keeps el station [] old new
 hangs_up_below grounds laws old new station has h e =
     let was : SubstationState = e.was in
     let r : Relaying = link_in old.concentrator.links station in
@@ -186,9 +186,9 @@ ticked_points_stay : (s : master.State) (b : Bool) → (if b then master.closed 
 ticked_points_stay s true = refl
 ticked_points_stay s false = refl
 
-pub ticks_below : Grounds → CallLaws → (old new : System) (station : ℕ) → has_station old station ≡ true → IsStanding old
-    → MasterTicks (Below station) old new → Keeps station [] old new
-ticks_below grounds laws old new station has h e =
+pub ticks_below : Grounds → CallLaws → (old new : System) {el : Elsewhere} (station : ℕ) → has_station old station ≡ true → IsStanding el old
+    → MasterTicks (Below station) old new → Keeps el station [] old new
+ticks_below grounds laws old new {el = el} station has h e =
     let low : station < length old.substations =
     ltb-true station (length old.substations) ((and_parts (nat_lt station (length old.substations)) (nat_lt station (length old.concentrator.links)) has).0) in
     let (was, there) = is_some_there old.substations station low in
@@ -207,7 +207,7 @@ ticks_below grounds laws old new station has h e =
     here = link_here old.concentrator.links station next (has_link_to old station has)
 
     by : (was : SubstationState) → slice_get old.substations station ≡ Some was → (b : Bool)
-        → new ≡ (if b then with_lost (with_link old station next) station else with_link old station next) → Keeps station [] old new
+        → new ≡ (if b then with_lost (with_link old station next) station else with_link old station next) → Keeps el station [] old new
     by was there true is =
         let middle : Middle = without_link_to old station next in
         quiet_with grounds old new h station was was middle (event.Tick end.Master) there (lost_keeps laws old station next same_plan) refl

@@ -20,7 +20,7 @@ use Rattle.dnp_world.specs.declared.link_event.LinkEvent.TheVariants as event
 use Rattle.dnp_world.specs.declared.link_event.Way.{Way}
 use Rattle.dnp_world.specs.declared.link_event.Way.TheVariants as way
 use Rattle.dnp_world.specs.declared.event.Link.TheVariants.{Below}
-use Rattle.dnp_world.specs.Behind.{rows_of}
+use Rattle.dnp_world.specs.Behind.{Elsewhere, rows_of}
 use Rattle.dnp_world.specs.Channels.{ChannelState, lost_at, hung_up_at}
 use Rattle.dnp_world.specs.Joined.{rows_made_by}
 use Rattle.dnp_world.specs.Link.{Link}
@@ -76,7 +76,7 @@ no_performs was is same =
     ap (λ (xs : List Command). drop (length was.outputs.performed) xs) same ∙ drop_all (length was.outputs.performed) was.outputs.performed (omega arith)
 
 -- the outputs of a substation that stands
-pub few_outputs : (old : System) (h : IsStanding old) (station : ℕ) (was : SubstationState) → slice_get old.substations station ≡ Some was
+pub few_outputs : (old : System) {el : Elsewhere} (h : IsStanding el old) (station : ℕ) (was : SubstationState) → slice_get old.substations station ≡ Some was
     → was.outputs.outputs ≤ 2 ^ 16
 few_outputs old h station was there =
     let joined_to : SubstationState → Type 0 = IsJoinedBelow old.now (link_in old.concentrator.links station) (h.links.below station) in
@@ -105,27 +105,28 @@ both_as old station was is middle same =
     (none_behind old.history.operated
     ∙ ap (λ (xs : List Command). old.history.operated ++ at_station station xs) (sym (no_performs was is (ap (λ (o : PlainState). o.performed) same))))
 
-pub quiet_with : Grounds → (old new : System) (h : IsStanding old) (station : ℕ) (was is : SubstationState) (middle : Middle) (e : LinkEvent)
-    → slice_get old.substations station ≡ Some was → KeepsMiddle station middle old → is.outputs ≡ was.outputs
+pub quiet_with : Grounds → (old new : System) {el : Elsewhere} (h : IsStanding el old) (station : ℕ) (was is : SubstationState) (middle : Middle)
+    (e : LinkEvent) → slice_get old.substations station ≡ Some was → KeepsMiddle station middle old → is.outputs ≡ was.outputs
     → HappensOn no_sink (panel_of was) (seen_at old station was (lists_of (h.links.below station))) e
     (seen_below old.now (link_in middle.links station) is (lists_of (h.links.below station)))
-    → new ≡ with_both old station is middle → Keeps station (rows_made_by was.core.points (e ∷ [])) old new
+    → new ≡ with_both old station is middle → Keeps el station (rows_made_by was.core.points (e ∷ [])) old new
 quiet_with grounds old new h station was is middle e there keeps same happens after =
     below_keeps grounds old new h station was is middle nothing_gone (lists_of (h.links.below station)) e there keeps
     (shown_with was is (few_outputs old h station was there) (ap (λ (o : PlainState). o.outputs) same))
     (nothing_listed (h.links.below station)) happens
     (after ∙ both_as old station was is middle same)
 
-pub quiet : Grounds → (old new : System) (h : IsStanding old) (station : ℕ) (was is : SubstationState) (e : LinkEvent)
+pub quiet : Grounds → (old new : System) {el : Elsewhere} (h : IsStanding el old) (station : ℕ) (was is : SubstationState) (e : LinkEvent)
     → slice_get old.substations station ≡ Some was → is.outputs ≡ was.outputs
     → HappensOn no_sink (panel_of was) (seen_at old station was (lists_of (h.links.below station))) e
     (seen_at old station is (lists_of (h.links.below station)))
-    → new ≡ with_substation old station is → Keeps station (rows_made_by was.core.points (e ∷ [])) old new
+    → new ≡ with_substation old station is → Keeps el station (rows_made_by was.core.points (e ∷ [])) old new
 quiet grounds old new h station was is e there same happens after =
     quiet_with grounds old new h station was is (middle_in old) e there (middle_same station old) same happens after
 
 -- a line loses its front unit
-pub loses : Grounds → (old new : System) (station : ℕ) (way : Way) → IsStanding old → LosesOn (Below station) way old new → Keeps station [] old new
+pub loses : Grounds → (old new : System) {el : Elsewhere} (station : ℕ) (way : Way) → IsStanding el old → LosesOn (Below station) way old new
+    → Keeps el station [] old new
 loses grounds old new station w h e =
     quiet grounds old new h station e.was (record e.was { channel = lost_at w e.was.channel }) (event.Lose w) e.there refl refl
     (e.after ∙ ap (λ (s : SubstationState). with_substation old station s) (e.changed.1 ∙ ap (λ (c : ChannelState). record e.was {
@@ -134,7 +135,8 @@ loses grounds old new station w h e =
     }) e.changed.0))
 
 -- the outstation hangs up
-pub hangs_up : Grounds → (old new : System) (station : ℕ) → IsStanding old → HangsUpOn (Below station) end.Outstation old new → Keeps station [] old new
+pub hangs_up : Grounds → (old new : System) {el : Elsewhere} (station : ℕ) → IsStanding el old → HangsUpOn (Below station) end.Outstation old new
+    → Keeps el station [] old new
 hangs_up grounds old new station h e =
     quiet grounds old new h station e.was (record e.was {
       core = closed e.was.core;
@@ -145,7 +147,8 @@ hangs_up grounds old new station h e =
 
 -- ---- it restarts, and its lanes are emptied
 
-pub restarts : Grounds → (old new : System) (station : ℕ) → IsStanding old → SubstationRestarts station old new → Keeps station [] old new
+pub restarts : Grounds → (old new : System) {el : Elsewhere} (station : ℕ) → IsStanding el old → SubstationRestarts station old new
+    → Keeps el station [] old new
 restarts grounds old new station h e =
     let was : SubstationState = e.was in
     let is : SubstationState = record was {
@@ -190,8 +193,8 @@ stepped old station step base is lists steps =
     stepped_on old.now (link_in old.concentrator.links station) step base.channel base is lists steps
 
 -- a step that releases nothing, and at which these rows are dropped
-pub step_keeps : Grounds → (old new : System) (h : IsStanding old) (station : ℕ) (was is : SubstationState) (e : LinkEvent) (step : Step) (dropped : List Row)
-    → slice_get old.substations station ≡ Some was → step.does.discarded ≡ [] → SubstationSteps step was.channel was is
+pub step_keeps : Grounds → (old new : System) {el : Elsewhere} (h : IsStanding el old) (station : ℕ) (was is : SubstationState) (e : LinkEvent) (step : Step)
+    (dropped : List Row) → slice_get old.substations station ≡ Some was → step.does.discarded ≡ [] → SubstationSteps step was.channel was is
     → ((s' : LinkState ⊤)
     → Steps step (seen_at old station was (record (lists_of (h.links.below station)) { left = rows_of (h.links.below station).left ++ dropped })) s'
     → HappensOn no_sink (panel_of was) (seen_at old station was (lists_of (h.links.below station))) e s')
@@ -202,7 +205,7 @@ pub step_keeps : Grounds → (old new : System) (h : IsStanding old) (station : 
             old.history.operated ++ at_station station (performs was is);
       };
     }
-    → Keeps station (rows_made_by was.core.points (e ∷ [])) old new
+    → Keeps el station (rows_made_by was.core.points (e ∷ [])) old new
 step_keeps grounds old new h station was is e step dropped there none steps as_event after =
     let l : Link = h.links.below station in
     let gone : Gone = record { confirmed = step.does.discarded; overwritten = dropped; emptied = [] } in
@@ -240,8 +243,8 @@ outputs_stay (fragment ∷ others) now released base is (released_is, steps) = a
 
 comes : Grounds → (left : LineState → LineState) (e : LinkEvent)
     → ((s s' : LinkState ⊤) (panel : Panel) → ComesDown panel (left s.channel.down) s s' → HappensOn no_sink panel s e s')
-    → (old new : System) (station : ℕ) → IsStanding old → (c : ComesDownBelow left station old new)
-    → Keeps station (rows_made_by c.came.was.core.points (e ∷ [])) old new
+    → (old new : System) {el : Elsewhere} (station : ℕ) → IsStanding el old → (c : ComesDownBelow left station old new)
+    → Keeps el station (rows_made_by c.came.was.core.points (e ∷ [])) old new
 comes grounds left e as_event old new station h c =
     let was : SubstationState = c.came.was in
     let is : SubstationState = c.came.is in
@@ -260,8 +263,10 @@ comes grounds left e as_event old new station h c =
     (old.history.confirmed ++ at_station station c.released) old.history.overwritten old.history.gone
     (old.history.operated ++ at_station station (performs was is)) refl (none_behind old.history.overwritten) (none_behind old.history.gone) refl)
 
-pub delivers : Grounds → (old new : System) (station : ℕ) → IsStanding old → ComesDownBelow delivered_on station old new → Keeps station [] old new
+pub delivers : Grounds → (old new : System) {el : Elsewhere} (station : ℕ) → IsStanding el old → ComesDownBelow delivered_on station old new
+    → Keeps el station [] old new
 delivers grounds old new station h c = comes grounds delivered_on (event.Deliver way.Down) (λ s s' panel come. come) old new station h c
 
-pub repeats : Grounds → (old new : System) (station : ℕ) → IsStanding old → ComesDownBelow repeated_on station old new → Keeps station [] old new
+pub repeats : Grounds → (old new : System) {el : Elsewhere} (station : ℕ) → IsStanding el old → ComesDownBelow repeated_on station old new
+    → Keeps el station [] old new
 repeats grounds old new station h c = comes grounds repeated_on (event.Repeat way.Down) (λ s s' panel come. come) old new station h c

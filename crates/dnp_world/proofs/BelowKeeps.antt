@@ -19,7 +19,7 @@ use Rattle.dnp_pointdb.specs.Sound as points
 use Rattle.dnp_concentrator.specs.Relaying.{Relaying}
 use Rattle.dnp_concentrator.specs.declared.span.Spans.{Spans}
 use Rattle.dnp_world.specs.declared.link_event.LinkEvent.{LinkEvent}
-use Rattle.dnp_world.specs.Behind.{does_nothing, Does, Grows, Links, with_links, IsBehind, Turn, made_at, rows_of}
+use Rattle.dnp_world.specs.Behind.{Elsewhere, does_nothing, Does, Grows, Links, with_links, IsBehind, Turn, made_at, rows_of}
 use Rattle.dnp_world.specs.Joined.{Follows, Joined, rows_made_by}
 use Rattle.dnp_world.specs.Kept.{Kept, kept_in, lane_rows_of, orders_in, shown_of, used_orders, used_commands}
 use Rattle.dnp_world.specs.Link.{Link}
@@ -41,9 +41,9 @@ use Rattle.dnp_world.proofs.Turning.{by_station}
 
 -- what a law of a system's lists says
 pub record TurnLaws : Type 0 where
-  pub kept : (indices : List Spans) (station : ℕ) (links : Links) (old new : Kept) → IsBehind indices links old
-      → (turn : Turn indices station links old new) → IsBehind indices (with_links links station turn.below turn.above) new
-  pub fate : (indices : List Spans) (station : ℕ) (links : Links) (old new : Kept) → IsBehind indices links old
+  pub kept : (indices : List Spans) {el : Elsewhere} (station : ℕ) (links : Links) (old new : Kept) → IsBehind indices el links old
+      → (turn : Turn indices station links old new) → IsBehind indices el (with_links links station turn.below turn.above) new
+  pub fate : (indices : List Spans) {el : Elsewhere} (station : ℕ) (links : Links) (old new : Kept) → IsBehind indices el links old
       → (turn : Turn indices station links old new)
       → IsFate (made_at station turn.here.made) (shown_of indices old) (shown_of indices new)
 
@@ -230,9 +230,9 @@ did was is gone came asked = record {
   performed = performs was is;
 }
 
-turn_below : (old : System) (links : Links) (station : ℕ) (was is : SubstationState) (middle : Middle) (controls : Ledger) (gone : Gone)
+turn_below : (old : System) {el : Elsewhere} (links : Links) (station : ℕ) (was is : SubstationState) (middle : Middle) (controls : Ledger) (gone : Gone)
     (came : List Row) (asked : List Command) (link : Link)
-    → IsBehind old.indices links (kept_in old) → slice_get old.substations station ≡ Some was → BookShows old station controls asked
+    → IsBehind old.indices el links (kept_in old) → slice_get old.substations station ≡ Some was → BookShows old station controls asked
     → Grows (links.below station) link (did was is gone came asked) → rows_of link.lanes ≡ rows_in is.lanes
     → Turn old.indices station links (kept_in old) (kept_in (with_controls controls (changed_below station was is middle gone old)))
 turn_below old links station was is middle controls gone came asked link b there book grows lanes =
@@ -276,7 +276,7 @@ pub record IsListed (l : Link) (gone : Gone) (lists : RowLists) : Type 0 where
   pub left : lists.left ≡ rows_of l.left ++ (gone.overwritten ++ gone.emptied)
 
 -- the link to another substation is as it was
-pub other_stands : (old : System) (h : IsStanding old) (station : ℕ) (is : SubstationState) (relays : List Relaying)
+pub other_stands : (old : System) {el : Elsewhere} (h : IsStanding el old) (station : ℕ) (is : SubstationState) (relays : List Relaying)
     → ((i : ℕ) → i ≢ station → link_in relays i ≡ link_in old.concentrator.links i) → (i : ℕ) → i ≢ station
     → IfSome (slice_get (slice_set old.substations station is) i) (IsJoinedBelow old.now (link_in relays i) (h.links.below i))
 other_stands old h station is relays others i other =
@@ -285,12 +285,12 @@ other_stands old h station is relays others i other =
     (sym (set_there old.substations station i is other)) (h.below i))
 
 -- The link by itself moves so.
-pub below_follows : TurnLaws → (old : System) (h : IsStanding old) (station : ℕ) (was is : SubstationState) (middle : Middle) (controls : Ledger)
-    (gone : Gone) (lists : RowLists) (came : List Row) (asked : List Command)
+pub below_follows : TurnLaws → (old : System) {el : Elsewhere} (h : IsStanding el old) (station : ℕ) (was is : SubstationState) (middle : Middle)
+    (controls : Ledger) (gone : Gone) (lists : RowLists) (came : List Row) (asked : List Command)
     → slice_get old.substations station ≡ Some was → KeepsMiddle station middle old → ShowOctets (panel_of is)
     → IsListed (h.links.below station) gone lists → BookShows old station controls asked
     → Follows [] came asked was.outputs.performed (h.links.below station) (seen_below old.now (link_in middle.links station) is lists)
-    → Keeps station came old (with_controls controls (changed_below station was is middle gone old))
+    → Keeps el station came old (with_controls controls (changed_below station was is middle gone old))
 unfolding turn_below
 below_follows laws old h station was is middle controls gone lists came asked there keeps shown listed book f =
     let l : Link = h.links.below station in
@@ -322,19 +322,19 @@ below_follows laws old h station was is middle controls gone lists came asked th
     }
 
 -- The event is one of the link by itself, which asks for no command.
-pub below_keeps : Grounds → (old new : System) (h : IsStanding old) (station : ℕ)
+pub below_keeps : Grounds → (old new : System) {el : Elsewhere} (h : IsStanding el old) (station : ℕ)
     → (was is : SubstationState) (middle : Middle) (gone : Gone) (lists : RowLists) (e : LinkEvent)
     → slice_get old.substations station ≡ Some was → KeepsMiddle station middle old → ShowOctets (panel_of is)
     → IsListed (h.links.below station) gone lists
     → HappensOn no_sink (panel_of was) (seen_below old.now (link_in old.concentrator.links station) was (lists_of (h.links.below station))) e
     (seen_below old.now (link_in middle.links station) is lists)
-    → new ≡ changed_below station was is middle gone old → Keeps station (rows_made_by was.core.points (e ∷ [])) old new
-below_keeps grounds old new h station was is middle gone lists e there keeps shown listed happens after =
+    → new ≡ changed_below station was is middle gone old → Keeps el station (rows_made_by was.core.points (e ∷ [])) old new
+below_keeps grounds old new {el = el} h station was is middle gone lists e there keeps shown listed happens after =
     let l : Link = h.links.below station in
     let came : List Row = rows_made_by was.core.points (e ∷ []) in
     let r : Relaying = link_in old.concentrator.links station in
     let before : IsJoinedBelow old.now r l was = some_of (IsJoinedBelow old.now r l) (slice_get old.substations station) was there (h.below station) in
-    subst (λ (x : System). Keeps station came old x) (sym after)
+    subst (λ (x : System). Keeps el station came old x) (sym after)
     (below_follows grounds.turns old h station was is middle old.concentrator.controls gone lists came [] there keeps shown listed
     (record { used = none_used (used_orders old.concentrator.controls.entries); orders = refl; shown = refl })
     (grounds.happens (panel_of was) (seen_below old.now r was (lists_of l)) (seen_below old.now (link_in middle.links station) is lists) e l before.shown

@@ -17,7 +17,7 @@ use Rattle.dnp_pointdb.specs.declared.reading.Reading.{Reading}
 use Rattle.dnp_world.specs.declared.event.Link.TheVariants.{Below}
 use Rattle.dnp_world.specs.declared.link_event.End.TheVariants as end
 use Rattle.dnp_world.specs.declared.link_event.LinkEvent.TheVariants as event
-use Rattle.dnp_world.specs.Behind.{rows_of}
+use Rattle.dnp_world.specs.Behind.{Elsewhere, rows_of}
 use Rattle.dnp_world.specs.Joined.{rows_made_by}
 use Rattle.dnp_world.specs.Link.{Link}
 use Rattle.dnp_world.specs.OneLinkEvents.{LinkState, Changes, Steps}
@@ -46,8 +46,8 @@ no_more_operated old station was is step steps same =
     ∙ ap (λ (xs : List Command). old.history.operated ++ at_station station xs)
     (sym (no_performs was is (ap (λ (s : SubstationState). s.outputs.performed) steps.after ∙ same)))
 
-pub ticks : Grounds → StepLaws → (old new : System) (station : ℕ) → IsStanding old → OutstationTicks (Below station) old new
-    → Keeps station [] old new
+pub ticks : Grounds → StepLaws → (old new : System) {el : Elsewhere} (station : ℕ) → IsStanding el old → OutstationTicks (Below station) old new
+    → Keeps el station [] old new
 ticks grounds laws old new station h e =
     let was : SubstationState = e.was in
     let is : SubstationState = e.is in
@@ -70,10 +70,10 @@ made_of : (points : Database) (kind : Kind) (index : ℕ) (reading : Reading) (f
 made_of points kind index reading fault answer =
     ap (λ (r : Result (Option LaneRow) ChangeFault). arriving (rows_made r ++ [])) answer
 
-reads_by : Grounds → StepLaws → (old new : System) (h : IsStanding old) (station : ℕ) (kind : Kind) (index : ℕ) (reading : Reading)
+reads_by : Grounds → StepLaws → (old new : System) {el : Elsewhere} (h : IsStanding el old) (station : ℕ) (kind : Kind) (index : ℕ) (reading : Reading)
     → (was : SubstationState) (answer : Result (Option LaneRow) ChangeFault) → answer_of was.core.points kind index reading ≡ answer
     → slice_get old.substations station ≡ Some was → ReadsBy answer station kind index reading was old new
-    → Keeps station (rows_made_by was.core.points (event.Change kind index reading ∷ [])) old new
+    → Keeps el station (rows_made_by was.core.points (event.Change kind index reading ∷ [])) old new
 reads_by grounds laws old new h station kind index reading was (Ok made) answer there (room, e) =
     let step : Step = change_of (station_of was) old.now kind index reading made in
     let is : SubstationState = e.is in
@@ -89,10 +89,10 @@ reads_by grounds laws old new h station kind index reading was (Ok made) answer 
     (laws.change_none (station_of was) old.now kind index reading made) steps
     (λ s' stepped. subst (λ (r : Result (Option LaneRow) ChangeFault). Changes r kind index reading s s') (sym answer) (room, stepped))
     (e.after ∙ ap with_operated (no_more_operated old station was is step steps (laws.change_performs (station_of was) old.now kind index reading made)))
-reads_by grounds laws old new h station kind index reading was (Err fault) answer there e =
-    subst (λ (rows : List Row). Keeps station rows old new) (sym (made_of was.core.points kind index reading fault answer)) (same_keeps station old new h e)
+reads_by grounds laws old new {el = el} h station kind index reading was (Err fault) answer there e =
+    subst (λ (rows : List Row). Keeps el station rows old new) (sym (made_of was.core.points kind index reading fault answer)) (same_keeps station old new h e)
 
-pub reads : Grounds → StepLaws → (old new : System) (station : ℕ) (kind : Kind) (index : ℕ) (reading : Reading) → IsStanding old
-    → (r : Reads station kind index reading old new) → Keeps station (rows_made_by r.was.core.points (event.Change kind index reading ∷ [])) old new
+pub reads : Grounds → StepLaws → (old new : System) {el : Elsewhere} (station : ℕ) (kind : Kind) (index : ℕ) (reading : Reading) → IsStanding el old
+    → (r : Reads station kind index reading old new) → Keeps el station (rows_made_by r.was.core.points (event.Change kind index reading ∷ [])) old new
 reads grounds laws old new station kind index reading h r =
     reads_by grounds laws old new h station kind index reading r.was (answer_of r.was.core.points kind index reading) refl r.there r.reads

@@ -30,7 +30,7 @@ use Rattle.dnp_outstation.specs.State.{State}
 use Rattle.dnp_pointdb.specs.Database.{Database}
 use Rattle.dnp_pointdb.specs.Sound as points
 use Rattle.dnp_world.specs.declared.link_event.LinkEvent.{LinkEvent}
-use Rattle.dnp_world.specs.Behind.{does_nothing, rows_of, with_links, Grows, Turn}
+use Rattle.dnp_world.specs.Behind.{Elsewhere, does_nothing, rows_of, with_links, Grows, Turn}
 use Rattle.dnp_world.specs.Happened.{HappenedAsEvents}
 use Rattle.dnp_world.specs.Joined.{Follows, rows_made_by, with_others_rows}
 use Rattle.dnp_world.specs.Kept.{kept_in, lane_rows_of, orders_in, report_of, rows_below, used_commands, used_orders}
@@ -60,7 +60,7 @@ use Rattle.dnp_world.proofs.Turning.{by_station}
 -- what the laws of a link, of lanes, of points and of the index map promise
 pub record ArrivalLaws : Type 0 where
   pub goes_on : (old new : Link) → Moves old new → Stands old → Stands new
-  pub stood : (s : System) (h : IsStanding s) (station : ℕ)
+  pub stood : (s : System) {el : Elsewhere} (h : IsStanding el s) (station : ℕ)
       → HasSameCounts (rows_of (h.links.below station).stood) (of_station station (happened (report_of s)))
   pub rows : IsEqualityTest row_eq
   pub appends : (s : State) (rows : List LaneRow) (l : Link) → All IsCarried rows → exhausts s.lanes rows ≡ false
@@ -77,8 +77,8 @@ pub record ArrivalLaws : Type 0 where
 -- ---- what is taken happened
 
 -- where a row that the master took passes a test, one that happened at the substation does
-taken_happened : ArrivalLaws → (old : System) (h : IsStanding old) (station : ℕ) (link : Link) (taken : List Row) → Moves (h.links.below station) link
-    → HasSameCounts (rows_of link.stood) (rows_of (h.links.below station).stood ++ [])
+taken_happened : ArrivalLaws → (old : System) {el : Elsewhere} (h : IsStanding el old) (station : ℕ) (link : Link) (taken : List Row)
+    → Moves (h.links.below station) link → HasSameCounts (rows_of link.stood) (rows_of (h.links.below station).stood ++ [])
     → HasSameCounts (rows_of link.took) (rows_of (h.links.below station).took ++ taken)
     → (test : Row → Bool) → 0 < count_by test taken → 0 < count_by test (of_station station (happened (report_of old)))
 taken_happened laws old h station link taken moves stood took test some =
@@ -98,7 +98,7 @@ taken_happened laws old h station link taken moves stood took test some =
     )
 
 -- so each can be written as an event
-events_taken : ArrivalLaws → (old : System) (h : IsStanding old) (station : ℕ) (link : Link) (taken : List Row) → HappenedAsEvents old
+events_taken : ArrivalLaws → (old : System) {el : Elsewhere} (h : IsStanding el old) (station : ℕ) (link : Link) (taken : List Row) → HappenedAsEvents old
     → Moves (h.links.below station) link
     → HasSameCounts (rows_of link.stood) (rows_of (h.links.below station).stood ++ [])
     → HasSameCounts (rows_of link.took) (rows_of (h.links.below station).took ++ taken) → All IsEvent taken
@@ -114,7 +114,7 @@ abbrev queued_on : System → RowLists → List LaneRow → LinkState ⊤
 queued_on s lists rows =
     record (with_others_rows rows (seen_above s lists)) { left = lists.left ++ dropped_by s.concentrator.queue rows }
 
-queued_follows : ArrivalLaws → (old : System) (h : IsStanding old) (rows : List LaneRow) → All IsCarried rows
+queued_follows : ArrivalLaws → (old : System) {el : Elsewhere} (h : IsStanding el old) (rows : List LaneRow) → All IsCarried rows
     → exhausts old.concentrator.queue rows ≡ false
     → Follows [] (arriving rows) [] (middle_of old.concentrator).performed h.links.above (queued_on old (lists_of h.links.above) rows)
 queued_follows laws old h rows carried fits =
@@ -136,7 +136,7 @@ queued_follows laws old h rows carried fits =
     }
 
 -- where none came, the link stays
-none_follows : (old : System) (h : IsStanding old)
+none_follows : (old : System) {el : Elsewhere} (h : IsStanding el old)
     → Follows [] (arriving []) [] (middle_of old.concentrator).performed h.links.above (queued_on old (lists_of h.links.above) [])
 none_follows old h =
     let l : Link = h.links.above in
@@ -155,7 +155,7 @@ none_follows old h =
 abbrev pub queued_for : System → ℕ → List Row → List LaneRow
 queued_for s station events = queued_rows s.concentrator.indices s.concentrator.points station events
 
-events_follow : ArrivalLaws → (old : System) (h : IsStanding old) (station : ℕ) (events : List Row) → All IsEvent events
+events_follow : ArrivalLaws → (old : System) {el : Elsewhere} (h : IsStanding el old) (station : ℕ) (events : List Row) → All IsEvent events
     → (events ≢ [] → exhausts old.concentrator.queue (queued_for old station events) ≡ false)
     → Follows [] (arriving (queued_for old station events)) [] (middle_of old.concentrator).performed h.links.above
     (queued_on old (lists_of h.links.above) (queued_for old station events))
@@ -176,7 +176,7 @@ taken_with station is t s = record s {
   history = record s.history { dropped = s.history.dropped ++ dropped_for s.concentrator station t };
 }
 
-turn_taken : ArrivalLaws → (old : System) (h : IsStanding old) (station : ℕ) (was is : SubstationState) (t : Taking) (below above : Link)
+turn_taken : ArrivalLaws → (old : System) {el : Elsewhere} (h : IsStanding el old) (station : ℕ) (was is : SubstationState) (t : Taking) (below above : Link)
     → slice_get old.substations station ≡ Some was
     → length (queued_for old station t.events) ≡ length t.events
     → Grows (h.links.below station) below (record does_nothing { taken = t.events })
@@ -224,8 +224,8 @@ none_performed : (performed : List Command) → drop (length performed) performe
 none_performed performed = drop_all (length performed) performed (omega arith)
 
 -- The fragment is one that comes on the link by itself.
-pub takes_keep : Grounds → ArrivalLaws → (old new : System) (h : IsStanding old) (station : ℕ) (was is : SubstationState) (t : Taking) (e : LinkEvent)
-    → HappenedAsEvents old → station < length old.concentrator.links → slice_get old.substations station ≡ Some was → is.outputs ≡ was.outputs
+pub takes_keep : Grounds → ArrivalLaws → (old new : System) {el : Elsewhere} (h : IsStanding el old) (station : ℕ) (was is : SubstationState) (t : Taking)
+    (e : LinkEvent) → HappenedAsEvents old → station < length old.concentrator.links → slice_get old.substations station ≡ Some was → is.outputs ≡ was.outputs
     → ShowOctets (panel_of is)
     → length (queued_for old station t.events) ≡ length t.events → HasNumbers old.concentrator station t
     → t.state.plan ≡ (link_in old.concentrator.links station).master.plan
@@ -234,9 +234,9 @@ pub takes_keep : Grounds → ArrivalLaws → (old new : System) (h : IsStanding 
     let l : Link = h.links.below station in
     HappensOn no_sink (panel_of was) (seen_below old.now r was (lists_of l)) e
     (seen_below old.now (relaying.received r t) is (record (lists_of l) { taken = rows_of l.took ++ t.events })))
-    → new ≡ taken_with station is t old → Keeps station [] old new
+    → new ≡ taken_with station is t old → Keeps el station [] old new
 unfolding turn_taken
-takes_keep grounds laws old new h station was is t e events low there same shown all room plan made happens after =
+takes_keep grounds laws old new {el = el} h station was is t e events low there same shown all room plan made happens after =
     let l : Link = h.links.below station in
     let c : ConcentratorState = old.concentrator in
     let r : Relaying = link_in c.links station in
@@ -272,7 +272,7 @@ takes_keep grounds laws old new h station was is t e events low there same shown
     let sound : points.IsSound last =
     readings_sound laws.set_sound c.indices station first t.statics
     (readings_sound laws.set_sound c.indices station c.core.points t.events h.above.outstation.well.points) in
-    subst (λ (x : System). Keeps station [] old x) (sym after)
+    subst (λ (x : System). Keeps el station [] old x) (sym after)
     (record {
       standing = record {
         plan = h.plan;

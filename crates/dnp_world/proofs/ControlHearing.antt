@@ -108,17 +108,7 @@ answer_heard laws same task command status now s fragment is_for widths awaits r
 
 not_solicited : (f : Function) (control : ControlBits) → control.uns ≡ true → is_solicited f control ≡ false
 not_solicited function.Response control uns = rw uns refl
-not_solicited function.Confirm control uns = refl
-not_solicited function.Read control uns = refl
-not_solicited function.Write control uns = refl
-not_solicited function.Select control uns = refl
-not_solicited function.Operate control uns = refl
-not_solicited function.DirectOperate control uns = refl
-not_solicited function.DirectOperateNr control uns = refl
-not_solicited function.EnableUnsolicited control uns = refl
-not_solicited function.DisableUnsolicited control uns = refl
-not_solicited function.DelayMeasure control uns = refl
-not_solicited function.UnsolicitedResponse control uns = refl
+not_solicited f control uns = refl
 
 confirms_report : (control : ControlBits) → control.uns ≡ true → control.seq < 16 → IfSome (confirm_for control) ConfirmsReport
 confirms_report control uns low = by control.con

@@ -5,6 +5,7 @@ use Rattle.std.proofs.lemmas.List.{map-append}
 use Rattle.std.proofs.lemmas.Option.{same_Some}
 use Rattle.dnp_concentrator.specs.Relaying.{Relaying, relaying_after}
 use Rattle.dnp_concentrator.specs.Relaying as relaying
+use Rattle.dnp_concentrator.specs.declared.span.Spans.{Spans}
 use Rattle.dnp_controls.specs.Latches.{plain_check}
 use Rattle.dnp_controls.specs.Panel.{Panel}
 use Rattle.dnp_master.specs.Calls.{Taking, receive_of}
@@ -16,7 +17,7 @@ use Rattle.dnp_world.specs.Arriving.{Arrive, Arrives, SubstationTakes, answers_b
 use Rattle.dnp_world.specs.Channels.{ChannelState}
 use Rattle.dnp_world.specs.ControlExchanges.{AnswersAll, ChecksAs, Hears, HearsAll}
 use Rattle.dnp_world.specs.SystemEvents.{MasterReceives, SubstationAnswers, with_substation}
-use Rattle.dnp_world.specs.Systems.{SubstationState, System, at_station, in_state, link_at, panel_of, station_of}
+use Rattle.dnp_world.specs.Systems.{CentreState, SubstationState, System, at_station, in_state, link_at, panel_of, station_of}
 use Rattle.dnp_world.specs.declared.event.Link.TheVariants.{Below}
 use Rattle.dnp_world.specs.declared.link_event.Way.TheVariants as way
 use Rattle.dnp_world.proofs.ArrivingLinks.{length_set}
@@ -25,22 +26,25 @@ use Rattle.dnp_world.proofs.SystemPlans.{link_here}
 
 -- ---- what the link to a substation leaves alone
 
+pub record Beside : Type 0 where
+  pub indices : List Spans
+  pub now : ℕ
+  pub centre : CentreState
+  pub spans : List Spans
+
+abbrev pub beside : System → Beside
+beside s = record { indices = s.indices; now = s.now; centre = s.centre; spans = s.concentrator.indices }
+
 -- and what the substation performed is listed
 pub record KeptBelow (station : ℕ) (commands : List Command) (old new : System) : Type 0 where
-  pub indices : new.indices ≡ old.indices
-  pub now : new.now ≡ old.now
-  pub centre : new.centre ≡ old.centre
-  pub spans : new.concentrator.indices ≡ old.concentrator.indices
+  pub beside_is : beside new ≡ beside old
   pub links : length new.concentrator.links ≡ length old.concentrator.links
   pub operated : new.history.operated ≡ old.history.operated ++ at_station station commands
 
 pub join_below : (station : ℕ) (first more : List Command) (a b c : System) → KeptBelow station first a b → KeptBelow station more b c
     → KeptBelow station (first ++ more) a c
 join_below station first more a b c h k = record {
-  indices = k.indices ∙ h.indices;
-  now = k.now ∙ h.now;
-  centre = k.centre ∙ h.centre;
-  spans = k.spans ∙ h.spans;
+  beside_is = k.beside_is ∙ h.beside_is;
   links = k.links ∙ h.links;
   operated = k.operated
       ∙ ap (λ (xs : List (ℕ × Command)). xs ++ at_station station more) h.operated
@@ -48,14 +52,10 @@ join_below station first more a b c h k = record {
       ∙ ap (λ (xs : List (ℕ × Command)). a.history.operated ++ xs) (sym (map-append (λ (x : Command). (station, x)) first more));
 }
 
-pub same_below : (station : ℕ) (old new : System) → new.indices ≡ old.indices → new.now ≡ old.now → new.centre ≡ old.centre
-    → new.concentrator.indices ≡ old.concentrator.indices → length new.concentrator.links ≡ length old.concentrator.links
+pub same_below : (station : ℕ) (old new : System) → beside new ≡ beside old → length new.concentrator.links ≡ length old.concentrator.links
     → new.history.operated ≡ old.history.operated → KeptBelow station [] old new
-same_below station old new indices now centre spans links operated = record {
-  indices = indices;
-  now = now;
-  centre = centre;
-  spans = spans;
+same_below station old new beside_is links operated = record {
+  beside_is = beside_is;
   links = links;
   operated = operated ∙ sym (append-nil old.history.operated);
 }
@@ -127,10 +127,7 @@ down_from law station fragment was old new lines there takes =
         setpoints = ap (λ (x : SubstationState). x.outputs.setpoints) is_as;
       };
       kept = record {
-        indices = ap (λ (s : System). s.indices) a.after;
-        now = ap (λ (s : System). s.now) a.after;
-        centre = ap (λ (s : System). s.centre) a.after;
-        spans = ap (λ (s : System). s.concentrator.indices) a.after;
+        beside_is = ap beside a.after;
         links = ap (λ (s : System). length s.concentrator.links) a.after;
         operated = ap (λ (s : System). s.history.operated) a.after
             ∙ ap (λ (xs : List Command). old.history.operated ++ at_station station xs) grown;
@@ -174,7 +171,7 @@ below_down law station command was [] answers old new there (answers_is, new_is)
   commands = [];
   all = (refl, answers_is, refl);
   many = record { outputs = refl; setpoints = refl };
-  kept = subst (KeptBelow station [] old) (sym new_is) (same_below station old old refl refl refl refl refl refl);
+  kept = subst (KeptBelow station [] old) (sym new_is) (same_below station old old refl refl refl);
   concentrator = ap (λ (s : System). s.concentrator) new_is;
 }
 below_down law station command was (f ∷ fs) answers old new there (first, more, next, arrives, rest, answers_is) =
@@ -198,7 +195,8 @@ below_down law station command was (f ∷ fs) answers old new there (first, more
         one.core,
         answers_is ∙ ap (λ (xs : List (List ℕ)). xs ++ more) (one_sends station f first was old next there arrives),
         refl,
-        subst (λ (n : ℕ). AnswersAll n (ChecksAs command check) fs (station_of one.is) (station_of h.is) more h.commands) one.kept.now
+        subst (λ (n : ℕ). AnswersAll n (ChecksAs command check) fs (station_of one.is) (station_of h.is) more h.commands)
+            (ap (λ b. b.now) one.kept.beside_is)
             (subst (λ (n : ℕ). AnswersAll next.now (ChecksAs command n) fs (station_of one.is) (station_of h.is) more h.commands) same_check h.all),
       );
       many = record { outputs = h.many.outputs ∙ one.many.outputs; setpoints = h.many.setpoints ∙ one.many.setpoints };
@@ -241,8 +239,7 @@ up_from station (Ok t) was old new lines there long (numbers, b) =
         ap (λ (s : System). link_at s.concentrator station) b.after ∙ link_here old.concentrator.links station next long,
         refl,
       );
-      kept = same_below station old new (ap (λ (s : System). s.indices) b.after) (ap (λ (s : System). s.now) b.after)
-          (ap (λ (s : System). s.centre) b.after) (ap (λ (s : System). s.concentrator.indices) b.after)
+      kept = same_below station old new (ap beside b.after)
           (ap (λ (s : System). length s.concentrator.links) b.after ∙ length_set old.concentrator.links station next)
           (ap (λ (s : System). s.history.operated) b.after);
       controls = ap (λ (s : System). s.concentrator.controls) b.after;
@@ -254,8 +251,7 @@ up_from station (Err fault) was old new lines there long same =
       there = ap (λ (s : System). slice_get s.substations station) same ∙ set_here old.substations station was mid there;
       is_as = refl;
       hears = (ap (λ (s : System). link_at s.concentrator station) same, refl);
-      kept = same_below station old new (ap (λ (s : System). s.indices) same) (ap (λ (s : System). s.now) same) (ap (λ (s : System). s.centre) same)
-          (ap (λ (s : System). s.concentrator.indices) same) (ap (λ (s : System). length s.concentrator.links) same)
+      kept = same_below station old new (ap beside same) (ap (λ (s : System). length s.concentrator.links) same)
           (ap (λ (s : System). s.history.operated) same);
       controls = ap (λ (s : System). s.concentrator.controls) same;
     }
@@ -278,7 +274,7 @@ below_up station was [] answers old new there long (answers_is, new_is) = record
   stays = refl;
   many = record { outputs = refl; setpoints = refl };
   all = (ap (λ (s : System). link_at s.concentrator station) new_is, answers_is);
-  kept = subst (KeptBelow station [] old) (sym new_is) (same_below station old old refl refl refl refl refl refl);
+  kept = subst (KeptBelow station [] old) (sym new_is) (same_below station old old refl refl refl);
   controls = ap (λ (s : System). s.concentrator.controls) new_is;
 }
 below_up station was (f ∷ fs) answers old new there long (first, more, next, arrives, rest, answers_is) =
@@ -304,7 +300,8 @@ below_up station was (f ∷ fs) answers old new there long (first, more, next, a
         more,
         subst (Hears r (link_at old.concentrator station) (link_at next.concentrator station)) (sym sends) one.hears,
         answers_is,
-        subst (λ (n : ℕ). HearsAll n fs (link_at next.concentrator station) (link_at new.concentrator station) more) one.kept.now h.all,
+        subst (λ (n : ℕ). HearsAll n fs (link_at next.concentrator station) (link_at new.concentrator station) more)
+            (ap (λ b. b.now) one.kept.beside_is) h.all,
       );
       kept = join_below station [] [] old next new one.kept h.kept;
       controls = h.controls ∙ one.controls;

@@ -23,6 +23,7 @@ use Rattle.dnp_objects.specs.declared.command.Command.{Command}
 use Rattle.dnp_outstation.specs.Connection.{is_last_request}
 use Rattle.dnp_outstation.specs.State.{is_free, is_quiet}
 use Rattle.dnp_world.specs.Arriving.{IsClearOn, channel_at, channel_on}
+use Rattle.dnp_world.specs.Behind.{Elsewhere}
 use Rattle.dnp_world.specs.Channels.{ChannelState, are_quiet}
 use Rattle.dnp_world.specs.CommandWidths.{HasWidths}
 use Rattle.dnp_world.specs.ControlExchanges.{CanBegin}
@@ -46,7 +47,7 @@ pub record CleanLaws : Type 0 where
   pub controls : ControlLaws
   pub decides : IsEqualityTest command_eq
   pub arriving : ArrivingLaws
-  pub quiet : (on : Link) (s : System) → IsStanding s → is_quiet_on s on ≡ true → IsClearOn on s
+  pub quiet : (on : Link) (s : System) {el : Elsewhere} → IsStanding el s → is_quiet_on s on ≡ true → IsClearOn on s
   pub performs : PerformsLaw
   pub sound : SoundLaw
 
@@ -121,8 +122,8 @@ added_next book station command none =
     ∙ ap (λ (o : Option Entry). option_or o (next_of (e ∷ []) station)) none
     ∙ ap (λ (b : Bool). cond b (Some e) None) (eq-eqb station station refl)
 
-pub below_begins : (old s : System) (station : ℕ) (was : SubstationState) (entry : Entry) → IsStanding old → is_quiet_on old (Below station) ≡ true
-    → slice_get old.substations station ≡ Some was → (link_at old.concentrator station).progress ≡ None
+pub below_begins : (old s : System) {el : Elsewhere} (station : ℕ) (was : SubstationState) (entry : Entry) → IsStanding el old
+    → is_quiet_on old (Below station) ≡ true → slice_get old.substations station ≡ Some was → (link_at old.concentrator station).progress ≡ None
     → s.concentrator.links ≡ old.concentrator.links → next_of s.concentrator.controls.entries station ≡ Some entry → IsSound s.concentrator.controls
     → HasWidths entry.command → CanBegin station entry (ends_below station s was [])
 below_begins old s station was entry h quiet there free links next sound widths =

@@ -12,6 +12,7 @@ use Rattle.dnp_controls.specs.declared.book.Entry.{Entry}
 use Rattle.dnp_controls.specs.declared.book.State.TheVariants.{Pending}
 use Rattle.dnp_objects.specs.declared.command.Command.{Command}
 use Rattle.dnp_world.specs.Arriving.{UnderWay}
+use Rattle.dnp_world.specs.Behind.{Elsewhere}
 use Rattle.dnp_world.specs.CommandWidths.{HasWidths}
 use Rattle.dnp_world.specs.ControlExchanges.{status_at}
 use Rattle.dnp_world.specs.ControlMoves.{ControlMoves}
@@ -19,10 +20,10 @@ use Rattle.dnp_world.specs.Controls.{AtCentre, AtConcentrator, CanGo, IsAccepted
 use Rattle.dnp_world.specs.ControlsInStep.{InStep}
 use Rattle.dnp_world.specs.Rounds.{is_quiet_at, is_quiet_on}
 use Rattle.dnp_world.specs.SystemStanding.{IsStanding}
-use Rattle.dnp_world.specs.Systems.{CentreState, History, SubstationState, System, has_station, link_at}
-use Rattle.dnp_world.specs.declared.event.Link.TheVariants.{Above, Below}
+use Rattle.dnp_world.specs.Systems.{SubstationState, System, has_station, link_at}
+use Rattle.dnp_world.specs.declared.event.Link.TheVariants.{Below}
 use Rattle.dnp_world.proofs.ControlBooks.{next_found as next_is_found}
-use Rattle.dnp_world.proofs.ControlsAbove.{AboveKeeps, KeptAbove, ends_above, over_above}
+use Rattle.dnp_world.proofs.ControlsAbove.{KeepsAround, KeptAbove, ends_above, on, over_above}
 use Rattle.dnp_world.proofs.ControlsAccepted.{Accepted, Begins, accepted_over}
 use Rattle.dnp_world.proofs.ControlsBelow.{KeptBelow}
 use Rattle.dnp_world.proofs.ControlsClean.{CleanLaws, added_next, below_begins, free_above, free_below, next_above, none_is, none_mapped, plain_low, relay_low, relayed_some, same_lines, there_of}
@@ -33,7 +34,7 @@ use Rattle.dnp_world.proofs.RelaySteps.{next_has}
 use Rattle.dnp_world.proofs.RelayWidths.{below_fits}
 use Rattle.dnp_world.proofs.StepBooks.{added_carries, next_found}
 
-module _ (laws : CleanLaws) (old : System) (standing : IsStanding old) (steps : InStep old) (entry : Entry)
+module _ (laws : CleanLaws) (old : System) {el : Elsewhere} (standing : IsStanding el old) (steps : InStep old) (entry : Entry)
     (next : next_of old.centre.orders.entries 0 ≡ Some entry) (goes : is_free_for entry.id old.centre.link.progress ≡ true) where
   widths : HasWidths entry.command
   widths = (next_has (λ (e : Entry). HasWidths e.command) old.centre.orders.entries 0 entry steps.widths next).0
@@ -47,25 +48,25 @@ module _ (laws : CleanLaws) (old : System) (standing : IsStanding old) (steps : 
   AcceptedAbove above =
       Accepted entry.id (relay_check old.indices entry.command) entry.command (KeptAbove old.indices) (λ s. s.centre.orders) old above
 
-  above_accepted : (above : System) → is_quiet_on old Above ≡ true → IsAccepted Above (Some entry.id) old above → AcceptedAbove above
+  above_accepted : (above : System) → is_quiet_on old on ≡ true → IsAccepted on (Some entry.id) old above → AcceptedAbove above
   unfolding over_above
   above_accepted above quiet a =
-      accepted_over laws.controls Above 0 (relay_check old.indices entry.command) entry (over_above laws.arriving old.indices entry.id entry.command)
+      accepted_over laws.controls on 0 (relay_check old.indices entry.command) entry (over_above laws.arriving old.indices entry.id entry.command)
       (relay_low old.indices entry.command) old above (ends_above old [])
-      (record { going = []; is = refl; under = laws.quiet Above old standing quiet; spans_are = standing.of_plan.middle_indices })
+      (record { going = []; is = refl; under = laws.quiet on old standing quiet; spans_are = standing.of_plan.middle_indices })
       (above_starts laws.decides old entry standing steps quiet next goes) (next_found old.centre.orders.entries 0 entry steps.orders.rising next) pending a
 
   -- what a status above ends has operated nothing
-  above_rests : (new : System) (status : ℕ) → is_quiet_on old Above ≡ true → IsRefusedOn Above (Some entry.id) status old new
+  above_rests : (new : System) (status : ℕ) → is_quiet_on old on ≡ true → IsRefusedOn on (Some entry.id) status old new
       → new.history.operated ≡ old.history.operated
   unfolding over_above
   above_rests new status quiet refused =
       let kept : KeptAbove old.indices [] old new =
-      refused_over laws.controls Above 0 (relay_check old.indices entry.command) entry (over_above laws.arriving old.indices entry.id entry.command)
+      refused_over laws.controls on 0 (relay_check old.indices entry.command) entry (over_above laws.arriving old.indices entry.id entry.command)
       (relay_low old.indices entry.command) old new (ends_above old []) status
-      (record { going = []; is = refl; under = laws.quiet Above old standing quiet; spans_are = standing.of_plan.middle_indices })
+      (record { going = []; is = refl; under = laws.quiet on old standing quiet; spans_are = standing.of_plan.middle_indices })
       (above_starts laws.decides old entry standing steps quiet next goes) (next_found old.centre.orders.entries 0 entry steps.orders.rising next) pending refused in
-      ap (λ (h : History). h.operated) kept.keeps.history
+      ap (λ a. a.history.operated) kept.keeps
 
   -- ---- below
 
@@ -77,8 +78,11 @@ module _ (laws : CleanLaws) (old : System) (standing : IsStanding old) (steps : 
     its : Entry
     its = record { id = old.concentrator.controls.last_id + 1; target = station; command = command; state = Pending }
 
-    keeps : AboveKeeps old above
+    keeps : KeepsAround old above
     keeps = accepted.kept.keeps
+
+    links : above.concentrator.links ≡ old.concentrator.links
+    links = ap (λ a. a.links) keeps
 
     controls : above.concentrator.controls ≡ added old.concentrator.controls station command
     controls = accepted.kept.controls ∙ ap (added_for old.concentrator.controls) is
@@ -95,7 +99,7 @@ module _ (laws : CleanLaws) (old : System) (standing : IsStanding old) (steps : 
         let clear : UnderWay (Below station) [] [] old = laws.quiet (Below station) old standing quiet in
         record {
           channel = clear.channel;
-          there = same_lines old above station keeps.substations keeps.links ∙ clear.there;
+          there = same_lines old above station (ap (λ a. a.substations) keeps) links ∙ clear.there;
           down_is = clear.down_is;
           up_is = clear.up_is;
         }
@@ -114,7 +118,7 @@ module _ (laws : CleanLaws) (old : System) (standing : IsStanding old) (steps : 
         (plain_low was.outputs.outputs was.outputs.setpoints command) above new (ends_below station above was [])
         (record {
           was = was;
-          there = ap (λ (xs : List SubstationState). slice_get xs station) keeps.substations ∙ there;
+          there = ap (λ a. slice_get a.substations station) keeps ∙ there;
           going = [];
           is = refl;
           under = under;
@@ -122,7 +126,7 @@ module _ (laws : CleanLaws) (old : System) (standing : IsStanding old) (steps : 
           outputs_are = refl;
           setpoints_are = refl;
         })
-        (Begins (below_begins old above station was its standing quiet there free keeps.links its_next
+        (Begins (below_begins old above station was its standing quiet there free links its_next
         (subst (λ (b : Ledger). IsSound b) (sym controls) ((added_carries laws.sound old.concentrator.controls station command).sound steps.controls))
         (below_fits old.indices entry.command (station, command) widths is)))
         (next_found above.concentrator.controls.entries station its
@@ -140,7 +144,7 @@ module _ (laws : CleanLaws) (old : System) (standing : IsStanding old) (steps : 
         (plain_low was.outputs.outputs was.outputs.setpoints command) above new (ends_below station above was []) status
         (record {
           was = was;
-          there = ap (λ (xs : List SubstationState). slice_get xs station) keeps.substations ∙ there;
+          there = ap (λ a. slice_get a.substations station) keeps ∙ there;
           going = [];
           is = refl;
           under = under;
@@ -148,13 +152,13 @@ module _ (laws : CleanLaws) (old : System) (standing : IsStanding old) (steps : 
           outputs_are = refl;
           setpoints_are = refl;
         })
-        (Begins (below_begins old above station was its standing quiet there free keeps.links its_next
+        (Begins (below_begins old above station was its standing quiet there free links its_next
         (subst (λ (b : Ledger). IsSound b) (sym controls) ((added_carries laws.sound old.concentrator.controls station command).sound steps.controls))
         (below_fits old.indices entry.command (station, command) widths is)))
         (next_found above.concentrator.controls.entries station its
         (subst (λ (b : Ledger). IsSound b) (sym controls) ((added_carries laws.sound old.concentrator.controls station command).sound steps.controls)).rising
         its_next) refl (subst (λ (o : Option ℕ). IsRefusedOn (Below station) o status above new) its_id refused) in
-        kept.operated ∙ append-nil above.history.operated ∙ ap (λ (h : History). h.operated) keeps.history
+        kept.operated ∙ append-nil above.history.operated ∙ ap (λ a. a.history.operated) keeps
 
     moved : (new : System) → found_in old.centre.orders.entries entry.id ≡ Some entry
         → IsAccepted (Below station) (next_below above station) above new → ControlMoves entry.id old new
@@ -165,8 +169,8 @@ module _ (laws : CleanLaws) (old : System) (standing : IsStanding old) (steps : 
           station = station;
           command = command;
           ordered = ap (option_and_then (λ (e : Entry). command_below old.indices e.command)) found ∙ is;
-          operated = b.kept.operated ∙ ap (λ (h : History). h.operated ++ (station, command) ∷ []) keeps.history;
-          above = ap (λ (c : CentreState). status_at c.orders entry.id) b.kept.centre ∙ accepted.says;
+          operated = b.kept.operated ∙ ap (λ a. a.history.operated ++ (station, command) ∷ []) keeps;
+          above = ap (λ x. status_at x.centre.orders entry.id) b.kept.beside_is ∙ accepted.says;
           below = b.says;
         }
 
@@ -179,7 +183,7 @@ module _ (laws : CleanLaws) (old : System) (standing : IsStanding old) (steps : 
       → are_quiet_for old (Some station) ≡ true → is_free_below old (Some station) ≡ true → IsControlFor (Some station) entry.id old new
       → ControlMoves entry.id old new
   goes_below station command new is quiet free (above, first, second) =
-      let both = and_parts (is_quiet_on old Above) (is_quiet_on old (Below station)) quiet in
+      let both = and_parts (is_quiet_on old on) (is_quiet_on old (Below station)) quiet in
       let frees = and_parts _ _ free in
       let ends = and_parts (has_station old station) _ both.1 in
       let rests = and_parts _ (is_quiet_at (slice_get old.substations station)) ends.1 in
@@ -188,10 +192,10 @@ module _ (laws : CleanLaws) (old : System) (standing : IsStanding old) (steps : 
       (none_is (link_at old.concentrator station).progress frees.1) both.1 was there new found second
 
   rests_below : (station : ℕ) (command : Command) (above new : System) (status : ℕ) → command_below old.indices entry.command ≡ Some (station, command)
-      → are_quiet_for old (Some station) ≡ true → is_free_below old (Some station) ≡ true → IsAccepted Above (Some entry.id) old above
+      → are_quiet_for old (Some station) ≡ true → is_free_below old (Some station) ≡ true → IsAccepted on (Some entry.id) old above
       → IsRefusedOn (Below station) (next_below above station) status above new → new.history.operated ≡ old.history.operated
   rests_below station command above new status is quiet free first refused =
-      let both = and_parts (is_quiet_on old Above) (is_quiet_on old (Below station)) quiet in
+      let both = and_parts (is_quiet_on old on) (is_quiet_on old (Below station)) quiet in
       let frees = and_parts _ _ free in
       let ends = and_parts (has_station old station) _ both.1 in
       let rests = and_parts _ (is_quiet_at (slice_get old.substations station)) ends.1 in
@@ -207,9 +211,9 @@ module _ (laws : CleanLaws) (old : System) (standing : IsStanding old) (steps : 
       ap (option_and_then (λ (x : Entry). option_map (λ (p : ℕ × Command). p.0) (command_below old.indices x.command))) found
       ∙ ap (option_map (λ (p : ℕ × Command). p.0)) e
 
-  above_quiet : (o : Option ℕ) → are_quiet_for old o ≡ true → is_quiet_on old Above ≡ true
+  above_quiet : (o : Option ℕ) → are_quiet_for old o ≡ true → is_quiet_on old on ≡ true
   above_quiet None quiet = quiet
-  above_quiet (Some station) quiet = (and_parts (is_quiet_on old Above) (is_quiet_on old (Below station)) quiet).0
+  above_quiet (Some station) quiet = (and_parts (is_quiet_on old on) (is_quiet_on old (Below station)) quiet).0
 
   refused_entry : (new : System) (status : ℕ) → are_quiet_for old (station_in old entry.id) ≡ true → is_free_below old (station_in old entry.id) ≡ true
       → IsRefusedControl entry.id status old new → new.history.operated ≡ old.history.operated
@@ -239,13 +243,14 @@ module _ (laws : CleanLaws) (old : System) (standing : IsStanding old) (steps : 
           (subst (λ (x : Option ℕ). is_free_below old x ≡ true) (station_is (Some p) e) free)
           (subst (λ (x : Option ℕ). IsControlFor x entry.id old new) (station_is (Some p) e) control)
 
-pub clean_moves : CleanLaws → (id : ℕ) (old new : System) → IsStanding old → InStep old → CanGo id old → IsControl id old new → ControlMoves id old new
+pub clean_moves : CleanLaws → (id : ℕ) (old new : System) {el : Elsewhere} → IsStanding el old → InStep old → CanGo id old → IsControl id old new
+    → ControlMoves id old new
 clean_moves laws id old new standing steps can control =
     let n = next_above old id can.1 in
     subst (λ (i : ℕ). CanGo i old → IsControl i old new → ControlMoves i old new) n.id_is
     (λ can control. clean_entry laws old standing steps n.entry n.next (free_above old n.entry.id can.1) new can.0 (free_below old n.entry.id can.1) control) can control
 
-pub refused_rests : CleanLaws → (id status : ℕ) (old new : System) → IsStanding old → InStep old → CanGo id old
+pub refused_rests : CleanLaws → (id status : ℕ) (old new : System) {el : Elsewhere} → IsStanding el old → InStep old → CanGo id old
     → IsRefusedControl id status old new → new.history.operated ≡ old.history.operated
 refused_rests laws id status old new standing steps can control =
     let n = next_above old id can.1 in

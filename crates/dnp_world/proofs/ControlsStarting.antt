@@ -15,6 +15,7 @@ use Rattle.dnp_objects.specs.Counts.{IsEqualityTest}
 use Rattle.dnp_objects.specs.Equality.{command_eq}
 use Rattle.dnp_objects.specs.declared.command.Command.{Command}
 use Rattle.dnp_outstation.specs.State.{holds_read, is_free, is_quiet}
+use Rattle.dnp_world.specs.Behind.{Elsewhere}
 use Rattle.dnp_world.specs.Channels.{are_quiet}
 use Rattle.dnp_world.specs.CommandWidths.{HasWidths}
 use Rattle.dnp_world.specs.ControlAnswers.{ConfirmsReport}
@@ -43,8 +44,8 @@ open_not_held : (b : Bool) → not b ≡ true → b ≡ false
 open_not_held true e = absurd (cc)
 open_not_held false e = refl
 
-module _ (equal : IsEqualityTest command_eq) (s : System) (entry : Entry) (h : IsStanding s) (steps : InStep s) (quiet : is_quiet_on s Above ≡ true)
-    (next : next_of s.centre.orders.entries 0 ≡ Some entry) where
+module _ (equal : IsEqualityTest command_eq) (s : System) {el : Elsewhere} (entry : Entry) (h : IsStanding el s) (steps : InStep s)
+    (quiet : is_quiet_on s Above ≡ true) (next : next_of s.centre.orders.entries 0 ≡ Some entry) where
   abbrev ends : Ends
   ends = ends_above s []
 
@@ -142,7 +143,7 @@ module _ (equal : IsEqualityTest command_eq) (s : System) (entry : Entry) (h : I
   by_progress None there free g = Begins (begins (rw (idle, there, next) refl))
   by_progress (Some p) there free g = by_stage p there (eqb-true p.id entry.id free) g p.stage refl
 
-pub above_starts : IsEqualityTest command_eq → (s : System) (entry : Entry) → IsStanding s → InStep s → is_quiet_on s Above ≡ true
+pub above_starts : IsEqualityTest command_eq → (s : System) {el : Elsewhere} (entry : Entry) → IsStanding el s → InStep s → is_quiet_on s Above ≡ true
     → next_of s.centre.orders.entries 0 ≡ Some entry → is_free_for entry.id s.centre.link.progress ≡ true → Starts 0 entry (ends_above s [])
 above_starts equal s entry h steps quiet next free =
     by_progress equal s entry h steps quiet next s.centre.link.progress refl free steps.above

@@ -18,7 +18,7 @@ use Rattle.dnp_world.specs.declared.event.Link.TheVariants.{Below}
 use Rattle.dnp_world.proofs.ArrivingLinks.{length_set}
 use Rattle.dnp_world.proofs.ControlsAbove.{ArrivingLaws}
 use Rattle.dnp_world.proofs.ControlsAccepted.{Back, IsTaken, OverLink, SaysSuccess, Told}
-use Rattle.dnp_world.proofs.ControlsBelow.{DownBelow, KeptBelow, PerformsLaw, UpBelow, below_down, below_up, join_below, on_lines, same_below}
+use Rattle.dnp_world.proofs.ControlsBelow.{DownBelow, KeptBelow, PerformsLaw, UpBelow, below_down, below_up, beside, join_below, on_lines, same_below}
 use Rattle.dnp_world.proofs.ListedAt.{set_here}
 use Rattle.dnp_world.proofs.SystemPlans.{link_here}
 
@@ -82,8 +82,7 @@ relayed_below laws station was old relayed going there long under (Steps pending
       under = laws.asked (Below station) requests going [] link (told old (Below station) step) relayed still sends;
       link = ap (λ (s : System). link_at s.concentrator station) sends.after ∙ link_here old.concentrator.links station link long;
       controls = ap (λ (s : System). s.concentrator.controls) sends.after;
-      kept = same_below station old relayed (ap (λ (s : System). s.indices) sends.after) (ap (λ (s : System). s.now) sends.after)
-          (ap (λ (s : System). s.centre) sends.after) (ap (λ (s : System). s.concentrator.indices) sends.after)
+      kept = same_below station old relayed (ap beside sends.after)
           (ap (λ (s : System). length s.concentrator.links) sends.after ∙ length_set old.concentrator.links station link)
           (ap (λ (s : System). s.history.operated) sends.after);
     }
@@ -118,6 +117,7 @@ back_from laws law station id command outputs setpoints was old new going there 
     let check_is : plain_check r.is.outputs.outputs r.is.outputs.setpoints command ≡ check =
     ap (λ (n : ℕ). plain_check n r.is.outputs.setpoints command) outputs_is ∙ ap (λ (n : ℕ). plain_check outputs n command) setpoints_is in
     let Kinds : ℕ → Panel → Type 0 = λ n. ChecksAs command n in
+    let now_is : p.relayed.now ≡ old.now = ap (λ b. b.now) r.kept.beside_is in
     record {
       after = ends_below station new u.is confirms;
       now = old.now;
@@ -134,12 +134,13 @@ back_from laws law station id command outputs setpoints was old new going there 
       };
       goes = record {
         sent = answers;
-        answered = subst (λ (n : ℕ). AnswersAll n (Kinds check) (going ++ requests) (station_of was) (station_of u.is) answers d.commands) r.kept.now
+        answered = subst (λ (n : ℕ). AnswersAll n (Kinds check) (going ++ requests) (station_of was) (station_of u.is) answers d.commands) now_is
             (subst (λ (x : State). AnswersAll p.relayed.now (Kinds check) (going ++ requests) x (station_of u.is) answers d.commands)
             (ap station_of r.is_as)
             (subst (λ (x : State). AnswersAll p.relayed.now (Kinds check) (going ++ requests) (station_of r.is) x answers d.commands) (sym u.stays)
             (subst (λ (n : ℕ). AnswersAll p.relayed.now (Kinds n) (going ++ requests) (station_of r.is) (station_of d.is) answers d.commands) check_is d.all)));
-        heard = subst (λ (n : ℕ). HearsAll n answers link (link_at new.concentrator station) confirms) (d.kept.now ∙ r.kept.now)
+        heard = subst (λ (n : ℕ). HearsAll n answers link (link_at new.concentrator station) confirms)
+            (ap (λ b. b.now) d.kept.beside_is ∙ now_is)
             (subst (λ (x : Relaying). HearsAll p.answered.now answers x (link_at new.concentrator station) confirms)
             (ap (λ c. link_at c station) d.concentrator ∙ r.link) u.all);
         told = u.controls ∙ ap (λ c. c.controls) d.concentrator ∙ r.controls;

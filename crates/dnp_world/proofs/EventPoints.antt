@@ -27,7 +27,7 @@ use Rattle.dnp_world.proofs.JoinedHappenings.{moved_all, refused_change, rows_be
 use Rattle.dnp_world.proofs.JoinedPoints.{PointLaws, end_points, opened_leaves, received_leaves, ticked_leaves}
 use Rattle.dnp_world.proofs.ListedAt.{set_here, set_there}
 use Rattle.dnp_world.proofs.SystemCounts.{of_station-at, of_station-other}
-use Rattle.dnp_world.proofs.Touches.{AllHangUp, Call, Called, CentreRelays, CentreUsed, Ends, HangsUp, Hears, Issues, LinkRelays, LinkUsed, Nobody, Nothing, Opens, Outstation, Performs, Reads, Refused, Restarts, Ticks, Touched, Used, Waits, after_call, after_called, after_used, at_only, ends_of, moves_in, moves_of}
+use Rattle.dnp_world.proofs.Touches.{AllHangUp, Call, Called, Ends, HangsUp, Hears, LinkRelays, LinkUsed, Nobody, Opens, Outstation, Reads, Refused, Restarts, Ticks, Touched, Used, Waits, after_call, after_called, after_used, at_only, ends_of, moves_in, moves_of}
 
 -- ---- the points after a call
 
@@ -132,14 +132,10 @@ called_length xs (Outstation station was call there) = length-set xs station (af
 called_length xs (Refused station was kind index reading fault there refused) = refl
 
 links_length : (e : Ends) (used : Used e) → length (after_used e used).links ≡ length e.links
-links_length e Nothing = refl
 links_length e (LinkUsed station call) = length-set e.links station _
-links_length e (CentreUsed call) = refl
 links_length e (LinkRelays station now) = length-set e.links station _
-links_length e (CentreRelays now) = refl
-links_length e (Performs spans commands) = refl
-links_length e (Issues station command above is fits) = refl
 links_length e AllHangUp = length-map e.links _
+links_length e used = refl
 
 same_stations : (old new : System) → Touched old new → (station : ℕ) → has_station new station ≡ has_station old station
 same_stations old new t station =

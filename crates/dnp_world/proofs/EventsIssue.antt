@@ -19,29 +19,18 @@ use Rattle.dnp_world.proofs.EventTouches.{Does, does}
 use Rattle.dnp_world.proofs.Lasting.{all_taken, control_leaves, ran_round}
 use Rattle.dnp_world.proofs.SystemControls.{IsOfControl}
 use Rattle.dnp_world.proofs.SystemRounds.{IsOfRound, Ran, StopsIn, stops_round}
-use Rattle.dnp_world.proofs.Touches.{AllHangUp, CentreRelays, CentreUsed, Ends, Issues as IssuesOne, LinkRelays, LinkUsed, Nothing, Performs, Used, after_used, ends_of, issued_in}
+use Rattle.dnp_world.proofs.SystemRuns.{at_a_stop}
+use Rattle.dnp_world.proofs.Touches.{Ends, Issues as IssuesOne, Used, after_used, ends_of, issued_in}
 
 -- ---- one event
 
 used_issues : (e : Ends) (used : Used e) → (after_used e used).issued ≡ e.issued ++ issued_in used
-used_issues e Nothing = sym (append-nil e.issued)
-used_issues e (LinkUsed station call) = sym (append-nil e.issued)
-used_issues e (CentreUsed call) = sym (append-nil e.issued)
-used_issues e (LinkRelays station now) = sym (append-nil e.issued)
-used_issues e (CentreRelays now) = sym (append-nil e.issued)
-used_issues e (Performs spans commands) = sym (append-nil e.issued)
 used_issues e (IssuesOne station command above is fits) = refl
-used_issues e AllHangUp = sym (append-nil e.issued)
+used_issues e used = sym (append-nil e.issued)
 
 same_map : (e : Ends) (used : Used e) → (after_used e used).centre_indices ≡ e.centre_indices
-same_map e Nothing = refl
-same_map e (LinkUsed station call) = refl
-same_map e (CentreUsed call) = refl
-same_map e (LinkRelays station now) = refl
-same_map e (CentreRelays now) = refl
-same_map e (Performs spans commands) = refl
 same_map e (IssuesOne station command above is fits) = refl
-same_map e AllHangUp = refl
+same_map e used = refl
 
 event_issues : (old new : System) (e : Event) → Happens old e new → new.history.issued ≡ old.history.issued ++ issued_by old e
 event_issues old new e h =
@@ -77,19 +66,9 @@ ran_issues (e ∷ events) old new (next, h, ran) =
 
 -- an event at which a list stops issues nothing
 stop_issues : (e : Event) (old new : System) → CountsFor old e new → new.history.issued ≡ old.history.issued
-stop_issues (event.Deliver on way) old new h = event_issues old new (event.Lose on way) h ∙ append-nil old.history.issued
-stop_issues (event.Open on) old new same = ap (λ (s : System). s.history.issued) same
-stop_issues (event.HangUp on end) old new same = ap (λ (s : System). s.history.issued) same
-stop_issues (event.Repeat on way) old new same = ap (λ (s : System). s.history.issued) same
-stop_issues (event.Lose on way) old new same = ap (λ (s : System). s.history.issued) same
-stop_issues (event.Damage on way octets) old new same = ap (λ (s : System). s.history.issued) same
-stop_issues (event.Change station kind index reading) old new same = ap (λ (s : System). s.history.issued) same
-stop_issues (event.Ask on task) old new same = ap (λ (s : System). s.history.issued) same
-stop_issues (event.Issue station command) old new same = ap (λ (s : System). s.history.issued) same
-stop_issues (event.Relay on) old new same = ap (λ (s : System). s.history.issued) same
-stop_issues (event.Pass ms) old new same = ap (λ (s : System). s.history.issued) same
-stop_issues (event.Tick on end) old new same = ap (λ (s : System). s.history.issued) same
-stop_issues (event.Restart place) old new same = ap (λ (s : System). s.history.issued) same
+stop_issues =
+    at_a_stop (λ was is. is.history.issued ≡ was.history.issued)
+    (λ on way was is h. event_issues was is (event.Lose on way) h ∙ append-nil was.history.issued) (λ was is same. ap (λ (s : System). s.history.issued) same)
 
 so_far_issues : (events : List Event) (old before new : System) (event : Event) → RunsTo old events before → CountsFor before event new
     → Issues events old new

@@ -14,7 +14,7 @@ use Rattle.dnp_controls.specs.declared.book.Entry.{Entry}
 use Rattle.dnp_eventbuf.specs.Buffered.{buffered_row}
 use Rattle.dnp_concentrator.specs.declared.span.Spans.{Spans}
 use Rattle.dnp_concentrator.specs.Mapped.{row_below, command_below}
-use Rattle.dnp_world.specs.Behind.{Links, IsBehind, rows_of}
+use Rattle.dnp_world.specs.Behind.{Elsewhere, Links, IsBehind, rows_of}
 use Rattle.dnp_world.specs.Kept.{Kept, shown_of, rows_below, commands_below, is_used, order_of, command_of, used_orders, commands_in, used_commands}
 use Rattle.dnp_world.specs.Link.{Link}
 use Rattle.dnp_world.specs.Reports.{Holds, happened, times}
@@ -71,7 +71,7 @@ took_stood laws l stands test some =
 -- ---- what happened
 
 -- what happened at a substation is what ever stood in its lanes
-pub happened_stood : LinkLaws → (indices : List Spans) (links : Links) (k : Kept) → IsBehind indices links k → (i : ℕ)
+pub happened_stood : LinkLaws → (indices : List Spans) {el : Elsewhere} (links : Links) (k : Kept) → IsBehind indices el links k → (i : ℕ)
     → HasSameCounts (rows_of (links.below i).stood) (of_station i (happened (shown_of indices k)))
 happened_stood laws indices links k b i =
     let l : Link = links.below i in
@@ -95,7 +95,7 @@ happened_stood laws indices links k b i =
 -- ---- nothing is invented
 
 -- a row that stood in the queue was taken below, so it stood in its substation's lanes
-stood_happened : LinkLaws → (indices : List Spans) (links : Links) (k : Kept) → IsBehind indices links k → (x : ℕ × Row)
+stood_happened : LinkLaws → (indices : List Spans) {el : Elsewhere} (links : Links) (k : Kept) → IsBehind indices el links k → (x : ℕ × Row)
     → 0 < count_by (λ row. passes (pair_eq nat_eq row_eq x) (row_below indices row)) (rows_of links.above.stood)
     → 0 < times x (happened (shown_of indices k))
 stood_happened laws indices links k b x stood =
@@ -108,7 +108,7 @@ stood_happened laws indices links k b x stood =
     omega (arith, below, (happened_stood laws indices links k b x.0).same (row_eq x.1), count_pair row_eq x all)
 
 -- a row of the journal was taken above, so it stood in the queue
-journal_happened : LinkLaws → (indices : List Spans) (links : Links) (k : Kept) → IsBehind indices links k → (x : ℕ × Row)
+journal_happened : LinkLaws → (indices : List Spans) {el : Elsewhere} (links : Links) (k : Kept) → IsBehind indices el links k → (x : ℕ × Row)
     → 0 < times x (rows_below indices k.journal) → 0 < times x (happened (shown_of indices k))
 journal_happened laws indices links k b x some =
     let test : Row → Bool = λ row. passes (pair_eq nat_eq row_eq x) (row_below indices row) in
@@ -116,7 +116,7 @@ journal_happened laws indices links k b x some =
     stood_happened laws indices links k b x
     (took_stood laws links.above b.above_stands test (omega (arith, some, counted, b.journal.same test)))
 
-nothing_invented : Laws → (indices : List Spans) (links : Links) (k : Kept) → IsBehind indices links k
+nothing_invented : Laws → (indices : List Spans) {el : Elsewhere} (links : Links) (k : Kept) → IsBehind indices el links k
     → All (λ x. 1 ≤ times x (happened (shown_of indices k))) (rows_below indices k.journal)
 nothing_invented laws indices links k b =
     let journal : List (ℕ × Row) = rows_below indices k.journal in
@@ -127,7 +127,7 @@ nothing_invented laws indices links k b =
 -- ---- what stands in the queue
 
 -- a row of the queue stood there
-pub queue_happened : LinkLaws → (indices : List Spans) (links : Links) (k : Kept) → IsBehind indices links k → (x : ℕ × Row)
+pub queue_happened : LinkLaws → (indices : List Spans) {el : Elsewhere} (links : Links) (k : Kept) → IsBehind indices el links k → (x : ℕ × Row)
     → 0 < times x (rows_below indices k.queue) → 0 < times x (happened (shown_of indices k))
 queue_happened laws indices links k b x some =
     let test : Row → Bool = λ row. passes (pair_eq nat_eq row_eq x) (row_below indices row) in
@@ -162,11 +162,12 @@ least : (test : Row → Bool) (rows : List Row) → count_by test rows ≤ count
 least test rows = omega (arith, counted_all rows, count_by-le-length test rows)
 
 -- as all rows that stood in the queue have
-stood_mapped : (indices : List Spans) (links : Links) (k : Kept) → IsBehind indices links k
+stood_mapped : (indices : List Spans) {el : Elsewhere} (links : Links) (k : Kept) → IsBehind indices el links k
     → length (rows_below indices (rows_of links.above.stood)) ≡ length (rows_of links.above.stood)
 stood_mapped indices links k b = omega (arith, b.mapped, length-map links.above.stood buffered_row)
 
-pub queue_mapped : LinkLaws → (indices : List Spans) (links : Links) (k : Kept) → IsBehind indices links k → length (rows_below indices k.queue) ≡ length k.queue
+pub queue_mapped : LinkLaws → (indices : List Spans) {el : Elsewhere} (links : Links) (k : Kept) → IsBehind indices el links k
+    → length (rows_below indices k.queue) ≡ length k.queue
 queue_mapped laws indices links k b =
     let l : Link = links.above in
     part_mapped indices (rows_of l.stood) k.queue (λ test. count_by test (rows_of l.released) + count_by test (rows_of l.left))
@@ -185,7 +186,7 @@ both_counts test (row ∷ rows) =
     omega (arith, count_by-cons test row rows, count_by-cons (λ x. not (test x)) row rows, each_once (test row), both_counts test rows)
 
 -- what was taken above stood in the queue
-pub journal_mapped : LinkLaws → (indices : List Spans) (links : Links) (k : Kept) → IsBehind indices links k
+pub journal_mapped : LinkLaws → (indices : List Spans) {el : Elsewhere} (links : Links) (k : Kept) → IsBehind indices el links k
     → length (rows_below indices k.journal) ≡ length k.journal
 journal_mapped laws indices links k b =
     omega (arith, below k.journal, both_counts mapped k.journal, b.journal.same unmapped, none_taken (cases_lt 0 (count_by unmapped (rows_of l.took))))
@@ -234,7 +235,7 @@ rows_below-parts indices xs ys zs =
     filter_map-append (row_below indices) xs (ys ++ zs)
     ∙ ap (λ (l : List (ℕ × Row)). rows_below indices xs ++ l) (filter_map-append (row_below indices) ys zs)
 
-nothing_vanishes : Laws → (indices : List Spans) (links : Links) (k : Kept) → IsBehind indices links k
+nothing_vanishes : Laws → (indices : List Spans) {el : Elsewhere} (links : Links) (k : Kept) → IsBehind indices el links k
     → IsCoveredBy k.confirmed (rows_below indices k.queue ++ (rows_below indices k.dropped ++ rows_below indices k.journal))
 nothing_vanishes laws indices links k b =
     let came : List (ℕ × Row) = rows_below indices (rows_of links.above.stood) in
@@ -255,7 +256,7 @@ nothing_vanishes laws indices links k b =
 
 -- ---- what was dropped was counted
 
-pub dropped_mapped : LinkLaws → (indices : List Spans) (links : Links) (k : Kept) → IsBehind indices links k
+pub dropped_mapped : LinkLaws → (indices : List Spans) {el : Elsewhere} (links : Links) (k : Kept) → IsBehind indices el links k
     → length (rows_below indices k.dropped) ≡ length k.dropped
 dropped_mapped laws indices links k b =
     let l : Link = links.above in
@@ -271,8 +272,8 @@ commands_entered : (indices : List Spans) (entries : List Entry)
 commands_entered indices entries = covered_filter_map (command_below indices) (used_commands entries) (commands_in entries)
     (picked is_used command_of entries)
 
-no_command_twice : Laws → (indices : List Spans) (links : Links) (k : Kept) → IsBehind indices links k → IsCoveredBy k.operated k.issued
-no_command_twice laws indices links k b =
+no_command_twice : Laws → (indices : List Spans) {el : Elsewhere} (links : Links) (k : Kept) → IsBehind indices el links k → IsCoveredBy k.operated k.issued
+no_command_twice laws indices {el = el} links k b =
     let below : IsCoveredBy k.operated (used_orders k.controls) = covered_by_stations command_eq laws.commands k.operated (used_orders k.controls)
     (λ i. record {
       at_most = λ test. omega (
@@ -292,15 +293,18 @@ no_command_twice laws indices links k b =
             below.at_most test,
             (picked is_used order_of k.controls).at_most test,
             b.relayed.same test,
+            count_by-append test (commands_below indices links.above.performed) (commands_below indices el.performed),
             above.at_most test,
+            b.theirs.entered.at_most test,
             (commands_entered indices k.orders).at_most test,
             b.issued.same test,
+            count_by-append test (commands_below indices (commands_in k.orders)) (commands_below indices (commands_in el.orders)),
           );
     }
 
 -- ---- all of it
 
-pub headline : Laws → (indices : List Spans) (links : Links) (k : Kept) → IsBehind indices links k → Holds (shown_of indices k)
+pub headline : Laws → (indices : List Spans) {el : Elsewhere} (links : Links) (k : Kept) → IsBehind indices el links k → Holds (shown_of indices k)
 headline laws indices links k b = record {
   nothing_invented = nothing_invented laws indices links k b;
   nothing_vanishes = nothing_vanishes laws indices links k b;

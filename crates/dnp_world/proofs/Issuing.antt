@@ -10,7 +10,7 @@ use Rattle.dnp_controls.specs.declared.book.State.TheVariants.{Pending}
 use Rattle.dnp_concentrator.specs.declared.span.Spans.{Spans}
 use Rattle.dnp_concentrator.specs.IndexMap.{IsMap}
 use Rattle.dnp_concentrator.specs.Mapped.{command_above, command_below}
-use Rattle.dnp_world.specs.Behind.{does_nothing, with_links, Turn}
+use Rattle.dnp_world.specs.Behind.{Elsewhere, does_nothing, with_links, Turn}
 use Rattle.dnp_world.specs.Kept.{kept_in, report_of, command_of, commands_below, commands_in, orders_in, used_commands, used_orders}
 use Rattle.dnp_world.specs.Reports.{happened}
 use Rattle.dnp_world.specs.Stations.{of_station}
@@ -29,9 +29,9 @@ Undoes = (spans : List Spans) (station : ℕ) (command above : Command) → IsMa
     → command_below spans above ≡ Some (station, command)
 
 -- nothing happens
-pub same_keeps : (station : ℕ) (s new : System) → IsStanding s → new ≡ s → Keeps station [] s new
-same_keeps station s new h same =
-    subst (λ (x : System). Keeps station [] s x) (sym same)
+pub same_keeps : (station : ℕ) (s new : System) {el : Elsewhere} → IsStanding el s → new ≡ s → Keeps el station [] s new
+same_keeps station s new {el = el} h same =
+    subst (λ (x : System). Keeps el station [] s x) (sym same)
     (record { standing = h; fate = λ i. none_more (of_station i (happened (report_of s))) })
 
 -- ---- a command is issued
@@ -59,7 +59,7 @@ ordered_more undoes s station command above m e =
     (given_first (command_below s.indices) above []
     ∙ ap (λ (o : Option (ℕ × Command)). given o []) (undoes s.indices station command above m e))
 
-issue_turn : Undoes → (s : System) (h : IsStanding s) (station : ℕ) (command above : Command) → IsMap s.indices
+issue_turn : Undoes → (s : System) {el : Elsewhere} (h : IsStanding el s) (station : ℕ) (command above : Command) → IsMap s.indices
     → command_above s.indices station command ≡ Some above → Turn s.indices station h.links (kept_in s) (kept_in (with_order s station command above))
 issue_turn undoes s h station command above m e =
     let used : used_commands (s.centre.orders.entries ++ entry_of_order s above ∷ []) ≡ used_commands s.centre.orders.entries =
@@ -93,8 +93,8 @@ issue_turn undoes s h station command above m e =
           (ordered_more undoes s station command above m e);
     }
 
-issued : TurnLaws → Undoes → (s : System) (h : IsStanding s) (station : ℕ) (command above : Command) → IsMap s.indices
-    → command_above s.indices station command ≡ Some above → Keeps station [] s (with_order s station command above)
+issued : TurnLaws → Undoes → (s : System) {el : Elsewhere} (h : IsStanding el s) (station : ℕ) (command above : Command) → IsMap s.indices
+    → command_above s.indices station command ≡ Some above → Keeps el station [] s (with_order s station command above)
 unfolding issue_turn
 issued laws undoes s h station command above m e =
     let new : System = with_order s station command above in
@@ -112,21 +112,21 @@ issued laws undoes s h station command above m e =
       fate = laws.fate s.indices station h.links (kept_in s) (kept_in new) h.behind t;
     }
 
-pub issues : TurnLaws → Undoes → (old new : System) (station : ℕ) (command : Command) → IsStanding old
-    → IssuesBy (command_above old.centre.indices station command) station command old new → Keeps station [] old new
-issues laws undoes old new station command h e =
+pub issues : TurnLaws → Undoes → (old new : System) {el : Elsewhere} (station : ℕ) (command : Command) → IsStanding el old
+    → IssuesBy (command_above old.centre.indices station command) station command old new → Keeps el station [] old new
+issues laws undoes old new {el = el} station command h e =
     by (command_above old.centre.indices station command) refl e
   where
-    by : (o : Option Command) → command_above old.centre.indices station command ≡ o → IssuesBy o station command old new → Keeps station [] old new
+    by : (o : Option Command) → command_above old.centre.indices station command ≡ o → IssuesBy o station command old new → Keeps el station [] old new
     by None is k = same_keeps station old new h k
     by (Some above) is k =
-        subst (λ (x : System). Keeps station [] old x) (sym k.2)
+        subst (λ (x : System). Keeps el station [] old x) (sym k.2)
         (issued laws undoes old h station command above h.of_plan.is_map
         (ap (λ (spans : List Spans). command_above spans station command) (sym h.of_plan.centre_indices) ∙ is))
 
 -- ---- time passes
 
-joined_at : (now : ℕ) (s : System) (h : IsStanding s) (i : ℕ) (o : Option SubstationState)
+joined_at : (now : ℕ) (s : System) {el : Elsewhere} (h : IsStanding el s) (i : ℕ) (o : Option SubstationState)
     → IfSome o (IsJoinedBelow s.now (link_at s.concentrator i) (h.links.below i)) → IfSome o (IsJoinedBelow now (link_at s.concentrator i) (h.links.below i))
 joined_at now s h i None j = j
 joined_at now s h i (Some substation) j = record {
@@ -134,9 +134,9 @@ joined_at now s h i (Some substation) j = record {
   shown = j.shown;
 }
 
-pub passes : (old new : System) (now : ℕ) (station : ℕ) → IsStanding old → new ≡ record old { now = now } → Keeps station [] old new
-passes old new now station h e =
-    subst (λ (x : System). Keeps station [] old x) (sym e)
+pub passes : (old new : System) {el : Elsewhere} (now : ℕ) (station : ℕ) → IsStanding el old → new ≡ record old { now = now } → Keeps el station [] old new
+passes old new {el = el} now station h e =
+    subst (λ (x : System). Keeps el station [] old x) (sym e)
     (record {
       standing = record {
         plan = h.plan;

@@ -90,16 +90,7 @@ counts_follows : {Sink : Type 0} → Laws → (takes : Sink → List Row → Lis
     → Stands l → Joined others s l → CountsFor takes s e new → Follows others [] [] s.outstation.performed l new
 counts_follows laws takes others s new l (event.Deliver way.Down) stands j h = event_follows laws takes no_panel no_octets others s new l (event.Lose way.Down) stands j h
 counts_follows laws takes others s new l (event.Deliver way.Up) stands j h = event_follows laws takes no_panel no_octets others s new l (event.Lose way.Up) stands j h
-counts_follows laws takes others s new l event.Open stands j h = stays_as others l new s h j
-counts_follows laws takes others s new l (event.HangUp end) stands j h = stays_as others l new s h j
-counts_follows laws takes others s new l (event.Repeat way) stands j h = stays_as others l new s h j
-counts_follows laws takes others s new l (event.Lose way) stands j h = stays_as others l new s h j
-counts_follows laws takes others s new l (event.Damage way octets) stands j h = stays_as others l new s h j
-counts_follows laws takes others s new l (event.Change kind index reading) stands j h = stays_as others l new s h j
-counts_follows laws takes others s new l (event.Ask task) stands j h = stays_as others l new s h j
-counts_follows laws takes others s new l (event.Pass ms) stands j h = stays_as others l new s h j
-counts_follows laws takes others s new l (event.Tick end) stands j h = stays_as others l new s h j
-counts_follows laws takes others s new l (event.Restart end) stands j h = stays_as others l new s h j
+counts_follows laws takes others s new l e stands j h = stays_as others l new s h j
 
 pub stop_follows : {Sink : Type 0} → Laws → (takes : Sink → List Row → List Row → List Row → Sink → Type 0) (keeps : Sink → Sink → Type 0)
     → (others : List Row) (s new : LinkState Sink) (l : Link)

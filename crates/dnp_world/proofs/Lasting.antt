@@ -4,12 +4,13 @@ use Rattle.std.specs.Prelude.{◌≢◌, All, IfErr, OnOk, ⊤}
 use Rattle.std.proofs.Math.Logic.{∥∥₁_elim, ∥∥₁_map}
 use Rattle.std.proofs.Props.{props}
 use Rattle.dnp_objects.specs.declared.row.Row.{Row}
+use Rattle.dnp_world.specs.Behind.{Elsewhere}
 use Rattle.dnp_world.specs.Controls.{ControlEnds, IsControlFor, IsRefusedFor, AtCentre, AtConcentrator, IsRefusedOn, First, Second, Third, IsTold, next_below, station_in}
 use Rattle.dnp_world.specs.Kept.{report_of}
 use Rattle.dnp_world.specs.Reports.{IsFate, Report, happened}
 use Rattle.dnp_world.specs.Rounds.{IsRound, StopsInRound}
 use Rattle.dnp_world.specs.Stations.{HasSameCounts, of_station}
-use Rattle.dnp_world.specs.Steady.{Goes, IsSteady, Lasts, points_at, rows_made_at}
+use Rattle.dnp_world.specs.Steady.{Goes, IsSteadyBeside, Lasts, points_at, rows_made_at}
 use Rattle.dnp_world.specs.SystemRuns.{CountsFor, Happens, RunsTo, StopsAfter}
 use Rattle.dnp_world.specs.Systems.{System}
 use Rattle.dnp_world.specs.declared.event.Event.{Event}
@@ -26,10 +27,12 @@ use Rattle.dnp_world.proofs.Counting.{count_by-append}
 use Rattle.dnp_world.proofs.EventPoints.{made_after, none_made}
 use Rattle.dnp_world.proofs.SystemControls.{IsOfControl, ran_accepted, ran_back, ran_twice, stops_for}
 use Rattle.dnp_world.proofs.SystemRounds.{IsOfRound, Ran, StopsIn, ran_both, ran_flush, ran_one, ran_poll}
+use Rattle.dnp_world.proofs.SystemRuns.{at_a_stop}
 
 -- what the laws of one event and of lists promise
 pub record LastingLaws : Type 0 where
-  pub goes : (old new : System) (event : Event) → IsSteady old → Happens old event new → Goes (rows_made_at old (event ∷ [])) old new
+  pub goes : (old new : System) {el : Elsewhere} (event : Event) → IsSteadyBeside el old → Happens old event new
+      → Goes el (rows_made_at old (event ∷ [])) old new
   pub rows : (old next : System) (event : Event) (events : List Event) → Happens old event next → (i : ℕ)
       → rows_made_at old (event ∷ events) i ≡ rows_made_at old (event ∷ []) i ++ rows_made_at next events i
   pub joined : (first second : ℕ → List Row) (a b c : Report) → IsFate first a b → IsFate second b c → IsFate (λ i. first i ++ second i) a c
@@ -37,11 +40,12 @@ pub record LastingLaws : Type 0 where
 nothing_more : (r : Report) → IsFate (λ i. []) r r
 nothing_more r i = record { same = λ test. omega (arith, count_by-append test (of_station i (happened r)) []) }
 
-pub rests : (old new : System) → IsSteady old → new ≡ old → Goes (λ i. []) old new
-rests old new s same = subst (Goes (λ i. []) old) (sym same) (record { steady = s; fate = nothing_more (report_of old) })
+pub rests : (old new : System) {el : Elsewhere} → IsSteadyBeside el old → new ≡ old → Goes el (λ i. []) old new
+rests old new {el = el} s same = subst (Goes el (λ i. []) old) (sym same) (record { steady = s; fate = nothing_more (report_of old) })
 
 -- with the same rows, said otherwise
-pub goes_as : (made rows : ℕ → List Row) (old new : System) → ((i : ℕ) → made i ≡ rows i) → Goes made old new → Goes rows old new
+pub goes_as : (made rows : ℕ → List Row) (old new : System) {el : Elsewhere} → ((i : ℕ) → made i ≡ rows i) → Goes el made old new
+    → Goes el rows old new
 goes_as made rows old new same g = record {
   steady = g.steady;
   fate = λ i.
@@ -50,41 +54,32 @@ goes_as made rows old new same g = record {
 }
 
 -- one list after another
-pub goes_on : LastingLaws → (first second : ℕ → List Row) (old mid new : System) → Goes first old mid → Goes second mid new
-    → Goes (λ i. first i ++ second i) old new
+pub goes_on : LastingLaws → (first second : ℕ → List Row) (old mid new : System) {el : Elsewhere} → Goes el first old mid → Goes el second mid new
+    → Goes el (λ i. first i ++ second i) old new
 goes_on laws first second old mid new f s = record {
   steady = s.steady;
   fate = laws.joined first second (report_of old) (report_of mid) (report_of new) f.fate s.fate;
 }
 
-pub goes_by : LastingLaws → (events : List Event) (old new : System) → IsSteady old → RunsTo old events new
-    → Goes (rows_made_at old events) old new
+pub goes_by : LastingLaws → (events : List Event) (old new : System) {el : Elsewhere} → IsSteadyBeside el old → RunsTo old events new
+    → Goes el (rows_made_at old events) old new
 goes_by laws [] old new s same = goes_as (λ i. []) (rows_made_at old []) old new (λ i. sym (none_made (points_at old i))) (rests old new s same)
-goes_by laws (e ∷ events) old new s (next, h, ran) =
-    let first : Goes (rows_made_at old (e ∷ [])) old next = laws.goes old next e s h in
+goes_by laws (e ∷ events) old new {el = el} s (next, h, ran) =
+    let first : Goes el (rows_made_at old (e ∷ [])) old next = laws.goes old next e s h in
     goes_as (λ i. rows_made_at old (e ∷ []) i ++ rows_made_at next events i) (rows_made_at old (e ∷ events)) old new
     (λ i. sym (laws.rows old next e events h i))
     (goes_on laws (rows_made_at old (e ∷ [])) (rows_made_at next events) old next new first (goes_by laws events next new first.steady ran))
 
 -- what counts for an event at which a list stops makes no row
-pub stops : LastingLaws → (e : Event) (old new : System) → IsSteady old → CountsFor old e new → Goes (λ i. []) old new
-stops laws (event.Deliver on way) old new s h =
-    goes_as (rows_made_at old (event.Lose on way ∷ [])) (λ i. []) old new (λ i. none_made (points_at old i)) (laws.goes old new (event.Lose on way) s h)
-stops laws (event.Open on) old new s same = rests old new s same
-stops laws (event.HangUp on end) old new s same = rests old new s same
-stops laws (event.Repeat on way) old new s same = rests old new s same
-stops laws (event.Lose on way) old new s same = rests old new s same
-stops laws (event.Damage on way octets) old new s same = rests old new s same
-stops laws (event.Change station kind index reading) old new s same = rests old new s same
-stops laws (event.Ask on task) old new s same = rests old new s same
-stops laws (event.Issue station command) old new s same = rests old new s same
-stops laws (event.Relay on) old new s same = rests old new s same
-stops laws (event.Pass ms) old new s same = rests old new s same
-stops laws (event.Tick on end) old new s same = rests old new s same
-stops laws (event.Restart place) old new s same = rests old new s same
+pub stops : LastingLaws → (e : Event) (old new : System) {el : Elsewhere} → IsSteadyBeside el old → CountsFor old e new → Goes el (λ i. []) old new
+stops laws e old new {el = el} s counts =
+    at_a_stop (λ was is. IsSteadyBeside el was → Goes el (λ i. []) was is)
+    (λ on way was is h steady. goes_as (rows_made_at was (event.Lose on way ∷ [])) (λ i. []) was is (λ i. none_made (points_at was i))
+    (laws.goes was is (event.Lose on way) steady h)) (λ was is same steady. rests was is steady same) e old new counts s
 
 -- what a list made, and nothing after it
-goes_then : LastingLaws → (made : ℕ → List Row) (old mid new : System) → Goes made old mid → Goes (λ i. []) mid new → Goes made old new
+goes_then : LastingLaws → (made : ℕ → List Row) (old mid new : System) {el : Elsewhere} → Goes el made old mid → Goes el (λ i. []) mid new
+    → Goes el made old new
 goes_then laws made old mid new f g = record {
   steady = g.steady;
   fate = λ i.
@@ -100,11 +95,11 @@ goes_then laws made old mid new f g = record {
       };
 }
 
-pub goes_stopped : LastingLaws → (events : List Event) (done : ℕ) (old new : System) → IsSteady old → (stop : StopsAfter old events done new)
-    → Goes (rows_made_at old (take done events)) old new
-goes_stopped laws events done old new s stop =
+pub goes_stopped : LastingLaws → (events : List Event) (done : ℕ) (old new : System) {el : Elsewhere} → IsSteadyBeside el old
+    → (stop : StopsAfter old events done new) → Goes el (rows_made_at old (take done events)) old new
+goes_stopped laws events done old new {el = el} s stop =
     let made : ℕ → List Row = rows_made_at old (take done events) in
-    let first : Goes made old stop.before = goes_by laws (take done events) old stop.before s stop.ran in
+    let first : Goes el made old stop.before = goes_by laws (take done events) old stop.before s stop.ran in
     goes_then laws made old stop.before new first (stops laws stop.event stop.before new first.steady stop.counts)
 
 -- ---- what is had where a system is only known to be steady in some way
@@ -112,18 +107,19 @@ goes_stopped laws events done old new s stop =
 fate_once : (made : ℕ → List Row) (old new : Report) → IsProp (IsFate made old new)
 fate_once made old new = hlevel props
 
-pub fate_of : (made : ℕ → List Row) (old new : System) → ∥ IsSteady old ∥₁ → (IsSteady old → Goes made old new)
+pub fate_of : (made : ℕ → List Row) (old new : System) {el : Elsewhere} → ∥ IsSteadyBeside el old ∥₁ → (IsSteadyBeside el old → Goes el made old new)
     → IsFate made (report_of old) (report_of new)
 fate_of made old new some goes = ∥∥₁_elim some (fate_once made (report_of old) (report_of new)) (λ s. (goes s).fate)
 
-pub steady_of : (made : ℕ → List Row) (old new : System) → ∥ IsSteady old ∥₁ → (IsSteady old → Goes made old new) → ∥ IsSteady new ∥₁
+pub steady_of : (made : ℕ → List Row) (old new : System) {el : Elsewhere} → ∥ IsSteadyBeside el old ∥₁ → (IsSteadyBeside el old → Goes el made old new)
+    → ∥ IsSteadyBeside el new ∥₁
 steady_of made old new some goes = ∥∥₁_map some (λ s. (goes s).steady)
 
-pub lasts : LastingLaws → (events : List Event) (old new : System) → ∥ IsSteady old ∥₁ → RunsTo old events new → Lasts events old new
+pub lasts : LastingLaws → (events : List Event) (old new : System) {el : Elsewhere} → ∥ IsSteadyBeside el old ∥₁ → RunsTo old events new → Lasts events old new
 lasts laws events old new some ran = fate_of (rows_made_at old events) old new some (λ s. goes_by laws events old new s ran)
 
-pub lasts_stopped : LastingLaws → (events : List Event) (done : ℕ) (old new : System) → ∥ IsSteady old ∥₁ → StopsAfter old events done new
-    → Lasts (take done events) old new
+pub lasts_stopped : LastingLaws → (events : List Event) (done : ℕ) (old new : System) {el : Elsewhere} → ∥ IsSteadyBeside el old ∥₁
+    → StopsAfter old events done new → Lasts (take done events) old new
 lasts_stopped laws events done old new some stop =
     fate_of (rows_made_at old (take done events)) old new some (λ s. goes_stopped laws events done old new s stop)
 
@@ -148,25 +144,27 @@ all_taken P (suc n) (x ∷ xs) all (suc k) d low =
 abbrev MakeNone : (Event → Type 0) → Type 0
 MakeNone P = (e : Event) → P e → (s : System) (i : ℕ) → rows_made_at s (e ∷ []) i ≡ []
 
-one_calm : LastingLaws → (P : Event → Type 0) → MakeNone P → (e : Event) → P e → (old new : System) → IsSteady old → Happens old e new
-    → Goes (λ i. []) old new
+one_calm : LastingLaws → (P : Event → Type 0) → MakeNone P → (e : Event) → P e → (old new : System) {el : Elsewhere} → IsSteadyBeside el old → Happens old e new
+    → Goes el (λ i. []) old new
 one_calm laws P none e is old new s h =
     goes_as (rows_made_at old (e ∷ [])) (λ i. []) old new (none e is old) (laws.goes old new e s h)
 
-pub calm : LastingLaws → (P : Event → Type 0) → MakeNone P → (events : List Event) → All P events → (old new : System) → IsSteady old
-    → RunsTo old events new → Goes (λ i. []) old new
+pub calm : LastingLaws → (P : Event → Type 0) → MakeNone P → (events : List Event) → All P events → (old new : System) {el : Elsewhere} → IsSteadyBeside el old
+    → RunsTo old events new → Goes el (λ i. []) old new
 calm laws P none [] all old new s same = rests old new s same
-calm laws P none (e ∷ events) all old new s (next, h, ran) =
-    let first : Goes (λ i. []) old next = one_calm laws P none e (all zero e (omega arith)) old next s h in
+calm laws P none (e ∷ events) all old new {el = el} s (next, h, ran) =
+    let first : Goes el (λ i. []) old next = one_calm laws P none e (all zero e (omega arith)) old next s h in
     goes_on laws (λ i. []) (λ i. []) old next new first
     (calm laws P none events (λ k d low. all (suc k) d (omega (arith, low))) next new first.steady ran)
 
-pub calm_run : LastingLaws → (P : Event → Type 0) → MakeNone P → (old new : System) → IsSteady old → Ran P old new → Goes (λ i. []) old new
+pub calm_run : LastingLaws → (P : Event → Type 0) → MakeNone P → (old new : System) {el : Elsewhere} → IsSteadyBeside el old → Ran P old new
+    → Goes el (λ i. []) old new
 calm_run laws P none old new s r = calm laws P none r.events r.all old new s r.ran
 
-pub calm_stop : LastingLaws → (P : Event → Type 0) → MakeNone P → (old new : System) → IsSteady old → StopsIn P old new → Goes (λ i. []) old new
-calm_stop laws P none old new s r =
-    let first : Goes (λ i. []) old r.stops.before =
+pub calm_stop : LastingLaws → (P : Event → Type 0) → MakeNone P → (old new : System) {el : Elsewhere} → IsSteadyBeside el old → StopsIn P old new
+    → Goes el (λ i. []) old new
+calm_stop laws P none old new {el = el} s r =
+    let first : Goes el (λ i. []) old r.stops.before =
     calm laws P none (take r.done r.events) (all_taken P r.done r.events r.all) old r.stops.before s r.stops.ran in
     goes_on laws (λ i. []) (λ i. []) old r.stops.before new first (stops laws r.stops.event r.stops.before new first.steady r.stops.counts)
 
@@ -224,31 +222,32 @@ control_leaves Leaves rest ran stop id old new (Err (fault.Fault cause)) (inl sa
 control_leaves Leaves rest ran stop id old new (Err (fault.Fault cause)) (inr (can, stops)) =
     stop old new (stops_for (station_in old id) id old new stops)
 
-pub calm_control : LastingLaws → (id : ℕ) (old new : System) (result : Result ⊤ ControlFault) → IsSteady old → ControlEnds id old result new
-    → Goes (λ i. []) old new
-calm_control laws id old new result s ends =
-    control_leaves (λ was is. IsSteady was → Goes (λ i. []) was is) (λ was is same steady. rests was is steady same)
+pub calm_control : LastingLaws → (id : ℕ) (old new : System) {el : Elsewhere} (result : Result ⊤ ControlFault) → IsSteadyBeside el old
+    → ControlEnds id old result new → Goes el (λ i. []) old new
+calm_control laws id old new {el = el} result s ends =
+    control_leaves (λ was is. IsSteadyBeside el was → Goes el (λ i. []) was is) (λ was is same steady. rests was is steady same)
     (λ was is ran steady. calm_run laws IsOfControl control_makes_none was is steady ran)
     (λ was is stop steady. calm_stop laws IsOfControl control_makes_none was is steady stop) id old new result ends s
 
 -- ---- calls
 
 -- a list of events leaves a steady system, where it was done and where it stopped
-pub steady_after : (events : List Event) (old new : System) (r : Result ⊤ Stopped) → (IsSteady old → RunsTo old events new → IsSteady new)
-    → ((done : ℕ) → IsSteady old → StopsAfter old events done new → IsSteady new) → ∥ IsSteady old ∥₁ → OnOk r (RunsTo old events new)
-    → IfErr r (λ stopped. StopsAfter old events stopped.done new) → ∥ IsSteady new ∥₁
+pub steady_after : (events : List Event) (old new : System) {el : Elsewhere} (r : Result ⊤ Stopped)
+    → (IsSteadyBeside el old → RunsTo old events new → IsSteadyBeside el new)
+    → ((done : ℕ) → IsSteadyBeside el old → StopsAfter old events done new → IsSteadyBeside el new) → ∥ IsSteadyBeside el old ∥₁
+    → OnOk r (RunsTo old events new) → IfErr r (λ stopped. StopsAfter old events stopped.done new) → ∥ IsSteadyBeside el new ∥₁
 steady_after events old new (Ok done) ran stopped some all stop = ∥∥₁_map some (λ s. ran s all)
 steady_after events old new (Err stopped_by) ran stopped some all stop = ∥∥₁_map some (λ s. stopped stopped_by.done s stop)
 
 -- what it made, where it was done and where it stopped
-pub lasts_if_done : (events : List Event) (old new : System) (r : Result ⊤ Stopped)
-    → (∥ IsSteady old ∥₁ → RunsTo old events new → Lasts events old new) → ∥ IsSteady old ∥₁ → OnOk r (RunsTo old events new)
+pub lasts_if_done : (events : List Event) (old new : System) {el : Elsewhere} (r : Result ⊤ Stopped)
+    → (∥ IsSteadyBeside el old ∥₁ → RunsTo old events new → Lasts events old new) → ∥ IsSteadyBeside el old ∥₁ → OnOk r (RunsTo old events new)
     → OnOk r (Lasts events old new)
 lasts_if_done events old new (Ok done) ran some all = ran some all
 lasts_if_done events old new (Err stopped_by) ran some all = all
 
-pub lasts_if_stopped : (events : List Event) (old new : System) (r : Result ⊤ Stopped)
-    → ((done : ℕ) → ∥ IsSteady old ∥₁ → StopsAfter old events done new → Lasts (take done events) old new) → ∥ IsSteady old ∥₁
+pub lasts_if_stopped : (events : List Event) (old new : System) {el : Elsewhere} (r : Result ⊤ Stopped)
+    → ((done : ℕ) → ∥ IsSteadyBeside el old ∥₁ → StopsAfter old events done new → Lasts (take done events) old new) → ∥ IsSteadyBeside el old ∥₁
     → IfErr r (λ stopped. StopsAfter old events stopped.done new) → IfErr r (λ stopped. Lasts (take stopped.done events) old new)
 lasts_if_stopped events old new (Ok done) stopped some stop = stop
 lasts_if_stopped events old new (Err stopped_by) stopped some stop = stopped stopped_by.done some stop

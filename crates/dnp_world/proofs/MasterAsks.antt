@@ -5,7 +5,7 @@ use Rattle.std.proofs.lemmas.List.{drop_all}
 use Rattle.dnp_appfragment.specs.Fragments.{request_octets}
 use Rattle.dnp_master.specs.declared.fault.AskFault.{AskFault}
 use Rattle.dnp_master.specs.declared.task.Task.{Task}
-use Rattle.dnp_master.specs.declared.task.Task.TheVariants.{Poll, ClearRestart, Enable, Disable, WriteTime, Select, Operate}
+use Rattle.dnp_master.specs.declared.task.Task.TheVariants.{Poll}
 use Rattle.dnp_master.specs.Calls.{ask_answer, asked}
 use Rattle.dnp_master.specs.Requests.{request_for}
 use Rattle.dnp_master.specs.State.{State, closed, is_timed_out, ticked}
@@ -28,12 +28,7 @@ asked_seq seq task low = omega (arith, low)
 
 asked_down : (seq : ℕ) (task : Task) → down_of (request_octets (request_for seq task)) ≡ Asks (request_octets (request_for seq task))
 asked_down seq (Poll classes) = refl
-asked_down seq ClearRestart = refl
-asked_down seq (Enable classes) = refl
-asked_down seq (Disable classes) = refl
-asked_down seq (WriteTime time) = refl
-asked_down seq (Select command) = refl
-asked_down seq (Operate command) = refl
+asked_down seq task = refl
 
 busy_none : {A : Type 0} (o : Option A) → o ≡ None → is_some o ≡ false
 busy_none o e = ap is_some e

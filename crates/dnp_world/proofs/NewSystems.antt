@@ -31,7 +31,7 @@ use Rattle.dnp_pointdb.specs.Database.{Database, new_database}
 use Rattle.dnp_pointdb.specs.Plan as points
 use Rattle.dnp_pointdb.specs.Sound as database
 use Rattle.dnp_pointdb.specs.declared.times.Times.{Times}
-use Rattle.dnp_world.specs.Behind.{IsBehind, IsUntouched, Links}
+use Rattle.dnp_world.specs.Behind.{alone, IsBehind, IsUntouched, Links}
 use Rattle.dnp_world.specs.Channels.{fresh_channel}
 use Rattle.dnp_world.specs.FreshSystems.{fresh_substation, fresh_substations, fresh_system}
 use Rattle.dnp_world.specs.Joined.{Joined}
@@ -49,7 +49,7 @@ use Rattle.dnp_world.proofs.JoinedRuns.{Opened}
 -- what the laws promise of it
 pub record NewLaws : Type 0 where
   pub at_first : (indices : List Spans) (links : Links) → ((i : ℕ) → IsUntouched (links.below i)) → IsUntouched links.above
-      → IsBehind indices links nothing_kept
+      → IsBehind indices alone links nothing_kept
   pub is_map : (spans : List Spans) → (IsTooWide spans → ⊥) → (Overlaps spans → ⊥) → IsMap spans
   pub sound_points : (plan : points.Plan) → points.IsSound plan → database.IsSound (new_database plan)
   pub sound_lanes : (capacities : List ℕ) → length capacities ≡ LANES → All (λ capacity. 1 ≤ capacity) capacities
@@ -204,7 +204,7 @@ new_of_plan laws plan queue journal controls orders can = record {
 }
 
 pub stands_at_first : NewLaws → (plan : Plan) (queue : Stock) (journal : Archive) (controls orders : Ledger) → CanBegin plan
-    → AreEmpty queue journal controls orders → IsStanding (fresh_system plan queue journal controls orders)
+    → AreEmpty queue journal controls orders → IsStanding alone (fresh_system plan queue journal controls orders)
 stands_at_first laws plan queue journal controls orders can empty =
     let new : System = fresh_system plan queue journal controls orders in
     let new_queue : AreNew queue = record { sound = empty.sound; none = empty.no_rows } in
@@ -219,7 +219,7 @@ stands_at_first laws plan queue journal controls orders can empty =
       above = new_joined_to laws (new_database (points_above plan)) (points_above plan) plan.times queue
           (book_panel (map_of plan) controls).performed CENTRE CONCENTRATOR_ABOVE
           (laws.sound_points (points_above plan) (sound_above plan can.limits (laws.is_map (map_of plan) can.narrow can.apart))) new_queue;
-      behind = subst (IsBehind (map_of plan) links) (sym (nothing_in plan queue journal controls orders empty))
+      behind = subst (IsBehind (map_of plan) alone links) (sym (nothing_in plan queue journal controls orders empty))
           (laws.at_first (map_of plan) links (λ i. untouched laws (lanes_in queue (slice_get new.substations i)) (joined i).new)
           (untouched laws queue new_queue));
     }

@@ -27,6 +27,7 @@ use Rattle.dnp_eventbuf.specs.Stock.{rows_in}
 use Rattle.dnp_pointdb.specs.Classes.{class_at}
 use Rattle.dnp_pointdb.specs.Events.{lane_of}
 use Rattle.dnp_pointdb.specs.Plan as points
+use Rattle.dnp_world.specs.Behind.{Elsewhere}
 use Rattle.dnp_world.specs.Kept.{kept_in, lane_rows_of, report_of, rows_below}
 use Rattle.dnp_world.specs.Planned.{HappenedAsPlanned, IsAsPlanned, IsPlanned}
 use Rattle.dnp_world.specs.Reports.{happened}
@@ -148,7 +149,7 @@ each_mapped {A} {B} f P Q so (x ∷ xs) same all =
     by (Some y) e long all rest =
         All-cons Q x xs (so x y e (All-head P y (filter_map f xs) all)) (rest (omega (arith, long)) (All-tail P y (filter_map f xs) all))
 
-pub all_above : LinkLaws → MapLaws → IsEqualityTest (pair_eq nat_eq row_eq) → (s : System) → IsStanding s → IsAsPlanned s
+pub all_above : LinkLaws → MapLaws → IsEqualityTest (pair_eq nat_eq row_eq) → (s : System) {el : Elsewhere} → IsStanding el s → IsAsPlanned s
     → All (λ row. is_reported s.centre.link.master.plan row ≡ true) (rows_in s.concentrator.queue)
 all_above laws maps decided s standing h =
     let spans : List Spans = map_of h.plan in

@@ -7,6 +7,7 @@ use Rattle.dnp_controls.specs.Book.{Ledger}
 use Rattle.dnp_concentrator.specs.Below.{link_in}
 use Rattle.dnp_concentrator.specs.BookOutputs.{ordered}
 use Rattle.dnp_concentrator.specs.Relaying.{Relaying, Step, ledger_after, relaying_after, step_of}
+use Rattle.dnp_world.specs.Behind.{Elsewhere}
 use Rattle.dnp_world.specs.declared.event.Link.TheVariants as link
 use Rattle.dnp_world.specs.Channels.{ChannelState}
 use Rattle.dnp_world.specs.ControlsInStep.{InStep}
@@ -16,7 +17,7 @@ use Rattle.dnp_world.specs.Link.{Link}
 use Rattle.dnp_world.specs.SystemEvents.{RelaysOn, Refuses, Steps}
 use Rattle.dnp_world.specs.SystemStanding.{lists_of, seen_below, IsJoinedBelow, IsStanding, Keeps}
 use Rattle.dnp_world.specs.Systems.{SubstationState, System, has_station, link_at, middle_of, station_of}
-use Rattle.dnp_world.proofs.AboveEvents.{with_ends}
+use Rattle.dnp_world.proofs.AboveEvents.{on, with_ends}
 use Rattle.dnp_world.proofs.AboveKeeps.{Above, above_follows, none_listed}
 use Rattle.dnp_world.proofs.BelowCalls.{has_link_to, link_keeps, with_link_to}
 use Rattle.dnp_world.proofs.BelowEvents.{both_as, none_behind, nothing_gone, nothing_listed, with_both}
@@ -36,17 +37,17 @@ pub record RelayLaws : Type 0 where
   pub commands : CommandLaws
 
 -- each link goes with its book
-pub below_in_step : CommandLaws → (s : System) (station : ℕ) → IsStanding s → InStep s
+pub below_in_step : CommandLaws → (s : System) {el : Elsewhere} (station : ℕ) → IsStanding el s → InStep s
     → IsInStep (link_at s.concentrator station) s.concentrator.controls station
 below_in_step laws s station h i = record { control = i.below station; sound = i.controls; widths = controls_fit laws s h i.widths }
 
 pub above_in_step : (s : System) → InStep s → IsInStep s.centre.link s.centre.orders 0
 above_in_step s i = record { control = i.above; sound = i.orders; widths = i.widths }
 
-pub relays_below : RelayLaws → (old new : System) (station : ℕ) → has_station old station ≡ true → IsStanding old → InStep old
-    → RelaysOn (link.Below station) old new → Keeps station [] old new
+pub relays_below : RelayLaws → (old new : System) {el : Elsewhere} (station : ℕ) → has_station old station ≡ true → IsStanding el old → InStep old
+    → RelaysOn (link.Below station) old new → Keeps el station [] old new
 relays_below laws old new station has h i (Refuses refused same) = same_keeps station old new h same
-relays_below laws old new station has h i (Steps pending sends) =
+relays_below laws old new {el = el} station has h i (Steps pending sends) =
     let r : Relaying = link_in old.concentrator.links station in
     let book : Ledger = old.concentrator.controls in
     let step : Step = step_of r book.entries station in
@@ -60,7 +61,7 @@ relays_below laws old new station has h i (Steps pending sends) =
     let before : IsJoinedBelow old.now r l was =
     some_of (IsJoinedBelow old.now r l) (slice_get old.substations station) was sends.there (h.below station) in
     let controls : Ledger = ledger_after book step in
-    subst (λ (x : System). Keeps station [] old x)
+    subst (λ (x : System). Keeps el station [] old x)
     (sym (sends.after ∙ ap (λ (x : SubstationState). with_controls controls (with_both old station x middle)) sends.changed.1
     ∙ ap (with_controls controls) (both_as old station was is middle refl)))
     (below_follows laws.turns old h station was is middle controls nothing_gone (lists_of l) [] (asked_in step) sends.there
@@ -76,9 +77,10 @@ relays_below laws old new station has h i (Steps pending sends) =
     (step_goes laws.requests (station_of was) (lists_of l) old.now r book.entries station was.channel lines l step refl
     (step_widths r book station step refl inside) before.joined sends.changed.0)))
 
-pub relays_above : RelayLaws → (old new : System) (station : ℕ) → IsStanding old → InStep old → RelaysOn link.Above old new → Keeps station [] old new
+pub relays_above : RelayLaws → (old new : System) {el : Elsewhere} (station : ℕ) → IsStanding el old → InStep old → RelaysOn on old new
+    → Keeps el station [] old new
 relays_above laws old new station h i (Refuses refused same) = same_keeps station old new h same
-relays_above laws old new station h i (Steps pending sends) =
+relays_above laws old new {el = el} station h i (Steps pending sends) =
     let r : Relaying = old.centre.link in
     let book : Ledger = old.centre.orders in
     let step : Step = step_of r book.entries 0 in
@@ -87,7 +89,7 @@ relays_above laws old new station h i (Steps pending sends) =
     let inside : IsInStep r book 0 = above_in_step old i in
     let orders : Ledger = ledger_after book step in
     let a : Above = with_ends old (middle_of old.concentrator) next new.above in
-    subst (λ (x : System). Keeps station [] old x) (sym sends.1)
+    subst (λ (x : System). Keeps el station [] old x) (sym sends.1)
     (above_follows laws.turns old h station a orders [] [] (asked_in step) (lists_of l)
     (record {
       lost = refl;

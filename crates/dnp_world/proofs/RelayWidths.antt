@@ -1,10 +1,10 @@
 -- The commands in the concentrator's book can be sent, where those in the centre's can and links of the law stand behind the system.
-use Rattle.std.proofs.Common.{◌≡◌, ℕ, ◌<◌, ◌≤◌, Bool, true, false, cond, if◌then◌else◌, List, [], ◌∷◌, Option, Some, None, refl, sym, ap, subst, arith}
+use Rattle.std.proofs.Common.{◌≡◌, ℕ, ◌<◌, ◌≤◌, Bool, true, false, cond, if◌then◌else◌, List, [], ◌∷◌, ◌++◌, Option, Some, None, refl, sym, ap, subst, arith}
 use Rattle.std.specs.Prelude.{nat_eq, ◌-◌}
 use Rattle.std.specs.Option.{option_map}
 use Rattle.std.specs.List.{All, count_by}
 use Rattle.std.proofs.lemmas.Option.{none-some, same_Some}
-use Rattle.std.proofs.lemmas.List.Elements.{All-nil, All-cons, All-head, All-tail, All-map}
+use Rattle.std.proofs.lemmas.List.Elements.{All-append, All-nil, All-cons, All-head, All-tail, All-map}
 use Rattle.dnp_objects.specs.Commands.{index_of}
 use Rattle.dnp_objects.specs.Counts.{IsCoveredBy, IsEqualityTest}
 use Rattle.dnp_objects.specs.Equality.{command_eq, pair_eq}
@@ -16,6 +16,7 @@ use Rattle.dnp_concentrator.specs.IndexMap.{index_below, is_in, one_on, span_of}
 use Rattle.dnp_concentrator.specs.Mapped.{command_below, with_index}
 use Rattle.dnp_concentrator.specs.declared.index_kind.IndexKind.{IndexKind}
 use Rattle.dnp_concentrator.specs.declared.span.Spans.{Spans}
+use Rattle.dnp_world.specs.Behind.{Elsewhere}
 use Rattle.dnp_world.specs.CommandWidths.{HasWidths}
 use Rattle.dnp_world.specs.Kept.{command_of, commands_below, commands_in, is_used, order_of, orders_in}
 use Rattle.dnp_world.specs.Link.{Link}
@@ -118,8 +119,9 @@ of_orders (e ∷ entries) all =
     All-cons FitsEntry e entries (All-head FitsOrder (order_of e) (orders_in entries) all)
     (of_orders entries (All-tail FitsOrder (order_of e) (orders_in entries) all))
 
-pub controls_fit : CommandLaws → (s : System) → IsStanding s → All FitsEntry s.centre.orders.entries → All FitsEntry s.concentrator.controls.entries
-controls_fit laws s h all =
+pub controls_fit : CommandLaws → (s : System) {el : Elsewhere} → IsStanding el s → All FitsEntry s.centre.orders.entries
+    → All FitsEntry s.concentrator.controls.entries
+controls_fit laws s {el = el} h all =
     let l : Link = h.links.above in
     let orders : List Entry = s.centre.orders.entries in
     let controls : List Entry = s.concentrator.controls.entries in
@@ -130,5 +132,7 @@ controls_fit laws s h all =
     let performed : All HasWidths l.performed =
     all_counted command_eq laws.commands HasWidths l.performed l.asked (laws.performed l h.behind.above_stands).at_most asked in
     of_orders controls
-    (all_counted (pair_eq nat_eq command_eq) laws.orders FitsOrder (orders_in controls) (commands_below s.indices l.performed)
-    (λ test. omega (arith, h.behind.relayed.same test)) (all_below s.indices l.performed performed))
+    (all_counted (pair_eq nat_eq command_eq) laws.orders FitsOrder (orders_in controls)
+    (commands_below s.indices l.performed ++ commands_below s.indices el.performed) (λ test. omega (arith, h.behind.relayed.same test))
+    (All-append FitsOrder (commands_below s.indices l.performed) (commands_below s.indices el.performed) (all_below s.indices l.performed performed)
+    (all_below s.indices el.performed h.behind.theirs.widths)))

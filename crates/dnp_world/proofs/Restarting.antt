@@ -16,7 +16,7 @@ use Rattle.dnp_outstation.specs.Calls.{restart_of}
 use Rattle.dnp_pointdb.specs.Plan as points
 use Rattle.dnp_world.specs.declared.link_event.End.TheVariants as end
 use Rattle.dnp_world.specs.declared.link_event.LinkEvent.TheVariants as event
-use Rattle.dnp_world.specs.Behind.{Links, IsBehind, made_at, rows_of}
+use Rattle.dnp_world.specs.Behind.{Elsewhere, Links, IsBehind, made_at, rows_of}
 use Rattle.dnp_world.specs.Channels.{hung_up_at}
 use Rattle.dnp_world.specs.Joined.{Follows, Joined}
 use Rattle.dnp_world.specs.Kept.{Kept, commands_below, kept_in, lane_rows_of, orders_in, report_of, rows_below, shown_of, used_commands, used_orders}
@@ -76,9 +76,9 @@ still_mapped indices l new still mapped =
       length-map l.stood buffered_row,
     )
 
-still_behind : (indices : List Spans) (links new : Links) (k : Kept) → ((i : ℕ) → IsStill (links.below i) (new.below i))
-    → IsStill links.above new.above → IsBehind indices links k → IsBehind indices new k
-still_behind indices links new k below above b = record {
+still_behind : (indices : List Spans) {el : Elsewhere} (links new : Links) (k : Kept) → ((i : ℕ) → IsStill (links.below i) (new.below i))
+    → IsStill links.above new.above → IsBehind indices el links k → IsBehind indices el new k
+still_behind indices {el = el} links new k below above b = record {
   below_stands = λ i. (below i).stands;
   above_stands = above.stands;
   buffered = λ i. same_trans (rows_of (new.below i).lanes) (rows_of (links.below i).lanes) (of_station i k.buffered) (below i).lanes (b.buffered i);
@@ -100,9 +100,11 @@ still_behind indices links new k below above b = record {
   lost = b.lost;
   operated = λ i. subst (λ (xs : List Command). HasSameCounts xs (of_station i k.operated)) (sym (below i).performed) (b.operated i);
   asked_below = λ i. subst (λ (xs : List Command). IsCoveredBy xs (of_station i (used_orders k.controls))) (sym (below i).asked) (b.asked_below i);
-  relayed = subst (λ (xs : List Command). HasSameCounts (commands_below indices xs) (orders_in k.controls)) (sym above.performed) b.relayed;
+  relayed = subst (λ (xs : List Command). HasSameCounts (commands_below indices xs ++ commands_below indices el.performed) (orders_in k.controls))
+      (sym above.performed) b.relayed;
   asked_above = subst (λ (xs : List Command). IsCoveredBy xs (used_commands k.orders)) (sym above.asked) b.asked_above;
   issued = b.issued;
+  theirs = b.theirs;
 }
 
 -- what follows of a link, where its lists and what its outputs performed stayed
@@ -176,9 +178,9 @@ closes grounds now r l (Some was) stands j =
 
 -- ---- the concentrator restarts
 
-pub concentrator_restarts : Grounds → RestartLaws → (old new : System) (station : ℕ) → IsStanding old → new ≡ concentrator_restarted old
-    → Keeps station [] old new
-concentrator_restarts grounds laws old new station h after =
+pub concentrator_restarts : Grounds → RestartLaws → (old new : System) {el : Elsewhere} (station : ℕ) → IsStanding el old → new ≡ concentrator_restarted old
+    → Keeps el station [] old new
+concentrator_restarts grounds laws old new {el = el} station h after =
     let next : System = concentrator_restarted old in
     let relays : List Relaying = old.concentrator.links in
     let each : (i : ℕ) → Closes old.now (link_in relays i) (h.links.below i) (slice_get old.substations i) = λ i.
@@ -191,7 +193,7 @@ concentrator_restarts grounds laws old new station h after =
     let same : kept_in next ≡ kept_in old =
     ap (λ (rows : List (ℕ × Row)). record (kept_in old) { buffered = rows }) (listed_gone 0 old.substations) in
     let joined_as : (i : ℕ) → Relaying → Option SubstationState → Type 0 = λ i r o. IfSome o (IsJoinedBelow old.now r (each i).link) in
-    subst (λ (x : System). Keeps station [] old x) (sym after)
+    subst (λ (x : System). Keeps el station [] old x) (sym after)
     (record {
       standing = record {
         plan = h.plan;
@@ -201,7 +203,7 @@ concentrator_restarts grounds laws old new station h after =
             subst (λ (o : Option SubstationState). joined_as i (link_in (map relaying.hung_up relays) i) o) (sym (gone_at old.substations i))
             (subst (λ (r : Relaying). joined_as i r (gone (slice_get old.substations i))) (sym (link_of_map relays i)) (each i).joined);
         above = relisted s' f.link old.now f.joined;
-        behind = subst (λ (k : Kept). IsBehind old.indices links k) (sym same)
+        behind = subst (λ (k : Kept). IsBehind old.indices el links k) (sym same)
             (still_behind old.indices h.links links (kept_in old) (λ i. (each i).still)
             (still_of l s s' h.behind.above_stands h.above f refl refl refl refl refl) h.behind);
       };

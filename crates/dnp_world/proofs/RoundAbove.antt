@@ -16,7 +16,7 @@ use Rattle.dnp_outstation.specs.Connection.{case_of}
 use Rattle.dnp_outstation.specs.Controls.{is_control}
 use Rattle.dnp_outstation.specs.State.{State, Step, is_quiet, still}
 use Rattle.dnp_outstation.specs.declared.case.Case.{Case}
-use Rattle.dnp_outstation.specs.declared.case.Case.TheVariants.{Again, Asks, Confirms, ConfirmsUnsolicited, PassedOver, Stray, Waits}
+use Rattle.dnp_outstation.specs.declared.case.Case.TheVariants.{Asks}
 use Rattle.dnp_world.specs.Arriving.{Arrives, HearsAt, IsClearOn, UnderWay, confirms_of}
 use Rattle.dnp_world.specs.Channels.{ChannelState, GoDown, are_quiet}
 use Rattle.dnp_world.specs.Movement.{Leave, MovesAbove, Released, Rested}
@@ -24,11 +24,16 @@ use Rattle.dnp_outstation.specs.Polled.{Portion, no_rows, poll_octets}
 use Rattle.dnp_world.specs.Rounds.{IsRound, events_polled, is_quiet_on}
 use Rattle.dnp_world.specs.SystemEvents.{LinesChange, MasterReceives, MiddleAnswers, SendsDown, centre_taken, relaying_at, taken_above, with_centre_link}
 use Rattle.dnp_world.specs.Systems.{CentreState, ConcentratorState, History, SubstationState, System, middle_of, middle_panel}
+use Rattle.dnp_world.specs.declared.event.Link.{Link}
 use Rattle.dnp_world.specs.declared.event.Link.TheVariants.{Above}
 use Rattle.dnp_world.specs.declared.link_event.Way.TheVariants.{Down, Up}
 use Rattle.dnp_world.proofs.RoundBelow.{LineLaws}
 use Rattle.dnp_world.proofs.RoundExchange.{Answer, Exchange, Exchanges, Frees, Passes, StationLaws, master_after}
 use Rattle.dnp_world.proofs.RoundSteps.{asks_so, one_arrives}
+
+-- the link between concentrator and centre
+abbrev pub on : Link
+on = Above
 
 -- ---- the two stations
 
@@ -48,13 +53,8 @@ no_commands : (c : ConcentratorState) (now : ℕ) (fragment : List ℕ) → is_c
 no_commands c now fragment none = by (case_of c.core fragment)
   where
     by : (x : Case) → performed_for c.core (middle_panel c) now fragment x ≡ []
-    by PassedOver = refl
-    by Confirms = refl
-    by ConfirmsUnsolicited = refl
-    by Stray = refl
-    by Again = refl
-    by Waits = refl
     by Asks = ap (λ (b : Bool). if b then performed_at c.core (middle_panel c) now fragment else []) none
+    by x = refl
 
 -- what the round leaves alone
 record Rest : Type 0 where
@@ -71,7 +71,7 @@ record IsNow (rest : Rest) (c : ConcentratorState) (centre : CentreState) (s : S
   now : s.now ≡ rest.now
 
 module _ (rest : Rest) (c : ConcentratorState) (centre : CentreState) where
-  lines_change : (Change : ChannelState → ChannelState → Type 0) (old new : System) → LinesChange Above Change old new → IsNow rest c centre old
+  lines_change : (Change : ChannelState → ChannelState → Type 0) (old new : System) → LinesChange on Change old new → IsNow rest c centre old
       → IsNow rest c centre new
   lines_change Change old new change n =
       subst (IsNow rest c centre) (sym change.1) record {
@@ -126,7 +126,7 @@ pub record BeginsAbove (old : System) : Type 0 where
   pub idle : master.is_idle old.centre.link.master ≡ true
   pub quiet : is_quiet old.concentrator.core ≡ true
 
-pub begins_above : (old : System) → is_quiet_on old Above ≡ true → BeginsAbove old
+pub begins_above : (old : System) → is_quiet_on old on ≡ true → BeginsAbove old
 begins_above old quiet =
     let a = and_parts (master.is_idle old.centre.link.master) (is_quiet old.concentrator.core && are_quiet old.above) quiet in
     record { idle = a.0; quiet = (and_parts (is_quiet old.concentrator.core) (are_quiet old.above) a.1).0 }
@@ -140,8 +140,8 @@ no_events a =
 
 -- ---- the round
 
-module _ (laws : StationLaws) (lines : LineLaws) (old new : System) (begins : BeginsAbove old) (clear : IsClearOn Above old)
-    (portion_in : State → Portion) (round : IsRound Above old new) where
+module _ (laws : StationLaws) (lines : LineLaws) (old new : System) (begins : BeginsAbove old) (clear : IsClearOn on old)
+    (portion_in : State → Portion) (round : IsRound on old new) where
   abbrev link : Relaying
   link = old.centre.link
 
@@ -164,16 +164,16 @@ module _ (laws : StationLaws) (lines : LineLaws) (old new : System) (begins : Be
   rest = record { substations = old.substations; history = old.history; now = old.now }
 
   -- the poll goes down
-  sends : SendsDown Above (poll ∷ []) asking old round.asked
-  sends = asks_so Above old round.asked true poll refl (laws.asks link.master begins.idle) round.asks
+  sends : SendsDown on (poll ∷ []) asking old round.asked
+  sends = asks_so on old round.asked true poll refl (laws.asks link.master begins.idle) round.asks
 
   once_asked : IsNow rest c0 centre1 round.asked
   once_asked = lines_change rest c0 centre1 (GoDown (poll ∷ [])) (with_centre_link old asking) round.asked sends
       (link_set rest c0 old.centre asking old
       (record { concentrator = refl; centre_is = refl; substations = refl; history = refl; now = refl }))
 
-  poll_under_way : UnderWay Above (poll ∷ []) [] round.asked
-  poll_under_way = lines.asked Above (poll ∷ []) [] [] asking old round.asked clear sends
+  poll_under_way : UnderWay on (poll ∷ []) [] round.asked
+  poll_under_way = lines.asked on (poll ∷ []) [] [] asking old round.asked clear sends
 
   -- it comes, and is answered
   abbrev step1 : Step
@@ -184,17 +184,17 @@ module _ (laws : StationLaws) (lines : LineLaws) (old new : System) (begins : Be
 
   record IsAnswered (answers : List (List ℕ)) : Type 0 where
     is : IsNow rest c1 centre1 round.answered
-    under_way : UnderWay Above [] answers round.answered
+    under_way : UnderWay on [] answers round.answered
 
   answered : (answers : List (List ℕ)) → step1.does.send ≡ answers → IsAnswered answers
   answered answers sent =
-      let d = lines.down Above (poll ∷ []) [] round.asked round.answered poll_under_way round.down in
-      let a : Arrives Above Down poll d.0 round.asked round.answered = one_arrives Above Down poll d.0 round.asked round.answered d.1 in
+      let d = lines.down on (poll ∷ []) [] round.asked round.answered poll_under_way round.down in
+      let a : Arrives on Down poll d.0 round.asked round.answered = one_arrives on Down poll d.0 round.asked round.answered d.1 in
       let heard = lines_change rest c0 centre1 (HearsAt Down) round.asked a.heard a.hears once_asked in
       let back : d.0 ≡ answers = a.sends ∙ middle_sends rest c0 centre1 poll a.heard heard ∙ sent in
       record {
         is = middle_steps rest c0 centre1 poll a.heard round.answered a.takes heard;
-        under_way = subst (λ (up : List (List ℕ)). UnderWay Above [] up round.answered) back d.2;
+        under_way = subst (λ (up : List (List ℕ)). UnderWay on [] up round.answered) back d.2;
       }
 
   -- what is no control leaves the book as it is
@@ -225,36 +225,36 @@ module _ (laws : StationLaws) (lines : LineLaws) (old new : System) (begins : Be
 
     record IsTaken : Type 0 where
       is : IsNow rest c1 centre2 round.taken
-      under_way : UnderWay Above (option_to_list x.confirm) [] round.taken
+      under_way : UnderWay on (option_to_list x.confirm) [] round.taken
 
     -- it comes, and is taken
     taken : IsTaken
     taken =
         let t : Taking = x.taken in
         let before = answered (x.fragment ∷ []) x.sent in
-        let u = lines.up Above [] (x.fragment ∷ []) round.answered round.taken before.under_way round.up in
-        let b : Arrives Above Up x.fragment u.0 round.answered round.taken = one_arrives Above Up x.fragment u.0 round.answered round.taken u.1 in
+        let u = lines.up on [] (x.fragment ∷ []) round.answered round.taken before.under_way round.up in
+        let b : Arrives on Up x.fragment u.0 round.answered round.taken = one_arrives on Up x.fragment u.0 round.answered round.taken u.1 in
         let heard = lines_change rest c1 centre1 (HearsAt Up) round.answered b.heard b.hears before.is in
-        let got : receive_of (relaying_at b.heard Above).master b.heard.now x.fragment ≡ Ok t =
+        let got : receive_of (relaying_at b.heard on).master b.heard.now x.fragment ≡ Ok t =
         ap (λ (y : CentreState). receive_of y.link.master b.heard.now x.fragment) heard.centre_is
         ∙ ap (λ (n : ℕ). receive_of asking.master n x.fragment) heard.now
         ∙ x.is_taken
         in
-        let received : MasterReceives Above (Ok t) b.heard round.taken =
-        subst (λ (r : Result Taking MasterFault). MasterReceives Above r b.heard round.taken) got b.takes in
+        let received : MasterReceives on (Ok t) b.heard round.taken =
+        subst (λ (r : Result Taking MasterFault). MasterReceives on r b.heard round.taken) got b.takes in
         let sent : u.0 ≡ option_to_list x.confirm = b.sends ∙ ap confirms_of got ∙ ap option_to_list x.confirm_is in
         record {
           is = lines_change rest c1 centre2 (GoDown (option_to_list t.confirm)) (taken_above b.heard t) round.taken received.1
               (rows_taken rest c1 centre1 t b.heard heard);
-          under_way = subst (λ (down : List (List ℕ)). UnderWay Above down [] round.taken) sent u.2;
+          under_way = subst (λ (down : List (List ℕ)). UnderWay on down [] round.taken) sent u.2;
         }
 
     -- where it asks for a confirm that comes, and releases the rows
-    confirms : (o : Option (List ℕ)) → x.confirm ≡ o → UnderWay Above (option_to_list o) [] round.taken
+    confirms : (o : Option (List ℕ)) → x.confirm ≡ o → UnderWay on (option_to_list o) [] round.taken
         → (c : ConcentratorState) × IsDone c centre2
     confirms (Some octets) is under_way =
-        let d = lines.down Above (octets ∷ []) [] round.taken new under_way round.confirms in
-        let a : Arrives Above Down octets d.0 round.taken new = one_arrives Above Down octets d.0 round.taken new d.1 in
+        let d = lines.down on (octets ∷ []) [] round.taken new under_way round.confirms in
+        let a : Arrives on Down octets d.0 round.taken new = one_arrives on Down octets d.0 round.taken new d.1 in
         let heard = lines_change rest c1 centre2 (HearsAt Down) round.taken a.heard a.hears taken.is in
         let r : Frees portion c0.queue (middle_of c1).performed (step_in c1 old.now octets) = x.frees octets is (middle_of c1).performed (middle_panel c1) in (
           concentrator_after c1 old.now octets,
@@ -265,7 +265,7 @@ module _ (laws : StationLaws) (lines : LineLaws) (old new : System) (begins : Be
           },
         )
     confirms None is under_way =
-        let d = lines.down Above [] [] round.taken new under_way round.confirms in
+        let d = lines.down on [] [] round.taken new under_way round.confirms in
         let same : new ≡ round.taken = d.1.1 in (
           c1,
           record { left = Rested (x.none is) x.lanes; plain = plain_polled; is = subst (IsNow rest c1 centre2) (sym same) taken.is },
@@ -275,10 +275,10 @@ module _ (laws : StationLaws) (lines : LineLaws) (old new : System) (begins : Be
   passes : step1 ≡ still (middle_of c0) → portion ≡ no_rows → IsDone c1 centre1
   passes rests none =
       let before = answered [] (ap (λ (step : Step). step.does.send) rests) in
-      let u = lines.up Above [] [] round.answered round.taken before.under_way round.up in
+      let u = lines.up on [] [] round.answered round.taken before.under_way round.up in
       let second : round.taken ≡ round.answered = u.1.1 in
-      let quiet : UnderWay Above [] [] round.taken = subst (λ (down : List (List ℕ)). UnderWay Above down [] round.taken) u.1.0 u.2 in
-      let d = lines.down Above [] [] round.taken new quiet round.confirms in
+      let quiet : UnderWay on [] [] round.taken = subst (λ (down : List (List ℕ)). UnderWay on down [] round.taken) u.1.0 u.2 in
+      let d = lines.down on [] [] round.taken new quiet round.confirms in
       let third : new ≡ round.taken = d.1.1 in
       record {
         left = Rested (ap (λ (x : Portion). x.rows) none) (ap (λ (step : Step). step.state.lanes) rests);
@@ -290,7 +290,7 @@ module _ (laws : StationLaws) (lines : LineLaws) (old new : System) (begins : Be
 
   pub record Moved (after : master.State) : Type 0 where
     pub moves : MovesAbove portion_in old new
-    pub master_is : (relaying_at new Above).master ≡ after
+    pub master_is : (relaying_at new on).master ≡ after
 
   -- of the centre the link and the journal change
   moved : (c : ConcentratorState) (centre : CentreState) → IsDone c centre

@@ -13,6 +13,7 @@ use Rattle.dnp_objects.specs.declared.command.Command.{Command}
 use Rattle.dnp_objects.specs.declared.row.Row.{Row}
 use Rattle.dnp_outstation.specs.State.{State, Step, is_quiet, still}
 use Rattle.dnp_world.specs.Arriving.{Arrive, Arrives, HearsAt, IsClearOn, UnderWay, confirms_of}
+use Rattle.dnp_world.specs.Behind.{Elsewhere}
 use Rattle.dnp_world.specs.Channels.{GoDown}
 use Rattle.dnp_world.specs.Movement.{Leave, MovesBelow, Released, Rested, rows_queued}
 use Rattle.dnp_outstation.specs.Polled.{Portion, no_rows, poll_octets}
@@ -28,7 +29,7 @@ use Rattle.dnp_world.proofs.RoundSteps.{IsNow, Parts, QuietAt, Rest, asks_so, li
 
 -- what is promised of the lines
 pub record LineLaws : Type 0 where
-  pub quiet : (on : Link) (s : System) → IsStanding s → is_quiet_on s on ≡ true → IsClearOn on s
+  pub quiet : (on : Link) (s : System) {el : Elsewhere} → IsStanding el s → is_quiet_on s on ≡ true → IsClearOn on s
   pub asked : (on : Link) (fragments down up : List (List ℕ)) (link : Relaying) (old new : System) → UnderWay on down up old
       → SendsDown on fragments link old new → UnderWay on (down ++ fragments) up new
   pub down : (on : Link) (down up : List (List ℕ)) (old new : System) → UnderWay on down up old → Flushes on Down old new

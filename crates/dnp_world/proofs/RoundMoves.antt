@@ -17,20 +17,22 @@ use Rattle.dnp_outstation.specs.Content.{source_of}
 use Rattle.dnp_outstation.specs.Links.{IsInOrder}
 use Rattle.dnp_outstation.specs.Polled.{Portion, no_rows, poll_octets, polled_rows, reported}
 use Rattle.dnp_outstation.specs.State.{State, is_free}
+use Rattle.dnp_world.specs.Behind.{Elsewhere}
 use Rattle.dnp_world.specs.Movement.{MovesAbove, MovesBelow, first_reported, first_rows, passed_rows, is_repeated_at, is_repeated_on}
 use Rattle.dnp_world.specs.OutstationSeen.{IsWell, ShowOctets}
 use Rattle.dnp_world.specs.Planned.{IsAsPlanned}
 use Rattle.dnp_world.specs.Rounds.{IsRound, is_quiet_on}
 use Rattle.dnp_world.specs.Settled.{IsSettled, may_report}
-use Rattle.dnp_world.specs.Steady.{IsSteady}
+use Rattle.dnp_world.specs.Steady.{IsSteadyBeside}
 use Rattle.dnp_world.specs.SystemEvents.{relaying_at}
 use Rattle.dnp_world.specs.SystemStanding.{IsJoinedBelow, IsStanding}
 use Rattle.dnp_world.specs.Systems.{SubstationState, System, link_at, middle_of, middle_panel, panel_of, station_of}
-use Rattle.dnp_world.specs.declared.event.Link.TheVariants.{Below, Above}
+use Rattle.dnp_world.specs.declared.event.Link.TheVariants.{Below}
 use Rattle.dnp_world.proofs.AllQueued.{QueuedLaw, all_are_queued}
 use Rattle.dnp_world.proofs.RepeatedPoll.{ReportLaws, WentOn, repeated}
 use Rattle.dnp_world.proofs.RepeatedRequests.{CaseLaw, went_on}
 use Rattle.dnp_world.proofs.RoundAbove as above
+use Rattle.dnp_world.proofs.RoundAbove.{on}
 use Rattle.dnp_world.proofs.RoundBelow as below
 use Rattle.dnp_world.proofs.RoundBelow.{LineLaws}
 use Rattle.dnp_world.proofs.RoundExchange.{Answer, AreFit, Exchanges, ReleaseLaw, StationLaws, master_after, polled_exchange}
@@ -41,7 +43,8 @@ pub record LaneLaws : Type 0 where
       → slice_get s.substations station ≡ Some was
       → All (λ row. is_reported (link_at s.concentrator station).master.plan row ≡ true) (rows_in was.lanes)
   pub queued : QueuedLaw
-  pub above : (s : System) → IsStanding s → IsAsPlanned s → All (λ row. is_reported s.centre.link.master.plan row ≡ true) (rows_in s.concentrator.queue)
+  pub above : (s : System) {el : Elsewhere} → IsStanding el s → IsAsPlanned s
+      → All (λ row. is_reported s.centre.link.master.plan row ≡ true) (rows_in s.concentrator.queue)
 
 -- ---- what is polled is of the lanes
 
@@ -79,14 +82,14 @@ all_polled law P s sound all = all_reported law P s (true ∷ true ∷ true ∷ 
 -- ---- the two links
 
 -- what stands of a substation and of its master
-joined_to : (station : ℕ) (old : System) (steady : IsSteady old) (begins : below.BeginsBelow station old)
+joined_to : (station : ℕ) (old : System) {el : Elsewhere} (steady : IsSteadyBeside el old) (begins : below.BeginsBelow station old)
     → IsJoinedBelow old.now (link_at old.concentrator station) (steady.standing.links.below station) begins.was
 joined_to station old steady begins =
     subst
     (λ (o : Option SubstationState). IfSome o (IsJoinedBelow old.now (link_at old.concentrator station) (steady.standing.links.below station)))
     begins.there (steady.standing.below station)
 
-pub fit_below : StationLaws → (station : ℕ) (old : System) → IsSteady old → (begins : below.BeginsBelow station old)
+pub fit_below : StationLaws → (station : ℕ) (old : System) {el : Elsewhere} → IsSteadyBeside el old → (begins : below.BeginsBelow station old)
     → AreFit (link_at old.concentrator station).master (station_of begins.was) (panel_of begins.was)
 fit_below stations station old steady begins =
     let was : SubstationState = begins.was in
@@ -104,7 +107,7 @@ fit_below stations station old steady begins =
 none_shown : (s : System) → ShowOctets (middle_panel s.concentrator)
 none_shown s = record { outputs = omega arith; status = λ index low. omega arith }
 
-pub fit_above : StationLaws → (old : System) → IsSteady old → above.BeginsAbove old
+pub fit_above : StationLaws → (old : System) {el : Elsewhere} → IsSteadyBeside el old → above.BeginsAbove old
     → AreFit old.centre.link.master (middle_of old.concentrator) (middle_panel old.concentrator)
 fit_above stations old steady begins =
     let well : IsWell (middle_of old.concentrator) = steady.standing.above.outstation.well in
@@ -119,7 +122,8 @@ fit_above stations old steady begins =
 
 -- ---- a poll that is answered
 
-pub polled_below : StationLaws → LineLaws → LaneLaws → (station : ℕ) (old new : System) → IsSteady old → is_quiet_on old (Below station) ≡ true
+pub polled_below : StationLaws → LineLaws → LaneLaws → (station : ℕ) (old new : System) {el : Elsewhere} → IsSteadyBeside el old
+    → is_quiet_on old (Below station) ≡ true
     → IsRound (Below station) old new → is_repeated_on old (Below station) ≡ false → MovesBelow station first_rows old new
 polled_below stations lines lanes station old new steady quiet round other =
     let begins : below.BeginsBelow station old = below.begins_below station old quiet in
@@ -134,14 +138,14 @@ polled_below stations lines lanes station old new steady quiet round other =
     (Exchanges (polled_exchange stations m old.now (station_of was) (panel_of was) fit asked
     (ap (λ (o : Option SubstationState). is_repeated_at o (poll_octets m.seq)) (sym begins.there) ∙ other)))).moves
 
-pub polled_above : StationLaws → LineLaws → LaneLaws → (old new : System) → IsSteady old → is_quiet_on old Above ≡ true → IsRound Above old new
-    → is_repeated_on old Above ≡ false → MovesAbove first_rows old new
+pub polled_above : StationLaws → LineLaws → LaneLaws → (old new : System) {el : Elsewhere} → IsSteadyBeside el old → is_quiet_on old on ≡ true
+    → IsRound on old new → is_repeated_on old on ≡ false → MovesAbove first_rows old new
 polled_above stations lines lanes old new steady quiet round other =
     let begins : above.BeginsAbove old = above.begins_above old quiet in
     let c = old.concentrator in
     let m : master.State = old.centre.link.master in
     let fit : AreFit m (middle_of c) (middle_panel c) = fit_above stations old steady begins in
-    (above.moves stations lines old new begins (lines.quiet Above old steady.standing quiet) first_rows round
+    (above.moves stations lines old new begins (lines.quiet on old steady.standing quiet) first_rows round
     (Exchanges (polled_exchange stations m old.now (middle_of c) (middle_panel c) fit
     (all_polled stations.released (λ row. is_reported m.plan row ≡ true) c.queue fit.sound (lanes.above old steady.standing steady.planned)) other))).moves
 
@@ -157,7 +161,7 @@ record Passed (m : master.State) (now : ℕ) (s : State) (o : Panel) (portion : 
   answer : Answer m now s o portion
   busy : is_some (master_after m now s o portion answer).request ≡ true
 
-passed_below : StationLaws → LineLaws → (station : ℕ) (old new : System) → IsSteady old → is_quiet_on old (Below station) ≡ true
+passed_below : StationLaws → LineLaws → (station : ℕ) (old new : System) {el : Elsewhere} → IsSteadyBeside el old → is_quiet_on old (Below station) ≡ true
     → IsRound (Below station) old new → (begins : below.BeginsBelow station old)
     → Passed (link_at old.concentrator station).master old.now (station_of begins.was) (panel_of begins.was) no_rows → PassedBelow station old new
 passed_below stations lines station old new steady quiet round begins passed =
@@ -165,7 +169,7 @@ passed_below stations lines station old new steady quiet round begins passed =
     refl passed.answer in
     record { moves = x.moves; busy = ap (λ (a : master.State). is_some a.request) x.master_is ∙ passed.busy }
 
-pub repeated_below : StationLaws → LineLaws → LaneLaws → ReportLaws → CaseLaw → (station : ℕ) (old new : System) → IsSteady old
+pub repeated_below : StationLaws → LineLaws → LaneLaws → ReportLaws → CaseLaw → (station : ℕ) (old new : System) {el : Elsewhere} → IsSteadyBeside el old
     → is_quiet_on old (Below station) ≡ true → IsRound (Below station) old new → is_repeated_on old (Below station) ≡ true
     → PassedBelow station old new
 repeated_below stations lines lanes reports cases station old new steady quiet round again =
@@ -193,10 +197,10 @@ repeated_below stations lines lanes reports cases station old new steady quiet r
 -- here at most an unsolicited response moved its rows
 pub record PassedAbove (old new : System) : Type 0 where
   pub moves : MovesAbove first_reported old new
-  pub busy : is_some (relaying_at new Above).master.request ≡ true
+  pub busy : is_some (relaying_at new on).master.request ≡ true
 
-pub repeated_above : StationLaws → LineLaws → LaneLaws → ReportLaws → CaseLaw → (old new : System) → IsSteady old → is_quiet_on old Above ≡ true
-    → IsRound Above old new → is_repeated_on old Above ≡ true → PassedAbove old new
+pub repeated_above : StationLaws → LineLaws → LaneLaws → ReportLaws → CaseLaw → (old new : System) {el : Elsewhere} → IsSteadyBeside el old
+    → is_quiet_on old on ≡ true → IsRound on old new → is_repeated_on old on ≡ true → PassedAbove old new
 repeated_above stations lines lanes reports cases old new steady quiet round again =
     let begins : above.BeginsAbove old = above.begins_above old quiet in
     let c = old.concentrator in
@@ -209,5 +213,5 @@ repeated_above stations lines lanes reports cases old new steady quiet round aga
     let r = repeated reports m old.now (middle_of c) (middle_panel c) fit order
     (all_reported stations.released (λ row. is_reported m.plan row ≡ true) c.queue c.core.enabled fit.sound order.classes (lanes.above old steady.standing steady.planned))
     again went in
-    let x = above.moves stations lines old new begins (lines.quiet Above old steady.standing quiet) first_reported round r.answer in
+    let x = above.moves stations lines old new begins (lines.quiet on old steady.standing quiet) first_reported round r.answer in
     record { moves = x.moves; busy = ap (λ (a : master.State). is_some a.request) x.master_is ∙ r.busy }

@@ -23,6 +23,7 @@ use Rattle.dnp_concentrator.specs.declared.span.Spans.{Spans}
 use Rattle.dnp_eventbuf.specs.Archive.{Archive}
 use Rattle.dnp_eventbuf.specs.Stock.{Stock}
 use Rattle.dnp_pointdb.specs.declared.limits.TheConstants.{INDICES}
+use Rattle.dnp_world.specs.Behind.{Elsewhere}
 use Rattle.dnp_world.specs.CommandWidths.{HasWidths}
 use Rattle.dnp_world.specs.ControlsInStep.{GoesWith, InStep}
 use Rattle.dnp_world.specs.FreshSystems.{fresh_system}
@@ -68,7 +69,8 @@ none_in_progress f none book [] target i = tt
 none_in_progress f none book (x ∷ xs) target zero = rw (none x) tt
 none_in_progress f none book (x ∷ xs) target (suc i) = none_in_progress f none book xs target i
 
-used_in_step : StepLaws → (old : System) → IsStanding old → InStep old → (used : Used (ends_of old)) → AreInStep (after_used (ends_of old) used)
+used_in_step : StepLaws → (old : System) {el : Elsewhere} → IsStanding el old → InStep old → (used : Used (ends_of old))
+    → AreInStep (after_used (ends_of old) used)
 used_in_step laws old s i used = by used
   where
     e : Ends
@@ -121,7 +123,7 @@ used_in_step laws old s i used = by used
       widths = h.widths;
     }
 
-pub stays_in_step : StepLaws → (old new : System) → IsStanding old → InStep old → Touched old new → InStep new
+pub stays_in_step : StepLaws → (old new : System) {el : Elsewhere} → IsStanding el old → InStep old → Touched old new → InStep new
 stays_in_step laws old new s h touched =
     let used : AreInStep (after_used (ends_of old) touched.used) = used_in_step laws old s h touched.used in
     system_in_step new

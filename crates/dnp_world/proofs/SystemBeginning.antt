@@ -1,10 +1,12 @@
 -- Before the first event of a system.
-use Rattle.std.proofs.Common.{◌≡◌, ℕ, List, [], length, refl, sym, ap, ◌∙◌, subst}
+use Rattle.std.proofs.Common.{◌≡◌, ℕ, List, [], ◌++◌, length, refl, sym, ap, ◌∙◌, subst}
+use Rattle.std.proofs.lemmas.List.Elements.{All-nil}
 use Rattle.dnp_objects.specs.declared.command.Command.{Command}
 use Rattle.dnp_objects.specs.Counts.{IsCoveredBy}
 use Rattle.dnp_eventbuf.specs.Buffered.{Buffered}
 use Rattle.dnp_concentrator.specs.declared.span.Spans.{Spans}
-use Rattle.dnp_world.specs.Behind.{Links, IsBehind, IsUntouched, rows_of}
+use Rattle.dnp_world.specs.Behind.{alone, Links, IsBehind, IsUntouched, rows_of}
+use Rattle.dnp_world.specs.CommandWidths.{HasWidths}
 use Rattle.dnp_world.specs.Kept.{nothing_kept, rows_below, commands_below}
 use Rattle.dnp_world.specs.Link.{Link}
 use Rattle.dnp_world.specs.Standing.{Stands, IsFresh}
@@ -17,7 +19,7 @@ no_rows events e = same_is (rows_of events) [] (ap rows_of e)
 
 -- over empty stores, behind empty lists, there are links on which nothing has happened
 pub fresh_behind : (starts : (l : Link) → IsFresh l → Stands l) → (indices : List Spans) (links : Links) → ((i : ℕ) → IsUntouched (links.below i))
-    → IsUntouched links.above → IsBehind indices links nothing_kept
+    → IsUntouched links.above → IsBehind indices alone links nothing_kept
 fresh_behind starts indices links below above =
     let stood : links.above.stood ≡ [] = above.fresh.stood ∙ above.lanes in
     record {
@@ -35,7 +37,8 @@ fresh_behind starts indices links below above =
       lost = refl;
       operated = λ i. same_is (links.below i).performed [] (below i).fresh.performed;
       asked_below = λ i. subst (λ (xs : List Command). IsCoveredBy xs []) (sym (below i).asked) (covered_nil []);
-      relayed = subst (λ (xs : List Command). HasSameCounts (commands_below indices xs) []) (sym above.fresh.performed) (same_refl []);
+      relayed = subst (λ (xs : List Command). HasSameCounts (commands_below indices xs ++ []) []) (sym above.fresh.performed) (same_refl []);
       asked_above = subst (λ (xs : List Command). IsCoveredBy xs []) (sym above.asked) (covered_nil []);
       issued = same_refl [];
+      theirs = record { entered = covered_nil []; widths = All-nil HasWidths };
     }

@@ -25,6 +25,10 @@ there f [] i x d low is = absurd (omega (arith, low))
 there f (y ∷ ys) zero x d low is = ap (λ z. Some (f z)) (sym is)
 there f (y ∷ ys) (suc i) x d low is = there f ys i x d (omega (arith, low)) is
 
+-- what a view of fields is, by the equation that it is a value
+abbrev pub viewed : {V : Type 0} {view value : V} → view ≡ value → V
+viewed {view = view} is = view
+
 -- one substation was written, and the rest of the system is as `rest` says
 pub changes_at : (station i : ℕ) (Change : SubstationState → SubstationState → Type 0) (rest : SubstationState → SubstationState → System → System)
     (old new : System) (xs : List Substation) (was is : Substation) → old.substations ≡ map substation_of xs → i ≡ station → i < length xs → was ≡ get_or xs i was

@@ -2,6 +2,9 @@
 use Rattle.std.proofs.Common.{◌≡◌, ℕ, suc, ◌+◌, ◌<◌, ◌≤◌, Bool, true, List, [], ◌∷◌, ◌++◌, length, take, get_or, Some, refl, sym, ap, ◌∙◌, subst, arith}
 use Rattle.std.proofs.lemmas.List.{take_all}
 use Rattle.dnp_world.specs.declared.event.Event.{Event}
+use Rattle.dnp_world.specs.declared.event.Event.TheVariants as event
+use Rattle.dnp_world.specs.declared.event.Link.{Link}
+use Rattle.dnp_world.specs.declared.link_event.Way.{Way}
 use Rattle.dnp_world.specs.SystemRuns.{CountsFor, Happens, RunsTo, StopsAfter, may_stop}
 use Rattle.dnp_world.specs.Systems.{System}
 use Rattle.dnp_world.proofs.OneLinkRuns.{take_more, get_some}
@@ -32,6 +35,12 @@ stops_after old mid new events k event low is ran may counts = record {
   may = may;
   counts = counts;
 }
+
+-- what is so of what counts for an event at which a list stops: a unit is lost, or nothing happens
+pub at_a_stop : (Leaves : System → System → Type 0) → ((on : Link) (way : Way) (old new : System) → Happens old (event.Lose on way) new → Leaves old new)
+    → ((old new : System) → new ≡ old → Leaves old new) → (e : Event) (old new : System) → CountsFor old e new → Leaves old new
+at_a_stop Leaves lost rests (event.Deliver on way) old new h = lost on way old new h
+at_a_stop Leaves lost rests e old new same = rests old new same
 
 -- ---- what stays of a system that an event doesn't touch
 

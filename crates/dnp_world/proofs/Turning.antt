@@ -11,7 +11,7 @@ use Rattle.dnp_objects.specs.Counts.{IsCoveredBy}
 use Rattle.dnp_eventbuf.specs.Buffered.{buffered_row}
 use Rattle.dnp_concentrator.specs.declared.span.Spans.{Spans}
 use Rattle.dnp_concentrator.specs.Mapped.{row_below, command_below}
-use Rattle.dnp_world.specs.Behind.{Links, with_links, IsBehind, Turn, made_at, rows_of}
+use Rattle.dnp_world.specs.Behind.{Elsewhere, Links, with_links, IsBehind, Turn, made_at, rows_of}
 use Rattle.dnp_world.specs.Kept.{Kept, shown_of, rows_below, commands_below, orders_in, used_orders, commands_in, used_commands}
 use Rattle.dnp_world.specs.Link.{Link}
 use Rattle.dnp_world.specs.Moves.{Moves}
@@ -55,8 +55,8 @@ came_more indices station links old new t =
     ∙ ap (λ (xs : List (ℕ × Row)). rows_below indices (rows_of links.above.stood) ++ xs) t.joined)
     (same_filter_map (row_below indices) (rows_of t.above.stood) (rows_of links.above.stood ++ t.there.made) t.above_grows.stood)
 
-mapped_kept : (indices : List Spans) (station : ℕ) (links : Links) (old new : Kept) → IsBehind indices links old → (t : Turn indices station links old new)
-    → length (rows_below indices (rows_of t.above.stood)) ≡ length t.above.stood
+mapped_kept : (indices : List Spans) {el : Elsewhere} (station : ℕ) (links : Links) (old new : Kept) → IsBehind indices el links old
+    → (t : Turn indices station links old new) → length (rows_below indices (rows_of t.above.stood)) ≡ length t.above.stood
 mapped_kept indices station links old new b t =
     let was : List (ℕ × Row) = rows_below indices (rows_of links.above.stood) in
     let grown : length (rows_below indices (rows_of t.above.stood)) ≡ length (was ++ at_station station t.here.taken) =
@@ -76,7 +76,8 @@ mapped_kept indices station links old new b t =
     )
 
 -- what is asked for of a substation is used of the concentrator's book
-asked_kept : (indices : List Spans) (station : ℕ) (links : Links) (old new : Kept) → IsBehind indices links old → (t : Turn indices station links old new)
+asked_kept : (indices : List Spans) {el : Elsewhere} (station : ℕ) (links : Links) (old new : Kept) → IsBehind indices el links old
+    → (t : Turn indices station links old new)
     → (i : ℕ) → IsCoveredBy ((with_links links station t.below t.above).below i).asked (of_station i (used_orders new.controls))
 asked_kept indices station links old new b t =
     let before : List (ℕ × Command) = used_orders old.controls in
@@ -105,18 +106,33 @@ asked_kept indices station links old new b t =
     })
 
 -- what was performed above is in the concentrator's book
-relayed_kept : (indices : List Spans) (station : ℕ) (links : Links) (old new : Kept) → IsBehind indices links old → (t : Turn indices station links old new)
-    → HasSameCounts (commands_below indices t.above.performed) (orders_in new.controls)
-relayed_kept indices station links old new b t =
-    same_more (commands_below indices links.above.performed) (commands_below indices t.above.performed) (commands_below indices t.there.performed)
-    (orders_in old.controls) (orders_in new.controls) b.relayed
-    (subst (λ (xs : List (ℕ × Command)). HasSameCounts (commands_below indices t.above.performed) xs) (filter_map-append
-    (command_below indices) links.above.performed t.there.performed)
-    (same_filter_map (command_below indices) t.above.performed (links.above.performed ++ t.there.performed) t.above_grows.performed)) t.added
+relayed_kept : (indices : List Spans) {el : Elsewhere} (station : ℕ) (links : Links) (old new : Kept) → IsBehind indices el links old
+    → (t : Turn indices station links old new)
+    → HasSameCounts (commands_below indices t.above.performed ++ commands_below indices el.performed) (orders_in new.controls)
+relayed_kept indices {el = el} station links old new b t =
+    let grown : HasSameCounts (commands_below indices t.above.performed)
+    (commands_below indices links.above.performed ++ commands_below indices t.there.performed) =
+    subst (λ (xs : List (ℕ × Command)). HasSameCounts (commands_below indices t.above.performed) xs)
+    (filter_map-append (command_below indices) links.above.performed t.there.performed)
+    (same_filter_map (command_below indices) t.above.performed (links.above.performed ++ t.there.performed) t.above_grows.performed) in
+    record {
+      same = λ test.
+          omega (
+            arith,
+            b.relayed.same test,
+            t.added.same test,
+            grown.same test,
+            count_by-append test (commands_below indices links.above.performed) (commands_below indices el.performed),
+            count_by-append test (commands_below indices t.above.performed) (commands_below indices el.performed),
+            count_by-append test (commands_below indices links.above.performed) (commands_below indices t.there.performed),
+            count_by-append test (orders_in old.controls) (commands_below indices t.there.performed),
+          );
+    }
 
-pub turned : (goes_on : (l l' : Link) → Moves l l' → Stands l → Stands l') → (indices : List Spans) (station : ℕ) (links : Links) (old new : Kept)
-    → IsBehind indices links old → (t : Turn indices station links old new) → IsBehind indices (with_links links station t.below t.above) new
-turned goes_on indices station links old new b t = record {
+pub turned : (goes_on : (l l' : Link) → Moves l l' → Stands l → Stands l')
+    → (indices : List Spans) {el : Elsewhere} (station : ℕ) (links : Links) (old new : Kept)
+    → IsBehind indices el links old → (t : Turn indices station links old new) → IsBehind indices el (with_links links station t.below t.above) new
+turned goes_on indices {el = el} station links old new b t = record {
   below_stands = by_station (λ i l. Stands l) links station t.below t.above
       (goes_on (links.below station) t.below t.below_grows.moves (b.below_stands station)) (λ i other. b.below_stands i);
   above_stands = goes_on links.above t.above t.above_grows.moves b.above_stands;
@@ -159,15 +175,19 @@ turned goes_on indices station links old new b t = record {
           t.ordered.same test,
           count_by-append test old.issued t.issues,
           count_by-append test (commands_below indices (commands_in old.orders)) t.issues,
+          count_by-append test (commands_below indices (commands_in old.orders)) (commands_below indices (commands_in el.orders)),
+          count_by-append test (commands_below indices (commands_in new.orders)) (commands_below indices (commands_in el.orders)),
         );
   };
+  theirs = b.theirs;
 }
 
 -- ---- what happened
 
 -- after an event what happened is what had happened and the rows that it made
-pub fated : LinkLaws → (goes_on : (l l' : Link) → Moves l l' → Stands l → Stands l') → (indices : List Spans) (station : ℕ) (links : Links) (old new : Kept)
-    → IsBehind indices links old → (t : Turn indices station links old new)
+pub fated : LinkLaws → (goes_on : (l l' : Link) → Moves l l' → Stands l → Stands l')
+    → (indices : List Spans) {el : Elsewhere} (station : ℕ) (links : Links) (old new : Kept)
+    → IsBehind indices el links old → (t : Turn indices station links old new)
     → IsFate (made_at station t.here.made) (shown_of indices old) (shown_of indices new)
 fated laws goes_on indices station links old new b t i =
     let is : List (ℕ × Row) = happened (shown_of indices new) in

@@ -1,11 +1,13 @@
 -- Definition: the links that stand behind the lists of a whole system, one of the law to each substation and one above, and what an
--- event makes of them (own rule). No field holds them.
-use Rattle.std.specs.Prelude.{◌≡◌, ◌≢◌, ◌==◌, ℕ, ◌+◌, if◌then◌else◌, List, [], ◌++◌, length, map}
+-- event makes of them, as one centre sees it (own rule). No field holds them.
+use Rattle.std.specs.Prelude.{◌≡◌, ◌≢◌, ◌==◌, ℕ, ◌+◌, if◌then◌else◌, List, [], ◌++◌, length, map, All}
 use Rattle.dnp_objects.specs.declared.row.Row.{Row}
 use Rattle.dnp_objects.specs.declared.command.Command.{Command}
 use Rattle.dnp_objects.specs.Counts.{IsCoveredBy}
 use Rattle.dnp_eventbuf.specs.Buffered.{Buffered, buffered_row}
 use Rattle.dnp_concentrator.specs.declared.span.Spans.{Spans}
+use Rattle.dnp_controls.specs.declared.book.Entry.{Entry}
+use Rattle.dnp_world.specs.CommandWidths.{HasWidths}
 use Rattle.dnp_world.specs.Kept.{Kept, rows_below, commands_below, orders_in, used_orders, commands_in, used_commands}
 use Rattle.dnp_world.specs.Link.{Link}
 use Rattle.dnp_world.specs.Moves.{Moves}
@@ -27,8 +29,27 @@ pub record Links : Type 0 where
 abbrev pub with_links : Links → ℕ → Link → Link → Links
 with_links links station below above = record { below = λ i. if i == station then below else links.below i; above = above }
 
+-- ---- what comes from elsewhere
+
+-- What stands apart from one centre: the commands that came to the concentrator's book over links to other centres, and the books of
+-- these.
+pub record Elsewhere : Type 0 where
+  pub performed : List Command
+  pub orders : List Entry
+
+-- there is no other centre
+abbrev pub alone : Elsewhere
+alone = record { performed = []; orders = [] }
+
+-- the books elsewhere have it all, and it can be sent
+pub record IsFrom (indices : List Spans) (el : Elsewhere) : Type 0 where
+  pub entered : IsCoveredBy (commands_below indices el.performed) (commands_below indices (commands_in el.orders))
+  pub widths : All HasWidths el.performed
+
+-- ---- what the links have
+
 -- the links have the lists that the system keeps
-pub record IsBehind (indices : List Spans) (links : Links) (k : Kept) : Type 0 where
+pub record IsBehind (indices : List Spans) (el : Elsewhere) (links : Links) (k : Kept) : Type 0 where
   -- the law goes on from each of them
   pub below_stands : (i : ℕ) → Stands (links.below i)
   pub above_stands : Stands links.above
@@ -44,13 +65,15 @@ pub record IsBehind (indices : List Spans) (links : Links) (k : Kept) : Type 0 w
   pub dropped : HasSameCounts (rows_of links.above.left) k.dropped
   pub journal : HasSameCounts (rows_of links.above.took) k.journal
   pub lost : k.lost ≡ length k.dropped
-  -- commands: what is asked for below, the concentrator's book says to be used, and that book has what was performed above
+  -- commands: what is asked for below, the concentrator's book says to be used, and that book has what was performed above and
+  -- elsewhere
   pub operated : (i : ℕ) → HasSameCounts (links.below i).performed (of_station i k.operated)
   pub asked_below : (i : ℕ) → IsCoveredBy (links.below i).asked (of_station i (used_orders k.controls))
-  pub relayed : HasSameCounts (commands_below indices links.above.performed) (orders_in k.controls)
-  -- what is asked for above, the centre's book says to be used, and that book has what was issued
+  pub relayed : HasSameCounts (commands_below indices links.above.performed ++ commands_below indices el.performed) (orders_in k.controls)
+  -- what is asked for above, the centre's book says to be used, and that book and those elsewhere have what was issued
   pub asked_above : IsCoveredBy links.above.asked (used_commands k.orders)
-  pub issued : HasSameCounts (commands_below indices (commands_in k.orders)) k.issued
+  pub issued : HasSameCounts (commands_below indices (commands_in k.orders) ++ commands_below indices (commands_in el.orders)) k.issued
+  pub theirs : IsFrom indices el
 
 -- a link on which nothing has happened, with empty lanes
 pub record IsUntouched (l : Link) : Type 0 where

@@ -8,6 +8,7 @@ use Rattle.dnp_objects.specs.declared.command.Command.{Command}
 use Rattle.dnp_objects.specs.declared.row.Row.{Row}
 use Rattle.dnp_pointdb.specs.Database.{Database}
 use Rattle.dnp_pointdb.specs.Runs.{Move, Change, Restart, rows_of}
+use Rattle.dnp_world.specs.Behind.{Elsewhere, alone}
 use Rattle.dnp_world.specs.ControlsInStep.{InStep}
 use Rattle.dnp_world.specs.Happened.{HappenedAsEvents}
 use Rattle.dnp_world.specs.Kept.{report_of}
@@ -22,12 +23,16 @@ use Rattle.dnp_world.specs.declared.event.Place.TheVariants as place
 
 -- Links of the law stand behind it, what happened at its substations can be reported, it is of a plan, its substations have started
 -- what they may, and its controls are in step with their books.
-pub record IsSteady (s : System) : Type 0 where
-  pub standing : IsStanding s
+pub record IsSteadyBeside (el : Elsewhere) (s : System) : Type 0 where
+  pub standing : IsStanding el s
   pub happened : HappenedAsEvents s
   pub planned : IsAsPlanned s
   pub settled : AreSettled s
   pub controls : InStep s
+
+-- with one centre
+abbrev pub IsSteady : System → Type 0
+IsSteady s = IsSteadyBeside alone s
 
 -- ---- what happens at the substations
 
@@ -50,8 +55,8 @@ abbrev pub rows_made_at : System → List Event → ℕ → List Row
 rows_made_at s events i = made_from (points_at s i) (flat_map (λ e. moves_at s e i) events)
 
 -- the system is steady again, and what happened is what had happened and these rows of each substation
-pub record Goes (made : ℕ → List Row) (old new : System) : Type 0 where
-  pub steady : IsSteady new
+pub record Goes (el : Elsewhere) (made : ℕ → List Row) (old new : System) : Type 0 where
+  pub steady : IsSteadyBeside el new
   pub fate : IsFate made (report_of old) (report_of new)
 
 -- ---- what is issued

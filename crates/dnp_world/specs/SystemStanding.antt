@@ -1,5 +1,5 @@
--- Definition: what stands behind a whole system: a link of the law to each substation and one above, of these stations over these
--- lines, that have the lists which the system keeps (own rule). No field holds them.
+-- Definition: what stands behind a whole system, as one centre sees it: a link of the law to each substation and one above, of these
+-- stations over these lines, that have the lists which the system keeps (own rule). No field holds them.
 use Rattle.std.specs.Prelude.{◌≡◌, ℕ, List, [], map, slice_get, IfSome, ⊤}
 use Rattle.dnp_objects.specs.declared.row.Row.{Row}
 use Rattle.dnp_concentrator.specs.declared.plan.Plan.{Plan}
@@ -10,7 +10,7 @@ use Rattle.dnp_concentrator.specs.Relaying.{Relaying}
 use Rattle.dnp_master.specs.State as master
 use Rattle.dnp_outstation.specs.State.{State}
 use Rattle.dnp_pointdb.specs.Plan as points
-use Rattle.dnp_world.specs.Behind.{Links, IsBehind, made_at, rows_of}
+use Rattle.dnp_world.specs.Behind.{Elsewhere, Links, IsBehind, made_at, rows_of}
 use Rattle.dnp_world.specs.Channels.{ChannelState}
 use Rattle.dnp_world.specs.Joined.{Joined}
 use Rattle.dnp_world.specs.Kept.{kept_in, report_of}
@@ -76,15 +76,15 @@ pub record IsOfPlan (plan : Plan) (s : System) : Type 0 where
   pub middle_points : s.concentrator.points ≡ points_above plan
   pub masters : map points_asked s.concentrator.links ≡ map points_below plan.substations
 
-pub record IsStanding (s : System) : Type 0 where
+pub record IsStanding (el : Elsewhere) (s : System) : Type 0 where
   pub plan : Plan
   pub of_plan : IsOfPlan plan s
   pub links : Links
   pub below : (station : ℕ) → IfSome (slice_get s.substations station) (IsJoinedBelow s.now (link_at s.concentrator station) (links.below station))
   pub above : Joined [] (seen_above s (lists_of links.above)) links.above
-  pub behind : IsBehind s.indices links (kept_in s)
+  pub behind : IsBehind s.indices el links (kept_in s)
 
 -- After an event something stands behind the system again, and what happened is what had happened and these rows of a substation.
-pub record Keeps (station : ℕ) (made : List Row) (old new : System) : Type 0 where
-  pub standing : IsStanding new
+pub record Keeps (el : Elsewhere) (station : ℕ) (made : List Row) (old new : System) : Type 0 where
+  pub standing : IsStanding el new
   pub fate : IsFate (made_at station made) (report_of old) (report_of new)

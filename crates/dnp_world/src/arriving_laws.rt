@@ -3,6 +3,7 @@
 ghost use Rattle.std.specs.Prelude.{◌≡◌, ◌≢◌, ℕ, true, List, [], ◌++◌};
 ghost use Rattle.dnp_concentrator.specs.Relaying.{Relaying};
 ghost use Rattle.dnp_world.specs.Arriving.{Arrive, IsClearOn, UnderWay, channel_on};
+ghost use Rattle.dnp_world.specs.Behind.{Elsewhere};
 ghost use Rattle.dnp_world.specs.Channels.{GoDown, GoUp};
 ghost use Rattle.dnp_world.specs.Rounds.{Flushes, is_quiet_on};
 ghost use Rattle.dnp_world.specs.SystemEvents.{LinesChange, SendsDown};
@@ -20,7 +21,7 @@ use dnp_transport::laws::{a_push_goes_on, cuts_give_whole, segments_say_their_pl
 /// under way after what is; and after as many deliveries as units stand on a line what was under way there has arrived, each
 /// fragment was answered before the next came, and the answers are under way back.
 pub fn what_is_sent_arrives()
-    ensures quiet { (on : Link) (s : System) → IsStanding s → is_quiet_on s on ≡ true → IsClearOn on s }
+    ensures quiet { (on : Link) (s : System) (el : Elsewhere) → IsStanding el s → is_quiet_on s on ≡ true → IsClearOn on s }
     ensures sent_down { (on : Link) (fragments down up : List (List ℕ)) (old new : System) → UnderWay on down up old
         → LinesChange on (GoDown fragments) old new → UnderWay on (down ++ fragments) up new }
     ensures sent_up { (on : Link) (fragments down up : List (List ℕ)) (old new : System) → UnderWay on down up old

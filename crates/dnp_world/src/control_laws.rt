@@ -14,6 +14,7 @@ ghost use Rattle.dnp_master.specs.declared.task.Task.TheVariants as task;
 ghost use Rattle.dnp_objects.specs.declared.command.Command.{Command as CommandValue};
 ghost use Rattle.dnp_outstation.specs.Calls.{connection_after, performed_in};
 ghost use Rattle.dnp_outstation.specs.State.{State};
+ghost use Rattle.dnp_world.specs.Behind.{Elsewhere};
 ghost use Rattle.dnp_world.specs.CommandWidths.{HasWidths};
 ghost use Rattle.dnp_world.specs.ControlAnswers.{Answers, Awaits, CanAnswer, HearsStatus, LeavesRequest, PassesReport, Repeats, WasAsked, operated_by};
 ghost use Rattle.dnp_world.specs.Controls.{CanGo, IsControl, IsRefusedControl};
@@ -117,9 +118,9 @@ pub fn an_accepted_control_operates()
 /// in progress above: the substation that it is for has performed it, once, and both books say SUCCESS of it. One that a status
 /// ends has operated nothing.
 pub fn a_clean_control_operates()
-    ensures moves { (id : ℕ) (old new : System) → IsStanding old → InStep old → CanGo id old
+    ensures moves { (id : ℕ) (old new : System) (el : Elsewhere) → IsStanding el old → InStep old → CanGo id old
         → IsControl id old new → ControlMoves id old new }
-    ensures rests { (id status : ℕ) (old new : System) → IsStanding old → InStep old → CanGo id old
+    ensures rests { (id status : ℕ) (old new : System) (el : Elsewhere) → IsStanding el old → InStep old → CanGo id old
         → IsRefusedControl id status old new → new.history.operated ≡ old.history.operated }
 {
     a_header_holds_what_was_put();

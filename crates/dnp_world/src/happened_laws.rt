@@ -9,7 +9,7 @@ ghost use Rattle.dnp_objects.specs.Events.{IsEvent};
 ghost use Rattle.dnp_objects.specs.declared.row.Row.{Row as RowValue};
 ghost use Rattle.dnp_pointdb.specs.Database.{Database};
 ghost use Rattle.dnp_world.specs.declared.link_event.LinkEvent.{LinkEvent};
-ghost use Rattle.dnp_world.specs.Behind.{rows_of};
+ghost use Rattle.dnp_world.specs.Behind.{Elsewhere, rows_of};
 ghost use Rattle.dnp_world.specs.FreshSystems.{fresh_system};
 ghost use Rattle.dnp_world.specs.Happened.{HappenedAsEvents};
 ghost use Rattle.dnp_world.specs.Joined.{rows_made_by};
@@ -26,7 +26,7 @@ use dnp_pointdb::laws::a_change_makes_what_its_lane_takes;
 
 /// What happened at a substation is what ever stood in its lanes, as the link of the law behind it has it.
 pub fn what_happened_is_what_stood()
-    ensures { (s : System) (h : IsStanding s) (station : ℕ)
+    ensures { (s : System) (el : Elsewhere) (h : IsStanding el s) (station : ℕ)
         → HasSameCounts (rows_of (h.links.below station).stood) (of_station station (happened (report_of s))) }
 {
     link_law();
@@ -44,9 +44,9 @@ pub fn what_happened_can_be_reported()
     ensures made { (points : Database) (events : List LinkEvent) → All IsEvent (rows_made_by points events) }
     ensures goes_on { (old new : System) (came : ℕ → List RowValue) → HappenedAsEvents old → ((station : ℕ) → All IsEvent (came station))
         → IsFate came (report_of old) (report_of new) → HappenedAsEvents new }
-    ensures kept { (old new : System) (station : ℕ) → HappenedAsEvents old → Keeps station [] old new → HappenedAsEvents new }
-    ensures read { (old new : System) (station : ℕ) (points : Database) (events : List LinkEvent) → HappenedAsEvents old
-        → Keeps station (rows_made_by points events) old new → HappenedAsEvents new }
+    ensures kept { (old new : System) (el : Elsewhere) (station : ℕ) → HappenedAsEvents old → Keeps el station [] old new → HappenedAsEvents new }
+    ensures read { (old new : System) (el : Elsewhere) (station : ℕ) (points : Database) (events : List LinkEvent) → HappenedAsEvents old
+        → Keeps el station (rows_made_by points events) old new → HappenedAsEvents new }
 {
     equality_is_decided::<u64, Row>();
     a_change_makes_what_its_lane_takes();

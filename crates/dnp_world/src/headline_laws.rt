@@ -8,6 +8,7 @@ ghost use Rattle.dnp_eventbuf.specs.Stock.{Stock};
 ghost use Rattle.dnp_world.specs.declared.event.Event.{Event};
 ghost use Rattle.dnp_world.specs.declared.event.Link.{Link};
 ghost use Rattle.dnp_world.specs.declared.round_fault.ControlFault.{ControlFault};
+ghost use Rattle.dnp_world.specs.Behind.{Elsewhere};
 ghost use Rattle.dnp_world.specs.Controls.{ControlEnds};
 ghost use Rattle.dnp_world.specs.FreshSystems.{fresh_system};
 ghost use Rattle.dnp_world.specs.Kept.{report_of};
@@ -15,7 +16,7 @@ ghost use Rattle.dnp_world.specs.NewSystems.{AreEmpty, CanBegin};
 ghost use Rattle.dnp_world.specs.ReportShown.{ListsAll};
 ghost use Rattle.dnp_world.specs.Reports.{Holds};
 ghost use Rattle.dnp_world.specs.Rounds.{IsRound, StopsInRound};
-ghost use Rattle.dnp_world.specs.Steady.{Goes, IsSteady, Issues, Lasts, rows_made_at};
+ghost use Rattle.dnp_world.specs.Steady.{Goes, IsSteady, IsSteadyBeside, Issues, Lasts, rows_made_at};
 ghost use Rattle.dnp_world.specs.SystemRuns.{Happens, RunsTo, StopsAfter};
 ghost use Rattle.dnp_world.specs.Systems.{System};
 
@@ -60,7 +61,8 @@ pub fn rounds_and_controls_issue_nothing()
 /// Whatever happens to a steady system leaves it steady, and what happened at its substations is what had happened and the rows
 /// that a reading makes.
 pub fn every_event_keeps_a_system_steady()
-    ensures { (old new : System) (event : Event) → IsSteady old → Happens old event new → Goes (rows_made_at old (event ∷ [])) old new }
+    ensures { (old new : System) (el : Elsewhere) (event : Event) → IsSteadyBeside el old → Happens old event new
+        → Goes el (rows_made_at old (event ∷ [])) old new }
 {
     events_below_keep_what_stands();
     calls_below_keep_what_stands();
@@ -81,18 +83,18 @@ pub fn every_event_keeps_a_system_steady()
 /// of a steady system holds what is said of every moment: no row of the journal is invented, no confirmed row vanishes, what full lanes
 /// of the queue dropped is counted, and no command is performed more often than it was issued.
 pub fn steady_systems_stay_steady()
-    ensures stays { (old new : System) (events : List Event) → IsSteady old → RunsTo old events new → IsSteady new }
-    ensures stays_stopped { (old new : System) (events : List Event) (done : ℕ) → IsSteady old → StopsAfter old events done new
-        → IsSteady new }
-    ensures ran { (old new : System) (events : List Event) → ∥ IsSteady old ∥₁ → RunsTo old events new → Lasts events old new }
-    ensures stopped { (old new : System) (events : List Event) (done : ℕ) → ∥ IsSteady old ∥₁ → StopsAfter old events done new
+    ensures stays { (old new : System) (el : Elsewhere) (events : List Event) → IsSteadyBeside el old → RunsTo old events new → IsSteadyBeside el new }
+    ensures stays_stopped { (old new : System) (el : Elsewhere) (events : List Event) (done : ℕ) → IsSteadyBeside el old → StopsAfter old events done new
+        → IsSteadyBeside el new }
+    ensures ran { (old new : System) (el : Elsewhere) (events : List Event) → ∥ IsSteadyBeside el old ∥₁ → RunsTo old events new → Lasts events old new }
+    ensures stopped { (old new : System) (el : Elsewhere) (events : List Event) (done : ℕ) → ∥ IsSteadyBeside el old ∥₁ → StopsAfter old events done new
         → Lasts (take done events) old new }
     ensures joined { (old mid new : System) (first second : List Event) → RunsTo old first mid → Lasts first old mid → Lasts second mid new
         → Lasts (first ++ second) old new }
     ensures at_first { (plan : Plan) (queue : Stock) (journal : Archive) (controls orders : Ledger) → CanBegin plan
         → AreEmpty queue journal controls orders → IsSteady (fresh_system plan queue journal controls orders) }
-    ensures holds { (s : System) → ∥ IsSteady s ∥₁ → Holds (report_of s) }
-    ensures all { (s : System) → ∥ IsSteady s ∥₁ → ListsAll s (report_of s) }
+    ensures holds { (s : System) (el : Elsewhere) → ∥ IsSteadyBeside el s ∥₁ → Holds (report_of s) }
+    ensures all { (s : System) (el : Elsewhere) → ∥ IsSteadyBeside el s ∥₁ → ListsAll s (report_of s) }
 {
     every_event_keeps_a_system_steady();
     rows_are_made_by_events_alone();
@@ -107,11 +109,11 @@ pub fn steady_systems_stay_steady()
 
 /// So do clean rounds and clean controls, at whatever they end, and they make no row.
 pub fn rounds_and_controls_keep_a_system_steady()
-    ensures rests { (old new : System) → IsSteady old → new ≡ old → Goes (λ i. []) old new }
-    ensures round { (on : Link) (old new : System) → IsSteady old → IsRound on old new → Goes (λ i. []) old new }
-    ensures round_stopped { (on : Link) (old new : System) → IsSteady old → StopsInRound on old new → Goes (λ i. []) old new }
-    ensures control { (id : ℕ) (old new : System) (result : Result ⊤ ControlFault) → IsSteady old → ControlEnds id old result new
-        → Goes (λ i. []) old new }
+    ensures rests { (old new : System) (el : Elsewhere) → IsSteadyBeside el old → new ≡ old → Goes el (λ i. []) old new }
+    ensures round { (on : Link) (old new : System) (el : Elsewhere) → IsSteadyBeside el old → IsRound on old new → Goes el (λ i. []) old new }
+    ensures round_stopped { (on : Link) (old new : System) (el : Elsewhere) → IsSteadyBeside el old → StopsInRound on old new → Goes el (λ i. []) old new }
+    ensures control { (id : ℕ) (old new : System) (el : Elsewhere) (result : Result ⊤ ControlFault) → IsSteadyBeside el old → ControlEnds id old result new
+        → Goes el (λ i. []) old new }
 {
     every_event_keeps_a_system_steady();
     rows_are_made_by_events_alone();

@@ -7,11 +7,12 @@ ghost use Rattle.dnp_master.specs.Rows.{is_reported};
 ghost use Rattle.dnp_master.specs.State as master;
 ghost use Rattle.dnp_outstation.specs.Polled.{Offers, poll_octets, polled_rows};
 ghost use Rattle.dnp_outstation.specs.State.{State, Step};
+ghost use Rattle.dnp_world.specs.Behind.{Elsewhere};
 ghost use Rattle.dnp_world.specs.Polled.{Takes};
 ghost use Rattle.dnp_world.specs.declared.event.Link.{Link};
 ghost use Rattle.dnp_world.specs.Movement.{RoundMoves};
 ghost use Rattle.dnp_world.specs.Rounds.{IsRound, events_polled, is_quiet_on};
-ghost use Rattle.dnp_world.specs.Steady.{IsSteady};
+ghost use Rattle.dnp_world.specs.Steady.{IsSteadyBeside};
 ghost use Rattle.dnp_world.specs.Systems.{System};
 
 use crate::arriving_laws::what_is_sent_arrives;
@@ -42,7 +43,7 @@ pub fn a_master_takes_what_it_polled()
 /// a response of a multiple of sixteen fragments, nothing moves, but for an unsolicited response that the concentrator starts then,
 /// and the master goes on waiting.
 pub fn a_clean_round_moves_rows()
-    ensures { (on : Link) (old new : System) → IsSteady old → is_quiet_on old on ≡ true → IsRound on old new → RoundMoves on old new }
+    ensures { (on : Link) (old new : System) (el : Elsewhere) → IsSteadyBeside el old → is_quiet_on old on ≡ true → IsRound on old new → RoundMoves on old new }
 {
     a_quiet_outstation_offers_its_events();
     a_master_takes_what_it_polled();

@@ -9,6 +9,7 @@ ghost use Rattle.dnp_eventbuf.specs.Stock.{Stock, rows_in};
 ghost use Rattle.dnp_master.specs.Rows.{is_reported};
 ghost use Rattle.dnp_objects.specs.declared.row.Kind.{Kind};
 ghost use Rattle.dnp_pointdb.specs.declared.reading.Reading.{Reading};
+ghost use Rattle.dnp_world.specs.Behind.{Elsewhere};
 ghost use Rattle.dnp_world.specs.declared.event.Event.{Event};
 ghost use Rattle.dnp_world.specs.declared.event.Event.TheVariants as happening;
 ghost use Rattle.dnp_world.specs.declared.link_event.LinkEvent.TheVariants as event;
@@ -44,11 +45,11 @@ pub fn substations_keep_their_points()
 pub fn what_happens_is_of_the_plan()
     ensures at_first { (plan : Plan) (queue : Stock) (journal : Archive) (controls orders : Ledger) → KeepsLimits plan
         → HappenedAsPlanned plan (fresh_system plan queue journal controls orders) }
-    ensures kept { (plan : Plan) (old new : System) (station : ℕ) (event : Event) → HappenedAsPlanned plan old → Happens old event new
-        → Keeps station [] old new → HappenedAsPlanned plan new }
-    ensures read { (plan : Plan) (old new : System) (station : ℕ) (kind : Kind) (index : ℕ) (reading : Reading) → HappenedAsPlanned plan old
+    ensures kept { (plan : Plan) (old new : System) (el : Elsewhere) (station : ℕ) (event : Event) → HappenedAsPlanned plan old → Happens old event new
+        → Keeps el station [] old new → HappenedAsPlanned plan new }
+    ensures read { (plan : Plan) (old new : System) (el : Elsewhere) (station : ℕ) (kind : Kind) (index : ℕ) (reading : Reading) → HappenedAsPlanned plan old
         → (reads : Reads station kind index reading old new)
-        → Keeps station (rows_made_by reads.was.core.points (event.Change kind index reading ∷ [])) old new → HappenedAsPlanned plan new }
+        → Keeps el station (rows_made_by reads.was.core.points (event.Change kind index reading ∷ [])) old new → HappenedAsPlanned plan new }
     ensures events { (plan : Plan) (s : System) → HappenedAsPlanned plan s → HappenedAsEvents s }
 {
     substations_keep_their_points();
@@ -64,11 +65,11 @@ pub fn what_happens_is_of_the_plan()
 pub fn systems_stay_as_planned()
     ensures at_first { (plan : Plan) (queue : Stock) (journal : Archive) (controls orders : Ledger) → KeepsLimits plan
         → IsAsPlanned (fresh_system plan queue journal controls orders) }
-    ensures kept { (old new : System) (station : ℕ) (event : Event) → IsAsPlanned old → Happens old event new
-        → Keeps station [] old new → IsAsPlanned new }
-    ensures read { (old new : System) (station : ℕ) (kind : Kind) (index : ℕ) (reading : Reading) → IsAsPlanned old
+    ensures kept { (old new : System) (el : Elsewhere) (station : ℕ) (event : Event) → IsAsPlanned old → Happens old event new
+        → Keeps el station [] old new → IsAsPlanned new }
+    ensures read { (old new : System) (el : Elsewhere) (station : ℕ) (kind : Kind) (index : ℕ) (reading : Reading) → IsAsPlanned old
         → Happens old (happening.Change station kind index reading) new → (reads : Reads station kind index reading old new)
-        → Keeps station (rows_made_by reads.was.core.points (event.Change kind index reading ∷ [])) old new → IsAsPlanned new }
+        → Keeps el station (rows_made_by reads.was.core.points (event.Change kind index reading ∷ [])) old new → IsAsPlanned new }
 {
     what_happens_is_of_the_plan();
 }
@@ -79,7 +80,7 @@ pub fn rows_in_lanes_are_asked_for()
     ensures below { (s : System) (station : ℕ) (was : SubstationState) → IsAsPlanned s → station < length s.concentrator.links
         → slice_get s.substations station ≡ Some was
         → All (λ row. is_reported (link_at s.concentrator station).master.plan row ≡ true) (rows_in was.lanes) }
-    ensures above { (s : System) → IsStanding s → IsAsPlanned s
+    ensures above { (s : System) (el : Elsewhere) → IsStanding el s → IsAsPlanned s
         → All (λ row. is_reported s.centre.link.master.plan row ≡ true) (rows_in s.concentrator.queue) }
 {
     link_law();

@@ -14,6 +14,7 @@ ghost use Rattle.dnp_master.specs.Requests.{request_for};
 ghost use Rattle.dnp_master.specs.declared.task.Task.{Task as TaskValue};
 ghost use Rattle.dnp_master.specs.declared.task.Task.TheVariants as task;
 ghost use Rattle.dnp_objects.specs.declared.command.Command.{Command as CommandValue};
+ghost use Rattle.dnp_world.specs.Behind.{Elsewhere};
 ghost use Rattle.dnp_world.specs.CommandWidths.{HasWidths};
 ghost use Rattle.dnp_world.specs.ControlsInStep.{InStep};
 ghost use Rattle.dnp_world.specs.declared.event.Event.{Event as EventValue};
@@ -88,9 +89,10 @@ pub fn a_request_goes_by_a_move()
 /// A step of relaying keeps what stands behind the system, where the controls in progress are in step with their books: an
 /// OPERATE asks for the command of its control, which is spent with it.
 pub fn relaying_keeps_what_stands()
-    ensures below { (old new : System) (station : ℕ) → has_station old station ≡ true → IsStanding old → InStep old
-        → RelaysOn (link.Below station) old new → Keeps station [] old new }
-    ensures above { (old new : System) (station : ℕ) → IsStanding old → InStep old → RelaysOn link.Above old new → Keeps station [] old new }
+    ensures below { (old new : System) (el : Elsewhere) (station : ℕ) → has_station old station ≡ true → IsStanding el old → InStep old
+        → RelaysOn (link.Below station) old new → Keeps el station [] old new }
+    ensures above { (old new : System) (el : Elsewhere) (station : ℕ) → IsStanding el old → InStep old → RelaysOn link.Above old new
+        → Keeps el station [] old new }
 {
     lists_are_of_links();
     a_command_is_asked_for_as_it_is();
@@ -102,7 +104,7 @@ pub fn relaying_keeps_what_stands()
 /// Controls in progress stay in step with their books: at each event, while links of the law stand behind the system, and they are
 /// in step before the first event over empty books.
 pub fn controls_stay_in_step()
-    ensures event { (old new : System) (event : EventValue) → Happens old event new → IsStanding old → InStep old → InStep new }
+    ensures event { (old new : System) (el : Elsewhere) (event : EventValue) → Happens old event new → IsStanding el old → InStep old → InStep new }
     ensures at_first { (plan : PlanValue) (queue : Stock) (journal : Archive) (controls orders : Ledger)
         → controls.entries ≡ [] → orders.entries ≡ [] → InStep (fresh_system plan queue journal controls orders) }
 {

@@ -8,6 +8,7 @@ ghost use Rattle.dnp_eventbuf.specs.Archive.{Archive};
 ghost use Rattle.dnp_eventbuf.specs.Stock.{Stock};
 ghost use Rattle.dnp_line.specs.Lines.{delivered_on, repeated_on};
 ghost use Rattle.dnp_objects.specs.declared.limits.TheConstants.{LANES};
+ghost use Rattle.dnp_world.specs.Behind.{Elsewhere, alone};
 ghost use Rattle.dnp_world.specs.FreshSystems.{fresh_system};
 ghost use Rattle.dnp_world.specs.Kept.{report_of};
 ghost use Rattle.dnp_world.specs.NewSystems.{AreEmpty, CanBegin, HasAllLanes, nothing_shown};
@@ -34,10 +35,10 @@ use dnp_pointdb::laws::points_stay_sound;
 /// there: the rows that a confirm releases leave the queue, which counts none of them as lost, and the commands that are performed
 /// come into the book.
 pub fn what_comes_to_the_concentrator_keeps_what_stands()
-    ensures delivered { (old new : System) (station : ℕ) → IsStanding old
-        → ComesDownAbove delivered_on old new → Keeps station [] old new }
-    ensures repeated { (old new : System) (station : ℕ) → IsStanding old
-        → ComesDownAbove repeated_on old new → Keeps station [] old new }
+    ensures delivered { (old new : System) (el : Elsewhere) (station : ℕ) → IsStanding el old
+        → ComesDownAbove delivered_on old new → Keeps el station [] old new }
+    ensures repeated { (old new : System) (el : Elsewhere) (station : ℕ) → IsStanding el old
+        → ComesDownAbove repeated_on old new → Keeps el station [] old new }
 {
     lists_are_of_links();
     events_without_a_sink_are_moves();
@@ -52,7 +53,7 @@ pub fn what_comes_to_the_concentrator_keeps_what_stands()
 /// Something stands behind a new system over empty stores: links of the law on which nothing has happened. Its report shows nothing.
 pub fn a_new_system_stands()
     ensures stands { (plan : Plan) (queue : Stock) (journal : Archive) (controls orders : Ledger) → CanBegin plan
-        → AreEmpty queue journal controls orders → IsStanding (fresh_system plan queue journal controls orders) }
+        → AreEmpty queue journal controls orders → IsStanding alone (fresh_system plan queue journal controls orders) }
     ensures shows { (plan : Plan) (queue : Stock) (journal : Archive) (controls orders : Ledger)
         → AreEmpty queue journal controls orders → report_of (fresh_system plan queue journal controls orders) ≡ nothing_shown }
 {

@@ -26,14 +26,14 @@ ghost use Rattle.dnp_world.specs.declared.link_event.LinkEvent.TheVariants as ev
 ghost use Rattle.dnp_world.specs.declared.link_event.Way.{Way};
 ghost use Rattle.dnp_world.specs.declared.parts.report.TheConstants.{NUMBERS};
 ghost use Rattle.dnp_world.specs.declared.report.Report.{Report as Shown};
-ghost use Rattle.dnp_world.specs.Behind.{IsBehind, IsUntouched, Links, Turn, made_at, with_links};
+ghost use Rattle.dnp_world.specs.Behind.{Elsewhere, alone, IsBehind, IsUntouched, Links, Turn, made_at, with_links};
 ghost use Rattle.dnp_world.specs.Channels.{DamagesAt};
 ghost use Rattle.dnp_world.specs.Joined.{rows_made_by};
 ghost use Rattle.dnp_world.specs.Kept.{AreMapped, Kept, commands_below, nothing_kept, order_of, orders_in, report_of, rows_below, shown_of, used_orders};
 ghost use Rattle.dnp_world.specs.ReportShown.{ListsAll, Shows, lists_of};
 ghost use Rattle.dnp_world.specs.OneLinkEvents.{is_own};
 ghost use Rattle.dnp_world.specs.Reports.{Holds, IsFate, Report as ReportValue};
-ghost use Rattle.dnp_world.specs.Steady.{IsSteady};
+ghost use Rattle.dnp_world.specs.Steady.{IsSteadyBeside};
 ghost use Rattle.dnp_world.specs.SystemStanding.{IsStanding, Keeps};
 ghost use Rattle.dnp_world.specs.SystemEvents.{AsksOn, ComesDownBelow, ComesUp, HangsUpOn, IssuesBy, LinesChange, LosesOn, MasterTicks, OpensOn, OutstationTicks, Reads, SubstationRestarts, concentrator_restarted};
 ghost use Rattle.dnp_world.specs.Systems.{System, at_station, has_station};
@@ -53,13 +53,13 @@ use dnp_pointdb::laws::points_stay_sound;
 /// counted, and no command is performed more often than it was issued. What happened by several lists of events is what
 /// happened by one after the other, and in which order the queue is shown is no matter.
 pub fn lists_are_of_links()
-    ensures holds { (indices : List Spans) (links : Links) (k : Kept) → IsBehind indices links k → Holds (shown_of indices k) }
-    ensures mapped { (indices : List Spans) (links : Links) (k : Kept) → IsBehind indices links k → AreMapped indices k }
+    ensures holds { (indices : List Spans) (el : Elsewhere) (links : Links) (k : Kept) → IsBehind indices el links k → Holds (shown_of indices k) }
+    ensures mapped { (indices : List Spans) (el : Elsewhere) (links : Links) (k : Kept) → IsBehind indices el links k → AreMapped indices k }
     ensures at_first { (indices : List Spans) (links : Links) → ((i : ℕ) → IsUntouched (links.below i))
-        → IsUntouched links.above → IsBehind indices links nothing_kept }
-    ensures kept { (indices : List Spans) (station : ℕ) (links : Links) (old new : Kept) → IsBehind indices links old
-        → (turn : Turn indices station links old new) → IsBehind indices (with_links links station turn.below turn.above) new }
-    ensures fate { (indices : List Spans) (station : ℕ) (links : Links) (old new : Kept) → IsBehind indices links old
+        → IsUntouched links.above → IsBehind indices alone links nothing_kept }
+    ensures kept { (indices : List Spans) (el : Elsewhere) (station : ℕ) (links : Links) (old new : Kept) → IsBehind indices el links old
+        → (turn : Turn indices station links old new) → IsBehind indices el (with_links links station turn.below turn.above) new }
+    ensures fate { (indices : List Spans) (el : Elsewhere) (station : ℕ) (links : Links) (old new : Kept) → IsBehind indices el links old
         → (turn : Turn indices station links old new)
         → IsFate (made_at station turn.here.made) (shown_of indices old) (shown_of indices new) }
     ensures joined { (first second : ℕ → List RowValue) (a b c : ReportValue) → IsFate first a b → IsFate second b c
@@ -75,8 +75,8 @@ pub fn lists_are_of_links()
 
 /// While links of the law stand behind a system, its report shows what holds at every moment, and of all rows.
 pub fn what_stands_is_shown()
-    ensures holds { (s : System) → ∥ IsStanding s ∥₁ → Holds (report_of s) }
-    ensures all { (s : System) → ∥ IsStanding s ∥₁ → ListsAll s (report_of s) }
+    ensures holds { (s : System) (el : Elsewhere) → ∥ IsStanding el s ∥₁ → Holds (report_of s) }
+    ensures all { (s : System) (el : Elsewhere) → ∥ IsStanding el s ∥₁ → ListsAll s (report_of s) }
 {
     lists_are_of_links();
 }
@@ -88,8 +88,8 @@ pub fn what_a_report_shows_is_kept()
     ensures queue { (s : System) (r : Shown) → Shows s r → IsPermutation r.queue (report_of s).queue }
     ensures others { (s : System) (r : Shown) → Shows s r → length s.substations ≤ NUMBERS → lost_in s.concentrator.queue < 2 ^ 64
         → lists_of r ≡ record (report_of s) { queue = r.queue } }
-    ensures holds { (s : System) (r : Shown) → Shows s r → length r.dropped < 2 ^ 64 → ∥ IsSteady s ∥₁ → Holds (lists_of r) }
-    ensures all { (s : System) (r : Shown) → Shows s r → ∥ IsSteady s ∥₁ → ListsAll s (lists_of r) }
+    ensures holds { (s : System) (el : Elsewhere) (r : Shown) → Shows s r → length r.dropped < 2 ^ 64 → ∥ IsSteadyBeside el s ∥₁ → Holds (lists_of r) }
+    ensures all { (s : System) (el : Elsewhere) (r : Shown) → Shows s r → ∥ IsSteadyBeside el s ∥₁ → ListsAll s (lists_of r) }
 {
     lists_are_of_links();
     what_stands_is_shown();
@@ -98,21 +98,21 @@ pub fn what_a_report_shows_is_kept()
 /// Events on the link to a substation at which its master takes no rows: something stands behind the system again, and at
 /// the substation happened what had happened, and the rows that a reading makes.
 pub fn events_below_keep_what_stands()
-    ensures lost { (old new : System) (station : ℕ) (way : Way) → IsStanding old
-        → LosesOn (link.Below station) way old new → Keeps station [] old new }
-    ensures hung_up { (old new : System) (station : ℕ) → IsStanding old
-        → HangsUpOn (link.Below station) end.Outstation old new → Keeps station [] old new }
-    ensures restarted { (old new : System) (station : ℕ) → IsStanding old
-        → SubstationRestarts station old new → Keeps station [] old new }
-    ensures delivered { (old new : System) (station : ℕ) → IsStanding old
-        → ComesDownBelow delivered_on station old new → Keeps station [] old new }
-    ensures repeated { (old new : System) (station : ℕ) → IsStanding old
-        → ComesDownBelow repeated_on station old new → Keeps station [] old new }
-    ensures ticked { (old new : System) (station : ℕ) → IsStanding old
-        → OutstationTicks (link.Below station) old new → Keeps station [] old new }
-    ensures read { (old new : System) (station : ℕ) (kind : Kind) (index : ℕ) (reading : Reading) → IsStanding old
+    ensures lost { (old new : System) (el : Elsewhere) (station : ℕ) (way : Way) → IsStanding el old
+        → LosesOn (link.Below station) way old new → Keeps el station [] old new }
+    ensures hung_up { (old new : System) (el : Elsewhere) (station : ℕ) → IsStanding el old
+        → HangsUpOn (link.Below station) end.Outstation old new → Keeps el station [] old new }
+    ensures restarted { (old new : System) (el : Elsewhere) (station : ℕ) → IsStanding el old
+        → SubstationRestarts station old new → Keeps el station [] old new }
+    ensures delivered { (old new : System) (el : Elsewhere) (station : ℕ) → IsStanding el old
+        → ComesDownBelow delivered_on station old new → Keeps el station [] old new }
+    ensures repeated { (old new : System) (el : Elsewhere) (station : ℕ) → IsStanding el old
+        → ComesDownBelow repeated_on station old new → Keeps el station [] old new }
+    ensures ticked { (old new : System) (el : Elsewhere) (station : ℕ) → IsStanding el old
+        → OutstationTicks (link.Below station) old new → Keeps el station [] old new }
+    ensures read { (old new : System) (el : Elsewhere) (station : ℕ) (kind : Kind) (index : ℕ) (reading : Reading) → IsStanding el old
         → (reads : Reads station kind index reading old new)
-        → Keeps station (rows_made_by reads.was.core.points (event.Change kind index reading ∷ [])) old new }
+        → Keeps el station (rows_made_by reads.was.core.points (event.Change kind index reading ∷ [])) old new }
 {
     lists_are_of_links();
     events_without_a_sink_are_moves();
@@ -123,16 +123,16 @@ pub fn events_below_keep_what_stands()
 /// The same of events at which its lines are damaged, both its ends are opened, or its master asks a task of its own, hangs up or
 /// looks at its timer: a substation whose master hung up can't be reached any more, and its readings above say so.
 pub fn calls_below_keep_what_stands()
-    ensures damaged { (old new : System) (station : ℕ) (way : Way) (octets : List ℕ) → IsStanding old
-        → LinesChange (link.Below station) (DamagesAt way octets) old new → Keeps station [] old new }
-    ensures opened { (old new : System) (station : ℕ) → has_station old station ≡ true → IsStanding old
-        → OpensOn (link.Below station) old new → Keeps station [] old new }
-    ensures asked { (old new : System) (station : ℕ) (task : Task) → has_station old station ≡ true → IsStanding old
-        → AsksOn (is_own task) (link.Below station) task old new → Keeps station [] old new }
-    ensures hung_up { (old new : System) (station : ℕ) → has_station old station ≡ true → IsStanding old
-        → HangsUpOn (link.Below station) end.Master old new → Keeps station [] old new }
-    ensures ticked { (old new : System) (station : ℕ) → has_station old station ≡ true → IsStanding old
-        → MasterTicks (link.Below station) old new → Keeps station [] old new }
+    ensures damaged { (old new : System) (el : Elsewhere) (station : ℕ) (way : Way) (octets : List ℕ) → IsStanding el old
+        → LinesChange (link.Below station) (DamagesAt way octets) old new → Keeps el station [] old new }
+    ensures opened { (old new : System) (el : Elsewhere) (station : ℕ) → has_station old station ≡ true → IsStanding el old
+        → OpensOn (link.Below station) old new → Keeps el station [] old new }
+    ensures asked { (old new : System) (el : Elsewhere) (station : ℕ) (task : Task) → has_station old station ≡ true → IsStanding el old
+        → AsksOn (is_own task) (link.Below station) task old new → Keeps el station [] old new }
+    ensures hung_up { (old new : System) (el : Elsewhere) (station : ℕ) → has_station old station ≡ true → IsStanding el old
+        → HangsUpOn (link.Below station) end.Master old new → Keeps el station [] old new }
+    ensures ticked { (old new : System) (el : Elsewhere) (station : ℕ) → has_station old station ≡ true → IsStanding el old
+        → MasterTicks (link.Below station) old new → Keeps el station [] old new }
 {
     lists_are_of_links();
     events_without_a_sink_are_moves();
@@ -144,20 +144,21 @@ pub fn calls_below_keep_what_stands()
 /// Events on the link between concentrator and centre at which no row is taken and no fragment comes to the concentrator: a line
 /// loses its front unit or is damaged, an end hangs up or looks at its timer, both are opened, or the centre asks a task of its own.
 pub fn events_above_keep_what_stands()
-    ensures lost { (old new : System) (station : ℕ) (way : Way) → IsStanding old
-        → LosesOn link.Above way old new → Keeps station [] old new }
-    ensures damaged { (old new : System) (station : ℕ) (way : Way) (octets : List ℕ) → IsStanding old
-        → LinesChange link.Above (DamagesAt way octets) old new → Keeps station [] old new }
-    ensures centre_hung_up { (old new : System) (station : ℕ) → IsStanding old
-        → HangsUpOn link.Above end.Master old new → Keeps station [] old new }
-    ensures concentrator_hung_up { (old new : System) (station : ℕ) → IsStanding old
-        → HangsUpOn link.Above end.Outstation old new → Keeps station [] old new }
-    ensures opened { (old new : System) (station : ℕ) → IsStanding old → OpensOn link.Above old new → Keeps station [] old new }
-    ensures centre_ticked { (old new : System) (station : ℕ) → IsStanding old → MasterTicks link.Above old new → Keeps station [] old new }
-    ensures concentrator_ticked { (old new : System) (station : ℕ) → IsStanding old
-        → OutstationTicks link.Above old new → Keeps station [] old new }
-    ensures asked { (old new : System) (station : ℕ) (task : Task) → IsStanding old
-        → AsksOn (is_own task) link.Above task old new → Keeps station [] old new }
+    ensures lost { (old new : System) (el : Elsewhere) (station : ℕ) (way : Way) → IsStanding el old
+        → LosesOn link.Above way old new → Keeps el station [] old new }
+    ensures damaged { (old new : System) (el : Elsewhere) (station : ℕ) (way : Way) (octets : List ℕ) → IsStanding el old
+        → LinesChange link.Above (DamagesAt way octets) old new → Keeps el station [] old new }
+    ensures centre_hung_up { (old new : System) (el : Elsewhere) (station : ℕ) → IsStanding el old
+        → HangsUpOn link.Above end.Master old new → Keeps el station [] old new }
+    ensures concentrator_hung_up { (old new : System) (el : Elsewhere) (station : ℕ) → IsStanding el old
+        → HangsUpOn link.Above end.Outstation old new → Keeps el station [] old new }
+    ensures opened { (old new : System) (el : Elsewhere) (station : ℕ) → IsStanding el old → OpensOn link.Above old new → Keeps el station [] old new }
+    ensures centre_ticked { (old new : System) (el : Elsewhere) (station : ℕ) → IsStanding el old → MasterTicks link.Above old new
+        → Keeps el station [] old new }
+    ensures concentrator_ticked { (old new : System) (el : Elsewhere) (station : ℕ) → IsStanding el old
+        → OutstationTicks link.Above old new → Keeps el station [] old new }
+    ensures asked { (old new : System) (el : Elsewhere) (station : ℕ) (task : Task) → IsStanding el old
+        → AsksOn (is_own task) link.Above task old new → Keeps el station [] old new }
 {
     lists_are_of_links();
     events_without_a_sink_are_moves();
@@ -168,10 +169,10 @@ pub fn events_above_keep_what_stands()
 /// So does what comes to the centre, where the unit leaves the line and where it stays there: the rows that the centre takes come into
 /// its journal.
 pub fn what_comes_to_the_centre_keeps_what_stands()
-    ensures delivered { (old new : System) (station : ℕ) → IsStanding old
-        → ComesUp delivered_on link.Above old new → Keeps station [] old new }
-    ensures repeated { (old new : System) (station : ℕ) → IsStanding old
-        → ComesUp repeated_on link.Above old new → Keeps station [] old new }
+    ensures delivered { (old new : System) (el : Elsewhere) (station : ℕ) → IsStanding el old
+        → ComesUp delivered_on link.Above old new → Keeps el station [] old new }
+    ensures repeated { (old new : System) (el : Elsewhere) (station : ℕ) → IsStanding el old
+        → ComesUp repeated_on link.Above old new → Keeps el station [] old new }
 {
     lists_are_of_links();
     events_without_a_sink_are_moves();
@@ -179,7 +180,7 @@ pub fn what_comes_to_the_centre_keeps_what_stands()
 
 /// So does a restart of the concentrator, which hangs up all its ends at once and keeps its queue and its book.
 pub fn a_restart_of_the_concentrator_keeps_what_stands()
-    ensures { (old new : System) (station : ℕ) → IsStanding old → new ≡ concentrator_restarted old → Keeps station [] old new }
+    ensures { (old new : System) (el : Elsewhere) (station : ℕ) → IsStanding el old → new ≡ concentrator_restarted old → Keeps el station [] old new }
 {
     lists_are_of_links();
     events_without_a_sink_are_moves();
@@ -187,9 +188,10 @@ pub fn a_restart_of_the_concentrator_keeps_what_stands()
 
 /// Events at which no link moves keep what stands behind the system: a command is issued at the centre, and time passes.
 pub fn other_events_keep_what_stands()
-    ensures issued { (old new : System) (station : ℕ) (command : CommandValue) → IsStanding old
-        → IssuesBy (command_above old.centre.indices station command) station command old new → Keeps station [] old new }
-    ensures passed { (old new : System) (now : ℕ) (station : ℕ) → IsStanding old → new ≡ record old { now = now } → Keeps station [] old new }
+    ensures issued { (old new : System) (el : Elsewhere) (station : ℕ) (command : CommandValue) → IsStanding el old
+        → IssuesBy (command_above old.centre.indices station command) station command old new → Keeps el station [] old new }
+    ensures passed { (old new : System) (el : Elsewhere) (now : ℕ) (station : ℕ) → IsStanding el old → new ≡ record old { now = now }
+        → Keeps el station [] old new }
 {
     lists_are_of_links();
     commands_are_undone();

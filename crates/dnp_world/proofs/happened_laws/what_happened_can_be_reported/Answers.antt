@@ -40,10 +40,10 @@ pub returns-clause-goes_on : goal.returns-clause-goes_on
 returns-clause-goes_on c = goes_on (tests_of c)
 
 pub returns-clause-kept : goal.returns-clause-kept
-returns-clause-kept c old new station events keeps =
+returns-clause-kept c old new el station events keeps =
     goes_on (tests_of c) old new (made_at station []) events (all_made RowIsEvent station [] (All-nil IsEvent)) keeps.fate
 
 pub returns-clause-read : goal.returns-clause-read
-returns-clause-read c old new station points made events keeps =
+returns-clause-read c old new el station points made events keeps =
     goes_on (tests_of c) old new (made_at station (rows_made_by points made)) events
     (all_made RowIsEvent station (rows_made_by points made) (all_made_events c.a_change_makes_what_its_lane_takes.ensures points made)) keeps.fate

@@ -11,14 +11,14 @@ laws_of c = record {
 }
 
 pub returns-clause-rests : goal.returns-clause-rests
-returns-clause-rests c = λ old new s same. rests old new s same
+returns-clause-rests c = λ old new el s same. rests old new s same
 
 pub returns-clause-round : goal.returns-clause-round
-returns-clause-round c = λ on old new s round. calm_run (laws_of c) (IsOfRound on) (round_makes_none on) old new s (ran_round on old new round)
+returns-clause-round c = λ on old new el s round. calm_run (laws_of c) (IsOfRound on) (round_makes_none on) old new s (ran_round on old new round)
 
 pub returns-clause-round_stopped : goal.returns-clause-round_stopped
-returns-clause-round_stopped c = λ on old new s stop.
+returns-clause-round_stopped c = λ on old new el s stop.
     calm_stop (laws_of c) (IsOfRound on) (round_makes_none on) old new s (stops_round on old new stop)
 
 pub returns-clause-control : goal.returns-clause-control
-returns-clause-control c = λ id old new result s ends. calm_control (laws_of c) id old new result s ends
+returns-clause-control c = λ id old new el result s ends. calm_control (laws_of c) id old new result s ends

@@ -11,16 +11,16 @@ laws_of c = record {
 }
 
 pub returns-clause-stays : goal.returns-clause-stays
-returns-clause-stays c = λ old new events s ran. (goes_by (laws_of c) events old new s ran).steady
+returns-clause-stays c = λ old new el events s ran. (goes_by (laws_of c) events old new s ran).steady
 
 pub returns-clause-stays_stopped : goal.returns-clause-stays_stopped
-returns-clause-stays_stopped c = λ old new events done s stop. (goes_stopped (laws_of c) events done old new s stop).steady
+returns-clause-stays_stopped c = λ old new el events done s stop. (goes_stopped (laws_of c) events done old new s stop).steady
 
 pub returns-clause-ran : goal.returns-clause-ran
-returns-clause-ran c = λ old new events some ran. lasts (laws_of c) events old new some ran
+returns-clause-ran c = λ old new el events some ran. lasts (laws_of c) events old new some ran
 
 pub returns-clause-stopped : goal.returns-clause-stopped
-returns-clause-stopped c = λ old new events done some stop. lasts_stopped (laws_of c) events done old new some stop
+returns-clause-stopped c = λ old new el events done some stop. lasts_stopped (laws_of c) events done old new some stop
 
 pub returns-clause-joined : goal.returns-clause-joined
 returns-clause-joined c = lasts_on (laws_of c)
@@ -35,7 +35,7 @@ returns-clause-at_first c = λ plan queue journal controls orders begins empty. 
 }
 
 pub returns-clause-holds : goal.returns-clause-holds
-returns-clause-holds c = λ s some. c.what_stands_is_shown.ensures.holds s (∥∥₁_map some (λ steady. steady.standing))
+returns-clause-holds c = λ s el some. c.what_stands_is_shown.ensures.holds s el (∥∥₁_map some (λ steady. steady.standing))
 
 pub returns-clause-all : goal.returns-clause-all
-returns-clause-all c = λ s some. c.what_stands_is_shown.ensures.all s (∥∥₁_map some (λ steady. steady.standing))
+returns-clause-all c = λ s el some. c.what_stands_is_shown.ensures.all s el (∥∥₁_map some (λ steady. steady.standing))

@@ -1,8 +1,9 @@
 -- The laws that the body calls are what the lemmas ask for, and each link has its own round.
 use Rattle.std.proofs.Common.{◌≡◌, true}
+use Rattle.dnp_world.specs.Behind.{Elsewhere}
 use Rattle.dnp_world.specs.Movement.{RoundMoves, is_repeated_on}
 use Rattle.dnp_world.specs.Rounds.{IsRound, is_quiet_on}
-use Rattle.dnp_world.specs.Steady.{IsSteady}
+use Rattle.dnp_world.specs.Steady.{IsSteadyBeside}
 use Rattle.dnp_world.specs.Systems.{System}
 use Rattle.dnp_world.specs.declared.event.Link.{Link}
 use Rattle.dnp_world.specs.declared.event.Link.TheVariants.{Below, Above}
@@ -49,8 +50,8 @@ reports_of c = record {
   only = c.commands_are_performed_as_they_are_asked.ensures.only;
 }
 
-moves : goal.After-each_case_says_what_came → (on : Link) (old new : System) → IsSteady old → is_quiet_on old on ≡ true → IsRound on old new
-    → RoundMoves on old new
+moves : goal.After-each_case_says_what_came → (on : Link) (old new : System) {el : Elsewhere} → IsSteadyBeside el old → is_quiet_on old on ≡ true
+    → IsRound on old new → RoundMoves on old new
 moves c (Below station) old new steady quiet round = record {
   polled = polled_below (stations_of c) (lines_of c) (lanes_of c) station old new steady quiet round;
   repeated = λ again. (passed again).moves;

@@ -70,14 +70,14 @@ returns-clause-at_first c plan queue journal controls orders limits = record {
 }
 
 pub returns-clause-kept : goal.returns-clause-kept
-returns-clause-kept c plan old new station event planned happens keeps = record {
+returns-clause-kept c plan old new el station event planned happens keeps = record {
   points = c.substations_keep_their_points.ensures plan old new event happens planned.points;
   rows = all_fated (tests_of c) (IsPlanned plan) (made_at station []) (report_of old) (report_of new) keeps.fate
       (all_made (IsPlanned plan) station [] (All-nil (λ (row : Row). IsPlanned plan (station, row)))) planned.rows;
 }
 
 pub returns-clause-read : goal.returns-clause-read
-returns-clause-read c plan old new station kind index reading planned reads keeps =
+returns-clause-read c plan old new el station kind index reading planned reads keeps =
     let made : List Row = rows_made_by reads.was.core.points (event.Change kind index reading ∷ []) in
     record {
       points = planned_on (class_laws_of c) plan old new (touched_by_reading station kind index reading old new reads) planned.points;

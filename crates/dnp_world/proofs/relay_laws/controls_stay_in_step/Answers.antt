@@ -17,7 +17,7 @@ laws_of c = record {
 }
 
 pub returns-clause-event : goal.returns-clause-event
-returns-clause-event c = λ old new e happens s h. stays_in_step (laws_of c) old new s h (touches old new e happens)
+returns-clause-event c = λ old new el e happens s h. stays_in_step (laws_of c) old new s h (touches old new e happens)
 
 pub returns-clause-at_first : goal.returns-clause-at_first
 returns-clause-at_first c = fresh_in_step

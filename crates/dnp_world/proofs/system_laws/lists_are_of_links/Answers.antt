@@ -30,7 +30,7 @@ pub returns-clause-holds : goal.returns-clause-holds
 returns-clause-holds c = headline (laws_of c)
 
 pub returns-clause-mapped : goal.returns-clause-mapped
-returns-clause-mapped c = λ indices links k b. record {
+returns-clause-mapped c = λ indices el links k b. record {
   queue = queue_mapped (laws_of c).links indices links k b;
   dropped = dropped_mapped (laws_of c).links indices links k b;
   journal = journal_mapped (laws_of c).links indices links k b;

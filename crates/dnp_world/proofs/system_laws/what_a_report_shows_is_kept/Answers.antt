@@ -88,8 +88,8 @@ few_lost s r shows holds counted =
     omega (arith, counted, long, holds.lost_is_counted)
 
 pub returns-clause-holds : goal.returns-clause-holds
-returns-clause-holds c = λ s r shows counted some.
-    let holds : Holds (report_of s) = c.what_stands_is_shown.ensures.holds s (∥∥₁_map some (λ steady. steady.standing)) in
+returns-clause-holds c = λ s el r shows counted some.
+    let holds : Holds (report_of s) = c.what_stands_is_shown.ensures.holds s el (∥∥₁_map some (λ steady. steady.standing)) in
     let few : length s.substations ≤ NUMBERS = ∥∥₁_elim some (few_once s) (λ steady. few_substations s steady.planned) in
     subst (λ (l : lists.Report). Holds l) (sym (same_others s r shows few (few_lost s r shows holds counted)))
     (c.lists_are_of_links.ensures.reordered (report_of s) r.queue (in_another_order s r shows) holds)
@@ -103,4 +103,4 @@ all_shown s r shows all = record {
 }
 
 pub returns-clause-all : goal.returns-clause-all
-returns-clause-all c = λ s r shows some. all_shown s r shows (c.what_stands_is_shown.ensures.all s (∥∥₁_map some (λ steady. steady.standing)))
+returns-clause-all c = λ s el r shows some. all_shown s r shows (c.what_stands_is_shown.ensures.all s el (∥∥₁_map some (λ steady. steady.standing)))

@@ -17,11 +17,12 @@ all_once : (s : System) (r : Report) → IsProp (ListsAll s r)
 all_once s r = hlevel props
 
 pub returns-clause-holds : goal.returns-clause-holds
-returns-clause-holds c = λ s some. ∥∥₁_elim some (holds_once (report_of s)) (λ x. c.lists_are_of_links.ensures.holds s.indices x.links (kept_in s) x.behind)
+returns-clause-holds c = λ s el some.
+    ∥∥₁_elim some (holds_once (report_of s)) (λ x. c.lists_are_of_links.ensures.holds s.indices el x.links (kept_in s) x.behind)
 
 all_of : (s : System) → AreMapped s.indices (kept_in s) → ListsAll s (report_of s)
 all_of s m = record { journal = m.journal ∙ length-map s.centre.journal.rows row_of; queue = m.queue; dropped = m.dropped }
 
 pub returns-clause-all : goal.returns-clause-all
-returns-clause-all c = λ s some.
-    ∥∥₁_elim some (all_once s (report_of s)) (λ x. all_of s (c.lists_are_of_links.ensures.mapped s.indices x.links (kept_in s) x.behind))
+returns-clause-all c = λ s el some.
+    ∥∥₁_elim some (all_once s (report_of s)) (λ x. all_of s (c.lists_are_of_links.ensures.mapped s.indices el x.links (kept_in s) x.behind))

@@ -5,9 +5,8 @@ use Rattle.dnp_master.specs.Calls.{ask_answer}
 use Rattle.dnp_master.specs.Requests.{request_for}
 use Rattle.dnp_world.specs.Channels.{state_of}
 use Rattle.dnp_world.specs.SystemEvents.{request_of}
-use Rattle.dnp_world.specs.SystemParts.{system_of}
 use Rattle.dnp_world.specs.Systems.{CentreState}
-use Rattle.dnp_world.proofs.SystemPlaces.{down_from}
+use Rattle.dnp_world.proofs.SystemPlaces.{down_from, viewed}
 use Rattle.dnp_world.proofs.SystemTasks.{centre_with}
 use Rattle.dnp_world.proofs.parts.Parts.ask_above.Goals as goal
 
@@ -15,7 +14,7 @@ pub returns-clause-done : goal.returns-clause-done
 returns-clause-done g c = λ well.
     let archive = g.J.JournalStore.archive in
     let ledger = g.B.Book.contents in
-    let old = system_of g.Q.Lanes.contents archive g.A.Book.contents ledger c.self.inside in
+    let old = (viewed c.self.view_is).system in
     let link = old.centre.link in
     let answer = ask_answer link.master c.args.task in
     let is = state_of c.send_asked.new.channel in

@@ -5,15 +5,15 @@ use Rattle.dnp_master.specs.Calls.{ask_answer}
 use Rattle.dnp_master.specs.Requests.{request_for}
 use Rattle.dnp_world.specs.Channels.{ChannelState, state_of}
 use Rattle.dnp_world.specs.SystemEvents.{request_of, with_link}
-use Rattle.dnp_world.specs.SystemParts.{system_of, substation_of}
+use Rattle.dnp_world.specs.SystemParts.{substation_of}
 use Rattle.dnp_world.specs.Systems.{link_at}
 use Rattle.dnp_world.proofs.OneLinkRuns.{any_err}
-use Rattle.dnp_world.proofs.SystemPlaces.{sends_at, concentrator_with, is_there, unchanged_at, down_from}
+use Rattle.dnp_world.proofs.SystemPlaces.{concentrator_with, down_from, is_there, sends_at, unchanged_at, viewed}
 use Rattle.dnp_world.proofs.parts.Parts.ask_below.Goals as goal
 
 pub returns-in_err-reserve_down-clause-stopped : goal.returns-in_err-reserve_down-clause-stopped
 returns-in_err-reserve_down-clause-stopped g c = λ well.
-    let old = system_of g.Q.Lanes.contents g.J.JournalStore.archive g.A.Book.contents g.B.Book.contents c.self.inside in
+    let old = (viewed c.self.view_is).system in
     let was = c.index_mut.result.now in
     rw (← c.self.view_is)
     (any_err c.from_residual.result _
@@ -25,7 +25,7 @@ pub returns-clause-done : goal.returns-clause-done
 returns-clause-done g c = λ well.
     let stock = g.Q.Lanes.contents in
     let ledger = g.A.Book.contents in
-    let old = system_of stock g.J.JournalStore.archive ledger g.B.Book.contents c.self.inside in
+    let old = (viewed c.self.view_is).system in
     let station = c.args.station in
     let xs = c.self.inside.substations.items in
     let was = c.index_mut.result.now in

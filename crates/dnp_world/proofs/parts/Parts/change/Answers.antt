@@ -3,18 +3,18 @@ use Rattle.std.proofs.Common.{◌≡◌, ◌∙◌, ℕ, true, List, refl, sym, 
 use Rattle.std.specs.Prelude.{slice_get, Option, Some}
 use Rattle.dnp_objects.specs.declared.row.Row.{Row}
 use Rattle.dnp_pointdb.specs.Database.{answer_of}
-use Rattle.dnp_world.specs.SystemParts.{system_of, substation_of}
+use Rattle.dnp_world.specs.SystemParts.{substation_of}
 use Rattle.dnp_world.specs.SystemRuns.{takes_reading}
 use Rattle.dnp_world.specs.Systems.{SubstationState}
 use Rattle.dnp_world.proofs.OneLinkRuns.{any_err}
-use Rattle.dnp_world.proofs.SystemPlaces.{is_there, there, unchanged_at}
+use Rattle.dnp_world.proofs.SystemPlaces.{is_there, there, unchanged_at, viewed}
 use Rattle.dnp_world.proofs.SystemReadings.{reads_at}
 use Rattle.dnp_world.proofs.parts.Parts.change.Goals as goal
 
 pub returns-in_err-change-clause-stopped : goal.returns-in_err-change-clause-stopped
 returns-in_err-change-clause-stopped g c = λ well.
     let planned = rw (← c.self.view_is) at c.requires in
-    let old = system_of g.Q.Lanes.contents g.J.JournalStore.archive g.A.Book.contents g.B.Book.contents c.self.inside in
+    let old = (viewed c.self.view_is).system in
     let xs = c.self.inside.substations.items in
     rw (← c.self.view_is)
     (any_err c.from_residual.result _
@@ -28,7 +28,7 @@ returns-in_err-change-clause-stopped g c = λ well.
 pub returns-in_err-change-clause-named : goal.returns-in_err-change-clause-named
 returns-in_err-change-clause-named g c =
     let planned = rw (← c.self.view_is) at c.requires in
-    let old = system_of g.Q.Lanes.contents g.J.JournalStore.archive g.A.Book.contents g.B.Book.contents c.self.inside in
+    let old = (viewed c.self.view_is).system in
     let xs = c.self.inside.substations.items in
     let was = c.index_mut-substation.result.now in
     rw (← c.self.view_is)
@@ -41,7 +41,7 @@ returns-in_err-change-clause-named g c =
 pub returns-clause-done : goal.returns-clause-done
 returns-clause-done g c = λ well.
     let planned = rw (← c.self.view_is) at c.requires in
-    let old = system_of g.Q.Lanes.contents g.J.JournalStore.archive g.A.Book.contents g.B.Book.contents c.self.inside in
+    let old = (viewed c.self.view_is).system in
     let xs = c.self.inside.substations.items in
     let was = c.index_mut-substation.result.now in
     rw (← c.self.view_is)

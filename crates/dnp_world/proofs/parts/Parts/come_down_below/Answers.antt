@@ -1,15 +1,15 @@
 -- One substation is written, and what it released and performed is listed.
 use Rattle.std.proofs.Common.{◌∙◌, refl, ap, map, slice_set}
-use Rattle.dnp_world.specs.SystemParts.{system_of, substation_of}
+use Rattle.dnp_world.specs.SystemParts.{substation_of}
 use Rattle.dnp_world.specs.Systems.{History}
 use Rattle.dnp_world.proofs.OneLinkRuns.{any_err}
-use Rattle.dnp_world.proofs.SystemPlaces.{changes_at, is_there, unchanged_at}
+use Rattle.dnp_world.proofs.SystemPlaces.{changes_at, is_there, unchanged_at, viewed}
 use Rattle.dnp_world.proofs.parts.Parts.come_down_below.Goals as goal
 
 pub returns-in_err-come_down-clause-stopped : goal.returns-in_err-come_down-clause-stopped
 returns-in_err-come_down-clause-stopped g c = λ well.
     let planned = rw (← c.self.view_is) at c.requires in
-    let old = system_of g.Q.Lanes.contents g.J.JournalStore.archive g.A.Book.contents g.B.Book.contents c.self.inside in
+    let old = (viewed c.self.view_is).system in
     let xs = c.self.inside.substations.items in
     rw (← c.self.view_is)
     (any_err c.from_residual.result _
@@ -21,7 +21,7 @@ returns-in_err-come_down-clause-stopped g c = λ well.
 pub returns-clause-done : goal.returns-clause-done
 returns-clause-done g c = λ well.
     let planned = rw (← c.self.view_is) at c.requires in
-    let old = system_of g.Q.Lanes.contents g.J.JournalStore.archive g.A.Book.contents g.B.Book.contents c.self.inside in
+    let old = (viewed c.self.view_is).system in
     let xs = c.self.inside.substations.items in
     let done = c.in_ok-come_down.ensures.done in
     rw (← c.self.view_is)

@@ -2,11 +2,11 @@
 use Rattle.std.proofs.Common.{◌∙◌, List, refl, ap, map, slice_set}
 use Rattle.dnp_objects.specs.declared.row.Row.{Row}
 use Rattle.dnp_world.specs.Channels.{ChannelState, left_by}
-use Rattle.dnp_world.specs.SystemParts.{system_of, concentrator_of, substation_of}
+use Rattle.dnp_world.specs.SystemParts.{concentrator_of, substation_of}
 use Rattle.dnp_world.specs.Systems.{ConcentratorState}
 use Rattle.dnp_world.proofs.OneLinkRuns.{any_err}
 use Rattle.dnp_world.proofs.SystemArrivals.{comes_below}
-use Rattle.dnp_world.proofs.SystemPlaces.{unchanged_at}
+use Rattle.dnp_world.proofs.SystemPlaces.{unchanged_at, viewed}
 use Rattle.dnp_world.proofs.parts.Parts.come_up_below.Goals as goal
 
 pub returns-clause-done : goal.returns-clause-done
@@ -14,7 +14,7 @@ returns-clause-done g c = λ well.
     let planned = rw (← c.self.view_is) at c.requires in
     let stock = g.Q.Lanes.contents in
     let ledger = g.A.Book.contents in
-    let old = system_of stock g.J.JournalStore.archive ledger g.B.Book.contents c.self.inside in
+    let old = (viewed c.self.view_is).system in
     rw (← c.self.view_is)
     (comes_below (left_by c.args.repeats) old c.args.station c.from.result c.self.inside.substations.items c.index_mut.result.now
     (concentrator_of stock ledger c.come_up.new.end) c.come_up.new.self c.come_up.new.dropped.items refl c.from.ensures planned
@@ -23,9 +23,7 @@ returns-clause-done g c = λ well.
 pub returns-in_err-come_up-clause-stopped : goal.returns-in_err-come_up-clause-stopped
 returns-in_err-come_up-clause-stopped g c = λ well.
     let planned = rw (← c.self.view_is) at c.requires in
-    let stock = g.Q.Lanes.contents in
-    let ledger = g.A.Book.contents in
-    let old = system_of stock g.J.JournalStore.archive ledger g.B.Book.contents c.self.inside in
+    let old = (viewed c.self.view_is).system in
     let xs = c.self.inside.substations.items in
     let was = c.index_mut.result.now in
     let is = record was { channel = c.come_up.new.self } in

@@ -2,17 +2,17 @@
 use Rattle.std.proofs.Common.{refl, ap, map, slice_set}
 use Rattle.dnp_concentrator.specs.Relaying.{hung_up}
 use Rattle.dnp_world.specs.SystemEvents.{same_rest, with_link, with_lost}
-use Rattle.dnp_world.specs.SystemParts.{system_of, substation_of}
+use Rattle.dnp_world.specs.SystemParts.{substation_of}
 use Rattle.dnp_world.specs.Systems.{link_at, ConcentratorState}
 use Rattle.dnp_world.specs.Channels.{ChannelState}
-use Rattle.dnp_world.proofs.SystemPlaces.{changes_at, concentrator_with, is_there}
+use Rattle.dnp_world.proofs.SystemPlaces.{changes_at, concentrator_with, is_there, viewed}
 use Rattle.dnp_world.proofs.parts.Parts.hang_up.Goals as goal
 
 pub returns-in-Below-Master-clause-done : goal.returns-in-Below-Master-clause-done
 returns-in-Below-Master-clause-done g c =
     let stock = g.Q.Lanes.contents in
     let ledger = g.A.Book.contents in
-    let old = system_of stock g.J.JournalStore.archive ledger g.B.Book.contents c.self.inside in
+    let old = (viewed c.self.view_is).system in
     let station = c.in-Below-Master.station in
     let xs = c.self.inside.substations.items in
     let i = c.from.result in
@@ -29,7 +29,7 @@ returns-in-Below-Master-clause-done g c =
 
 pub returns-in-Below-Outstation-clause-done : goal.returns-in-Below-Outstation-clause-done
 returns-in-Below-Outstation-clause-done g c =
-    let old = system_of g.Q.Lanes.contents g.J.JournalStore.archive g.A.Book.contents g.B.Book.contents c.self.inside in
+    let old = (viewed c.self.view_is).system in
     let station = c.in-Below-Outstation.station in
     let xs = c.self.inside.substations.items in
     let i = c.from-in-Below-Outstation.result in

@@ -3,8 +3,8 @@ use Rattle.std.proofs.Common.{◌∙◌}
 use Rattle.std.proofs.lemmas.Result.{on_err_weaker}
 use Rattle.dnp_concentrator.specs.Relaying.{step_of}
 use Rattle.dnp_world.specs.Channels.{state_of}
-use Rattle.dnp_world.specs.SystemParts.{system_of}
 use Rattle.dnp_world.specs.declared.event.Link.TheVariants.{Above}
+use Rattle.dnp_world.proofs.SystemPlaces.{viewed}
 use Rattle.dnp_world.proofs.SystemTasks.{down_by, granted_by, refused_by, relays_by, sends_above, stops_by, unmoved_above}
 use Rattle.dnp_world.proofs.parts.Parts.relay_above.Goals as goal
 
@@ -12,7 +12,7 @@ pub returns-clause-done : goal.returns-clause-done
 returns-clause-done g c = λ well.
     let archive = g.J.JournalStore.archive in
     let ledger = g.B.Book.contents in
-    let old = system_of g.Q.Lanes.contents archive g.A.Book.contents ledger c.self.inside in
+    let old = (viewed c.self.view_is).system in
     let answer = c.relay-relayed.result in
     let relay = c.relay-relayed.ensures in
     let link = old.centre.link in
@@ -35,7 +35,7 @@ pub returns-clause-stopped : goal.returns-clause-stopped
 returns-clause-stopped g c = λ well.
     let archive = g.J.JournalStore.archive in
     let ledger = g.B.Book.contents in
-    let old = system_of g.Q.Lanes.contents archive g.A.Book.contents ledger c.self.inside in
+    let old = (viewed c.self.view_is).system in
     let answer = c.relay-relayed.result in
     let relay = c.relay-relayed.ensures in
     rw (← c.self.view_is)

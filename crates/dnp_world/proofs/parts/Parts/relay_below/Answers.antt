@@ -3,28 +3,27 @@ use Rattle.std.proofs.Common.{refl, ap, ◌∙◌}
 use Rattle.std.proofs.lemmas.Result.{on_err_weaker}
 use Rattle.dnp_concentrator.specs.Relaying.{step_of}
 use Rattle.dnp_world.specs.Channels.{ChannelState, state_of}
-use Rattle.dnp_world.specs.SystemParts.{system_of, substation_of}
+use Rattle.dnp_world.specs.SystemParts.{substation_of}
 use Rattle.dnp_world.specs.Systems.{link_at}
 use Rattle.dnp_world.specs.declared.event.Link.TheVariants.{Below}
 use Rattle.dnp_world.proofs.OneLinkRuns.{any_err}
-use Rattle.dnp_world.proofs.SystemPlaces.{unchanged_at}
+use Rattle.dnp_world.proofs.SystemPlaces.{unchanged_at, viewed}
 use Rattle.dnp_world.proofs.SystemTasks.{down_by, granted_by, refused_by, relays_by, sends_below, stops_by, unmoved_below}
 use Rattle.dnp_world.proofs.parts.Parts.relay_below.Goals as goal
 
 pub returns-in_err-reserve_down-clause-stopped : goal.returns-in_err-reserve_down-clause-stopped
 returns-in_err-reserve_down-clause-stopped g c = λ well.
-    let old = system_of g.Q.Lanes.contents g.J.JournalStore.archive g.A.Book.contents g.B.Book.contents c.self.inside in
     let was = c.index_mut.result.now in
     rw (← c.self.view_is)
     (any_err c.from_residual.result _
-    (unchanged_at old c.self.inside.substations.items c.args.station c.from.result was (record was { channel = c.reserve_down.new.self }) refl
+    (unchanged_at _ c.self.inside.substations.items c.args.station c.from.result was (record was { channel = c.reserve_down.new.self }) refl
     c.from.ensures (rw (← c.self.view_is) at c.requires) c.index_mut.ensures.value
     (ap (λ (k : ChannelState). record (substation_of was) { channel = k }) c.reserve_down.ensures.same)))
 
 pub returns-clause-done : goal.returns-clause-done
 returns-clause-done g c = λ well.
     let ledger = g.A.Book.contents in
-    let old = system_of g.Q.Lanes.contents g.J.JournalStore.archive ledger g.B.Book.contents c.self.inside in
+    let old = (viewed c.self.view_is).system in
     let was = c.index_mut.result.now in
     let link = link_at old.concentrator c.args.station in
     let entries = old.concentrator.controls.entries in
@@ -49,7 +48,7 @@ returns-clause-done g c = λ well.
 pub returns-clause-stopped : goal.returns-clause-stopped
 returns-clause-stopped g c = λ well.
     let ledger = g.A.Book.contents in
-    let old = system_of g.Q.Lanes.contents g.J.JournalStore.archive ledger g.B.Book.contents c.self.inside in
+    let old = (viewed c.self.view_is).system in
     let was = c.index_mut.result.now in
     let answer = c.relay-relayed.result in
     let relay = c.relay-relayed.ensures in

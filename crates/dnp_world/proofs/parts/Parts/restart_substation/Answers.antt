@@ -1,15 +1,15 @@
 -- One substation is written, and what was in its lanes is listed.
 use Rattle.std.proofs.Common.{◌∙◌, ℕ, List, refl, ap, map, slice_set}
 use Rattle.dnp_objects.specs.declared.row.Row.{Row}
-use Rattle.dnp_world.specs.SystemParts.{system_of, substation_of, history_of}
+use Rattle.dnp_world.specs.SystemParts.{substation_of, history_of}
 use Rattle.dnp_world.proofs.OneLinkRuns.{any_err}
-use Rattle.dnp_world.proofs.SystemPlaces.{changes_at, is_there, unchanged_at}
+use Rattle.dnp_world.proofs.SystemPlaces.{changes_at, is_there, unchanged_at, viewed}
 use Rattle.dnp_world.proofs.parts.Parts.restart_substation.Goals as goal
 
 pub returns-in_err-restart-clause-stopped : goal.returns-in_err-restart-clause-stopped
 returns-in_err-restart-clause-stopped g c = λ well.
     let planned = rw (← c.self.view_is) at c.requires in
-    let old = system_of g.Q.Lanes.contents g.J.JournalStore.archive g.A.Book.contents g.B.Book.contents c.self.inside in
+    let old = (viewed c.self.view_is).system in
     rw (← c.self.view_is)
     (any_err c.from_residual.result _
     (ap (λ (rows : List (ℕ × Row)). record old {
@@ -22,7 +22,7 @@ returns-in_err-restart-clause-stopped g c = λ well.
 pub returns-clause-done : goal.returns-clause-done
 returns-clause-done g c = λ well.
     let planned = rw (← c.self.view_is) at c.requires in
-    let old = system_of g.Q.Lanes.contents g.J.JournalStore.archive g.A.Book.contents g.B.Book.contents c.self.inside in
+    let old = (viewed c.self.view_is).system in
     let xs = c.self.inside.substations.items in
     rw (← c.self.view_is)
     (changes_at c.args.station c.from.result _ _ old _ xs c.index_mut-substation.result.now c.restart.new.self refl

@@ -4,6 +4,7 @@ use Rattle.std.proofs.Math.Logic.{∥∥₁_elim, ∥∥₁_map}
 use Rattle.std.proofs.Props.{props}
 use Rattle.std.specs.Prelude.{OnOk, Result, Ok, Err, ⊤}
 use Rattle.dnp_objects.specs.declared.command.Command.{Command}
+use Rattle.dnp_world.specs.Behind.{alone}
 use Rattle.dnp_world.specs.ControlMoves.{ControlMoves}
 use Rattle.dnp_world.specs.Controls.{CanGo, ControlEnds, IsControl}
 use Rattle.dnp_world.specs.Steady.{IsSteady}
@@ -19,7 +20,7 @@ invariant_of-self g c = λ well.
     let new = c.clean_control.new.self.system in
     let ends = c.clean_control.ensures.ends well in
     steady_of (λ i. []) old new (c.self.invariant (c.clean_control.ensures.held well))
-    (λ s. c.rounds_and_controls_keep_a_system_steady.ensures.control c.args.id old new c.clean_control.result s ends)
+    (λ s. c.rounds_and_controls_keep_a_system_steady.ensures.control c.args.id old new alone c.clean_control.result s ends)
 
 pub returns-clause-fate : goal.returns-clause-fate
 returns-clause-fate g c = λ well.
@@ -28,7 +29,7 @@ returns-clause-fate g c = λ well.
     let ends = c.clean_control.ensures.ends well in
     rw (← c.self.view_is)
     (fate_of (λ i. []) old new (c.self.invariant (c.clean_control.ensures.held well))
-    (λ s. c.rounds_and_controls_keep_a_system_steady.ensures.control c.args.id old new c.clean_control.result s ends))
+    (λ s. c.rounds_and_controls_keep_a_system_steady.ensures.control c.args.id old new alone c.clean_control.result s ends))
 
 moved : (id : ℕ) (old new : System) (result : Result ⊤ ControlFault) → ∥ IsSteady old ∥₁
     → (IsSteady old → CanGo id old → IsControl id old new → ControlMoves id old new)
@@ -42,7 +43,7 @@ returns-clause-operates g c = λ well.
     let new = c.clean_control.new.self.system in
     rw (← c.self.view_is)
     (moved c.args.id old new c.clean_control.result (c.self.invariant (c.clean_control.ensures.held well))
-    (λ s. c.a_clean_control_operates.ensures.moves c.args.id old new s.standing s.controls) (c.clean_control.ensures.ends well))
+    (λ s. c.a_clean_control_operates.ensures.moves c.args.id old new alone s.standing s.controls) (c.clean_control.ensures.ends well))
 
 same_once : (xs ys : List (ℕ × Command)) → IsProp (xs ≡ ys)
 same_once xs ys = hlevel props
@@ -56,11 +57,11 @@ returns-clause-rests g c = λ well.
     let ends : ControlEnds c.args.id old (Err (control.Refused status)) new =
     subst (λ (r : Result ⊤ ControlFault). ControlEnds c.args.id old r new) is (c.clean_control.ensures.ends well) in
     ∥∥₁_elim (c.self.invariant (c.clean_control.ensures.held well)) (same_once new.history.operated old.history.operated)
-    (λ s. c.a_clean_control_operates.ensures.rests c.args.id status old new s.standing s.controls ends.0 ends.1))
+    (λ s. c.a_clean_control_operates.ensures.rests c.args.id status old new alone s.standing s.controls ends.0 ends.1))
 
 pub returns-clause-holds : goal.returns-clause-holds
 returns-clause-holds g c = λ well.
-    c.steady_systems_stay_steady.ensures.holds c.clean_control.new.self.system (invariant_of-self g c well)
+    c.steady_systems_stay_steady.ensures.holds c.clean_control.new.self.system alone (invariant_of-self g c well)
 
 pub returns-clause-none_issued : goal.returns-clause-none_issued
 returns-clause-none_issued g c = λ well.

@@ -2,6 +2,7 @@
 use Rattle.std.proofs.Common.{◌≡◌, ◌↔◌, Bool, true, false, [], Result, Ok, Err, refl, ap}
 use Rattle.std.proofs.Math.Logic.{∥∥₁_map}
 use Rattle.std.specs.Prelude.{OnOk, ⊤}
+use Rattle.dnp_world.specs.Behind.{alone}
 use Rattle.dnp_world.specs.Movement.{RoundMoves}
 use Rattle.dnp_world.specs.Rounds.{IsRound, is_quiet_on}
 use Rattle.dnp_world.specs.Steady.{IsSteady}
@@ -20,8 +21,9 @@ invariant_of-self g c = λ well.
     let new = c.clean_round.new.self.system in
     let keeps = c.rounds_and_controls_keep_a_system_steady.ensures in
     steady_of (λ i. []) old new (c.self.invariant (c.clean_round.ensures.held well))
-    (λ s. round_leaves _ on old new c.clean_round.result (λ round. keeps.round on old new s round) (λ stop. keeps.round_stopped on old new s stop)
-    (λ same. keeps.rests old new s same) (c.clean_round.ensures.done well) (c.clean_round.ensures.stopped well)
+    (λ s. round_leaves _ on old new c.clean_round.result (λ round. keeps.round on old new alone s round)
+    (λ stop. keeps.round_stopped on old new alone s stop) (λ same. keeps.rests old new alone s same)
+    (c.clean_round.ensures.done well) (c.clean_round.ensures.stopped well)
     (λ is. ap (λ (shown : Shown _ _ _ _). shown.system) (c.clean_round.ensures.unchanged is)))
 
 pub returns-clause-fate : goal.returns-clause-fate
@@ -32,8 +34,9 @@ returns-clause-fate g c = λ well.
     let keeps = c.rounds_and_controls_keep_a_system_steady.ensures in
     rw (← c.self.view_is)
     (fate_of (λ i. []) old new (c.self.invariant (c.clean_round.ensures.held well))
-    (λ s. round_leaves _ on old new c.clean_round.result (λ round. keeps.round on old new s round) (λ stop. keeps.round_stopped on old new s stop)
-    (λ same. keeps.rests old new s same) (c.clean_round.ensures.done well) (c.clean_round.ensures.stopped well)
+    (λ s. round_leaves _ on old new c.clean_round.result (λ round. keeps.round on old new alone s round)
+    (λ stop. keeps.round_stopped on old new alone s stop) (λ same. keeps.rests old new alone s same)
+    (c.clean_round.ensures.done well) (c.clean_round.ensures.stopped well)
     (λ is. ap (λ (shown : Shown _ _ _ _). shown.system) (c.clean_round.ensures.unchanged is))))
 
 -- where it is done the link was quiet
@@ -54,11 +57,11 @@ returns-clause-moves g c = λ well.
     let new = c.clean_round.new.self.system in
     rw (← c.self.view_is)
     (moves_so on old new c.clean_round.result c.clean_round.ensures.not_quiet (c.self.invariant (c.clean_round.ensures.held well))
-    (λ s. c.a_clean_round_moves_rows.ensures on old new s) (c.clean_round.ensures.done well))
+    (λ s. c.a_clean_round_moves_rows.ensures on old new alone s) (c.clean_round.ensures.done well))
 
 pub returns-clause-holds : goal.returns-clause-holds
 returns-clause-holds g c = λ well.
-    c.steady_systems_stay_steady.ensures.holds c.clean_round.new.self.system (invariant_of-self g c well)
+    c.steady_systems_stay_steady.ensures.holds c.clean_round.new.self.system alone (invariant_of-self g c well)
 
 pub returns-clause-stopped : goal.returns-clause-stopped
 returns-clause-stopped g c = rw (← c.self.view_is) c.clean_round.ensures.stopped
@@ -71,5 +74,5 @@ returns-clause-none_issued g c = λ well.
     let law = c.rounds_and_controls_issue_nothing.ensures in
     rw (← c.self.view_is)
     (round_leaves _ on old new c.clean_round.result (law.round on old new) (law.round_stopped on old new)
-    (λ same. ap (λ (s : System). s.history.issued) same) (c.clean_round.ensures.done well) (c.clean_round.ensures.stopped well)
-    (λ is. ap (λ (shown : Shown _ _ _ _). shown.system) (c.clean_round.ensures.unchanged is)))
+    (λ same. ap (λ (s : System). s.history.issued) same)
+    (c.clean_round.ensures.done well) (c.clean_round.ensures.stopped well) (λ is. ap (λ (shown : Shown _ _ _ _). shown.system) (c.clean_round.ensures.unchanged is)))

@@ -1,5 +1,6 @@
 -- What the report shows holds, as the system is steady and the list of dropped rows can be counted.
 use Rattle.std.proofs.Common.{◌<◌, ◌^◌, length, IfOk, Result, Ok, Err}
+use Rattle.dnp_world.specs.Behind.{alone}
 use Rattle.dnp_world.specs.ReportShown.{ListsAll, Shows, lists_of}
 use Rattle.dnp_world.specs.Reports.{Holds}
 use Rattle.dnp_world.specs.Steady.{IsSteady}
@@ -23,7 +24,7 @@ pub returns-clause-holds : goal.returns-clause-holds
 returns-clause-holds g c = λ well.
     let old : System = c.self.inside.parts.system in
     let steady : ∥ IsSteady old ∥₁ = c.self.invariant (c.report.ensures.held well) in
-    of_both old (λ report shows counted. c.what_a_report_shows_is_kept.ensures.holds old report shows counted steady)
+    of_both old (λ report shows counted. c.what_a_report_shows_is_kept.ensures.holds old alone report shows counted steady)
     c.report.result (c.report.ensures.shows well) c.report.ensures.counted
 
 pub returns-clause-all : goal.returns-clause-all
@@ -31,4 +32,4 @@ returns-clause-all g c = λ well.
     let old : System = c.self.inside.parts.system in
     let steady : ∥ IsSteady old ∥₁ = c.self.invariant (c.report.ensures.held well) in
     rw (← c.self.view_is)
-    (of_shown old (λ report shows. c.what_a_report_shows_is_kept.ensures.all old report shows steady) c.report.result (c.report.ensures.shows well))
+    (of_shown old (λ report shows. c.what_a_report_shows_is_kept.ensures.all old alone report shows steady) c.report.result (c.report.ensures.shows well))
