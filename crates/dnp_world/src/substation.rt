@@ -1,6 +1,6 @@
 //! A substation and its link.
 
-ghost use Rattle.std.specs.Prelude.{◌≡◌, ◌≢◌, ◌⊎◌, ◌≤◌, ◌*◌, ◌&&◌, ◌++◌, ◌∷◌, [], false, Err, List, IfErr, IfOk, IfSome, OnErr, OnOk, drop, is_ok, length, map, option_to_list, true};
+ghost use Rattle.std.specs.Prelude.{◌≡◌, ◌≢◌, ◌⊎◌, ◌≤◌, ◌*◌, ◌&&◌, ◌++◌, ◌∷◌, [], false, Err, List, IfErr, IfOk, IsTrue, IfSome, OnErr, OnOk, drop, is_ok, length, map, option_to_list, true};
 ghost use Rattle.dnp_eventbuf.specs.Stock.{dropped_by, exhausts, rows_in, without_all};
 ghost use Rattle.dnp_objects.specs.declared.row.Row.{Row as RowValue};
 ghost use Rattle.dnp_pointdb.specs.Database.{answer_of};
@@ -114,6 +114,8 @@ impl Substation {
         ensures unlisted { OnErr result (overwritten.new.items ≡ overwritten.old.items) }
         ensures named { OnErr result (is_ok (answer_of (substation_of self.old).core.points kind index reading) ≡ true) }
         ensures device { result ≢ Err Cause.Device }
+        ensures exhausted { result ≡ Err Cause.Exhausted → IfOk (answer_of (substation_of self.old).core.points kind index reading) (λ made.
+            IsTrue (exhausts (substation_of self.old).lanes (option_to_list made))) }
         ensures enough { 1 ≤ overwritten.old.room → 2 * FRAGMENT_UNITS ≤ room_of self.old.channel.up → result ≡ Err Cause.Memory
             → IfOk (answer_of (substation_of self.old).core.points kind index reading) (λ made.
             (has_enabled_rows (station_of (substation_of self.old)) ≡ true) ⊎ (dropped_by (substation_of self.old).lanes (option_to_list made) ≢ [])) }
@@ -159,6 +161,8 @@ impl Substation {
         ensures stopped { OnErr result (substation_of self.new ≡ substation_of self.old) }
         ensures unlisted { OnErr result (overwritten.new.items ≡ overwritten.old.items) }
         ensures device { result ≢ Err Cause.Device }
+        ensures exhausted { result ≡ Err Cause.Exhausted → IfOk (answer_of (substation_of self.old).core.points kind index reading) (λ made.
+            IsTrue (exhausts (substation_of self.old).lanes (option_to_list made))) }
         ensures enough { 1 ≤ overwritten.old.room → 2 * FRAGMENT_UNITS ≤ room_of self.old.channel.up → result ≡ Err Cause.Memory
             → IfOk (answer_of (substation_of self.old).core.points kind index reading) (λ made.
             (has_enabled_rows (station_of (substation_of self.old)) ≡ true) ⊎ (dropped_by (substation_of self.old).lanes (option_to_list made) ≢ [])) }

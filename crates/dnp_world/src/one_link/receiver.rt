@@ -1,6 +1,6 @@
 //! The master of a link by itself, and the sink of its rows.
 
-ghost use Rattle.std.specs.Prelude.{◌≡◌, ◌+◌, ◌<◌, ◌++◌, All, List, [], Err, IfErr, OnErr, OnOk, length, refl, ⊤};
+ghost use Rattle.std.specs.Prelude.{◌≡◌, ◌+◌, ◌<◌, ◌++◌, ◌⊎◌, All, List, [], Err, false, IfErr, IsTrue, OnErr, OnOk, length, refl, ⊤};
 ghost use Rattle.std.specs.Borrow.{Lends, sem};
 ghost use Rattle.dnp_objects.specs.Events.{IsEvent};
 ghost use Rattle.dnp_objects.specs.declared.row.Row.{Row as RowValue};
@@ -55,6 +55,10 @@ impl<S: Sink> Receiver<S> {
         ensures kept { S.honest self.new.sink → OnErr result (S.keeps self.old.sink self.new.sink) }
         ensures unlisted { OnErr result (self.new.taken.items ≡ self.old.taken.items) }
         ensures named { IfErr result IsSinkFault }
+        // Exhausted only where the sink has no numbers left; out of memory before the sink is asked, or where it has them.
+        ensures exhausted { S.honest self.new.sink → IfErr result (λ fault. fault ≡ MasterFault.Exhausted → IsTrue (S.exhausts self.old.sink events.now)) }
+        ensures exhausted_first { S.honest self.new.sink → IfErr result (λ fault. fault ≡ MasterFault.Memory
+            → (self.new.sink ≡ self.old.sink) ⊎ (S.exhausts self.old.sink events.now ≡ false)) }
         ensures device { TellsDevice (S.is_stopped self.old.sink) (S.is_stopped self.new.sink) (result ≡ Err MasterFault.Device) }
     {
         if events.is_empty() && statics.is_empty() {

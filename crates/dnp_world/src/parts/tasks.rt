@@ -1,12 +1,13 @@
 //! The events of a system that ask tasks, and the commands that are issued and relayed.
 
-ghost use Rattle.std.specs.Prelude.{◌≡◌, ◌⊎◌, ◌≤◌, ℕ, List, true, IfErr, IfOk, IsErr, IsTrue, MatchResult, OnErr, OnOk, Result, Ok, Err, ◌&&◌, Some, is_ok, is_some, slice_get};
+ghost use Rattle.std.specs.Prelude.{◌≡◌, ◌⊎◌, ◌≤◌, ◌<◌, ℕ, List, true, IfErr, IfOk, IsErr, ◌≢◌, IsTrue, MatchResult, OnErr, OnOk, Result, Ok, Err, ◌&&◌, Some, is_ok, is_some, slice_get};
 ghost use Rattle.dnp_appfragment.specs.Fragments.{Asked, IsRequest};
 ghost use Rattle.dnp_concentrator.specs.Mapped.{command_above};
 ghost use Rattle.dnp_concentrator.specs.Relayed.{Tells, asks_book};
 ghost use Rattle.dnp_concentrator.specs.Relaying.{Step};
 ghost use Rattle.dnp_line.specs.Lines.{room_of};
 ghost use Rattle.dnp_objects.specs.declared.command.Command.TheVariants.{Block, Set16, Set32};
+ghost use Rattle.dnp_objects.specs.declared.limits.TheConstants.{MAX_ID};
 ghost use Rattle.dnp_world.specs.Causes.{TellsDevice, cause_of_relaying};
 ghost use Rattle.dnp_world.specs.Channels.{GoDown, state_of};
 ghost use Rattle.dnp_world.specs.CommandWidths.{HasWidths};
@@ -202,6 +203,7 @@ impl<Q: Lanes, J: JournalStore, A: Book, B: Book> Parts<Q, J, A, B> {
         ensures done { ⟦<Self as Stored>⟧.well self.new → OnOk result (RelaysOn (link.Below station) self.old.system self.new.system) }
         ensures stopped { ⟦<Self as Stored>⟧.well self.new → OnErr result (self.new.system ≡ self.old.system) }
         ensures device { TellsDevice (⟦<Self as Stored>⟧.is_stopped self.old) (⟦<Self as Stored>⟧.is_stopped self.new) (result ≡ Err Cause.Device) }
+        ensures never { result ≢ Err Cause.Exhausted }
         ensures dead { asks_book (link_at self.old.system.concentrator station) ≡ true → IsTrue (A.is_stopped self.old.stores.controls) → IsErr result }
     {
         let channel = &mut self.substations[usize::from(station)].channel;
@@ -216,6 +218,7 @@ impl<Q: Lanes, J: JournalStore, A: Book, B: Book> Parts<Q, J, A, B> {
         ensures done { ⟦<Self as Stored>⟧.well self.new → OnOk result (RelaysOn link.Above self.old.system self.new.system) }
         ensures stopped { ⟦<Self as Stored>⟧.well self.new → OnErr result (self.new.system ≡ self.old.system) }
         ensures device { TellsDevice (⟦<Self as Stored>⟧.is_stopped self.old) (⟦<Self as Stored>⟧.is_stopped self.new) (result ≡ Err Cause.Device) }
+        ensures never { result ≢ Err Cause.Exhausted }
         ensures dead { asks_book self.old.system.centre.link ≡ true → IsTrue (B.is_stopped self.old.stores.orders) → IsErr result }
     {
         self.above.reserve_down()?;
@@ -231,6 +234,7 @@ impl<Q: Lanes, J: JournalStore, A: Book, B: Book> Parts<Q, J, A, B> {
         ensures stopped { ⟦<Self as Stored>⟧.well self.new → OnErr result (self.new.system ≡ self.old.system) }
         ensures named { OnErr result (is_idle (relaying_at self.old.system on).master ≡ true) }
         ensures device { TellsDevice (⟦<Self as Stored>⟧.is_stopped self.old) (⟦<Self as Stored>⟧.is_stopped self.new) (result ≡ Err Cause.Device) }
+        ensures never { result ≢ Err Cause.Exhausted }
     {
         if !self.idle(on) {
             return Ok(());
@@ -283,6 +287,10 @@ impl<Q: Lanes, J: JournalStore, A: Book, B: Book> Parts<Q, J, A, B> {
         ensures done { ⟦<Self as Stored>⟧.well self.new → OnOk result (IssuesBy (command_above self.old.system.centre.indices station command.now) station command.now self.old.system self.new.system) }
         ensures stopped { ⟦<Self as Stored>⟧.well self.new → OnErr result (self.new.system ≡ self.old.system) }
         ensures named { OnErr result (is_some (command_above self.old.system.centre.indices station command.now) ≡ true) }
+        // Exhausted only where the book has no number left; out of memory before the book is asked, or where it has one.
+        ensures exhausted { ⟦<Self as Stored>⟧.well self.new → result ≡ Err Cause.Exhausted → MAX_ID ≤ self.old.system.centre.orders.last_id }
+        ensures exhausted_first { ⟦<Self as Stored>⟧.well self.new → result ≡ Err Cause.Memory
+            → (self.new.stores ≡ self.old.stores) ⊎ (self.old.system.centre.orders.last_id < MAX_ID) }
         ensures device { TellsDevice (⟦<Self as Stored>⟧.is_stopped self.old) (⟦<Self as Stored>⟧.is_stopped self.new) (result ≡ Err Cause.Device) }
     {
         has_widths(command);
