@@ -181,10 +181,14 @@ fn below(alloc: Global, pair: &mut Pair, octets: &[u8]) -> Option<u64> {
     }
     let dropped = match concentrator.receive_below(alloc, 0, 0, octets) {
         Ok(actions) => actions.dropped,
-        Err(MasterFault::Memory) if concentrator_view(alloc, concentrator) == before => concentrator
-            .receive_below(alloc, 0, 0, octets)
-            .ok()?
-            .dropped,
+        Err(MasterFault::Memory)
+            if concentrator_view(alloc, concentrator) == before
+                && concentrator.substations() == 1 => {
+            concentrator
+                .receive_below(alloc, 0, 0, octets)
+                .ok()?
+                .dropped
+        }
         Err(_) => return None,
     };
     Some(dropped.as_slice().len() as u64)

@@ -59,8 +59,28 @@ fn seen(station: &mut Station) -> View {
 /// How many events of an analog take two fragments.
 const MANY: u32 = 157;
 
-/// LATCH_ON of the output 5, once, with its index and its status.
-const LATCH_ON: [u8; 13] = [5, 0, 3, 1, 0, 0, 0, 0, 0, 0, 0, 0, 0];
+/// A SELECT of the output 5 by nine objects.
+#[rattlefmt::skip]
+const NINE: [u8; 124] = [
+    0xC5, 0x03, 0x0C, 0x01, 0x28, 0x09, 0x00,
+    0x05, 0x00, 0x03, 0x01, 0x00, 0x00, 0x00, 0x00, 0x00, 0x00, 0x00, 0x00, 0x00,
+    0x05, 0x00, 0x03, 0x01, 0x00, 0x00, 0x00, 0x00, 0x00, 0x00, 0x00, 0x00, 0x00,
+    0x05, 0x00, 0x03, 0x01, 0x00, 0x00, 0x00, 0x00, 0x00, 0x00, 0x00, 0x00, 0x00,
+    0x05, 0x00, 0x03, 0x01, 0x00, 0x00, 0x00, 0x00, 0x00, 0x00, 0x00, 0x00, 0x00,
+    0x05, 0x00, 0x03, 0x01, 0x00, 0x00, 0x00, 0x00, 0x00, 0x00, 0x00, 0x00, 0x00,
+    0x05, 0x00, 0x03, 0x01, 0x00, 0x00, 0x00, 0x00, 0x00, 0x00, 0x00, 0x00, 0x00,
+    0x05, 0x00, 0x03, 0x01, 0x00, 0x00, 0x00, 0x00, 0x00, 0x00, 0x00, 0x00, 0x00,
+    0x05, 0x00, 0x03, 0x01, 0x00, 0x00, 0x00, 0x00, 0x00, 0x00, 0x00, 0x00, 0x00,
+    0x05, 0x00, 0x03, 0x01, 0x00, 0x00, 0x00, 0x00, 0x00, 0x00, 0x00, 0x00, 0x00,
+];
+
+/// A request of one command: the output 5 is latched on.
+fn one_command(front: [u8; 2]) -> [u8; 20] {
+    [
+        front[0], front[1], 0x0C, 0x01, 0x28, 0x01, 0x00, 0x05, 0x00, 0x03, 0x01, 0, 0, 0, 0, 0, 0,
+        0, 0, 0,
+    ]
+}
 
 /// A block of one point of class 1.
 fn block(alloc: Global) -> Option<Vec<Block>> {
@@ -199,11 +219,7 @@ fn poll(alloc: Global, station: &mut Station) -> Option<u64> {
 fn operate(alloc: Global, station: &mut Station, number: u64) -> Option<u64> {
     let mut number = number;
     for front in [[0xC3, 0x03], [0xC4, 0x04], [0xC5, 0x05]] {
-        let request = [
-            front[0], front[1], 0x0C, 0x01, 0x28, 0x01, 0x00, 0x05, 0x00, 0x03, 0x01, 0, 0, 0, 0,
-            0, 0, 0, 0, 0,
-        ];
-        let answer = receive(alloc, station, &request)?;
+        let answer = receive(alloc, station, &one_command(front))?;
         number = with_digits(number, length(&answer)?);
     }
     Some(with_digits(number, station.outputs().operated().len() as u64))
@@ -252,22 +268,12 @@ fn last_octet(actions: &Actions) -> Option<u64> {
 /// digits for the length of the first answer, and two each for how many commands were performed, and for the status of the
 /// last.
 fn command(alloc: Global, station: &mut Station) -> Option<u64> {
-    let mut octets = [0; 124];
-    octets[..7].copy_from_slice(&[0xC5, 0x03, 0x0C, 0x01, 0x28, 0x09, 0x00]);
-    for command in octets[7..].chunks_exact_mut(13) {
-        command.copy_from_slice(&LATCH_ON);
-    }
-    let answer = receive(alloc, station, &octets)?;
+    let answer = receive(alloc, station, &NINE)?;
     let mut number = length(&answer)?;
-    let mut one = [0; 20];
-    one[..7].copy_from_slice(&[0xC6, 0x06, 0x0C, 0x01, 0x28, 0x01, 0x00]);
-    one[7..].copy_from_slice(&LATCH_ON);
-    receive(alloc, station, &one)?;
+    receive(alloc, station, &one_command([0xC6, 0x06]))?;
     number = with_digits(number, station.outputs().operated().len() as u64);
-    one[..2].copy_from_slice(&[0xC7, 0x03]);
-    receive(alloc, station, &one)?;
-    one[..2].copy_from_slice(&[0xC8, 0x04]);
-    let late = receive_at(alloc, station, TIMES.select_ms, &one)?;
+    receive(alloc, station, &one_command([0xC7, 0x03]))?;
+    let late = receive_at(alloc, station, TIMES.select_ms, &one_command([0xC8, 0x04]))?;
     number = with_digits(number, station.outputs().operated().len() as u64);
     Some(with_digits(number, last_octet(&late)?))
 }

@@ -143,9 +143,12 @@ fn run_once<W: Write>(
 pub(crate) fn run<R: AllocGlobal + Print>(rt: &R) -> io::Result<()> {
     let alloc = rt.alloc();
     let mut out = io::writer(rt);
-    let done = match plan(alloc).or_else(|| plan(alloc)) {
+    let done = match plan(alloc) {
         Some(plan) => run_plan(alloc, &plan, &mut out),
-        None => None,
+        None => match plan(alloc) {
+            Some(plan) => run_plan(alloc, &plan, &mut out),
+            None => None,
+        },
     };
     match done {
         Some(()) => Ok(()),
