@@ -7,7 +7,8 @@ at the call STEP behind that, and so on until none is left. LIBRARY is stop.c, c
     new       it ends before the call while --new makes its stores. Then either a run without --new serves, or both files are
               removed, and one with --new does
 
-No event may be lost, and the control that was issued not be operated twice."""
+No event may be lost, none stand in the journal more than twice, and the control that was issued not be operated twice. As it
+was cut, no book has a control pending that was passed on below it: so it never passes one on again."""
 import os
 import shutil
 import sys
@@ -17,6 +18,7 @@ import time
 from network import KILLED, UNREACHED, Network
 
 CONTROL = "0 block 0 1 1 7 0"
+PENDING = 0
 FILES = {"centre": ("journal.db", "above.db"), "concentrate": ("queue.db", "below.db")}
 
 
@@ -58,6 +60,20 @@ def is_cut_in_new(network, name, env, faults):
     return stopped
 
 
+def passed_on(network):
+    """What is wrong with the books, of the control that was issued: what stands below, or was operated, is spent above."""
+    def states(name):
+        # (of a copy: what sqlite3 opens it mends, and here the program has to)
+        for end in ("", "-wal"):
+            if (network.room / (name + end)).exists():
+                shutil.copy(network.room / (name + end), network.room / ("seen-" + name + end))
+        return [state for (state,) in network.rows("seen-" + name, "SELECT state FROM control")]
+    operated = "operated" in (network.room / "log").read_text(encoding="ascii")
+    below, above = states("below.db"), states("above.db")
+    faults = ["a control was operated that is pending in the concentrator's book"] * (operated and below == [PENDING])
+    return faults + ["a control is in the concentrator's book that is pending in the centre's"] * (below != [] and above == [PENDING])
+
+
 def cut_at(number, library, name, how):
     """Whether the program came to that call, and what was wrong after it."""
     room = tempfile.mkdtemp(prefix="stops-")
@@ -70,12 +86,15 @@ def cut_at(number, library, name, how):
             cut = is_cut_in_new(network, name, env, faults)
         else:
             cut = is_cut(network, name, env, UNREACHED if how == "failing" else KILLED)
+            network.stop()
+            faults += passed_on(network)
         if not network.settle(4):
             faults.append("it did not go on in good order")
         time.sleep(0.05)
         network.end()
         faults += network.count()[0]
-        return cut, faults
+        often = max((count for (count,) in network.rows("journal.db", "SELECT count(*) FROM journal GROUP BY value")), default=0)
+        return cut, faults + [f"an event stands in the journal {often} times"] * (often > 2)
     finally:
         network.end()
         shutil.rmtree(room)

@@ -1,13 +1,15 @@
 //! A centre and a concentrator: an event that comes from a substation, by direct calls or on a stream, and a control that
 //! goes towards it.
 
+use crate::controls::count;
+use crate::lanes::{Counts, counted};
 use crate::outstations::with_digits;
 use crate::streams;
-use dnp_concentrator::{Centre, Concentrator, Listed, Plan, Relayed, SubPlan};
-use dnp_controls::PlainBook;
-use dnp_eventbuf::{PlainJournal, PlainLanes};
-use dnp_master::{Classes, Fragment, Task};
-use dnp_objects::Command;
+use dnp_concentrator::{Centre, Concentrator, IssueFault, Listed, Plan, Relayed, SubPlan};
+use dnp_controls::{BookFault, PlainBook};
+use dnp_eventbuf::{JournalStore, PlainJournal, PlainLanes, StoreFault};
+use dnp_master::{Classes, Fragment, MasterFault, Task};
+use dnp_objects::{Command, LANES};
 use dnp_outstation::Actions;
 use dnp_pointdb::Times;
 use std::alloc::Global;
@@ -34,7 +36,7 @@ const CLOSE: Command = Command::Block {
 };
 
 /// A plan of one substation with a binary of class 1 and an output.
-fn plan(alloc: Global) -> Option<Plan> {
+pub(crate) fn plan(alloc: Global) -> Option<Plan> {
     let mut substations = Vec::new(alloc);
     let planned = SubPlan {
         lanes: [2; 9],
@@ -77,16 +79,67 @@ fn begin(alloc: Global) -> Option<Pair> {
     })
 }
 
+/// What can be seen of a concentrator.
+#[derive(Clone, Copy, PartialEq, Eq)]
+struct ConcentratorView {
+    /// Its queue.
+    queue: [Counts; LANES],
+    /// How many controls its book has.
+    controls: Option<usize>,
+    /// Whether the link above is open and has nothing to do, and that below.
+    idle: (bool, bool),
+}
+
+/// What can be seen of the concentrator.
+fn concentrator_view(
+    alloc: Global,
+    concentrator: &mut Concentrator<PlainLanes, PlainBook>,
+) -> ConcentratorView {
+    ConcentratorView {
+        queue: counted(concentrator.queue()),
+        controls: count(alloc, concentrator.book()),
+        idle: (
+            concentrator.quiet_above(),
+            concentrator.substations() == 1 && concentrator.idle_below(0),
+        ),
+    }
+}
+
+/// What can be seen of a centre.
+#[derive(Clone, Copy, PartialEq, Eq)]
+struct CentreView {
+    /// How many rows its journal has.
+    rows: u64,
+    /// How many controls its book has.
+    controls: Option<usize>,
+    /// Whether it is open and awaits nothing.
+    idle: bool,
+    /// The control that is on its way.
+    in_progress: Option<u64>,
+}
+
+/// What can be seen of the centre.
+fn centre_view(alloc: Global, centre: &mut Centre<PlainJournal, PlainBook>) -> CentreView {
+    CentreView {
+        rows: centre.journal().count(),
+        controls: count(alloc, centre.book()),
+        idle: centre.idle(),
+        in_progress: centre.in_progress(),
+    }
+}
+
 /// Octets come to the concentrator from the centre. How long its answer is, 0 where there is none.
 fn above(alloc: Global, pair: &mut Pair, octets: &[u8]) -> Option<u64> {
     let concentrator = &mut pair.concentrator;
-    if concentrator
-        .receive_above(&mut pair.actions, alloc, 0, octets)
-        .is_err()
-    {
-        concentrator
-            .receive_above(&mut pair.actions, alloc, 0, octets)
-            .ok()?;
+    let before = concentrator_view(alloc, concentrator);
+    match concentrator.receive_above(&mut pair.actions, alloc, 0, octets) {
+        Ok(()) => {}
+        Err(StoreFault::Memory) if concentrator_view(alloc, concentrator) == before => {
+            concentrator
+                .receive_above(&mut pair.actions, alloc, 0, octets)
+                .ok()?;
+        }
+        Err(_) => return None,
     }
     match &pair.actions.send[0] {
         Some(fragment) => Some(fragment.len() as u64),
@@ -104,9 +157,13 @@ fn taken(
         return None;
     };
     let octets = fragment.as_slice();
+    let before = centre_view(alloc, centre);
     let taken = match centre.receive(alloc, 0, octets) {
         Ok(actions) => actions.taken,
-        Err(_) => centre.receive(alloc, 0, octets).ok()?.taken,
+        Err(MasterFault::Memory) if centre_view(alloc, centre) == before => {
+            centre.receive(alloc, 0, octets).ok()?.taken
+        }
+        Err(_) => return None,
     };
     Some(taken as u64)
 }
@@ -118,12 +175,21 @@ fn below(alloc: Global, pair: &mut Pair, octets: &[u8]) -> Option<u64> {
         return None;
     }
     concentrator.ask_below(0, 0, POLL).ok()?;
+    let before = concentrator_view(alloc, concentrator);
+    if concentrator.substations() != 1 {
+        return None;
+    }
     let dropped = match concentrator.receive_below(alloc, 0, 0, octets) {
         Ok(actions) => actions.dropped,
-        Err(_) => concentrator
-            .receive_below(alloc, 0, 0, octets)
-            .ok()?
-            .dropped,
+        Err(MasterFault::Memory)
+            if concentrator_view(alloc, concentrator) == before
+                && concentrator.substations() == 1 => {
+            concentrator
+                .receive_below(alloc, 0, 0, octets)
+                .ok()?
+                .dropped
+        }
+        Err(_) => return None,
     };
     Some(dropped.as_slice().len() as u64)
 }
@@ -144,13 +210,31 @@ fn event(alloc: Global, pair: &mut Pair) -> Option<u64> {
 
 /// The next request of a control that the centre relays.
 fn relayed(alloc: Global, pair: &mut Pair) -> Option<Fragment> {
-    let step = match pair.centre.relay(alloc, 0) {
+    let centre = &mut pair.centre;
+    let before = centre_view(alloc, centre);
+    let step = match centre.relay(alloc, 0) {
         Ok(step) => step,
-        Err(_) => pair.centre.relay(alloc, 0).ok()?,
+        Err(BookFault::Memory) if centre_view(alloc, centre) == before => {
+            centre.relay(alloc, 0).ok()?
+        }
+        Err(_) => return None,
     };
     match step {
         Relayed::Selecting(_, request) | Relayed::Sent(_, request) => Some(request),
         Relayed::Nothing | Relayed::Finished(_, _) => None,
+    }
+}
+
+/// The centre issues a control.
+fn issue(alloc: Global, centre: &mut Centre<PlainJournal, PlainBook>) -> Option<()> {
+    let before = centre_view(alloc, centre);
+    match centre.issue(alloc, 0, &CLOSE) {
+        Ok(_) => Some(()),
+        Err(IssueFault::Memory) if centre_view(alloc, centre) == before => {
+            centre.issue(alloc, 0, &CLOSE).ok()?;
+            Some(())
+        }
+        Err(_) => None,
     }
 }
 
@@ -165,9 +249,7 @@ fn go(alloc: Global, pair: &mut Pair) -> Option<u64> {
     number = with_digits(number, above(alloc, pair, request.as_slice())?);
     number = with_digits(number, taken(alloc, &mut pair.centre, &pair.actions)?);
     above(alloc, pair, &[0xC0, 0x00])?;
-    if pair.centre.issue(alloc, 0, &CLOSE).is_err() {
-        pair.centre.issue(alloc, 0, &CLOSE).ok()?;
-    }
+    issue(alloc, &mut pair.centre)?;
     for _ in 0..2 {
         let request = relayed(alloc, pair)?;
         number = with_digits(number, above(alloc, pair, request.as_slice())?);

@@ -2,7 +2,7 @@
 
 use crate::lanes::with_digit;
 use dnp_eventbuf::{JournalStore, PlainJournal, Sink};
-use dnp_objects::{Kind, Row, is_event};
+use dnp_objects::{Kind, Row, StoreFault, is_event};
 use std::alloc::Global;
 
 /// Appends six events, two at a time and with a static row beside them, and lists those after the second.
@@ -22,17 +22,19 @@ pub(crate) fn append_and_list(alloc: Global) -> Option<u64> {
     let mut number = 0;
     for _ in 0..3 {
         let before = journal.count();
-        if journal.append(alloc, &[event, event], &[event]).is_err() {
-            if journal.count() != before {
-                return None;
+        match journal.append(alloc, &[event, event], &[event]) {
+            Ok(_) => {}
+            Err(StoreFault::Memory) if journal.count() == before => {
+                journal.append(alloc, &[event, event], &[event]).ok()?;
             }
-            journal.append(alloc, &[event, event], &[event]).ok()?;
+            Err(_) => return None,
         }
         number = with_digit(number, journal.count());
     }
     let rows = match journal.rows(alloc, 2, 9) {
         Ok(rows) => rows,
-        Err(_) => journal.rows(alloc, 2, 9).ok()?,
+        Err(StoreFault::Memory) => journal.rows(alloc, 2, 9).ok()?,
+        Err(_) => return None,
     };
     for numbered in rows.iter() {
         number = with_digit(number, numbered.id);

@@ -1,30 +1,39 @@
 //! Event lanes in memory.
 
 use dnp_eventbuf::{Lane, LaneRow, Lanes, PlainLanes, Upto, is_carried};
-use dnp_objects::{Kind, LANES, Row};
+use dnp_objects::{Kind, LANES, Row, StoreFault};
 use std::alloc::Global;
 
-/// What is counted of the lane of class 1.
+/// What is counted of a lane.
 #[derive(Clone, Copy, PartialEq, Eq)]
-struct Counts {
+pub(crate) struct Counts {
     /// How many rows it holds.
     len: u32,
     /// Its last id, or 0.
     last: u64,
     /// How many rows it has dropped.
     lost: u64,
-    /// Whether the overflow is raised.
+    /// Whether the overflow is raised in any.
     raised: bool,
 }
 
-/// The counts of a lane.
-fn counted(lanes: &mut PlainLanes, lane: Lane) -> Counts {
-    Counts {
-        len: lanes.len(lane),
-        last: lanes.last(lane),
-        lost: lanes.lost(lane),
-        raised: lanes.raised(),
+/// The counts of each lane.
+pub(crate) fn counted<L: Lanes>(lanes: &mut L) -> [Counts; LANES] {
+    let raised = lanes.raised();
+    let mut counts = [Counts {
+        len: 0,
+        last: 0,
+        lost: 0,
+        raised,
+    }; LANES];
+    for (number, count) in counts.iter_mut().enumerate() {
+        if let Some(lane) = Lane::numbered(number) {
+            count.len = lanes.len(lane);
+            count.last = lanes.last(lane);
+            count.lost = lanes.lost(lane);
+        }
     }
+    counts
 }
 
 /// A number with one more decimal digit.
@@ -45,10 +54,10 @@ fn append_two(alloc: Global, lanes: &mut PlainLanes, event: LaneRow) -> Option<u
     if !is_carried(&event) {
         return None;
     }
-    let before = counted(lanes, event.lane);
+    let before = counted(lanes);
     let dropped = match lanes.append(alloc, &[event, event]) {
         Ok(dropped) => dropped,
-        Err(_) if counted(lanes, event.lane) == before => {
+        Err(StoreFault::Memory) if counted(lanes) == before => {
             lanes.append(alloc, &[event, event]).ok()?
         }
         Err(_) => return None,
@@ -57,22 +66,22 @@ fn append_two(alloc: Global, lanes: &mut PlainLanes, event: LaneRow) -> Option<u
 }
 
 /// Releases the rows up to these ids, and tells how many they are.
-fn release(alloc: Global, lanes: &mut PlainLanes, lane: Lane, upto: &Upto) -> Option<u64> {
-    let before = counted(lanes, lane);
+fn release(alloc: Global, lanes: &mut PlainLanes, upto: &Upto) -> Option<u64> {
+    let before = counted(lanes);
     let released = match lanes.release(alloc, upto) {
         Ok(released) => released,
-        Err(_) if counted(lanes, lane) == before => lanes.release(alloc, upto).ok()?,
+        Err(StoreFault::Memory) if counted(lanes) == before => lanes.release(alloc, upto).ok()?,
         Err(_) => return None,
     };
     Some(released.len() as u64)
 }
 
 /// Empties the lanes, and tells how many rows that takes.
-fn empty(alloc: Global, lanes: &mut PlainLanes, lane: Lane) -> Option<u64> {
-    let before = counted(lanes, lane);
+fn empty(alloc: Global, lanes: &mut PlainLanes) -> Option<u64> {
+    let before = counted(lanes);
     let emptied = match lanes.empty(alloc) {
         Ok(emptied) => emptied,
-        Err(_) if counted(lanes, lane) == before => lanes.empty(alloc).ok()?,
+        Err(StoreFault::Memory) if counted(lanes) == before => lanes.empty(alloc).ok()?,
         Err(_) => return None,
     };
     Some(emptied.len() as u64)
@@ -98,12 +107,13 @@ pub(crate) fn fill_and_empty(alloc: Global) -> Option<u64> {
     }
     let offered = match lanes.offer(alloc, lane, 0, 9) {
         Ok(offered) => offered,
-        Err(_) => lanes.offer(alloc, lane, 0, 9).ok()?,
+        Err(StoreFault::Memory) => lanes.offer(alloc, lane, 0, 9).ok()?,
+        Err(_) => return None,
     };
     for numbered in offered.iter() {
         number = with_digit(number, numbered.id);
     }
-    number = with_digit(number, release(alloc, &mut lanes, lane, &[5; LANES])?);
-    number = with_digit(number, empty(alloc, &mut lanes, lane)?);
+    number = with_digit(number, release(alloc, &mut lanes, &[5; LANES])?);
+    number = with_digit(number, empty(alloc, &mut lanes)?);
     Some(with_digit(number, lanes.lost(lane)))
 }

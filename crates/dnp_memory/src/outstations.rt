@@ -1,10 +1,12 @@
-//! An outstation that is polled, one that sends unsolicited responses and operates, and one on a stream.
+//! An outstation that is polled, one that sends unsolicited responses and operates, one whose response has two fragments, and
+//! one on a stream.
 
+use crate::lanes::{Counts, counted};
 use crate::streams;
 use dnp_controls::PlainOutputs;
-use dnp_eventbuf::{Lane, LaneRow, Lanes, PlainLanes, is_carried};
-use dnp_objects::{Kind, Row};
-use dnp_outstation::{Actions, Outstation};
+use dnp_eventbuf::{Lane, LaneRow, Lanes, PlainLanes, StoreFault, is_carried};
+use dnp_objects::{Kind, LANES, Row};
+use dnp_outstation::{Actions, Fault, Outstation};
 use dnp_pointdb::{Block, Point, PointDb, PointPlan, Points, Reading, Times};
 use std::alloc::Global;
 
@@ -18,6 +20,10 @@ pub(crate) enum Case {
     Polled,
     /// It sends unsolicited responses, and operates.
     Unsolicited,
+    /// It is polled for more than a fragment holds.
+    Long,
+    /// It is given commands in all ways but those of the unsolicited one.
+    Commanded,
     /// It is polled on a stream.
     Served,
 }
@@ -30,19 +36,70 @@ const TIMES: Times = Times {
     unsolicited: false,
 };
 
-/// An outstation with a binary of class 1 and six outputs, whose lanes take two rows each, and which may
-/// send unsolicited responses.
-fn station(alloc: Global, is_unsolicited: bool) -> Option<Station> {
+/// What can be seen of an outstation.
+#[derive(Clone, Copy, PartialEq, Eq)]
+struct View {
+    /// Its lanes.
+    lanes: [Counts; LANES],
+    /// How many commands its outputs performed.
+    operated: usize,
+    /// Whether it is open and has nothing to do.
+    quiet: bool,
+}
+
+/// What can be seen of the outstation.
+fn seen(station: &mut Station) -> View {
+    View {
+        lanes: counted(station.lanes()),
+        operated: station.outputs().operated().len(),
+        quiet: station.quiet(),
+    }
+}
+
+/// How many events of an analog take two fragments.
+const MANY: u32 = 157;
+
+/// A SELECT of the output 5 by nine objects.
+#[rattlefmt::skip]
+const NINE: [u8; 124] = [
+    0xC5, 0x03, 0x0C, 0x01, 0x28, 0x09, 0x00,
+    0x05, 0x00, 0x03, 0x01, 0x00, 0x00, 0x00, 0x00, 0x00, 0x00, 0x00, 0x00, 0x00,
+    0x05, 0x00, 0x03, 0x01, 0x00, 0x00, 0x00, 0x00, 0x00, 0x00, 0x00, 0x00, 0x00,
+    0x05, 0x00, 0x03, 0x01, 0x00, 0x00, 0x00, 0x00, 0x00, 0x00, 0x00, 0x00, 0x00,
+    0x05, 0x00, 0x03, 0x01, 0x00, 0x00, 0x00, 0x00, 0x00, 0x00, 0x00, 0x00, 0x00,
+    0x05, 0x00, 0x03, 0x01, 0x00, 0x00, 0x00, 0x00, 0x00, 0x00, 0x00, 0x00, 0x00,
+    0x05, 0x00, 0x03, 0x01, 0x00, 0x00, 0x00, 0x00, 0x00, 0x00, 0x00, 0x00, 0x00,
+    0x05, 0x00, 0x03, 0x01, 0x00, 0x00, 0x00, 0x00, 0x00, 0x00, 0x00, 0x00, 0x00,
+    0x05, 0x00, 0x03, 0x01, 0x00, 0x00, 0x00, 0x00, 0x00, 0x00, 0x00, 0x00, 0x00,
+    0x05, 0x00, 0x03, 0x01, 0x00, 0x00, 0x00, 0x00, 0x00, 0x00, 0x00, 0x00, 0x00,
+];
+
+/// A request of one command: the output 5 is latched on.
+fn one_command(front: [u8; 2]) -> [u8; 20] {
+    [
+        front[0], front[1], 0x0C, 0x01, 0x28, 0x01, 0x00, 0x05, 0x00, 0x03, 0x01, 0, 0, 0, 0, 0, 0,
+        0, 0, 0,
+    ]
+}
+
+/// A block of one point of class 1.
+fn block(alloc: Global) -> Option<Vec<Block>> {
     let point = Point {
         class: 1,
         deadband: 0,
     };
     let points = Points::new(vec![in alloc; point; 1].ok()?);
-    let mut binary = Vec::new(alloc);
-    binary.push(Block { base: 0, points }).ok()?;
-    let plan = PointPlan::new(binary, Vec::new(alloc), Vec::new(alloc)).ok()?;
+    let mut blocks = Vec::new(alloc);
+    blocks.push(Block { base: 0, points }).ok()?;
+    Some(blocks)
+}
+
+/// An outstation with a binary and an analog of class 1 and six outputs, whose lanes take two rows each, and that of the
+/// analog's events `MANY`, and which may send unsolicited responses.
+fn station(alloc: Global, is_unsolicited: bool) -> Option<Station> {
+    let plan = PointPlan::new(block(alloc)?, Vec::new(alloc), block(alloc)?).ok()?;
     let points = PointDb::new(alloc, plan).ok()?;
-    let lanes = PlainLanes::new(alloc, [2; 9]).ok()?;
+    let lanes = PlainLanes::new(alloc, [2, 2, MANY, 2, 2, 2, 2, 2, 2]).ok()?;
     let outputs = PlainOutputs::new(alloc, 6, 0);
     let mut times = TIMES;
     times.unsolicited = is_unsolicited;
@@ -56,17 +113,21 @@ pub(crate) fn change(alloc: Global, station: &mut Station, value: i64) -> Option
         flags: 1,
         time: Some(1_000),
     };
+    let before = seen(station);
     match station.change(alloc, 0, Kind::Binary, 0, reading) {
         Ok(actions) => Some(actions),
-        Err(_) => station.change(alloc, 0, Kind::Binary, 0, reading).ok(),
+        Err(Fault::Memory) if seen(station) == before => {
+            station.change(alloc, 0, Kind::Binary, 0, reading).ok()
+        }
+        Err(_) => None,
     }
 }
 
-/// Somebody else appends an event of the binary.
-fn append(alloc: Global, lanes: &mut PlainLanes) -> Option<()> {
-    let lane = Lane::new(1, Kind::Binary)?;
+/// Somebody else appends an event of class 1 of the point of a kind.
+fn append(alloc: Global, lanes: &mut PlainLanes, kind: Kind) -> Option<()> {
+    let lane = Lane::new(1, kind)?;
     let row = Row {
-        kind: Kind::Binary,
+        kind,
         index: 0,
         flags: 1,
         value: 1,
@@ -76,25 +137,39 @@ fn append(alloc: Global, lanes: &mut PlainLanes) -> Option<()> {
     if !is_carried(&event) {
         return None;
     }
-    if lanes.append(alloc, &[event]).is_err() {
-        lanes.append(alloc, &[event]).ok()?;
+    let before = counted(lanes);
+    match lanes.append(alloc, &[event]) {
+        Ok(_) => Some(()),
+        Err(StoreFault::Memory) if counted(lanes) == before => {
+            lanes.append(alloc, &[event]).ok()?;
+            Some(())
+        }
+        Err(_) => None,
     }
-    Some(())
+}
+
+/// Octets come at a moment.
+fn receive_at(alloc: Global, station: &mut Station, now: u64, octets: &[u8]) -> Option<Actions> {
+    let before = seen(station);
+    match station.receive(alloc, now, octets) {
+        Ok(actions) => Some(actions),
+        Err(Fault::Memory) if seen(station) == before => station.receive(alloc, now, octets).ok(),
+        Err(_) => None,
+    }
 }
 
 /// Octets come.
 fn receive(alloc: Global, station: &mut Station, octets: &[u8]) -> Option<Actions> {
-    match station.receive(alloc, 0, octets) {
-        Ok(actions) => Some(actions),
-        Err(_) => station.receive(alloc, 0, octets).ok(),
-    }
+    receive_at(alloc, station, 0, octets)
 }
 
 /// A restart that empties the lanes takes so many rows.
 fn restart(alloc: Global, station: &mut Station) -> Option<u64> {
+    let before = seen(station);
     let rows = match station.restart(alloc, false) {
         Ok(rows) => rows,
-        Err(_) => station.restart(alloc, false).ok()?,
+        Err(Fault::Memory) if seen(station) == before => station.restart(alloc, false).ok()?,
+        Err(_) => return None,
     };
     Some(rows.as_slice().len() as u64)
 }
@@ -144,11 +219,7 @@ fn poll(alloc: Global, station: &mut Station) -> Option<u64> {
 fn operate(alloc: Global, station: &mut Station, number: u64) -> Option<u64> {
     let mut number = number;
     for front in [[0xC3, 0x03], [0xC4, 0x04], [0xC5, 0x05]] {
-        let request = [
-            front[0], front[1], 0x0C, 0x01, 0x28, 0x01, 0x00, 0x05, 0x00, 0x03, 0x01, 0, 0, 0, 0,
-            0, 0, 0, 0, 0,
-        ];
-        let answer = receive(alloc, station, &request)?;
+        let answer = receive(alloc, station, &one_command(front))?;
         number = with_digits(number, length(&answer)?);
     }
     Some(with_digits(number, station.outputs().operated().len() as u64))
@@ -160,8 +231,8 @@ fn operate(alloc: Global, station: &mut Station, number: u64) -> Option<u64> {
 fn report(alloc: Global, station: &mut Station) -> Option<u64> {
     receive(alloc, station, &[0xD0, 0x00])?;
     receive(alloc, station, &[0xC0, 0x14, 0x3C, 0x02, 0x06])?;
-    append(alloc, station.lanes())?;
-    append(alloc, station.lanes())?;
+    append(alloc, station.lanes(), Kind::Binary)?;
+    append(alloc, station.lanes(), Kind::Binary)?;
     let changed = change(alloc, station, 1)?;
     let mut number = with_digits(overwritten(&changed), length(&changed)?);
     let confirmed = receive(alloc, station, &[0xD1, 0x00])?;
@@ -169,12 +240,55 @@ fn report(alloc: Global, station: &mut Station) -> Option<u64> {
     operate(alloc, station, number)
 }
 
+/// Events of the analog come, and class 1 is read and confirmed. The number has the length of each fragment of the response,
+/// and three digits for how many rows each confirm releases.
+fn read_long(alloc: Global, station: &mut Station) -> Option<u64> {
+    for _ in 0..MANY {
+        append(alloc, station.lanes(), Kind::Analog)?;
+    }
+    let first = receive(alloc, station, &[0xC0, 0x01, 0x3C, 0x02, 0x06])?;
+    let second = receive(alloc, station, &[0xC0, 0x00])?;
+    let confirmed = receive(alloc, station, &[0xC1, 0x00])?;
+    let mut number = with_digits(length(&first)?, length(&second)?);
+    for released in [discarded(&second), discarded(&confirmed)] {
+        number = number.wrapping_mul(1_000).wrapping_add(released);
+    }
+    Some(number)
+}
+
+/// The last octet of the fragment that is sent: of an answer to a command its status.
+fn last_octet(actions: &Actions) -> Option<u64> {
+    match &actions.send[0] {
+        Some(fragment) => Some(u64::from(*fragment.last()?)),
+        None => None,
+    }
+}
+
+/// Selects nine outputs, operates one without an answer, and selects one and operates it too late. The number has three
+/// digits for the length of the first answer, and two each for how many commands were performed, and for the status of the
+/// last.
+fn command(alloc: Global, station: &mut Station) -> Option<u64> {
+    let answer = receive(alloc, station, &NINE)?;
+    let mut number = length(&answer)?;
+    receive(alloc, station, &one_command([0xC6, 0x06]))?;
+    number = with_digits(number, station.outputs().operated().len() as u64);
+    receive(alloc, station, &one_command([0xC7, 0x03]))?;
+    let late = receive_at(alloc, station, TIMES.select_ms, &one_command([0xC8, 0x04]))?;
+    number = with_digits(number, station.outputs().operated().len() as u64);
+    Some(with_digits(number, last_octet(&late)?))
+}
+
 /// Opens the outstation.
 fn open(alloc: Global, station: &mut Station) -> Option<()> {
-    if station.opened(alloc, 0).is_err() {
-        station.opened(alloc, 0).ok()?;
+    let before = seen(station);
+    match station.opened(alloc, 0) {
+        Ok(_) => Some(()),
+        Err(Fault::Memory) if seen(station) == before => {
+            station.opened(alloc, 0).ok()?;
+            Some(())
+        }
+        Err(_) => None,
     }
-    Some(())
 }
 
 /// Does with the outstation what the case says.
@@ -183,20 +297,22 @@ fn go(alloc: Global, station: &mut Station, case: Case) -> Option<u64> {
         return streams::serve(alloc, station);
     }
     open(alloc, station)?;
-    if case == Case::Unsolicited {
-        report(alloc, station)
-    } else {
-        poll(alloc, station)
+    match case {
+        Case::Unsolicited => report(alloc, station),
+        Case::Long => read_long(alloc, station),
+        Case::Commanded => command(alloc, station),
+        Case::Polled | Case::Served => poll(alloc, station),
     }
 }
 
 /// Makes an outstation, and does with it what the case says.
 pub(crate) fn run(alloc: Global, case: Case) -> Option<u64> {
     let is_unsolicited = case == Case::Unsolicited;
-    let mut made = station(alloc, is_unsolicited);
-    if made.is_none() {
-        made = station(alloc, is_unsolicited);
+    match station(alloc, is_unsolicited) {
+        Some(mut station) => go(alloc, &mut station, case),
+        None => {
+            let mut station = station(alloc, is_unsolicited)?;
+            go(alloc, &mut station, case)
+        }
     }
-    let mut station = made?;
-    go(alloc, &mut station, case)
 }

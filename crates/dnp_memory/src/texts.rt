@@ -2,7 +2,7 @@
 
 use crate::outstations::with_digits;
 use dnp_concentrator::Plan;
-use dnp_daemons::{ScriptLine, read_plan, read_script};
+use dnp_daemons::{PlanTextFault, ScriptFault, ScriptLine, read_plan, read_script};
 use std::alloc::Global;
 
 /// A plan of two substations.
@@ -47,7 +47,8 @@ control 1
 fn plan(alloc: Global) -> Option<Plan> {
     match read_plan(alloc, PLAN) {
         Ok(plan) => Some(plan),
-        Err(_) => read_plan(alloc, PLAN).ok(),
+        Err(PlanTextFault::Memory) => read_plan(alloc, PLAN).ok(),
+        Err(_) => None,
     }
 }
 
@@ -78,7 +79,8 @@ pub(crate) fn script_text(alloc: Global) -> Option<u64> {
     let plan = plan(alloc)?;
     let script = match read_script(alloc, SCRIPT, &plan) {
         Ok(script) => script,
-        Err(_) => read_script(alloc, SCRIPT, &plan).ok()?,
+        Err(ScriptFault::Memory) => read_script(alloc, SCRIPT, &plan).ok()?,
+        Err(_) => return None,
     };
     let mut number = 0;
     for line in script.iter() {

@@ -1,8 +1,11 @@
 //! A book of controls, step by step, for each kind of command.
 
+ghost use Rattle.std.specs.Prelude.{◌<◌};
+ghost use Rattle.dnp_controls.specs.declared.limits.TheConstants.{TARGETS};
+
 use crate::Fault;
 use crate::stored::Stored;
-use dnp_controls::{Book, BookFault, State};
+use dnp_controls::{Book, BookFault, Entry, State, TARGETS};
 use dnp_objects::{Command, Status};
 use dnp_store::{ControlBook, OpenFault};
 use sqlite::{Alter, Connection};
@@ -29,6 +32,53 @@ const WIDE: Command = Command::Set32 {
     value: 70_000,
 };
 
+/// Adds a control, once more where that ran out of memory.
+fn add<B: Book>(
+    book: &mut B,
+    alloc: Global,
+    target: u8,
+    command: &Command,
+) -> Result<u64, BookFault>
+    requires { target < TARGETS }
+{
+    match book.add(alloc, target, command) {
+        Err(BookFault::Memory) => book.add(alloc, target, command),
+        answer => answer,
+    }
+}
+
+/// The controls over an id, once more where that ran out of memory.
+fn listed<B: Book>(book: &mut B, alloc: Global, from: u64) -> Result<Vec<Entry>, BookFault> {
+    match book.rows(alloc, from, 99) {
+        Err(BookFault::Memory) => book.rows(alloc, from, 99),
+        answer => answer,
+    }
+}
+
+/// The next control for a target, once more where that ran out of memory.
+fn next<B: Book>(book: &mut B, alloc: Global, target: u8) -> Result<Option<Entry>, BookFault> {
+    match book.next(alloc, target) {
+        Err(BookFault::Memory) => book.next(alloc, target),
+        answer => answer,
+    }
+}
+
+/// Spends a control, once more where that ran out of memory.
+fn spend<B: Book>(book: &mut B, alloc: Global, id: u64) -> Result<(), BookFault> {
+    match book.spend(alloc, id) {
+        Err(BookFault::Memory) => book.spend(alloc, id),
+        answer => answer,
+    }
+}
+
+/// Finishes a control as a success, once more where that ran out of memory.
+fn finish<B: Book>(book: &mut B, alloc: Global, id: u64) -> Result<(), BookFault> {
+    match book.finish(alloc, id, Status::SUCCESS) {
+        Err(BookFault::Memory) => book.finish(alloc, id, Status::SUCCESS),
+        answer => answer,
+    }
+}
+
 /// Whether three controls for a target, whose ids are these, are listed, the first is next, is spent once and
 /// finished, and a control that is not there is not spent.
 fn steps<B: Book>(
@@ -42,24 +92,24 @@ fn steps<B: Book>(
         return Ok(false);
     }
     for id in ids {
-        if book.add(alloc, target, command)? != id {
+        if add(book, alloc, target, command)? != id {
             return Ok(false);
         }
     }
-    let rows = book.rows(alloc, ids[0].wrapping_sub(1), 9)?;
+    let rows = listed(book, alloc, ids[0].wrapping_sub(1))?;
     let is_listed = rows
         .iter()
         .map(|entry| (entry.id, entry.command, entry.state))
         .eq(ids.iter().map(|id| (*id, *command, State::Pending)));
-    let next = book.next(alloc, target)?;
+    let next = next(book, alloc, target)?;
     let is_next = match next {
         Some(entry) => entry.id == ids[0],
         None => false,
     };
-    book.spend(alloc, ids[0])?;
-    let again = book.spend(alloc, ids[0]).err();
-    book.finish(alloc, ids[0], Status::SUCCESS)?;
-    let missing = book.spend(alloc, 99).err();
+    spend(book, alloc, ids[0])?;
+    let again = spend(book, alloc, ids[0]).err();
+    finish(book, alloc, ids[0])?;
+    let missing = spend(book, alloc, 99).err();
     Ok(
         is_listed
             && is_next
@@ -95,7 +145,7 @@ impl<S: Alter> Stored<Connection<S>> for ControlBook<S> {
 
     /// The first control of each of the three targets is finished, and no other.
     fn is_walked(&mut self, alloc: Global) -> bool {
-        let Ok(entries) = self.rows(alloc, 0, 99) else {
+        let Ok(entries) = listed(self, alloc, 0) else {
             return false;
         };
         let are_walked = entries.iter().all(|entry| {

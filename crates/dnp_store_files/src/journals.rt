@@ -5,7 +5,7 @@ ghost use Rattle.dnp_objects.specs.Events.{IsEvent};
 
 use crate::Fault;
 use crate::stored::Stored;
-use dnp_eventbuf::{JournalStore, Sink, StoreFault};
+use dnp_eventbuf::{JournalStore, Numbered, Sink, StoreFault};
 use dnp_objects::{Kind, Row, is_event};
 use dnp_store::{Journal, OpenFault};
 use sqlite::{Alter, Connection};
@@ -42,6 +42,26 @@ pub(crate) fn append<J: Sink>(
     Ok(())
 }
 
+/// Appends an event, once more where that ran out of memory.
+fn append_one<J: Sink>(journal: &mut J, alloc: Global, row: Row) -> Result<(), StoreFault> {
+    match append(journal, alloc, &[row]) {
+        Err(StoreFault::Memory) => append(journal, alloc, &[row]),
+        answer => answer,
+    }
+}
+
+/// The rows over an id, once more where that ran out of memory.
+fn listed<J: JournalStore>(
+    journal: &mut J,
+    alloc: Global,
+    from: u64,
+) -> Result<Vec<Numbered>, StoreFault> {
+    match journal.rows(alloc, from, 99) {
+        Err(StoreFault::Memory) => journal.rows(alloc, from, 99),
+        answer => answer,
+    }
+}
+
 /// Whether three events of a kind stand over this id.
 fn steps<J: JournalStore>(
     journal: &mut J,
@@ -50,9 +70,9 @@ fn steps<J: JournalStore>(
     from: u64,
 ) -> Result<bool, StoreFault> {
     for index in 0..3u16 {
-        append(journal, alloc, &[event(kind, index)])?;
+        append_one(journal, alloc, event(kind, index))?;
     }
-    let rows = journal.rows(alloc, from, 9)?;
+    let rows = listed(journal, alloc, from)?;
     Ok(
         rows.iter()
             .map(|x| (x.row.kind, x.row.index))
@@ -84,7 +104,7 @@ impl<S: Alter> Stored<Connection<S>> for Journal<S> {
 
     /// The rows are those of the walk.
     fn is_walked(&mut self, alloc: Global) -> bool {
-        let Ok(rows) = self.rows(alloc, 0, 99) else {
+        let Ok(rows) = listed(self, alloc, 0) else {
             return false;
         };
         let are_walked = rows.iter().all(|x| {

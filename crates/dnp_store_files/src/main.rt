@@ -1,6 +1,7 @@
 //! The three stores over files. Without a word it walks each of them through its calls, in memory and in the files
 //! `queue.db`, `journal.db` and `book.db`, which it makes here, and stops each writing call at each call of its files;
-//! with the word `show` it opens these files, which others may have written, puts a row into each and prints what they
+//! with the word `walk` it walks them in memory alone, and makes a call once more where it ran out of memory, as it does
+//! everywhere; with the word `show` it opens these files, which others may have written, puts a row into each and prints what they
 //! hold; with `time FILE ROWS TURNS` it prints how long a queue in a new file takes. With any other number of words it
 //! does nothing.
 #![tactic(auto)]
@@ -86,6 +87,7 @@ fn run(rt: &HostRuntime) -> Result<(), Fault> {
             stops::stop_all::<FileStore<Fuse<Memory>>, Failing>(rt)?;
             Ok(())
         }
+        2 if words[1].as_str() == "walk" => walk_all(rt, &InMemory),
         2 => show_all(rt, &InFile),
         5 => time(rt, &words),
         _ => Ok(()),
@@ -110,7 +112,10 @@ fn walk<C, P: Place<C>, T: Stored<C>>(
     name: &str,
     path: &str,
 ) -> Result<(), Fault> {
-    let conn = place.open(rt, path)?;
+    let conn = match place.open(rt, path) {
+        Ok(conn) => conn,
+        Err(_) => place.open(rt, path)?,
+    };
     let (is_good, conn) = stored::walk::<C, T>(rt.alloc(), conn);
     place.close(conn)?;
     let place = place.name();

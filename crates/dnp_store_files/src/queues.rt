@@ -5,8 +5,8 @@ ghost use Rattle.dnp_eventbuf.specs.Carried.{IsCarried};
 
 use crate::Fault;
 use crate::stored::Stored;
-use dnp_eventbuf::{Lane, LaneRow, Lanes, StoreFault, is_carried};
-use dnp_objects::Row;
+use dnp_eventbuf::{Lane, LaneRow, Lanes, Numbered, StoreFault, is_carried};
+use dnp_objects::{LANES, Row};
 use dnp_store::{OpenFault, Queue};
 use sqlite::{Alter, Connection};
 use std::alloc::Global;
@@ -43,6 +43,42 @@ pub(crate) fn append<L: Lanes>(
     Ok(())
 }
 
+/// Appends an event, once more where that ran out of memory.
+fn append_one<L: Lanes>(lanes: &mut L, alloc: Global, row: LaneRow) -> Result<(), StoreFault> {
+    match append(lanes, alloc, &[row]) {
+        Err(StoreFault::Memory) => append(lanes, alloc, &[row]),
+        answer => answer,
+    }
+}
+
+/// The first rows of a lane, once more where that ran out of memory.
+fn offered<L: Lanes>(
+    lanes: &mut L,
+    alloc: Global,
+    lane: Lane,
+) -> Result<Vec<Numbered>, StoreFault> {
+    match lanes.offer(alloc, lane, 0, 9) {
+        Err(StoreFault::Memory) => lanes.offer(alloc, lane, 0, 9),
+        answer => answer,
+    }
+}
+
+/// The rows that a release up to an id takes, once more where that ran out of memory.
+fn released<L: Lanes>(lanes: &mut L, alloc: Global, upto: u64) -> Result<Vec<Row>, StoreFault> {
+    match lanes.release(alloc, &[upto; LANES]) {
+        Err(StoreFault::Memory) => lanes.release(alloc, &[upto; LANES]),
+        answer => answer,
+    }
+}
+
+/// The rows that an emptying takes, once more where that ran out of memory.
+fn emptied<L: Lanes>(lanes: &mut L, alloc: Global) -> Result<Vec<Row>, StoreFault> {
+    match lanes.empty(alloc) {
+        Err(StoreFault::Memory) => lanes.empty(alloc),
+        answer => answer,
+    }
+}
+
 /// Whether three rows of a lane, whose ids are these, are offered, the first is released, and the others leave.
 fn steps<L: Lanes>(
     lanes: &mut L,
@@ -51,16 +87,16 @@ fn steps<L: Lanes>(
     ids: [u64; 3],
 ) -> Result<bool, StoreFault> {
     for index in 0..3u16 {
-        append(lanes, alloc, &[event(lane, index)])?;
+        append_one(lanes, alloc, event(lane, index))?;
     }
-    let offered = lanes.offer(alloc, lane, 0, 9)?;
+    let offered = offered(lanes, alloc, lane)?;
     let is_offered = offered.iter().map(|x| (x.id, x.row.index)).eq(
         [(ids[0], 0u16), (ids[1], 1u16), (ids[2], 2u16)]
             .iter()
             .copied(),
     );
-    let released = lanes.release(alloc, &[ids[0]; 9])?;
-    let emptied = lanes.empty(alloc)?;
+    let released = released(lanes, alloc, ids[0])?;
+    let emptied = emptied(lanes, alloc)?;
     Ok(
         is_offered
             && released
@@ -126,7 +162,7 @@ impl<S: Alter> Stored<Connection<S>> for Queue<S> {
         let Some(lane) = Lane::numbered(8) else {
             return false;
         };
-        append(self, alloc, &[event(lane, 7)]).is_ok()
+        append_one(self, alloc, event(lane, 7)).is_ok()
             && self.last(lane) == 28
             && self.owns_database()
     }

@@ -25,6 +25,22 @@ pub(crate) trait Stored<C>: Sized {
     fn show(&mut self, rt: &HostRuntime) -> Result<(), Fault>;
 }
 
+/// Makes an empty store, once more where that ran out of memory.
+fn created<C, T: Stored<C>>(alloc: Global, conn: C) -> Result<T, (OpenFault, C)> {
+    match T::create(alloc, conn) {
+        Err((OpenFault::Memory, conn)) => T::create(alloc, conn),
+        begun => begun,
+    }
+}
+
+/// Opens a store, once more where that ran out of memory.
+fn opened<C, T: Stored<C>>(alloc: Global, conn: C) -> Result<T, (OpenFault, C)> {
+    match T::open(alloc, conn) {
+        Err((OpenFault::Memory, conn)) => T::open(alloc, conn),
+        begun => begun,
+    }
+}
+
 /// The connection of a store that should not have begun, and whether the database was found to be of another form.
 fn refused<C, T: Stored<C>>(begun: Result<T, (OpenFault, C)>) -> (bool, C) {
     match begun {
@@ -57,10 +73,10 @@ fn stands<C, T: Stored<C>>(alloc: Global, begun: Result<T, (OpenFault, C)>) -> (
 
 /// Finds no store in a database without tables, makes one there, walks it, makes none over it, and opens it again.
 pub(crate) fn walk<C, T: Stored<C>>(alloc: Global, conn: C) -> (bool, C) {
-    let (is_missing, conn) = refused(T::open(alloc, conn));
-    let (is_walked, conn) = walked(alloc, T::create(alloc, conn));
-    let (is_taken, conn) = refused(T::create(alloc, conn));
-    let (is_standing, conn) = stands(alloc, T::open(alloc, conn));
+    let (is_missing, conn) = refused::<C, T>(opened(alloc, conn));
+    let (is_walked, conn) = walked::<C, T>(alloc, created(alloc, conn));
+    let (is_taken, conn) = refused::<C, T>(created(alloc, conn));
+    let (is_standing, conn) = stands::<C, T>(alloc, opened(alloc, conn));
     (is_missing && is_walked && is_taken && is_standing, conn)
 }
 

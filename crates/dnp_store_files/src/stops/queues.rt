@@ -8,9 +8,9 @@ use std::alloc::Global;
 /// A writing call of a queue. The lanes have four places each, and only the first has rows.
 #[derive(Clone, Copy)]
 pub(crate) enum QueueCall {
-    /// Two rows go beside one.
+    /// Three rows go beside one.
     Append,
-    /// Two rows go beside three, so that the first is dropped.
+    /// Three rows go beside three, so that the first two are dropped.
     Overflow,
     /// The first of four rows leaves, one having been dropped.
     Release,
@@ -64,13 +64,13 @@ impl QueueCall {
     fn after(self) -> Held {
         match self {
             QueueCall::Append => Held {
-                rows: &[(1, 10), (2, 20), (3, 21)],
+                rows: &[(1, 10), (2, 20), (3, 21), (4, 22)],
                 lost: 0,
                 raised: false,
             },
             QueueCall::Overflow => Held {
-                rows: &[(2, 11), (3, 12), (4, 20), (5, 21)],
-                lost: 1,
+                rows: &[(3, 12), (4, 20), (5, 21), (6, 22)],
+                lost: 2,
                 raised: true,
             },
             QueueCall::Release => Held {
@@ -90,7 +90,8 @@ impl QueueCall {
     fn made<L: Lanes>(self, alloc: Global, lanes: &mut L, lane: Lane) -> Result<(), StoreFault> {
         let gone = match self {
             QueueCall::Append | QueueCall::Overflow => {
-                return append(lanes, alloc, &[event(lane, 20), event(lane, 21)]);
+                let rows = [event(lane, 20), event(lane, 21), event(lane, 22)];
+                return append(lanes, alloc, &rows);
             }
             QueueCall::Release => lanes.release(alloc, &[2; 9])?,
             QueueCall::Empty => lanes.empty(alloc)?,
