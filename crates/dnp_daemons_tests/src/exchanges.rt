@@ -62,19 +62,21 @@ const NONE: Result<Served, ServeFault> = Ok(Served {
     closed: false,
 });
 
-/// What comes, how many octets at a read, how many reads, how many octets are taken: what is answered, how many octets
-/// of which are written, and how many reads there were.
+/// What comes, and whether the read after it fails, how many octets at a read, how many reads, how many octets are taken:
+/// what is answered, how many octets of which are written, and how many reads there were.
 #[rattlefmt::skip]
-const STREAMS: [(&[u8], usize, u64, usize, Result<Served, ServeFault>, &[u8], usize, u64); 9] = [
-    (&READ, 1, 28, 128, ONE, &RESPONSE, 17, 28),
-    (&READ, 1, 27, 128, Err(ServeFault::TurnsSpent), &RESPONSE, 17, 27),
-    (&READ, 1, 26, 128, Err(ServeFault::TurnsSpent), &RESPONSE, 0, 26),
-    (&READ, 300, 2, 128, ONE, &RESPONSE, 17, 2),
-    (&READ, 10, 100, 5, Err(ServeFault::WriteFailed), &RESPONSE, 5, 3),
-    (&CONFIRMED, 7, 100, 128, ONE, &ACKNOWLEDGED, 47, 8),
-    (&CONFIRMED, 7, 100, 24, Err(ServeFault::WriteFailed), &ACKNOWLEDGED, 24, 7),
-    (&[], 1, 1, 128, NONE, &RESPONSE, 0, 1),
-    (&READ, 1, 0, 128, Err(ServeFault::TurnsSpent), &RESPONSE, 0, 0),
+const STREAMS: [(&[u8], bool, usize, u64, usize, Result<Served, ServeFault>, &[u8], usize, u64); 11] = [
+    (&READ, false, 1, 28, 128, ONE, &RESPONSE, 17, 28),
+    (&READ, false, 1, 27, 128, Err(ServeFault::TurnsSpent), &RESPONSE, 17, 27),
+    (&READ, false, 1, 26, 128, Err(ServeFault::TurnsSpent), &RESPONSE, 0, 26),
+    (&READ, false, 300, 2, 128, ONE, &RESPONSE, 17, 2),
+    (&READ, false, 10, 100, 5, Err(ServeFault::WriteFailed), &RESPONSE, 5, 3),
+    (&CONFIRMED, false, 7, 100, 128, ONE, &ACKNOWLEDGED, 47, 8),
+    (&CONFIRMED, false, 7, 100, 24, Err(ServeFault::WriteFailed), &ACKNOWLEDGED, 24, 7),
+    (&[], false, 1, 1, 128, NONE, &RESPONSE, 0, 1),
+    (&READ, false, 1, 0, 128, Err(ServeFault::TurnsSpent), &RESPONSE, 0, 0),
+    (&[], true, 300, 100, 128, Err(ServeFault::ReadFailed), &RESPONSE, 0, 1),
+    (&READ, true, 300, 100, 128, Err(ServeFault::ReadFailed), &RESPONSE, 17, 2),
 ];
 
 /// An outstation without points and outputs, as after a restart.
@@ -97,7 +99,7 @@ fn outstation(alloc: Global) -> Option<Outstation<PlainLanes, NoOutputs>> {
 fn streams_to_an_outstation(rt: HostRuntime) {
     let alloc = rt.alloc();
     let mut station = outstation(alloc).expect(&rt, "an outstation");
-    for (case, (octets, most, turns, room, result, wanted, count, reads)) in STREAMS
+    for (case, (octets, fails, most, turns, room, result, wanted, count, reads)) in STREAMS
         .iter()
         .enumerate()
     {
@@ -105,7 +107,7 @@ fn streams_to_an_outstation(rt: HostRuntime) {
         let mut reader = Giving {
             octets,
             most: *most,
-            fails: false,
+            fails: *fails,
         };
         let mut writer = Taking::new(*room);
         let mut log = Log::new();

@@ -329,6 +329,44 @@ const COMMANDS: &[Step<'static>] = &[
     Gets(0, &[0xC6, 0x81, 0x00, 0x04], UNLIKE),
 ];
 
+/// The response to a poll of events: one, of an outstation that has started again.
+const EVENT: [u8; 18] = [
+    0xE0, 0x81, 0x80, 0x00, 0x02, 0x02, 0x28, 0x01, 0x00, 0x03, 0x00, 0x81, 0xE8, 0x03, 0x00, 0x00,
+    0x00, 0x00,
+];
+
+/// Whether of the response cut after so many octets nothing is taken: it is refused, but for its head, which has no row, and
+/// is confirmed.
+fn passes_over(alloc: Global, count: usize) -> bool {
+    let Some(octets) = EVENT.get(..count) else {
+        return false;
+    };
+    let cut = if count == 4 {
+        Gets(0, octets, acts!(Some([0xC0, 0x00]), 0, RESTARTED, true))
+    } else {
+        Rejects(octets, MasterFault::Malformed)
+    };
+    let poll: &[u8] = &[
+        0xC0, 0x01, 0x3C, 0x02, 0x06, 0x3C, 0x03, 0x06, 0x3C, 0x04, 0x06,
+    ];
+    let mut journal = PlainJournal::new(alloc);
+    let Some(mut master) = master_of(alloc) else {
+        return false;
+    };
+    for step in [
+        Opens,
+        Asks(0, Poll(EVENTS), poll),
+        cut,
+        Keeps(0, &[]),
+        Shows(count == 4, None),
+    ] {
+        if !does(&mut master, &mut journal, alloc, step) {
+            return false;
+        }
+    }
+    true
+}
+
 #[test]
 fn masters_step_by_step(rt: HostRuntime) -> Result<(), Fail> {
     let alloc = rt.alloc();
@@ -341,6 +379,9 @@ fn masters_step_by_step(rt: HostRuntime) -> Result<(), Fail> {
                 "case {case}, step {number}"
             );
         }
+    }
+    for count in 0..EVENT.len() {
+        assert!(rt; passes_over(alloc, count), "cut at {count}");
     }
     Ok(())
 }

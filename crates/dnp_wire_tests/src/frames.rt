@@ -51,7 +51,7 @@ fn check_words(rt: HostRuntime) {
 
 /// Units that are no frames, and the first fault of each.
 #[rattlefmt::skip]
-const BROKEN: [(&[u8], FrameFault); 6] = [
+const BROKEN: [(&[u8], FrameFault); 7] = [
     (&[0x05, 0x64, 0x14, 0xC4, 0x0A, 0x00, 0x01, 0x00, 0x8F], FrameFault::Short),
     (&[0x05, 0x65, 0x14, 0xC4, 0x0A, 0x00, 0x01, 0x00, 0x8F, 0xED], FrameFault::Start),
     (&[0x05, 0x64, 0x14, 0xC5, 0x0A, 0x00, 0x01, 0x00, 0x8F, 0xED], FrameFault::HeaderCheck),
@@ -65,6 +65,11 @@ const BROKEN: [(&[u8], FrameFault); 6] = [
         0xC0, 0xC0, 0x01, 0x3C, 0x02, 0x06, 0x3C, 0x03, 0x06, 0x3C, 0x04, 0x06, 0x3C, 0x01, 0x06,
         0x8A, 0x52,
     ], FrameFault::BlockCheck(0)),
+    (&[
+        0x05, 0x64, 0x14, 0xC4, 0x0A, 0x00, 0x01, 0x00, 0x8F, 0xED,
+        0xC0, 0xC0, 0x01, 0x3C, 0x02, 0x06, 0x3C, 0x03, 0x06, 0x3C, 0x04, 0x06, 0x3C, 0x01, 0x06,
+        0x8A, 0x51, 0x05,
+    ], FrameFault::Size),
 ];
 
 #[test]
@@ -75,6 +80,17 @@ fn units(rt: HostRuntime) {
     assert!(rt; write_frame(&frame).as_slice() == CLASS_READ.as_slice());
     for (case, (unit, fault)) in BROKEN.into_iter().enumerate() {
         assert!(rt; read_frame(unit) == Err(fault), "case {case}");
+    }
+    for count in 0..CLASS_READ.len() {
+        let fault = if count < 10 {
+            FrameFault::Short
+        } else {
+            FrameFault::Size
+        };
+        assert!(rt;
+            read_frame(&CLASS_READ[..count]) == Err(fault),
+            "cut at {count}"
+        );
     }
 }
 
