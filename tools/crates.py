@@ -43,23 +43,40 @@ def side_by_side():
     return max(1, min(os.cpu_count() or 1, int(free.split()[1]) // 3145728))
 
 
-def check_words(crate, libraries):
-    """The checker's own call for a crate over libraries that `rt ci` left in LIBRARIES/NAME/out/rlib. They have no stamp
-    there, so that `rt check` would build them all again."""
+def library_in(folders, name):
+    """The library of a crate in the first of these folders that has it, or None."""
+    found = (folder / name / f"out/rlib/{name}.rlib" for folder in folders)
+    return next((path for path in found if (path / "format").is_file()), None)
+
+
+def as_libraries(crate, folders, emptied):
+    """The words that hand a crate those below it: their libraries, or where one has none the source that `emptied` makes."""
     stands_on = uses()
     own = below(crate, stands_on)
-    missing = [name for name in own if not (libraries / name / f"out/rlib/{name}.rlib/format").is_file()]
-    if missing:
-        raise SystemExit(f"no library of {', '.join(missing)} in {libraries}: run `rt ci` first")
+    found = {name: library_in(folders, name) for name in own}
+    missing = [name for name in own if found[name] is None]
+    if missing and not emptied:
+        raise SystemExit(f"no library of {', '.join(missing)} in {':'.join(map(str, folders))}: run `rt ci` first")
+    # (of libraries those alone that the crate or a source names)
+    readers = [crate, *missing]
+    named = [name for name in own if found[name] and any(name in stands_on[it] for it in readers)]
+    kits = sorted({name for it in readers for name in stands_on[it] if name not in stands_on})
+    words = [word for name in ["std", *kits] for word in ("--extern", f"{name}={KIT}/rlibs/{name}.rlib")]
+    words += [word for name in named for word in ("--extern", f"{name}={found[name]}")]
+    for name in missing:
+        words += ["--lib", f"{name}:{','.join(['std', *stands_on[name]])}={emptied(name)}/src/lib.rt"]
+    for folder in [f"{KIT}/rlibs", *(str(path.parent) for path in found.values() if path)]:
+        words += ["-L", f"dependency={folder}"]
+    return words
+
+
+def check_words(crate, folders, emptied=None):
+    """The checker's own call for a crate over libraries that `rt ci` left in FOLDER/NAME/out/rlib. They have no stamp
+    there, so that `rt check` would build them all again. Where `emptied` is given, it makes the source of a crate that has
+    no library in any of the folders."""
     source = BENCH / crate if (BENCH / crate).is_dir() else CRATES / crate
     root = "src/main.rt" if any(source.glob("src/main.rt*")) else "src/lib.rt"
-    words = [f"{KIT}/bin/rattle", "check", "--crate-name", crate, root]
-    for name in ["std", *(it for it in stands_on[crate] if it not in stands_on)]:
-        words += ["--extern", f"{name}={KIT}/rlibs/{name}.rlib"]
-    for name in (it for it in stands_on[crate] if it in stands_on):
-        words += ["--extern", f"{name}={libraries}/{name}/out/rlib/{name}.rlib"]
-    for folder in [f"{KIT}/rlibs", *(f"{libraries}/{name}/out/rlib" for name in own)]:
-        words += ["-L", f"dependency={folder}"]
+    words = [f"{KIT}/bin/rattle", "check", "--crate-name", crate, root, *as_libraries(crate, folders, emptied)]
     if " staticlib:" in lines()[crate]:
         words += ["--crate-type", "staticlib"]
     return [*words, "--antt-project", f"{KIT}/rattle/logic/antt-project.json", "--logic-built", f"{KIT}/logic_built"]
