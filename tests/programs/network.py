@@ -2,6 +2,7 @@
 or stopped at any moment, and a substation of another make, whose every event has a value of its own. What became of events
 and controls is counted from the files, by sqlite3 of Python."""
 import collections
+import itertools
 import os
 import socket
 import sqlite3
@@ -31,11 +32,16 @@ base = [0, 0, 100, 0, 0]
 """
 UNREACHED, KILLED = 3, 137
 
+# ten for each process of those that run side by side, again and again
+PORTS = itertools.cycle(range(10_000 + os.getpid() % 2_000 * 10, 10_010 + os.getpid() % 2_000 * 10))
+
 
 def free_port():
-    with socket.socket() as it:
-        it.bind(("127.0.0.1", 0))
-        return it.getsockname()[1]
+    """A port where nobody listens: of this process alone, and none that the system gives to others."""
+    for port in PORTS:
+        if not is_listening(port):
+            return port
+    raise OSError("no port is free")
 
 
 def is_listening(port):
