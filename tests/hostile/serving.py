@@ -131,7 +131,7 @@ def hostile(r, base, dest, source, fragment):
 
 
 def held(came, asked):
-    """The answers to the probes: each stands behind the link's status, which was asked for before it."""
+    """The answers to the probes: each stands after the link's status, which was asked for before it."""
     found, answers = said(came, MASTER, OUTSTATION), []
     for place, it in enumerate(found):
         if it == IS_STATUS:

@@ -1,6 +1,6 @@
 #!/usr/bin/env python3
 """stops.py LIBRARY PROGRAM HOW [STEP]: `dnp concentrate` or `dnp centre`, cut at its first call that writes or syncs a file, then
-at the call STEP behind that, and so on until none is left. LIBRARY is stop.c, compiled. HOW it is cut:
+at the call STEP after that, and so on until none is left. LIBRARY is stop.c, compiled. HOW it is cut:
 
     stopped   it ends before the call. After each, all goes on in good order
     failing   the call fails, and all that follow: the program ends with 3. After that, all goes on in good order
