@@ -11,9 +11,9 @@ use Rattle.dnp_appfragment.specs.declared.function.Function.{Function}
 use Rattle.dnp_appfragment.specs.declared.run.Run.{Run}
 use Rattle.dnp_appfragment.specs.declared.table.Form.{Form}
 use Rattle.dnp_appfragment.specs.Table.{form_of, is_response}
-use Rattle.dnp_appfragment.specs.Headers.{Head, header_octets, spelled, IsHeader, Context, Divide, AreHeaders, begin, context_after, context_past}
+use Rattle.dnp_appfragment.specs.Headers.{Head, header_octets, spelled, IsHeaderAt, Context, Divide, AreHeaders, begin, context_after, context_past}
 use Rattle.dnp_appfragment.specs.Left.{headers_of}
-use Rattle.dnp_appfragment.specs.Built.{Built, front_size, heads, size, broken, with_header}
+use Rattle.dnp_appfragment.specs.Built.{Built, front_size, heads, context_of, size, broken, with_header}
 use Rattle.dnp_appfragment.specs.steps.Building.{run_head, built, IsBuilt}
 use Rattle.dnp_appfragment.proofs.Divisions.{divided_from}
 
@@ -40,7 +40,7 @@ pub spelled-one : (h : Head) → spelled (h ∷ []) ≡ header_octets h
 spelled-one h = append-nil (header_octets h)
 
 -- a header more
-pub divide-one : (f : Form) (octets now : List ℕ) (hs : List Head) (h : Head) → Divide f octets hs → IsHeader f h
+pub divide-one : (f : Form) (octets now : List ℕ) (hs : List Head) (h : Head) → Divide f octets hs → IsHeaderAt f (context_past begin hs) h
     → now ≡ octets ++ header_octets h → Divide f now (hs ++ h ∷ [])
 divide-one f octets now hs h divide is whole = record {
   each = each-append f begin hs (h ∷ []) divide.each (is, tt);
@@ -59,14 +59,17 @@ built_is f octets run objects hs divide =
     ap (λ (gs : List Head). of_heads f gs run objects) (headers_are (form_of f) octets hs divide)
 
 pub is_built : (f : Function) (octets : List ℕ) (run : Option Run) (objects : List ℕ) (hs : List Head) → Divide (form_of f) octets hs
-    → IfSome run (λ r. IsHeader (form_of f) (run_head objects r)) → size (of_heads f hs run objects) ≤ MAX_FRAGMENT → IsBuilt f octets run objects
+    → IfSome run (λ r. IsHeaderAt (form_of f) (context_past begin hs) (run_head objects r)) → size (of_heads f hs run objects) ≤ MAX_FRAGMENT
+    → IsBuilt f octets run objects
 is_built f octets run objects hs divide run_is room = record {
   divides = subst (λ (gs : List Head). Divide (form_of f) octets gs) (sym (headers_are (form_of f) octets hs divide)) divide;
-  run_is = run_is;
+  run_is =
+      subst (λ (gs : List Head). IfSome run (λ r. IsHeaderAt (form_of f) (context_past begin gs) (run_head objects r)))
+      (sym (headers_are (form_of f) octets hs divide)) run_is;
   room = subst (λ (b : Built). size b ≤ MAX_FRAGMENT) (sym (built_is f octets run objects hs divide)) room;
 }
 
-run_each : (f : Form) (context : Context) (run : Option Run) (objects : List ℕ) → IfSome run (λ r. IsHeader f (run_head objects r))
+run_each : (f : Form) (context : Context) (run : Option Run) (objects : List ℕ) → IfSome run (λ r. IsHeaderAt f context (run_head objects r))
     → AreHeaders f context (option_to_list (option_map (run_head objects) run))
 run_each f context None objects is = tt
 run_each f context (Some run) objects is = (is, tt)
@@ -130,7 +133,7 @@ pub with_header_of_broken : (b : Built) (h : Head) → with_header (broken b) h 
 with_header_of_broken b h = ap (λ (gs : List Head). let x : Built = record { function = b.function; ended = gs ++ h ∷ []; run = None } in x) (append-nil (heads b))
 
 put_header : (f : Function) (octets now : List ℕ) (run : Option Run) (objects : List ℕ) (h : Head) → IsBuilt f octets run objects
-    → (built f octets run objects).run ≡ None → IsHeader (form_of f) h → now ≡ octets ++ header_octets h
+    → (built f octets run objects).run ≡ None → IsHeaderAt (form_of f) (context_past begin (headers_of (form_of f) octets)) h → now ≡ octets ++ header_octets h
     → size (with_header (built f octets run objects) h) ≤ MAX_FRAGMENT
     → IsBuilt f now run objects × (built f now run objects ≡ with_header (built f octets run objects) h)
 put_header f octets now (Some run) objects h is none fits whole room = cc
@@ -148,10 +151,12 @@ put_header f octets now None objects h is none fits whole room =
 -- old is what was built when the header was put, and inside it the fields after its run was ended
 pub header_put : (old : Built) (f : Function) (octets now : List ℕ) (run : Option Run) (objects : List ℕ) (h : Head)
     → built f octets run objects ≡ broken old → IsBuilt f octets run objects
-    → IsHeader (form_of old.function) h → now ≡ octets ++ header_octets h → size old + length (header_octets h) ≤ MAX_FRAGMENT
+    → IsHeaderAt (form_of old.function) (context_of old) h → now ≡ octets ++ header_octets h → size old + length (header_octets h) ≤ MAX_FRAGMENT
     → IsBuilt f now run objects × (built f now run objects ≡ with_header old h)
 header_put old f octets now run objects h inside is fits whole room =
-    let fits' : IsHeader (form_of f) h = subst (λ (g : Function). IsHeader (form_of g) h) (sym (ap (λ (b : Built). b.function) inside)) fits in
+    let fits' : IsHeaderAt (form_of f) (context_past begin (headers_of (form_of f) octets)) h =
+    subst (λ (p : Function × List Head). IsHeaderAt (form_of p.0) (context_past begin p.1) h)
+    (λ i. (sym (ap (λ (b : Built). b.function) inside) i, sym (ap (λ (b : Built). b.ended) inside) i)) fits in
     let same : with_header (built f octets run objects) h ≡ with_header old h = ap (λ (b : Built). with_header b h) inside ∙ with_header_of_broken old h in
     let sizes : size (with_header (built f octets run objects) h) ≡ size old + length (header_octets h) = ap size same ∙ size-with_header old h in
     let both = put_header f octets now run objects h is (ap (λ (b : Built). b.run) inside) fits' whole (omega arith) in

@@ -3,7 +3,7 @@ use Rattle.std.proofs.Common.{◌≡◌, refl, sym, ◌∙◌, ap, subst, ℕ, z
 use Rattle.std.proofs.lemmas.List.{append_assoc}
 use Rattle.dnp_appfragment.specs.declared.fault.AppFault.{AppFault}
 use Rattle.dnp_appfragment.specs.declared.table.Form.{Form}
-use Rattle.dnp_appfragment.specs.Headers.{Head, header_octets, spelled, IsHeader, Context, DivideFrom, Divide, AreHeaders, begin, context_after, context_past}
+use Rattle.dnp_appfragment.specs.Headers.{Head, header_octets, spelled, IsHeaderAt, Context, DivideFrom, Divide, AreHeaders, begin, context_after, context_past}
 use Rattle.dnp_appfragment.specs.Faults.{IsHeaderFault, HasFaultFrom, HasHeaderFault}
 use Rattle.dnp_appfragment.specs.Reading.{header_at, headers_from, headers_at}
 use Rattle.dnp_appfragment.proofs.Numbers.{AreOctets}
@@ -15,7 +15,7 @@ abbrev pub ReadsHeaders : Form → Context → List ℕ → Result (List Head) A
 ReadsHeaders f context octets (Ok hs) = DivideFrom f context octets hs
 ReadsHeaders f context octets (Err e) = HasFaultFrom f context octets e
 
-one_more : (f : Form) (context : Context) (octets : List ℕ) (h : Head) (rest : List ℕ) → IsHeader f h → octets ≡ header_octets h ++ rest
+one_more : (f : Form) (context : Context) (octets : List ℕ) (h : Head) (rest : List ℕ) → IsHeaderAt f context h → octets ≡ header_octets h ++ rest
     → (r : Result (List Head) AppFault) → ReadsHeaders f (context_after context h) rest r
     → ReadsHeaders f context octets (onto h r)
 one_more f context octets h rest is whole (Ok hs) reads =
@@ -57,7 +57,7 @@ unfolding headers_at
 headers_read f octets are = headers_read_from f begin octets are
 
 -- what is spelled is read
-step_over : (f : Form) (context : Context) (h : Head) (rest : List ℕ) → IsHeader f h
+step_over : (f : Form) (context : Context) (h : Head) (rest : List ℕ) → IsHeaderAt f context h
     → headers_from f context (header_octets h ++ rest) ≡ onto h (headers_from f (context_after context h) rest)
 step_over f context h rest is =
     headers_step f context (header_octets h ++ rest) (omega arith)

@@ -1,5 +1,5 @@
 -- The rows of headers as lists: by their numbers, and how many a response has of events.
-use Rattle.std.proofs.Common.{◌≡◌, refl, sym, ◌∙◌, ap, subst, ℕ, zero, suc, ◌+◌, ◌*◌, ◌<◌, ◌≤◌, Bool, true, false, cond, ◌&&◌, nat_le, List, [], ◌∷◌, ◌++◌, length, get_or, arith, Option, Some, None, IsTrue, ◌==◌, inl, eqb-true, length-append, Result, Ok, Err}
+use Rattle.std.proofs.Common.{◌≡◌, refl, sym, ◌∙◌, ap, subst, ℕ, zero, suc, ◌+◌, ◌*◌, ◌<◌, ◌≤◌, Bool, true, false, cond, ◌&&◌, nat_le, List, [], ◌∷◌, ◌++◌, length, get_or, arith, Option, Some, None, IsTrue, ◌==◌, ◌||◌, inl, inr, eqb-true, length-append, Result, Ok, Err}
 use Rattle.std.specs.Prelude.{option_to_list, is_some}
 use Rattle.std.specs.List.{All, flat_map, list_all, range_with_len, slice_get}
 use Rattle.std.specs.Option.{option_map_or, IsSomeAnd}
@@ -13,7 +13,7 @@ use Rattle.dnp_appfragment.specs.declared.fault.AppFault.{AppFault}
 use Rattle.dnp_appfragment.specs.declared.table.Form.{Form}
 use Rattle.dnp_appfragment.specs.declared.table.Form.TheVariants as form
 use Rattle.dnp_appfragment.specs.EventRows.{header_rows, is_event_group, is_event_header, event_rows, events_in}
-use Rattle.dnp_appfragment.specs.Headers.{Head, AreHeaders, IsHeader, Context, context_after, count_of, header_octets, octets_of, prefix_size, qualifier_of, range_octets, spelled}
+use Rattle.dnp_appfragment.specs.Headers.{Head, AreHeaders, IsHeader, IsTimed, is_relative, Context, context_after, count_of, header_octets, octets_of, prefix_size, qualifier_of, range_octets, spelled}
 use Rattle.dnp_appfragment.specs.Left.{is_whole, headers_left}
 use Rattle.dnp_appfragment.specs.Meaning.{row_in}
 use Rattle.dnp_appfragment.specs.Objects.{HasRows}
@@ -22,7 +22,7 @@ use Rattle.dnp_appfragment.specs.Table.{Rule, allows, form_eq, rules, takes_of}
 use Rattle.dnp_appfragment.proofs.Divisions.{ReadsHeaders, headers_read_from}
 use Rattle.dnp_appfragment.proofs.Numbers.{AreOctets}
 use Rattle.dnp_appfragment.proofs.TableLines.{line_of}
-use Rattle.dnp_appfragment.proofs.Walked.{row_there_in}
+use Rattle.dnp_appfragment.proofs.RelativeRows.{any_row_there}
 
 -- ---- a list by its numbers
 
@@ -74,7 +74,7 @@ has_octets : Option ℕ → Bool
 has_octets size = option_map_or (λ (n : ℕ). nat_le 1 n) size false
 
 is_row : ℕ → ℕ → Bool
-is_row g v = is_some (shape_read g v) && has_octets (object_size g v)
+is_row g v = (is_relative g v || is_some (shape_read g v)) && has_octets (object_size g v)
 
 is_read : Rule → Bool
 is_read rule = cond (form_eq rule.form form.Response && is_event_group rule.group) (is_row rule.group rule.variation) true
@@ -102,9 +102,9 @@ record IsCounted (h : Head) : Type 0 where
   rows : length (header_rows h) ≡ count_of h.range
   few : count_of h.range ≤ length h.octets
 
-counted : (h : Head) → IsHeader form.Response h → is_event_header h ≡ true → IsCounted h
+counted : (h : Head) → IsHeader form.Response h → (is_relative h.group h.variation ≡ true → IsTimed h) → is_event_header h ≡ true → IsCounted h
 unfolding is_row has_octets
-counted h is event = go (takes_of form.Response h.group h.variation) refl is.object
+counted h is timed event = go (takes_of form.Response h.group h.variation) refl is.object
   where
     sized : (o : Option ℕ) → has_octets o ≡ true → (count prefix : ℕ) → count ≤ octets_of count prefix o
     sized None some count prefix = cc
@@ -113,15 +113,19 @@ counted h is event = go (takes_of form.Response h.group h.variation) refl is.obj
         let most : count * 1 ≤ count * (prefix + n) = mul-le-mul_left count (omega arith) in
         omega (arith, most)
 
+    has_rows : (b : Bool) → is_relative h.group h.variation ≡ b → (b || is_some (shape_read h.group h.variation)) ≡ true → HasRows h
+    has_rows true relative some = inr (record { header = is; relative = relative; timed = timed relative })
+    has_rows false whole some = inl (record { header = is; rows = inl some })
+
     go : (o : Option (List ℕ)) → takes_of form.Response h.group h.variation ≡ o → IsSomeAnd o (λ t. IsTrue (allows t (qualifier_of h.range))) → IsCounted h
     go None found takes = absurd takes
     go (Some t) found takes =
-        let line = and_parts (is_some (shape_read h.group h.variation)) (has_octets (object_size h.group h.variation))
+        let line = and_parts (is_relative h.group h.variation || is_some (shape_read h.group h.variation)) (has_octets (object_size h.group h.variation))
         (event_line h.group h.variation t found event) in
-        let has : HasRows h = record { header = is; rows = inl line.0 } in
+        let has : HasRows h = has_rows (is_relative h.group h.variation) refl line.0 in
         record {
           rows = all_there (row_in h) 0 (count_of h.range) (λ k below.
-              let at : 0 + k ≡ k = omega arith in ap (λ (j : ℕ). is_some (row_in h j)) at ∙ row_there_in h.group h.variation h.range h.octets k has below);
+              let at : 0 + k ≡ k = omega arith in ap (λ (j : ℕ). is_some (row_in h j)) at ∙ any_row_there h k has below);
           few =
               let most = sized (object_size h.group h.variation) line.1 (count_of h.range) (prefix_size h.range) in
               omega (arith, most, is.objects);
@@ -146,7 +150,7 @@ few_events context (h ∷ hs) are =
   where
     go : (b : Bool) → is_event_header h ≡ b → length (event_rows h) ≤ length h.octets
     go true event =
-        let is = counted h are.0 event in
+        let is = counted h are.0.header are.0.timed event in
         let same : length (event_rows h) ≡ length (header_rows h) = ap (λ (b : Bool). length (cond b (header_rows h) [])) event in
         omega (arith, same, is.rows, is.few)
     go false event =
@@ -164,7 +168,7 @@ pub events_counted : (all count : ℕ) (h : Head) (rest headers : List Head) →
     → IsCounting all rest (count + count_of h.range)
 events_counted all count h rest headers is event counting =
     let each : AreHeaders form.Response counting.context (h ∷ rest) = subst (AreHeaders form.Response counting.context) is counting.each in
-    let one = counted h each.0 event in
+    let one = counted h each.0.header each.0.timed event in
     let whole : length (events_in headers) ≡ length (header_rows h ++ events_in rest) =
     ap (λ (hs : List Head). length (events_in hs)) is ∙ ap (λ (b : Bool). length (cond b (header_rows h) [] ++ events_in rest)) event in
     record {

@@ -15,7 +15,7 @@ use Rattle.dnp_appfragment.specs.declared.fault.AppFault.{AppFault}
 use Rattle.dnp_appfragment.specs.declared.header.Range.{Range}
 use Rattle.dnp_appfragment.specs.declared.header.Range.TheVariants as range
 use Rattle.dnp_appfragment.specs.Headers.{head_of, count_of, prefix_size}
-use Rattle.dnp_appfragment.specs.Objects.{IsIndex, IsObject, IsBit, IsObjectRow, IsRow, IsCommand, prefix_octets}
+use Rattle.dnp_appfragment.specs.Objects.{IsIndex, IsObject, IsBit, IsObjectRow, IsWholeRow, IsCommand, prefix_octets}
 use Rattle.dnp_appfragment.specs.Reading.{number_at, index_at, first_octets, object_at}
 use Rattle.dnp_appfragment.proofs.Numbers.{AreOctets, ReadsNumber, number_reads, number_again}
 use Rattle.dnp_appfragment.proofs.Grammar.{AreOctets-drop}
@@ -169,7 +169,7 @@ unfolding content_of objects
 packed_unsized = refl
 
 -- a row of packed bits is a bit, and any other is an object's
-pub bit_only : (g v : ℕ) (r : Range) (octets : List ℕ) (k : ℕ) (row : Row) → g ≡ 1 → v ≡ 1 → IsRow (head_of g v r octets) k row
+pub bit_only : (g v : ℕ) (r : Range) (octets : List ℕ) (k : ℕ) (row : Row) → g ≡ 1 → v ≡ 1 → IsWholeRow (head_of g v r octets) k row
     → IsBit (head_of 1 1 r octets) k row
 bit_only g v r octets k row group variation (inl bit) = record {
   group = refl;
@@ -188,7 +188,7 @@ bit_only g v r octets k row group variation (inr is) =
     sized_unsized : (o : Option ℕ) (size : ℕ) → o ≡ Some size → o ≡ None → ⊥
     sized_unsized o size some none = cc
 
-pub sized_only : (g v : ℕ) (r : Range) (octets : List ℕ) (k : ℕ) (row : Row) → (g ≡ 1 → v ≡ 1 → ⊥) → IsRow (head_of g v r octets) k row
+pub sized_only : (g v : ℕ) (r : Range) (octets : List ℕ) (k : ℕ) (row : Row) → (g ≡ 1 → v ≡ 1 → ⊥) → IsWholeRow (head_of g v r octets) k row
     → IsObjectRow (head_of g v r octets) k row
 sized_only g v r octets k row other (inl bit) = absurd (other bit.group bit.variation)
 sized_only g v r octets k row other (inr is) = is

@@ -1,21 +1,24 @@
 -- The objects that headers hold: those that were put, in order.
-use Rattle.std.proofs.Common.{◌≡◌, true, false, refl, sym, ◌∙◌, ap, subst, ℕ, zero, suc, ◌+◌, ◌*◌, ◌^◌, ◌<◌, ◌≤◌, ◌==◌, ◌&&◌, nat_lt, List, [], ◌∷◌, ◌++◌, length, arith, Option, Some, None, ◌⊎◌, inl, inr, eqb-true}
+use Rattle.std.proofs.Common.{◌≡◌, Bool, true, false, refl, sym, ◌∙◌, ap, subst, ℕ, zero, suc, ◌+◌, ◌*◌, ◌^◌, ◌<◌, ◌≤◌, ◌==◌, ◌&&◌, nat_lt, List, [], ◌∷◌, ◌++◌, length, arith, Option, Some, None, ◌⊎◌, inl, inr, eqb-true}
 use Rattle.std.specs.Prelude.{option_to_list, slice_get}
 use Rattle.std.specs.Option.{option_and_then}
 use Rattle.std.specs.List.{flat_map, AllByRecursion}
 use Rattle.std.proofs.lemmas.Bool.{and_parts}
 use Rattle.std.proofs.lemmas.List.{append-nil, append_assoc, length-append}
 use Rattle.std.proofs.lemmas.Grind.{flat_map-append}
-use Rattle.dnp_objects.specs.Objects.{object_size}
+use Rattle.dnp_objects.specs.Objects.{object_size, objects, content_of}
+use Rattle.dnp_objects.specs.Relative.{relative_octets}
+use Rattle.dnp_objects.specs.declared.row.Row.{Row}
 use Rattle.dnp_appfragment.specs.declared.header.Range.{Range}
 use Rattle.dnp_appfragment.specs.declared.header.Range.TheVariants as range
 use Rattle.dnp_appfragment.specs.Headers.{Head, number, IsForward, count_of, prefix_size}
 use Rattle.dnp_appfragment.specs.Objects.{IsIndex, prefix_octets, IsObject}
 use Rattle.dnp_appfragment.specs.Joining.{joined_range, joined}
 use Rattle.dnp_appfragment.specs.Built.{Built, heads, broken, with_header, with_run, with_object}
-use Rattle.dnp_appfragment.specs.Written.{indexed, spanned}
-use Rattle.dnp_appfragment.specs.Items.{Item, IsOf, item_octets, Holds, HoldAll}
-use Rattle.dnp_appfragment.proofs.Joins.{some_is, join_by, joined_is}
+use Rattle.dnp_appfragment.specs.Written.{indexed, spanned, common_head, relative}
+use Rattle.dnp_appfragment.specs.Items.{Item, IsOf, item_octets, Holds, HoldsShare, HoldAll, relative_item}
+use Rattle.dnp_appfragment.proofs.JoinedTimes.{join_by}
+use Rattle.dnp_appfragment.proofs.Joins.{some_is, joined_is}
 use Rattle.dnp_appfragment.proofs.ObjectHeaders.{IsSized}
 
 -- ---- lists
@@ -122,7 +125,7 @@ joined_holds a b h xs ys is first second =
 
 -- ---- of all headers
 
-pub one_more : (hs : List Head) (h : Head) (xs ys : List Item) → HoldAll hs xs → Holds h ys → HoldAll (hs ++ h ∷ []) (xs ++ ys)
+one_more : (hs : List Head) (h : Head) (xs ys : List Item) → HoldAll hs xs → HoldsShare h ys → HoldAll (hs ++ h ∷ []) (xs ++ ys)
 one_more [] h xs ys all holds = (ys, [], ap (λ (l : List Item). l ++ ys) all ∙ sym (append-nil ys), holds, refl)
 one_more (g ∷ hs) h xs ys all holds =
     (all.0, all.1 ++ ys, ap (λ (l : List Item). l ++ ys) all.2 ∙ append_assoc all.0 all.1 ys, all.3, one_more hs h all.1 ys all.4 holds)
@@ -133,11 +136,11 @@ record LastHolds (hs : List Head) (h : Head) (xs : List Item) : Type 0 where
   own : List Item
   whole : xs ≡ before ++ own
   others : HoldAll hs before
-  holds : Holds h own
+  share : HoldsShare h own
 
 last_holds : (hs : List Head) (h : Head) (xs : List Item) → HoldAll (hs ++ h ∷ []) xs → LastHolds hs h xs
 last_holds [] h xs all =
-    record { before = []; own = all.0; whole = all.2 ∙ ap (λ (l : List Item). all.0 ++ l) all.4 ∙ append-nil all.0; others = refl; holds = all.3 }
+    record { before = []; own = all.0; whole = all.2 ∙ ap (λ (l : List Item). all.0 ++ l) all.4 ∙ append-nil all.0; others = refl; share = all.3 }
 last_holds (g ∷ hs) h xs all =
     let last = last_holds hs h all.1 all.4 in
     record {
@@ -145,8 +148,18 @@ last_holds (g ∷ hs) h xs all =
       own = last.own;
       whole = all.2 ∙ ap (λ (l : List Item). all.0 ++ l) last.whole ∙ sym (append_assoc all.0 last.before last.own);
       others = (all.0, last.before, refl, all.3, last.others);
-      holds = last.holds;
+      share = last.share;
     }
+
+-- common times that are counted join no object
+times_alone : (wide : Bool) (n : ℕ) (r long : Range) → joined_range (range.Count wide n) r ≡ Some long → ⊥
+times_alone wide n r long is = cc
+
+joined_share : (run object long : Head) (xs ys : List Item) → joined run object ≡ Some long → HoldsShare run xs → Holds object ys → Holds long (xs ++ ys)
+joined_share run object long xs ys is (inl own) holds = joined_holds run object long xs ys is own holds
+joined_share run object long xs ys is (inr times) holds =
+    let parts = joined_is run object long ((run.group == object.group) && (run.variation == object.variation)) (joined_range run.range object.range) is in
+    absurd (times_alone times.0.wide times.0.count object.range parts.1 (ap (λ (r : Range). joined_range r object.range) (sym times.0.range_is) ∙ parts.2))
 
 pub object_held : (built : Built) (object : Head) (item : Item) (items : List Item) → Holds object (item ∷ [])
     → HoldAll (heads built) items → HoldAll (heads (with_object built object)) (items ++ item ∷ [])
@@ -159,11 +172,12 @@ object_held built object item items holds all = go built.run refl (option_and_th
         let whole : last.before ++ (last.own ++ item ∷ []) ≡ items ++ item ∷ [] =
         sym (append_assoc last.before last.own (item ∷ [])) ∙ ap (λ (l : List Item). l ++ item ∷ []) (sym last.whole) in
         subst (λ (l : List Item). HoldAll (built.ended ++ long ∷ []) l) whole
-        (one_more built.ended long last.before (last.own ++ item ∷ []) last.others (joined_holds run object long last.own (item ∷ []) is last.holds holds))
+        (one_more built.ended long last.before (last.own ++ item ∷ []) last.others
+        (inl (joined_share run object long last.own (item ∷ []) is last.share holds)))
 
     go : (run : Option Head) → built.run ≡ run → (o : Option Head) → option_and_then (λ (r : Head). joined r object) built.run ≡ o
         → HoldAll (heads (with_run built o object)) (items ++ item ∷ [])
-    go run there None is = one_more (heads built) object items (item ∷ []) all holds
+    go run there None is = one_more (heads built) object items (item ∷ []) all (inl holds)
     go (Some run) there (Some long) is =
         lengthened run long (ap (λ (o : Option Head). option_and_then (λ (r : Head). joined r object) o) (sym there) ∙ is)
         (subst (λ (o : Option Head). HoldAll (built.ended ++ option_to_list o) items) there all)
@@ -175,7 +189,13 @@ pub header_held : (built : Built) (header : Head) (own items : List Item) → Ho
     → HoldAll (heads built) items → HoldAll (heads (with_header built header)) (items ++ own)
 header_held built header own items holds all =
     subst (λ (hs : List Head). HoldAll hs (items ++ own)) (sym (append-nil (heads built ++ header ∷ [])))
-    (one_more (heads built) header items own all holds)
+    (one_more (heads built) header items own all (inl holds))
+
+pub common_held : (built : Built) (time : ℕ) (items : List Item) → HoldAll (heads built) items → HoldAll (heads (with_header built (common_head time))) items
+common_held built time items all =
+    subst (λ (l : List Item). HoldAll (heads (with_header built (common_head time))) l) (append-nil items)
+    (subst (λ (hs : List Head). HoldAll hs (items ++ [])) (sym (append-nil (heads built ++ common_head time ∷ [])))
+    (one_more (heads built) (common_head time) items [] all (inr (record { common = refl; wide = false; count = 1; range_is = refl }, refl))))
 
 pub broken_heads : (built : Built) → heads (broken built) ≡ heads built
 broken_heads built = append-nil (heads built)
@@ -192,6 +212,17 @@ indexed_holds g v i octets sized fits =
       each = (record { group = refl; variation = refl; size = sized.size_is ∙ ap Some (sym sized.length_is) }, tt);
       indexes = λ k x at. subst (λ (y : Item). y.index < 2 ^ 16) (get_one item x k at).1 fits;
       octets = sym (append-nil (number true i ++ octets));
+    }
+
+pub relative_holds : (common : ℕ) (row : Row) → row.index < 2 ^ 16 → Holds (relative common row) (relative_item common row ∷ [])
+unfolding content_of objects
+relative_holds common row fits =
+    record {
+      forward = tt;
+      counted = refl;
+      each = (record { group = refl; variation = refl; size = refl }, tt);
+      indexes = λ k x at. subst (λ (y : Item). y.index < 2 ^ 16) (get_one (relative_item common row) x k at).1 fits;
+      octets = sym (append-nil (number true row.index ++ relative_octets common row));
     }
 
 pub spanned_holds : (g v i : ℕ) (octets : List ℕ) → IsSized g v octets

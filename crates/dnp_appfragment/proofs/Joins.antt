@@ -12,11 +12,14 @@ use Rattle.dnp_appfragment.specs.declared.run.Run.{Run}
 use Rattle.dnp_appfragment.specs.declared.table.Form.{Form}
 use Rattle.dnp_appfragment.specs.declared.table.Form.TheVariants as form
 use Rattle.dnp_appfragment.specs.Table.{form_of, IsInTable}
-use Rattle.dnp_appfragment.specs.Headers.{Head, qualifier_of, range_octets, NumbersFit, IsForward, count_of, prefix_size, octets_of, objects_size, header_octets, spelled, IsHeader}
+use Rattle.dnp_appfragment.specs.Headers.{Head, qualifier_of, range_octets, NumbersFit, IsForward, count_of, prefix_size, octets_of, objects_size, header_octets, spelled, IsHeaderAt, IsTimed, is_relative, Context, begin, context_after, context_past}
 use Rattle.dnp_appfragment.specs.Joining.{joined_range, joined}
 use Rattle.dnp_appfragment.specs.Left.{headers_of}
-use Rattle.dnp_appfragment.specs.Built.{Built, front_size, heads, size, broken, with_run, with_object}
+use Rattle.dnp_appfragment.specs.Built.{Built, front_size, heads, context_of, size, broken, with_run, with_object}
 use Rattle.dnp_appfragment.specs.steps.Building.{run_head, built, IsBuilt, joined_run, longer}
+use Rattle.dnp_appfragment.proofs.Commons.{relative_keeps, relative_long}
+use Rattle.dnp_appfragment.proofs.JoinedTimes.{join_by, join_timed}
+use Rattle.dnp_appfragment.proofs.Places.{past_more}
 use Rattle.dnp_appfragment.proofs.Building.{built_is, spelled-append, spelled-one}
 
 -- ---- two ranges as one
@@ -87,12 +90,9 @@ sizes_add f g v a b r join some = go f
 
 -- ---- two headers as one
 
-pub record IsJoined (f : Form) (a b h : Head) : Type 0 where
-  pub header : IsHeader f h
+pub record IsJoined (f : Form) (context : Context) (a b h : Head) : Type 0 where
+  pub header : IsHeaderAt f context h
   pub size : length (header_octets h) ≡ length (header_octets a) + length b.octets
-
-abbrev pub join_by : Head → Head → Range → Head
-join_by a b r = record a { range = r; octets = a.octets ++ b.octets }
 
 pub joined_is : (a b h : Head) (x : Bool) (o : Option Range) → cond x (option_map (join_by a b) o) None ≡ Some h
     → (x ≡ true) × (r : Range) × (o ≡ Some r) × (join_by a b r ≡ h)
@@ -100,8 +100,11 @@ joined_is a b h true (Some r) is = (refl, r, refl, cc)
 joined_is a b h true None is = cc
 joined_is a b h false o is = cc
 
-pub heads_join : (f : Form) (a b h : Head) → IsHeader f a → IsHeader f b → IsSome (object_size b.group b.variation) → joined a b ≡ Some h → IsJoined f a b h
-heads_join f a b h first second some is =
+pub heads_join : (f : Form) (context : Context) (a b h : Head) → IsHeaderAt f context a → IsHeaderAt f (context_after context a) b
+    → IsSome (object_size b.group b.variation) → joined a b ≡ Some h → IsJoined f context a b h
+heads_join f context a b h one other some is =
+    let first = one.header in
+    let second = other.header in
     let parts = joined_is a b h ((a.group == b.group) && (a.variation == b.variation)) (joined_range a.range b.range) is in
     let same = and_parts (a.group == b.group) (a.variation == b.variation) parts.0 in
     let group : a.group ≡ b.group = eqb-true a.group b.group same.0 in
@@ -118,8 +121,22 @@ heads_join f a b h first second some is =
     subst (λ (q : ℕ). IsInTable f a.group a.variation q) (sym join.qualifier) first.object in
     let sizes : length (header_octets (join_by a b r)) ≡ length (header_octets a) + length b.octets =
     omega (arith, length-append (range_octets r) (a.octets ++ b.octets), length-append a.octets b.octets, length-append (range_octets a.range) a.octets, join.size) in
-    subst (λ (x : Head). IsJoined f a b x) parts.3
-    (record { header = record { object = object; fits = join.fits; forward = join.forward; objects = octets }; size = sizes })
+    let timed : is_relative a.group a.variation ≡ true → IsTimed (join_by a b r) = λ relative.
+    let relative' : is_relative b.group b.variation ≡ true = (λ i. is_relative (sym group i) (sym variation i)) ∙ relative in
+    let commons : a.common ≡ b.common =
+    one.common ∙ ap (λ (x : Bool). cond x context None) relative ∙ sym (relative_keeps context a relative)
+    ∙ sym (ap (λ (x : Bool). cond x (context_after context a) None) relative') ∙ sym other.common in
+    join_timed a b r (one.timed relative) (other.timed relative') commons join.prefix join.same_prefix join.count
+    (relative_long f a first relative) in
+    subst (λ (x : Head). IsJoined f context a b x) parts.3
+    (record {
+      header = record {
+        header = record { object = object; fits = join.fits; forward = join.forward; objects = octets };
+        common = one.common;
+        timed = timed;
+      };
+      size = sizes;
+    })
 
 -- ---- the run and the object
 
@@ -129,7 +146,8 @@ joined_with_run objects run object = go ((run.group == object.group) && (run.var
   where
     go : (x : Bool) (o : Option Range)
         → cond x (option_map (join_by (run_head objects run) object) o) None
-        ≡ option_map (run_head (objects ++ object.octets)) (cond x (option_map (λ (r : Range). let l : Run = record { group = run.group; variation = run.variation; range = r } in l) o) None)
+        ≡ option_map (run_head (objects ++ object.octets))
+        (cond x (option_map (λ (r : Range). let l : Run = record { group = run.group; variation = run.variation; range = r; common = run.common } in l) o) None)
     go true (Some r) = refl
     go true None = refl
     go false o = refl
@@ -149,11 +167,12 @@ with_longer f octets run objects object long is =
     ap (λ (o : Option Head). with_run (built f octets run objects) o object)
     (joined_or_not objects run object ∙ ap (option_map (run_head (objects ++ object.octets))) is)
 
-run_longer : (f : Form) (run : Run) (objects : List ℕ) (object : Head) (long : Run) → longer (Some run) object ≡ Some long
-    → IsHeader f (run_head objects run) → IsHeader f object → IsSome (object_size object.group object.variation)
-    → IsJoined f (run_head objects run) object (run_head (objects ++ object.octets) long)
-run_longer f run objects object long is first second some =
-    heads_join f (run_head objects run) object (run_head (objects ++ object.octets) long) first second some
+run_longer : (f : Form) (context : Context) (run : Run) (objects : List ℕ) (object : Head) (long : Run) → longer (Some run) object ≡ Some long
+    → IsHeaderAt f context (run_head objects run) → IsHeaderAt f (context_after context (run_head objects run)) object
+    → IsSome (object_size object.group object.variation)
+    → IsJoined f context (run_head objects run) object (run_head (objects ++ object.octets) long)
+run_longer f context run objects object long is first second some =
+    heads_join f context (run_head objects run) object (run_head (objects ++ object.octets) long) first second some
     (joined_with_run objects run object ∙ ap (option_map (run_head (objects ++ object.octets))) is)
 
 pub size-run : (f : Function) (hs : List Head) (h : Head)
@@ -165,25 +184,30 @@ size-run f hs h =
 
 -- what joins the run adds its own octets
 longer_by : (f : Function) (octets : List ℕ) (run : Option Run) (objects : List ℕ) (object : Head) (long : Run) → longer run object ≡ Some long
-    → IsBuilt f octets run objects → IsHeader (form_of f) object → IsSome (object_size object.group object.variation)
-    → IsHeader (form_of f) (run_head (objects ++ object.octets) long)
+    → IsBuilt f octets run objects → IsHeaderAt (form_of f) (context_of (built f octets run objects)) object
+    → IsSome (object_size object.group object.variation)
+    → IsHeaderAt (form_of f) (context_past begin (headers_of (form_of f) octets)) (run_head (objects ++ object.octets) long)
     × (size (built f octets (Some long) (objects ++ object.octets)) ≡ size (built f octets run objects) + length object.octets)
 longer_by f octets None objects object long is built_is fits some = cc
 longer_by f octets (Some run) objects object long is built_is fits some =
-    let join = run_longer (form_of f) run objects object long is built_is.run_is fits some in
     let hs = headers_of (form_of f) octets in
-    let before = size-run f hs (run_head objects run) in
-    let after = size-run f hs (run_head (objects ++ object.octets) long) in
-    (join.header, omega (arith, join.size, before, after))
+    let after : IsHeaderAt (form_of f) (context_after (context_past begin hs) (run_head objects run)) object =
+    subst (λ (c : Context). IsHeaderAt (form_of f) c object) (past_more begin hs (run_head objects run)) fits in
+    let join = run_longer (form_of f) (context_past begin hs) run objects object long is built_is.run_is after some in
+    let old = size-run f hs (run_head objects run) in
+    let new = size-run f hs (run_head (objects ++ object.octets) long) in
+    (join.header, omega (arith, join.size, old, new))
 
 pub size-longer : (f : Function) (octets : List ℕ) (run : Option Run) (objects : List ℕ) (object : Head) (long : Run) → longer run object ≡ Some long
-    → IsBuilt f octets run objects → IsHeader (form_of f) object → IsSome (object_size object.group object.variation)
+    → IsBuilt f octets run objects → IsHeaderAt (form_of f) (context_of (built f octets run objects)) object
+    → IsSome (object_size object.group object.variation)
     → size (with_object (built f octets run objects) object) ≡ size (built f octets run objects) + length object.octets
 size-longer f octets run objects object long is old fits some =
     ap size (with_longer f octets run objects object long is) ∙ (longer_by f octets run objects object long is old fits some).1
 
 pub object_joins : (f : Function) (octets : List ℕ) (run : Option Run) (objects now : List ℕ) (object : Head) (long : Run) → longer run object ≡ Some long
-    → IsBuilt f octets run objects → IsHeader (form_of f) object → IsSome (object_size object.group object.variation)
+    → IsBuilt f octets run objects → IsHeaderAt (form_of f) (context_of (built f octets run objects)) object
+    → IsSome (object_size object.group object.variation)
     → now ≡ objects ++ object.octets → size (built f octets run objects) + length object.octets ≤ MAX_FRAGMENT
     → IsBuilt f octets (Some long) now × (built f octets (Some long) now ≡ with_object (built f octets run objects) object)
 object_joins f octets run objects now object long is old fits some whole room =
@@ -206,7 +230,7 @@ with_begun f octets run objects object is =
 -- the octets now are those of the ended headers, and the run that is begun is the object
 pub object_begins : (old : Built) (f : Function) (octets now : List ℕ) (run : Option Run) (objects : List ℕ) (begun : Run) (object : Head)
     → built f octets run objects ≡ broken old → IsBuilt f octets run objects → run_head object.octets begun ≡ object
-    → IsHeader (form_of old.function) object → size old + length (header_octets object) ≤ MAX_FRAGMENT → now ≡ object.octets
+    → IsHeaderAt (form_of old.function) (context_of old) object → size old + length (header_octets object) ≤ MAX_FRAGMENT → now ≡ object.octets
     → IsBuilt f octets (Some begun) now × (built f octets (Some begun) now ≡ record { function = old.function; ended = heads old; run = Some object })
 object_begins old f octets now run objects begun object inside is join fits room whole =
     let ended : headers_of (form_of f) octets ≡ heads old = ap (λ (b : Built). b.ended) inside in
@@ -218,7 +242,9 @@ object_begins old f octets now run objects begun object inside is join fits room
     omega (arith, ap size seen, size-run old.function (heads old) object, room) in (
       record {
         divides = is.divides;
-        run_is = subst (λ (p : Function × Head). IsHeader (form_of p.0) p.1) (λ i. (sym same i, sym head_is i)) fits;
+        run_is =
+            subst (λ (p : Function × List Head × Head). IsHeaderAt (form_of p.0) (context_past begin p.1) p.2)
+            (λ i. (sym same i, sym ended i, sym head_is i)) fits;
         room = small;
       },
       seen,
@@ -227,23 +253,23 @@ object_begins old f octets now run objects begun object inside is join fits room
 -- ---- the same of what was built, seen from outside
 
 pub joined_size : (old : Built) (f : Function) (octets : List ℕ) (run : Option Run) (objects : List ℕ) (object : Head) (long : Run)
-    → built f octets run objects ≡ old → IsBuilt f octets run objects → IsHeader (form_of old.function) object
+    → built f octets run objects ≡ old → IsBuilt f octets run objects → IsHeaderAt (form_of old.function) (context_of old) object
     → IsSome (object_size object.group object.variation) → longer run object ≡ Some long
     → size (with_object old object) ≡ size old + length object.octets
 joined_size old f octets run objects object long seen is fits some join =
-    let same : f ≡ old.function = ap (λ (b : Built). b.function) seen in
-    let own : IsHeader (form_of f) object = subst (λ (g : Function). IsHeader (form_of g) object) (sym same) fits in
+    let own : IsHeaderAt (form_of f) (context_of (built f octets run objects)) object =
+    subst (λ (b : Built). IsHeaderAt (form_of b.function) (context_of b) object) (sym seen) fits in
     ap (λ (b : Built). size (with_object b object)) (sym seen) ∙ size-longer f octets run objects object long join is own some
     ∙ ap (λ (b : Built). size b + length object.octets) seen
 
 pub joined_all : (old : Built) (f : Function) (octets now : List ℕ) (run : Option Run) (objects : List ℕ) (object : Head) (long : Run)
-    → built f octets run objects ≡ old → IsBuilt f octets run objects → IsHeader (form_of old.function) object
+    → built f octets run objects ≡ old → IsBuilt f octets run objects → IsHeaderAt (form_of old.function) (context_of old) object
     → IsSome (object_size object.group object.variation) → longer run object ≡ Some long
     → size old + length object.octets ≤ MAX_FRAGMENT → now ≡ objects ++ object.octets
     → IsBuilt f octets (Some long) now × (built f octets (Some long) now ≡ with_object old object)
 joined_all old f octets now run objects object long seen is fits some join room whole =
-    let same : f ≡ old.function = ap (λ (b : Built). b.function) seen in
-    let own : IsHeader (form_of f) object = subst (λ (g : Function). IsHeader (form_of g) object) (sym same) fits in
+    let own : IsHeaderAt (form_of f) (context_of (built f octets run objects)) object =
+    subst (λ (b : Built). IsHeaderAt (form_of b.function) (context_of b) object) (sym seen) fits in
     let sizes : size (built f octets run objects) ≡ size old = ap size seen in
     let both = object_joins f octets run objects now object long join is own some whole (omega arith) in
     (both.0, both.1 ∙ ap (λ (b : Built). with_object b object) seen)

@@ -10,11 +10,11 @@ use Rattle.dnp_appfragment.specs.declared.header.Range.{Range}
 use Rattle.dnp_appfragment.specs.declared.header.Range.TheVariants as range
 use Rattle.dnp_appfragment.specs.declared.run.Run.{Run}
 use Rattle.dnp_appfragment.specs.Table.{form_of, is_response}
-use Rattle.dnp_appfragment.specs.Headers.{Head, number, qualifier_of, range_octets, header_octets, spelled, IsHeader}
+use Rattle.dnp_appfragment.specs.Headers.{Head, number, qualifier_of, range_octets, header_octets, spelled, IsHeaderAt}
 use Rattle.dnp_appfragment.specs.Joining.{joined_range}
 use Rattle.dnp_appfragment.specs.Left.{headers_of}
 use Rattle.dnp_appfragment.specs.steps.Overwriting.{written_over}
-use Rattle.dnp_appfragment.specs.Built.{Built, front_size, heads, size, broken, with_header, with_object}
+use Rattle.dnp_appfragment.specs.Built.{Built, front_size, heads, size, broken, with_header, with_object, context_of}
 use Rattle.dnp_appfragment.specs.steps.Building.{run_head, built, IsBuilt, ended_in, objects_in, built_in, run_octets, IsLaid, range_end, joined_run, longer}
 use Rattle.dnp_appfragment.proofs.Building.{spelled-append, spelled-one, empty, run_ended, header_put}
 use Rattle.dnp_appfragment.proofs.Joins.{some_is, joined_all, object_begins}
@@ -183,7 +183,7 @@ run_broken f octets ended end run is at =
 -- ---- a header put
 
 pub header_laid : (old : Built) (f : Function) (octets now : List ℕ) (ended end : ℕ) (run : Option Run) (h : Head)
-    → built_in f octets ended run ≡ broken old → IsLaid f octets ended run → IsHeader (form_of old.function) h
+    → built_in f octets ended run ≡ broken old → IsLaid f octets ended run → IsHeaderAt (form_of old.function) (context_of old) h
     → now ≡ octets ++ header_octets h → end ≡ ended + length (header_octets h) → size old + length (header_octets h) ≤ MAX_FRAGMENT
     → IsLaid f now end run × (built_in f now end run ≡ with_header old h)
 header_laid old f octets now ended end (Some run) h inside is fits whole at room = let none = ap (λ (b : Built). b.run) inside in cc
@@ -221,7 +221,7 @@ size-header begun object same =
 
 pub object_laid : (old : Built) (f : Function) (octets now : List ℕ) (ended : ℕ) (run : Option Run) (begun : Run) (object : Head)
     → built_in f octets ended run ≡ broken old → IsLaid f octets ended run → run_head object.octets begun ≡ object
-    → IsHeader (form_of old.function) object → now ≡ octets ++ header_octets object → size old + length (header_octets object) ≤ MAX_FRAGMENT
+    → IsHeaderAt (form_of old.function) (context_of old) object → now ≡ octets ++ header_octets object → size old + length (header_octets object) ≤ MAX_FRAGMENT
     → IsLaid f now ended (Some begun) × (built_in f now ended (Some begun) ≡ record { function = old.function; ended = heads old; run = Some object })
 object_laid old f octets now ended (Some run) begun object inside is same fits whole room = let none = ap (λ (b : Built). b.run) inside in cc
 object_laid old f octets now ended None begun object inside is same fits whole room =
@@ -284,7 +284,7 @@ grows (range.Span true first last) (range.Indexed wide m) r is = cc
 grows (range.Span true first last) (range.Span false next end) r is = cc
 
 abbrev with_range : Run → Range → Run
-with_range run r = record { group = run.group; variation = run.variation; range = r }
+with_range run r = record { group = run.group; variation = run.variation; range = r; common = run.common }
 
 longer_is : (run long : Run) (x : Bool) (o : Option Range) → cond x (option_map (with_range run) o) None ≡ Some long
     → (r : Range) × (o ≡ Some r) × (with_range run r ≡ long)
@@ -319,7 +319,7 @@ run_grown run long object top objects at is place =
         ∙ ap (λ (q : ℕ). top ++ (run.group ∷ run.variation ∷ q ∷ (range_octets r ++ rest))) (sym grown.qualifier)
 
 pub joined_laid : (old : Built) (f : Function) (octets longest now : List ℕ) (ended place : ℕ) (run : Option Run) (long : Run) (object : Head)
-    → built_in f octets ended run ≡ old → IsLaid f octets ended run → IsHeader (form_of old.function) object
+    → built_in f octets ended run ≡ old → IsLaid f octets ended run → IsHeaderAt (form_of old.function) (context_of old) object
     → IsSome (object_size object.group object.variation) → longer run object ≡ Some long → longest ≡ octets ++ object.octets
     → place ≡ ended + 3 + (range_end long.range).0 → now ≡ written_over longest place (number true (range_end long.range).1)
     → size old + length object.octets ≤ MAX_FRAGMENT

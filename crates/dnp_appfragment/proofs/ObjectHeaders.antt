@@ -49,7 +49,7 @@ none_bare g v q is = is
 
 bare_divides : (octets : List ℕ) (hs : List Head) → Divide form.Bare octets hs → Divide form.Bare [] hs
 bare_divides octets [] divide = record { each = tt; whole = refl }
-bare_divides octets (h ∷ hs) divide = absurd (none_bare h.group h.variation _ divide.each.0.object)
+bare_divides octets (h ∷ hs) divide = absurd (none_bare h.group h.variation _ divide.each.0.header.object)
 
 pub looked_at_divides : (f : Form) (octets : List ℕ) (hs : List Head) → Divide f octets hs → Divide f (looked_at f octets) hs
 looked_at_divides form.Bare octets hs divide = bare_divides octets hs divide

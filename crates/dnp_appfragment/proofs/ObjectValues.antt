@@ -1,4 +1,4 @@
--- The functions of object k of a header, `row_in` and `command_in`, give what the relations say, on octets.
+-- The functions of object k of a header, `whole_row_in` and `command_in`, give what the relations say, on octets.
 use Rattle.std.proofs.Common.{◌≡◌, refl, sym, ◌∙◌, ap, subst, ℕ, ◌+◌, ◌/◌, ◌<◌, ◌^◌, Bool, true, false, cond, List, [], ◌∷◌, ◌++◌, length, Option, Some, None, IfSome, nat_lt, ◌==◌, ◌&&◌, inl, inr, eqb-true}
 use Rattle.std.specs.List.{All}
 use Rattle.std.specs.Prelude.{is_some, IsSome, pos, ◌%◌, slice_index}
@@ -21,22 +21,23 @@ use Rattle.dnp_objects.specs.Events.{IsEvent}
 use Rattle.dnp_appfragment.specs.declared.header.Range.{Range}
 use Rattle.dnp_appfragment.specs.declared.header.Range.TheVariants as range
 use Rattle.dnp_appfragment.specs.Headers.{Head, head_of, count_of}
-use Rattle.dnp_appfragment.specs.Objects.{HasCommands, IsObject, IsBit, IsObjectRow, IsRow, IsCommand, IsSpan, IsIndex, prefix_octets}
+use Rattle.dnp_appfragment.specs.Objects.{HasCommands, IsObject, IsBit, IsObjectRow, IsWholeRow, IsCommand, IsSpan, IsIndex, prefix_octets}
 use Rattle.dnp_appfragment.specs.Reading.{object_at}
-use Rattle.dnp_appfragment.specs.Meaning.{start_of, bit_in, shaped_row_in, row_in, content_command_in, command_in}
+use Rattle.dnp_appfragment.specs.Meaning.{start_of, bit_in, shaped_row_in, whole_row_in, content_command_in, command_in}
 use Rattle.dnp_appfragment.proofs.Numbers.{AreOctets}
+use Rattle.dnp_appfragment.proofs.OtherCommon.{other_object, other_row, other_commands}
 use Rattle.dnp_appfragment.proofs.There.{commands_of}
 use Rattle.dnp_appfragment.proofs.HeaderObjects.{object_reads, object_again, packed_unsized}
 
 -- ---- the laws of `dnp_objects` that the proofs rest on
 
 -- octets are read as the row of their parts, and as no other
-abbrev RowsRead : Type 0
+abbrev pub RowsRead : Type 0
 RowsRead =
     (g v index : ℕ) (octets : List ℕ) → All (λ octet. octet < 2 ^ 8) octets
     → IfSome (shape_read g v) (λ s. length octets ≡ shape_size s → Reads g v index octets (row_of s index octets))
 
-abbrev RowsAlone : Type 0
+abbrev pub RowsAlone : Type 0
 RowsAlone =
     (g v index : ℕ) (octets : List ℕ) (row : Row) → Reads g v index octets row → option_map (λ s. row_of s index octets) (shape_read g v) ≡ Some row
 
@@ -65,14 +66,23 @@ all_octets : (bs : List ℕ) → AreOctets bs → All (λ octet. octet < 2 ^ 8) 
 all_octets [] are = All-nil (λ octet. octet < 2 ^ 8)
 all_octets (b ∷ bs) are = All-cons (λ octet. octet < 2 ^ 8) b bs are.0 (all_octets bs are.1)
 
-part_octets : (h : Head) (size k index : ℕ) (part : List ℕ) → AreOctets h.octets → IsObject h size k index part → All (λ octet. octet < 2 ^ 8) part
+pub part_octets : (h : Head) (size k index : ℕ) (part : List ℕ) → AreOctets h.octets → IsObject h size k index part → All (λ octet. octet < 2 ^ 8) part
 part_octets h size k index part are is =
     all_octets part (before part is.after (behind (prefix_octets h.range index) (part ++ is.after)
     (behind is.before (prefix_octets h.range index ++ (part ++ is.after)) (subst AreOctets is.joined are))))
 
-object_is : (h : Head) (size k : ℕ) (x : ℕ × List ℕ) → AreOctets h.octets → object_at h.range h.octets size k ≡ Some x → IsObject h size k x.0 x.1
+-- the header without its common time
+abbrev bare : Head → Head
+bare h = head_of h.group h.variation h.range h.octets
+
+pub object_is : (h : Head) (size k : ℕ) (x : ℕ × List ℕ) → AreOctets h.octets → object_at h.range h.octets size k ≡ Some x → IsObject h size k x.0 x.1
 object_is h size k x are is =
-    subst (λ (o : Option (ℕ × List ℕ)). IfSome o (λ x. IsObject h size k x.0 x.1)) is (object_reads h.group h.variation h.range h.octets size k are)
+    other_object h.common (bare h) size k x.0 x.1
+    (subst (λ (o : Option (ℕ × List ℕ)). IfSome o (λ x. IsObject (bare h) size k x.0 x.1)) is (object_reads h.group h.variation h.range h.octets size k are))
+
+pub object_said : (h : Head) (size k index : ℕ) (octets : List ℕ) → IsObject h size k index octets → object_at h.range h.octets size k ≡ Some (index, octets)
+object_said h size k index octets object =
+    object_again h.group h.variation h.range h.octets size k index octets (other_object None h size k index octets object)
 
 -- the size of an object is that of what it carries
 sized : (g v : ℕ) (c : Content) → content_of g v ≡ Some c → object_size g v ≡ Some (content_size c)
@@ -149,25 +159,25 @@ bit_reads r octets k =
     spans (range.Indexed wide n) here there = tt
 
 row_reads : RowsRead → (g v : ℕ) (r : Range) (octets : List ℕ) (k : ℕ) → AreOctets octets
-    → IfSome (row_in (head_of g v r octets) k) (IsRow (head_of g v r octets) k)
+    → IfSome (whole_row_in (head_of g v r octets) k) (IsWholeRow (head_of g v r octets) k)
 row_reads law g v r octets k are = go ((g == 1) && (v == 1)) refl
   where
-    as_bit : (o : Option Row) → IfSome o (IsBit (head_of g v r octets) k) → IfSome o (IsRow (head_of g v r octets) k)
+    as_bit : (o : Option Row) → IfSome o (IsBit (head_of g v r octets) k) → IfSome o (IsWholeRow (head_of g v r octets) k)
     as_bit None is = tt
     as_bit (Some row) is = inl is
 
-    as_object : (o : Option Row) → IfSome o (IsObjectRow (head_of g v r octets) k) → IfSome o (IsRow (head_of g v r octets) k)
+    as_object : (o : Option Row) → IfSome o (IsObjectRow (head_of g v r octets) k) → IfSome o (IsWholeRow (head_of g v r octets) k)
     as_object None is = tt
     as_object (Some row) is = inr is
 
     shaped : (o : Option Shape) → shape_read g v ≡ o
-        → IfSome (option_and_then (shaped_row_in (head_of g v r octets) k) o) (IsRow (head_of g v r octets) k)
+        → IfSome (option_and_then (shaped_row_in (head_of g v r octets) k) o) (IsWholeRow (head_of g v r octets) k)
     shaped None is = tt
     shaped (Some s) is = as_object (shaped_row_in (head_of g v r octets) k s) (shaped_reads law (head_of g v r octets) k s are is)
 
     go : (b : Bool) → ((g == 1) && (v == 1)) ≡ b
         → IfSome (cond b (bit_in (head_of g v r octets) k) (option_and_then (shaped_row_in (head_of g v r octets) k) (shape_read g v)))
-        (IsRow (head_of g v r octets) k)
+        (IsWholeRow (head_of g v r octets) k)
     go true is =
         let names = and_parts (g == 1) (v == 1) is in
         let group : g ≡ 1 = eqb-true g 1 names.0 in
@@ -200,7 +210,7 @@ found_at : (h : Head) (k size n index : ℕ) (octets : List ℕ) → object_size
     → IsObject h size k index octets → object_at h.range h.octets n k ≡ Some (index, octets)
 found_at h k size n index octets is same object =
     ap (λ (m : ℕ). object_at h.range h.octets m k) (same_some (object_size h.group h.variation) n size same is)
-    ∙ object_again h.group h.variation h.range h.octets size k index octets object
+    ∙ object_said h size k index octets object
 
 object_row_again : RowsAlone → (h : Head) (k : ℕ) (row : Row) → IsObjectRow h k row
     → option_and_then (shaped_row_in h k) (shape_read h.group h.variation) ≡ Some row
@@ -215,7 +225,7 @@ object_row_again law h k row is =
         (found_at h k is.size (shape_size s) is.index is.octets is.size_is (shape_sized h.group h.variation s at) is.object)
         ∙ one
 
-pub row_said : RowsAlone → (h : Head) (k : ℕ) (row : Row) → IsRow h k row → row_in h k ≡ Some row
+pub row_said : RowsAlone → (h : Head) (k : ℕ) (row : Row) → IsWholeRow h k row → whole_row_in h k ≡ Some row
 row_said law h k row (inl bit) =
     ap (λ (b : Bool). cond b (bit_in h k) (option_and_then (shaped_row_in h k) (shape_read h.group h.variation)))
     (λ i. (bit.group i == 1) && (bit.variation i == 1))
@@ -235,11 +245,11 @@ row_said law h k row (inr is) = go ((h.group == 1) && (h.variation == 1)) refl
     go false other = object_row_again law h k row is
 
 -- which of the two a header has
-pub bit_said : (g v : ℕ) (r : Range) (octets : List ℕ) (k : ℕ) → g ≡ 1 → v ≡ 1 → row_in (head_of g v r octets) k ≡ bit_in (head_of 1 1 r octets) k
-bit_said g v r octets k group variation = λ i. row_in (head_of (group i) (variation i) r octets) k
+pub bit_said : (g v : ℕ) (r : Range) (octets : List ℕ) (k : ℕ) → g ≡ 1 → v ≡ 1 → whole_row_in (head_of g v r octets) k ≡ bit_in (head_of 1 1 r octets) k
+bit_said g v r octets k group variation = λ i. whole_row_in (head_of (group i) (variation i) r octets) k
 
 pub object_row_said : (h : Head) (k : ℕ) → (h.group ≡ 1 → h.variation ≡ 1 → ⊥)
-    → row_in h k ≡ option_and_then (shaped_row_in h k) (shape_read h.group h.variation)
+    → whole_row_in h k ≡ option_and_then (shaped_row_in h k) (shape_read h.group h.variation)
 object_row_said h k other = go ((h.group == 1) && (h.variation == 1)) refl
   where
     shaped : Option Row
@@ -327,9 +337,10 @@ no_command_there h k size is none = go (content_of h.group h.variation) is
 
 -- ---- both ways
 
-pub row_says : RowsRead → (h : Head) (k : ℕ) (row : Row) → AreOctets h.octets → row_in h k ≡ Some row → IsRow h k row
+pub row_says : RowsRead → (h : Head) (k : ℕ) (row : Row) → AreOctets h.octets → whole_row_in h k ≡ Some row → IsWholeRow h k row
 row_says law h k row are is =
-    subst (λ (o : Option Row). IfSome o (IsRow h k)) is (row_reads law h.group h.variation h.range h.octets k are)
+    other_row h.common (bare h) k row
+    (subst (λ (o : Option Row). IfSome o (IsWholeRow (bare h) k)) is (row_reads law h.group h.variation h.range h.octets k are))
 
 pub command_says : CommandsRead → (h : Head) (k : ℕ) (answer : Command × ℕ) → AreOctets h.octets → command_in h k ≡ Some answer
     → IsCommand h k answer
@@ -339,7 +350,7 @@ command_says law h k answer are is = subst (λ (o : Option (Command × ℕ)). If
 
 pub command_there_in : (h : Head) (k : ℕ) → HasCommands h → k < count_of h.range → IsSome (command_in h k)
 command_there_in h k has here =
-    let commands = commands_of h.group h.variation h.range h.octets k has here in
+    let commands = commands_of h.group h.variation h.range h.octets k (other_commands None h has) here in
     go (content_of h.group h.variation) commands.0 commands.1
   where
     command : (c : Content) (x : ℕ × List ℕ) → is_some (size_read c) ≡ true → is_some (command_of c x.0 x.1) ≡ true
@@ -364,7 +375,7 @@ command_there_in h k has here =
 
 -- by the law that a row that was read is one that an event carries
 pub row_is_event : ((g v index : ℕ) (octets : List ℕ) (row : Row) → Reads g v index octets row → IsEvent row)
-    → (h : Head) (k : ℕ) (row : Row) → IsRow h k row → IsEvent row
+    → (h : Head) (k : ℕ) (row : Row) → IsWholeRow h k row → IsEvent row
 unfolding content_of objects bit_row
 row_is_event law h k row (inl bit) =
     let value = bit_at (slice_index h.octets (k / 8)) (k % 8) in

@@ -51,7 +51,7 @@ no_bare_header h is =
 
 divided : (f : Form) (hs : List Head) → AreHeaders f begin hs → Divide f (looked_at f (spelled hs)) hs
 divided form.Bare [] each = record { each = each; whole = refl }
-divided form.Bare (h ∷ hs) each = absurd (no_bare_header h each.0)
+divided form.Bare (h ∷ hs) each = absurd (no_bare_header h each.0.header)
 divided form.Read hs each = record { each = each; whole = refl }
 divided form.Write hs each = record { each = each; whole = refl }
 divided form.Command hs each = record { each = each; whole = refl }
@@ -81,7 +81,7 @@ spelled_response answered control function each = record {
 none_spelled : (f : Form) (hs : List Head) (body : List ℕ) → f ≡ form.Bare → Divide f (looked_at f body) hs → hs ≡ []
 none_spelled f [] body bare divide = refl
 none_spelled f (h ∷ hs) body bare divide =
-    absurd (no_bare_header h (subst (λ (g : Form). IsHeader g h) bare divide.each.0))
+    absurd (no_bare_header h (subst (λ (g : Form). IsHeader g h) bare divide.each.0.header))
 
 pub bare_request : (octets : List ℕ) (asked : Asked) → IsRequest octets asked → form_of asked.function ≡ form.Bare → asked.headers ≡ []
 bare_request octets asked is bare = none_spelled (form_of asked.function) asked.headers is.body bare is.headers

@@ -1,7 +1,7 @@
 -- Whole requests and responses, read and spelled.
 use Rattle.std.proofs.Common.{◌≡◌, ◌≢◌, refl, sym, ◌∙◌, ap, subst, ℕ, ◌<◌, Bool, true, false, cond, List, [], ◌∷◌, length, arith, Option, Some, None, IfSome, Result, Ok, Err}
 use Rattle.dnp_appfragment.specs.declared.fault.AppFault.{AppFault}
-use Rattle.dnp_appfragment.specs.declared.fault.AppFault.TheVariants.{Short, FunctionUnknown, HeaderCut, QualifierUnknown, ObjectUnknown, RangeBackward, ObjectsCut}
+use Rattle.dnp_appfragment.specs.declared.fault.AppFault.TheVariants.{Short, FunctionUnknown, HeaderCut, QualifierUnknown, ObjectUnknown, RangeBackward, ObjectsCut, CommonTime}
 use Rattle.dnp_appfragment.specs.declared.function.Function.{Function}
 use Rattle.dnp_appfragment.specs.declared.table.Form.{Form}
 use Rattle.dnp_appfragment.specs.declared.table.Form.TheVariants as form
@@ -91,6 +91,7 @@ header_fault_is octets ObjectUnknown has = has
 header_fault_is octets QualifierUnknown has = has
 header_fault_is octets RangeBackward has = has
 header_fault_is octets ObjectsCut has = has
+header_fault_is octets CommonTime has = has
 
 pub request_reads : (octets : List ℕ) → AreOctets octets → ReadsRequest octets (request_at octets)
 unfolding request_at
@@ -164,6 +165,7 @@ request_fault octets ObjectUnknown has = header_fault_at octets ObjectUnknown ha
 request_fault octets QualifierUnknown has = header_fault_at octets QualifierUnknown has
 request_fault octets RangeBackward has = header_fault_at octets RangeBackward has
 request_fault octets ObjectsCut has = header_fault_at octets ObjectsCut has
+request_fault octets CommonTime has = header_fault_at octets CommonTime has
 
 -- ---- responses
 
@@ -178,6 +180,7 @@ response_fault_is octets ObjectUnknown has = has
 response_fault_is octets QualifierUnknown has = has
 response_fault_is octets RangeBackward has = has
 response_fault_is octets ObjectsCut has = has
+response_fault_is octets CommonTime has = has
 
 pub response_reads : (octets : List ℕ) → AreOctets octets → ReadsResponse octets (response_at octets)
 unfolding response_at
@@ -266,3 +269,4 @@ response_fault octets ObjectUnknown has = response_header_fault octets ObjectUnk
 response_fault octets QualifierUnknown has = response_header_fault octets QualifierUnknown has
 response_fault octets RangeBackward has = response_header_fault octets RangeBackward has
 response_fault octets ObjectsCut has = response_header_fault octets ObjectsCut has
+response_fault octets CommonTime has = response_header_fault octets CommonTime has

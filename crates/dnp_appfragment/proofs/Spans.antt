@@ -1,15 +1,15 @@
 -- Present values of consecutive indexes: put under one header at once they are there as if put one by one.
-use Rattle.std.proofs.Common.{◌≡◌, Bool, true, false, cond, refl, sym, ◌∙◌, ap, subst, ℕ, zero, suc, ◌+◌, ◌-◌, ◌*◌, ◌/◌, ◌^◌, ◌<◌, ◌≤◌, ◌==◌, ◌&&◌, ◌||◌, nat_le, nat_lt, min, get_or, List, [], ◌∷◌, ◌++◌, length, take, drop, map, arith, Option, Some, None, IsSome, ◌⊎◌, inl, inr, eqb-true}
+use Rattle.std.proofs.Common.{◌≡◌, Bool, true, false, cond, refl, sym, ◌∙◌, ap, subst, ℕ, zero, suc, ◌+◌, ◌-◌, ◌*◌, ◌/◌, ◌^◌, ◌<◌, ◌≤◌, ◌==◌, ◌&&◌, nat_le, nat_lt, min, List, [], ◌∷◌, ◌++◌, length, take, map, arith, Option, Some, None, ◌⊎◌, inl, inr, eqb-true}
 use Rattle.std.specs.Prelude.{All}
-use Rattle.std.specs.Option.{option_map, option_and_then, IsSomeAnd}
+use Rattle.std.specs.Option.{option_map, option_and_then}
 use Rattle.std.proofs.lemmas.Bool.{eq-eqb, le-leb, lt-leb, and_parts}
-use Rattle.std.proofs.lemmas.List.{append-nil, append_assoc, length-append, length-take-le, drop_more}
+use Rattle.std.proofs.lemmas.List.{append-nil, append_assoc, length-append}
 use Rattle.std.proofs.Math.Nat.{div-mul-le_self, lt-div-mul-add, mul-le-mul, le_refl}
-use Rattle.std.proofs.lemmas.List.Elements.{All-take, All-head, All-nil, All-cons}
+use Rattle.std.proofs.lemmas.List.Elements.{All-head}
 use Rattle.dnp_objects.specs.declared.limits.TheConstants.{MAX_FRAGMENT}
 use Rattle.dnp_objects.specs.declared.row.Row.{Row}
-use Rattle.dnp_objects.specs.Objects.{object_size, content_of, objects}
-use Rattle.dnp_objects.specs.Rows.{Fits, written}
+use Rattle.dnp_objects.specs.Objects.{object_size}
+use Rattle.dnp_objects.specs.Rows.{written}
 use Rattle.dnp_appfragment.specs.declared.function.Function.{Function}
 use Rattle.dnp_appfragment.specs.declared.header.Range.{Range}
 use Rattle.dnp_appfragment.specs.declared.header.Range.TheVariants as range
@@ -17,91 +17,46 @@ use Rattle.dnp_appfragment.specs.declared.run.Run.{Run}
 use Rattle.dnp_appfragment.specs.declared.table.Form.{Form}
 use Rattle.dnp_appfragment.specs.declared.table.Form.TheVariants as form
 use Rattle.dnp_appfragment.specs.Table.{form_of, IsInTable}
-use Rattle.dnp_appfragment.specs.Headers.{Head, range_octets, octets_of, IsHeader}
+use Rattle.dnp_appfragment.specs.Headers.{Head, head_after, range_octets, octets_of, IsHeader}
 use Rattle.dnp_appfragment.specs.Left.{headers_of}
 use Rattle.dnp_appfragment.specs.Joining.{joined_range, joined}
 use Rattle.dnp_appfragment.specs.Built.{Built, heads, size, with_run, with_object, with_objects, objects_put}
 use Rattle.dnp_appfragment.specs.steps.Building.{run_head, built, joined_run, longer}
 use Rattle.dnp_appfragment.specs.Written.{InOrder, FitsPoint, is_point_object}
 use Rattle.dnp_appfragment.specs.steps.Spans.{row_head, all_written, span}
-use Rattle.dnp_appfragment.proofs.Joins.{join_by, size-run, with_longer, some_is}
-use Rattle.dnp_appfragment.proofs.ObjectHeaders.{RowsFill}
-
--- ---- how many octets rows have
-
-abbrev pub AreSized : ℕ → ℕ → ℕ → List Row → Type 0
-AreSized g v s rows = All (λ (row : Row). length (written g v row) ≡ s) rows
-
-some_same : (a b : ℕ) → Some a ≡ Some b → a ≡ b
-some_same a b is = cc
-
-All-rest : {X : Type 0} (P : X → Type 0) (x : X) (xs : List X) → All P (x ∷ xs) → All P xs
-All-rest P x xs all = λ k d less. all (suc k) d (omega arith)
-
--- the size of the first, and those of the others
-first_sized : (g v s : ℕ) (row : Row) (rows : List Row) → AreSized g v s (row ∷ rows) → length (written g v row) ≡ s
-first_sized g v s row rows each = All-head (λ (r : Row). length (written g v r) ≡ s) row rows each
-
-others_sized : (g v s : ℕ) (row : Row) (rows : List Row) → AreSized g v s (row ∷ rows) → AreSized g v s rows
-others_sized g v s row rows each = All-rest (λ (r : Row). length (written g v r) ≡ s) row rows each
-
-pub each_size : RowsFill → (g v s : ℕ) (rows : List Row) → object_size g v ≡ Some s → All (Fits g v) rows → AreSized g v s rows
-each_size law g v s [] sized fits = All-nil (λ (row : Row). length (written g v row) ≡ s)
-each_size law g v s (row ∷ rows) sized fits =
-    All-cons (λ (r : Row). length (written g v r) ≡ s) row rows
-    (some_same (length (written g v row)) s (sym (law g v row (All-head (Fits g v) row rows fits)) ∙ sized))
-    (each_size law g v s rows sized (All-rest (Fits g v) row rows fits))
-
-pub all_size : (g v s : ℕ) (rows : List Row) → AreSized g v s rows → length (all_written g v rows) ≡ length rows * s
-all_size g v s [] each = omega arith
-all_size g v s (row ∷ rows) each =
-    let rest : length (all_written g v rows) ≡ length rows * s = all_size g v s rows (others_sized g v s row rows each) in
-    let here : length (written g v row) ≡ s = (first_sized g v s row rows each) in
-    omega (arith, length-append (written g v row) (all_written g v rows))
-
--- of the first so many
-pub taken_size : RowsFill → (g v s n : ℕ) (rows : List Row) → object_size g v ≡ Some s → All (Fits g v) rows → n ≤ length rows
-    → length (all_written g v (take n rows)) ≡ n * s
-taken_size law g v s n rows sized fits few =
-    all_size g v s (take n rows) (each_size law g v s (take n rows) sized (All-take (Fits g v) n rows fits))
-    ∙ ap (λ (k : ℕ). k * s) (length-take-le n rows few)
-
--- a size that there is
-pub there_is_size : RowsFill → (g v : ℕ) (rows : List Row) (n : ℕ) → All (Fits g v) rows → 1 ≤ n → n ≤ length rows → IsSome (object_size g v)
-there_is_size law g v [] n fits some few = absurd (omega arith)
-there_is_size law g v (row ∷ rows) n fits some few = subst (λ (o : Option ℕ). IsSome o) (sym (law g v row (All-head (Fits g v) row rows fits))) refl
-
--- the rows that are left to write, one fewer
-pub first_written : (g v : ℕ) (rows : List Row) (place count : ℕ) (d : Row) → place < count → count ≤ length rows → d ≡ d
-    → all_written g v (take (count - place) (drop place rows))
-    ≡ written g v (get_or rows place d) ++ all_written g v (take (count - (place + 1)) (drop (place + 1) rows))
-first_written g v rows place count d more few same =
-    ap (λ (l : List Row). all_written g v (take (count - place) l)) (drop_more rows place d (omega arith))
-    ∙ ap (λ (n : ℕ). all_written g v (take n (get_or rows place d ∷ drop (place + 1) rows)))
-    (let one : count - place ≡ suc (count - (place + 1)) = omega arith in one)
+use Rattle.dnp_appfragment.proofs.JoinedTimes.{join_by}
+use Rattle.dnp_appfragment.proofs.Joins.{size-run, with_longer, some_is}
+use Rattle.dnp_appfragment.proofs.SpanSizes.{AreSized, first_sized, others_sized}
 
 -- ---- what is built with such a header as its run
 
-abbrev pub with_span : Function → List Head → ℕ → ℕ → ℕ → ℕ → List ℕ → Built
-with_span f ended g v start last octets = record { function = f; ended = ended; run = Some (span g v start last octets) }
+abbrev pub with_span : Function → List Head → Option ℕ → ℕ → ℕ → ℕ → ℕ → List ℕ → Built
+with_span f ended o g v start last octets = record { function = f; ended = ended; run = Some (head_after o g v (range.Span true start last) octets) }
 
-pub size_span : (f : Function) (ended : List Head) (g v start last end : ℕ) (xs ys : List ℕ)
-    → size (with_span f ended g v start end (xs ++ ys)) ≡ size (with_span f ended g v start last xs) + length ys
-size_span f ended g v start last end xs ys =
-    omega (arith, size-run f ended (span g v start end (xs ++ ys)), size-run f ended (span g v start last xs), length-append xs ys)
+pub size_span : (f : Function) (ended : List Head) (o : Option ℕ) (g v start last end : ℕ) (xs ys : List ℕ)
+    → size (with_span f ended o g v start end (xs ++ ys)) ≡ size (with_span f ended o g v start last xs) + length ys
+size_span f ended o g v start last end xs ys =
+    omega (
+      arith,
+      size-run f ended (head_after o g v (range.Span true start end) (xs ++ ys)),
+      size-run f ended
+          (head_after o g v (range.Span true start last) xs),
+      length-append xs ys,
+    )
 
-spans_join : (g v start last next end : ℕ) (xs ys : List ℕ) → next ≡ last + 1
-    → joined (span g v start last xs) (span g v next end ys) ≡ Some (span g v start end (xs ++ ys))
-spans_join g v start last next end xs ys behind =
+spans_join : (o : Option ℕ) (g v start last next end : ℕ) (xs ys : List ℕ) → next ≡ last + 1
+    → joined (head_after o g v (range.Span true start last) xs) (span g v next end ys) ≡ Some (head_after o g v (range.Span true start end) (xs ++ ys))
+spans_join o g v start last next end xs ys behind =
     (λ i. cond (eq-eqb g g refl i && eq-eqb v v refl i)
-    (option_map (join_by (span g v start last xs) (span g v next end ys))
+    (option_map (join_by (head_after o g v (range.Span true start last) xs) (span g v next end ys))
     (cond (eq-eqb (last + 1) next (sym behind) i) (Some (range.Span true start end)) None)) None)
 
-pub span_more : (f : Function) (ended : List Head) (g v start last next end : ℕ) (xs ys : List ℕ) → next ≡ last + 1
-    → with_object (with_span f ended g v start last xs) (span g v next end ys) ≡ with_span f ended g v start end (xs ++ ys)
+pub span_more : (f : Function) (ended : List Head) (o : Option ℕ) (g v start last next end : ℕ) (xs ys : List ℕ) → next ≡ last + 1
+    → with_object (with_span f ended o g v start last xs) (span g v next end ys) ≡ with_span f ended o g v start end (xs ++ ys)
 unfolding with_object
-span_more f ended g v start last next end xs ys behind =
-    ap (λ (o : Option Head). with_run (with_span f ended g v start last xs) o (span g v next end ys)) (spans_join g v start last next end xs ys behind)
+span_more f ended o g v start last next end xs ys behind =
+    ap (λ (long : Option Head). with_run (with_span f ended o g v start last xs) long (span g v next end ys))
+    (spans_join o g v start last next end xs ys behind)
 
 -- ---- objects after a run of their own
 
@@ -137,41 +92,41 @@ more_put b b' b'' object objects n m m' is sized small rest more =
           ∙ ap (λ (x : Built). with_objects x objects) is ∙ rest.put;
     }
 
-pub in_span : (f : Function) (ended : List Head) (g v s start last n : ℕ) (octets : List ℕ) (rows : List Row)
+pub in_span : (f : Function) (ended : List Head) (o : Option ℕ) (g v s start last n : ℕ) (octets : List ℕ) (rows : List Row)
     → InOrder (last + 1) rows → AreSized g v s rows → n ≤ length rows
-    → size (with_span f ended g v start last octets) + n * s ≤ MAX_FRAGMENT
-    → (n < length rows → MAX_FRAGMENT < size (with_span f ended g v start last octets) + (n + 1) * s)
-    → ArePut (with_span f ended g v start last octets) (map (row_head g v) rows) n
-    (with_span f ended g v start (last + n) (octets ++ all_written g v (take n rows)))
-in_span f ended g v s start last zero octets [] order each few room full =
-    record { count = refl; put = (λ i. with_span f ended g v start (let same : last ≡ last + 0 = omega arith in same i) (sym (append-nil octets) i)) }
-in_span f ended g v s start last (suc n) octets [] order each few room full = absurd (omega arith)
-in_span f ended g v s start last zero octets (row ∷ rows) order each few room full =
-    let b = with_span f ended g v start last octets in
+    → size (with_span f ended o g v start last octets) + n * s ≤ MAX_FRAGMENT
+    → (n < length rows → MAX_FRAGMENT < size (with_span f ended o g v start last octets) + (n + 1) * s)
+    → ArePut (with_span f ended o g v start last octets) (map (row_head g v) rows) n
+    (with_span f ended o g v start (last + n) (octets ++ all_written g v (take n rows)))
+in_span f ended o g v s start last zero octets [] order each few room full =
+    record { count = refl; put = (λ i. with_span f ended o g v start (let same : last ≡ last + 0 = omega arith in same i) (sym (append-nil octets) i)) }
+in_span f ended o g v s start last (suc n) octets [] order each few room full = absurd (omega arith)
+in_span f ended o g v s start last zero octets (row ∷ rows) order each few room full =
+    let b = with_span f ended o g v start last octets in
     let sized : size (with_object b (row_head g v row)) ≡ size b + s =
-    ap size (span_more f ended g v start last row.index row.index octets (written g v row) order.0)
-    ∙ size_span f ended g v start last row.index octets (written g v row) ∙ ap (λ (k : ℕ). size b + k) (first_sized g v s row rows each) in
+    ap size (span_more f ended o g v start last row.index row.index octets (written g v row) order.0)
+    ∙ size_span f ended o g v start last row.index octets (written g v row) ∙ ap (λ (k : ℕ). size b + k) (first_sized g v s row rows each) in
     let big : MAX_FRAGMENT < size b + (0 + 1) * s = full (omega arith) in
     let none = none_put b (row_head g v row) (map (row_head g v) rows) (size b + s) sized (omega arith) in
     record {
       count = none.count;
-      put = none.put ∙ (λ i. with_span f ended g v start (let same : last ≡ last + 0 = omega arith in same i) (sym (append-nil octets) i));
+      put = none.put ∙ (λ i. with_span f ended o g v start (let same : last ≡ last + 0 = omega arith in same i) (sym (append-nil octets) i));
     }
-in_span f ended g v s start last (suc n) octets (row ∷ rows) order each few room full =
-    let b = with_span f ended g v start last octets in
-    let b' = with_span f ended g v start row.index (octets ++ written g v row) in
+in_span f ended o g v s start last (suc n) octets (row ∷ rows) order each few room full =
+    let b = with_span f ended o g v start last octets in
+    let b' = with_span f ended o g v start row.index (octets ++ written g v row) in
     let sized : size b' ≡ size b + s =
-    size_span f ended g v start last row.index octets (written g v row) ∙ ap (λ (k : ℕ). size b + k) (first_sized g v s row rows each) in
-    let rest = in_span f ended g v s start row.index n (octets ++ written g v row) rows
+    size_span f ended o g v start last row.index octets (written g v row) ∙ ap (λ (k : ℕ). size b + k) (first_sized g v s row rows each) in
+    let rest = in_span f ended o g v s start row.index n (octets ++ written g v row) rows
     (subst (λ (k : ℕ). InOrder (k + 1) rows) (sym order.0) order.1) (others_sized g v s row rows each) (omega arith) (omega arith)
     (λ less. let big : MAX_FRAGMENT < size b + (suc n + 1) * s = full (omega arith) in omega arith) in
     let all = more_put b b' _ (row_head g v row) (map (row_head g v) rows) (size b + s) n (suc n)
-    (span_more f ended g v start last row.index row.index octets (written g v row) order.0) sized (omega arith) rest refl in
+    (span_more f ended o g v start last row.index row.index octets (written g v row) order.0) sized (omega arith) rest refl in
     record {
       count = all.count;
       put =
           all.put
-          ∙ (λ i. with_span f ended g v start (let same : row.index + n ≡ last + suc n = omega (arith, order.0) in same i)
+          ∙ (λ i. with_span f ended o g v start (let same : row.index + n ≡ last + suc n = omega (arith, order.0) in same i)
           (append_assoc octets (written g v row) (all_written g v (take n rows)) i));
     }
 
@@ -180,9 +135,10 @@ in_span f ended g v s start last (suc n) octets (row ∷ rows) order each few ro
 -- the first begins a run or joins one, whatever comes after it
 pub record IsBehind (b : Built) (g v first : ℕ) : Type 0 where
   pub ended : List Head
+  pub common : Option ℕ
   pub start : ℕ
   pub before : List ℕ
-  pub is : (end : ℕ) (octets : List ℕ) → with_object b (span g v first end octets) ≡ with_span b.function ended g v start end (before ++ octets)
+  pub is : (end : ℕ) (octets : List ℕ) → with_object b (span g v first end octets) ≡ with_span b.function ended common g v start end (before ++ octets)
 
 abbrev NoJoin : Range → ℕ → Type 0
 NoJoin r first = (end : ℕ) → joined_range r (range.Span true first end) ≡ None
@@ -215,6 +171,7 @@ begins : (b : Built) (g v first : ℕ) (run : Option Head) → b.run ≡ run
 unfolding with_object
 begins b g v first run is alone = record {
   ended = heads b;
+  common = None;
   start = first;
   before = [];
   is = λ end octets.
@@ -223,10 +180,12 @@ begins b g v first run is alone = record {
 }
 
 goes_on : (b : Built) (g v first : ℕ) (r : Head) (start : ℕ) → b.run ≡ Some r
-    → ((end : ℕ) (octets : List ℕ) → joined r (span g v first end octets) ≡ Some (span g v start end (r.octets ++ octets))) → IsBehind b g v first
+    → ((end : ℕ) (octets : List ℕ) → joined r (span g v first end octets) ≡ Some (head_after r.common g v (range.Span true start end) (r.octets ++ octets)))
+    → IsBehind b g v first
 unfolding with_object
 goes_on b g v first r start is joins = record {
   ended = b.ended;
+  common = r.common;
   start = start;
   before = r.octets;
   is = λ end octets.
@@ -248,7 +207,7 @@ behind b g v first = by_run b.run refl
         let variation : r.variation ≡ v = eqb-true r.variation v parts.1 in
         goes_on b g v first r joins.0 is
         (λ end octets. by_object r g v first end octets true same ∙ ap (option_map (join_by r (span g v first end octets))) (joins.1 end)
-        ∙ (λ i. Some (span (group i) (variation i) joins.0 end (r.octets ++ octets))))
+        ∙ (λ i. Some (head_after r.common (group i) (variation i) (range.Span true joins.0 end) (r.octets ++ octets))))
 
     by_head : (r : Head) → b.run ≡ Some r → (t : Bool) → ((r.group == g) && (r.variation == v)) ≡ t → IsBehind b g v first
     by_head r is true same = by_range r is same (joins_or_not r.range first)
@@ -265,8 +224,8 @@ size_behind b g v first = size (with_object b (span g v first first []))
 pub size_with : (b : Built) (g v first end : ℕ) (octets : List ℕ) → size (with_object b (span g v first end octets)) ≡ size_behind b g v first + length octets
 size_with b g v first end octets =
     let there = behind b g v first in
-    let whole = ap size (there.is end octets) ∙ size_span b.function there.ended g v there.start first end there.before octets in
-    let none = ap size (there.is first []) ∙ size_span b.function there.ended g v there.start first first there.before [] in
+    let whole = ap size (there.is end octets) ∙ size_span b.function there.ended there.common g v there.start first end there.before octets in
+    let none = ap size (there.is first []) ∙ size_span b.function there.ended there.common g v there.start first first there.before [] in
     omega arith
 
 -- no row fits, or there is none
@@ -289,13 +248,13 @@ rows_put b g v s first n [] order each few some room full = absurd (omega arith)
 rows_put b g v s first n (row ∷ rows) order each few some room full =
     let there = behind b g v first in
     let index : row.index ≡ first = order.0 in
-    let b' = with_span b.function there.ended g v there.start first (there.before ++ written g v row) in
+    let b' = with_span b.function there.ended there.common g v there.start first (there.before ++ written g v row) in
     let is : with_object b (row_head g v row) ≡ b' =
     ap (λ (k : ℕ). with_object b (span g v k k (written g v row))) index ∙ there.is first (written g v row) in
     let sized : size b' ≡ size_behind b g v first + s =
     sym (ap size (there.is first (written g v row))) ∙ size_with b g v first first (written g v row)
     ∙ ap (λ (k : ℕ). size_behind b g v first + k) (first_sized g v s row rows each) in
-    let rest = in_span b.function there.ended g v s there.start first n (there.before ++ written g v row) rows order.1
+    let rest = in_span b.function there.ended there.common g v s there.start first n (there.before ++ written g v row) rows order.1
     (others_sized g v s row rows each) (omega arith) (omega arith)
     (λ less. let big : MAX_FRAGMENT - size_behind b g v first < (suc n + 1) * s = full (omega arith) in omega arith) in
     let all = more_put b b' _ (row_head g v row) (map (row_head g v) rows) (size_behind b g v first + s) n (suc n) is sized (omega arith) rest refl in
@@ -303,7 +262,8 @@ rows_put b g v s first n (row ∷ rows) order each few some room full =
       count = all.count;
       put =
           all.put
-          ∙ (λ i. with_span b.function there.ended g v there.start (first + n) (append_assoc there.before (written g v row) (all_written g v (take n rows)) i))
+          ∙ (λ i. with_span b.function there.ended there.common g v there.start (first + n)
+          (append_assoc there.before (written g v row) (all_written g v (take n rows)) i))
           ∙ sym (there.is (first + n) (written g v row ++ all_written g v (take n rows)));
     }
 
@@ -363,7 +323,8 @@ run_long : (run long : Run) (object : Head) → joined_run object run ≡ Some l
 run_long run long object is = go ((run.group == object.group) && (run.variation == object.variation)) (joined_range run.range object.range) refl is
   where
     go : (t : Bool) (o : Option Range) → joined_range run.range object.range ≡ o
-        → cond t (option_map (λ (r : Range). let l : Run = record { group = run.group; variation = run.variation; range = r } in l) o) None ≡ Some long
+        → cond t (option_map (λ (r : Range). let l : Run = record { group = run.group; variation = run.variation; range = r; common = run.common } in l) o)
+        None ≡ Some long
         → length (range_octets long.range) ≡ length (range_octets run.range)
     go true (Some r) joins same = let range_is : r ≡ long.range = cc in
         ap (λ (x : Range). length (range_octets x)) (sym range_is) ∙ range_long run.range object.range r joins
@@ -391,10 +352,6 @@ joined_empty old f octets (Some run) objects object long seen joins empty =
     )
 
 -- ---- each object
-
-pub fits_as : (group g variation v : ℕ) (rows : List Row) → group ≡ g → variation ≡ v → All (FitsPoint group variation) rows → All (Fits g v) rows
-fits_as group g variation v rows is its all = λ k d less.
-    (subst (λ (o : ℕ × ℕ). FitsPoint o.0 o.1 (get_or rows k d)) (λ i. (is i, its i)) (all k d less)).row_fits
 
 pub not_this : (n m group variation : ℕ) → ((group ≡ n) × (variation ≡ m → ⊥)) ⊎ (group ≡ n → ⊥)
     → ((n == group) && (m == variation)) ≡ false

@@ -18,7 +18,7 @@ use Rattle.dnp_appfragment.specs.declared.table.Form.TheVariants as form
 use Rattle.dnp_appfragment.specs.Table.{Rule, rules, takes_of, form_eq, span, indexed, allows}
 use Rattle.dnp_appfragment.specs.Headers.{Head, head_of, qualifier_of, count_of, prefix_size, octets_of, objects_size, IsHeader}
 use Rattle.dnp_appfragment.specs.Reading.{number_at, index_at, first_octets, object_at}
-use Rattle.dnp_appfragment.specs.Objects.{IsSpan, HasRows, HasCommands}
+use Rattle.dnp_appfragment.specs.Objects.{IsSpan, HasWholeRows, HasCommands}
 use Rattle.dnp_appfragment.proofs.TableLines.{line_of, allowed_passes}
 use Rattle.dnp_appfragment.proofs.Numbers.{number_size}
 use Rattle.dnp_appfragment.proofs.HeaderObjects.{packed_unsized}
@@ -227,7 +227,7 @@ bit_there r octets k is here =
 
 -- ---- what a header of rows, of bits or of commands says
 
-pub bits_of : (g v : ℕ) (r : Range) (octets : List ℕ) (k : ℕ) → g ≡ 1 → v ≡ 1 → HasRows (head_of g v r octets) → k < count_of r
+pub bits_of : (g v : ℕ) (r : Range) (octets : List ℕ) (k : ℕ) → g ≡ 1 → v ≡ 1 → HasWholeRows (head_of g v r octets) → k < count_of r
     → IsSpan r × (k / 8 < length octets)
 bits_of g v r octets k group variation has here =
     let header : IsHeader form.Response (head_of 1 1 r octets) =
@@ -235,7 +235,7 @@ bits_of g v r octets k group variation has here =
     (subst (λ (n : ℕ). IsHeader form.Response (head_of n v r octets)) group has.header) in
     bit_there r octets k header here
 
-pub rows_of : (g v : ℕ) (r : Range) (octets : List ℕ) (k : ℕ) → (g ≡ 1 → v ≡ 1 → ⊥) → HasRows (head_of g v r octets) → k < count_of r
+pub rows_of : (g v : ℕ) (r : Range) (octets : List ℕ) (k : ℕ) → (g ≡ 1 → v ≡ 1 → ⊥) → HasWholeRows (head_of g v r octets) → k < count_of r
     → IsSome (shape_read g v) × IsThere g v r octets k
 rows_of g v r octets k other has here = go has.rows
   where

@@ -5,17 +5,17 @@ use Rattle.std.specs.Result.{is_ok, result_unwrap_or}
 use Rattle.std.proofs.lemmas.Bool.{cond_both}
 use Rattle.std.proofs.lemmas.List.{length-drop}
 use Rattle.dnp_appfragment.specs.declared.fault.AppFault.{AppFault}
-use Rattle.dnp_appfragment.specs.declared.fault.AppFault.TheVariants.{QualifierUnknown, RangeBackward, ObjectsCut}
+use Rattle.dnp_appfragment.specs.declared.fault.AppFault.TheVariants.{QualifierUnknown, RangeBackward, ObjectsCut, CommonTime}
 use Rattle.dnp_appfragment.specs.declared.header.Range.{Range}
 use Rattle.dnp_appfragment.specs.declared.header.Range.TheVariants as range
 use Rattle.dnp_appfragment.specs.declared.table.Form.{Form}
 use Rattle.dnp_appfragment.specs.Table.{takes_of}
-use Rattle.dnp_appfragment.specs.Headers.{Head, head_of, objects_size, Context, context_after}
+use Rattle.dnp_appfragment.specs.Headers.{Head, head_after, objects_size, Context, context_after, common_of}
 use Rattle.dnp_appfragment.specs.declared.header.Header.{Header}
 use Rattle.dnp_appfragment.specs.Left.{Left, is_whole, headers_left}
 use Rattle.dnp_appfragment.specs.Places.{Ends, YieldsHeader}
 use Rattle.dnp_appfragment.specs.Seen.{head}
-use Rattle.dnp_appfragment.specs.Reading.{◌>>=◌, number_at, span_at, count_at, indexed_at, range_at, taken, objects_at, header_at, headers_in, headers_from}
+use Rattle.dnp_appfragment.specs.Reading.{◌>>=◌, number_at, span_at, count_at, indexed_at, range_at, taken, is_timed, timed_at, objects_at, header_at, headers_in, headers_from}
 
 pub not_empty : (octets : List ℕ) → (length octets == 0) ≡ false → 0 < length octets
 not_empty [] is = cc
@@ -68,12 +68,15 @@ range_no_more q octets =
     turn : (k : ℕ) (here others : Result (Range × List ℕ) AppFault) → NoMore octets here → NoMore octets others → NoMore octets (cond (q == k) here others)
     turn k here others at other = cond_both (q == k) here others (λ (r : Result (Range × List ℕ) AppFault). NoMore octets r) (λ _. at) (λ _. other)
 
-objects_no_more : (f : Form) (g v : ℕ) (r : Range) (octets : List ℕ) → NoMore octets (objects_at f g v r octets)
-objects_no_more f g v r octets =
-    cond_both (nat_lt (length octets) (objects_size f g v r)) (Err ObjectsCut)
-    (Ok (head_of g v r (take (objects_size f g v r) octets), drop (objects_size f g v r) octets))
+objects_no_more : (f : Form) (context : Context) (g v : ℕ) (r : Range) (octets : List ℕ) → NoMore octets (objects_at f context g v r octets)
+objects_no_more f context g v r octets =
+    let h = head_after (common_of context g v) g v r (take (objects_size f g v r) octets) in
+    let rest = drop (objects_size f g v r) octets in
+    cond_both (nat_lt (length octets) (objects_size f g v r)) (Err ObjectsCut) (timed_at h rest)
     (λ (x : Result (Head × List ℕ) AppFault). NoMore octets x)
-    (λ _. tt) (λ _. omega (arith, length-drop (objects_size f g v r) octets))
+    (λ _. tt)
+    (λ _. cond_both (is_timed h) (Ok (h, rest)) (Err CommonTime) (λ (x : Result (Head × List ℕ) AppFault). NoMore octets x)
+    (λ _. omega (arith, length-drop (objects_size f g v r) octets)) (λ _. tt))
 
 -- fewer octets are left after a header
 abbrev pub Fewer : {A : Type 0} → List ℕ → Result (A × List ℕ) AppFault → Type 0
@@ -89,7 +92,7 @@ header_fewer f context (g ∷ v ∷ q ∷ octets) =
     (taken (takes_of f g v) q) _ (any (taken (takes_of f g v) q)) (λ t _.
     ok_then (λ (r : Range × List ℕ). length r.1 ≤ length octets) (λ (x : Head × List ℕ). length x.1 < length (g ∷ v ∷ q ∷ octets))
     (range_at q octets) _ (range_no_more q octets) (λ r less.
-    few (objects_at f g v r.0 r.1) r.1 less (objects_no_more f g v r.0 r.1)))
+    few (objects_at f context g v r.0 r.1) r.1 less (objects_no_more f context g v r.0 r.1)))
   where
     any : (r : Result (List ℕ) AppFault) → IfOk r (λ (t : List ℕ). Unit {0})
     any (Ok t) = tt
@@ -133,34 +136,6 @@ enough (suc n) (suc m) f context (b ∷ octets) small small' =
         ap (onto h.0) (same (context_after context h.0) h.1 (omega (arith, fewer)) (omega (arith, fewer)))
     go same (Err e) fewer = refl
 
--- ---- no header depends on those before it yet
-
-header_any : (f : Form) (context other : Context) (octets : List ℕ) → header_at f context octets ≡ header_at f other octets
-unfolding header_at
-header_any f context other [] = refl
-header_any f context other (g ∷ []) = refl
-header_any f context other (g ∷ v ∷ []) = refl
-header_any f context other (g ∷ v ∷ q ∷ octets) = refl
-
-headers_any : (n : ℕ) (f : Form) (context other : Context) (octets : List ℕ) → headers_in n f context octets ≡ headers_in n f other octets
-unfolding headers_in
-headers_any zero f context other [] = refl
-headers_any zero f context other (b ∷ octets) = refl
-headers_any (suc n) f context other [] = refl
-headers_any (suc n) f context other (b ∷ octets) =
-    ap (λ (r : Result (Head × List ℕ) AppFault). r >>= λ (h : Head × List ℕ). onto h.0 (headers_in n f (context_after context h.0) h.1))
-    (header_any f context other (b ∷ octets)) ∙ go (λ here there rest. headers_any n f here there rest) (header_at f other (b ∷ octets))
-  where
-    go : ((here there : Context) (rest : List ℕ) → headers_in n f here rest ≡ headers_in n f there rest)
-        → (r : Result (Head × List ℕ) AppFault)
-        → (r >>= λ (h : Head × List ℕ). onto h.0 (headers_in n f (context_after context h.0) h.1))
-        ≡ (r >>= λ (h : Head × List ℕ). onto h.0 (headers_in n f (context_after other h.0) h.1))
-    go same (Ok h) = ap (onto h.0) (same (context_after context h.0) (context_after other h.0) h.1)
-    go same (Err e) = refl
-
-pub any_context : (f : Form) (context other : Context) (octets : List ℕ) → headers_from f context octets ≡ headers_from f other octets
-any_context f context other octets = headers_any (length octets) f context other octets
-
 -- ---- the first step, and the others
 
 pub headers_none : (f : Form) (context : Context) → headers_from f context [] ≡ Ok []
@@ -190,17 +165,12 @@ fault_onto h (Ok hs) = refl
 fault_onto h (Err e) = refl
 
 -- after a header in order, the first fault is the first fault of all
-fault_on : (f : Form) (context : Context) (octets : List ℕ) (h : Head × List ℕ) → 0 < length octets → header_at f context octets ≡ Ok h
+pub fault_on : (f : Form) (context : Context) (octets : List ℕ) (h : Head × List ℕ) → 0 < length octets → header_at f context octets ≡ Ok h
     → fault_of (headers_from f (context_after context h.0) h.1) ≡ fault_of (headers_from f context octets)
 fault_on f context octets h some is =
     let step = headers_step f context octets some in
     let next = λ (r : Result (Head × List ℕ) AppFault). fault_of (others f context r) in
     fault_onto h.0 (headers_from f (context_after context h.0) h.1) ∙ sym (ap next is) ∙ sym (ap fault_of step)
-
-pub fault_any : (f : Form) (context other : Context) (octets : List ℕ) (h : Head × List ℕ) → 0 < length octets → header_at f context octets ≡ Ok h
-    → fault_of (headers_from f other h.1) ≡ fault_of (headers_from f context octets)
-fault_any f context other octets h some is =
-    ap fault_of (any_context f other (context_after context h.0) h.1) ∙ fault_on f context octets h some is
 
 -- where none is in order, that is the first fault
 pub stops : (f : Form) (context : Context) (octets : List ℕ) (e : AppFault) → 0 < length octets → header_at f context octets ≡ Err e
@@ -252,7 +222,7 @@ first_and_others : (h : Head) (r : Result (List Head) AppFault) → is_ok (r >>=
 first_and_others h (Ok hs) is = (refl, refl)
 first_and_others h (Err e) is = cc
 
-one_off : (f : Form) (context : Context) (octets : List ℕ) (h : Head × List ℕ) → 0 < length octets → header_at f context octets ≡ Ok h
+pub one_off : (f : Form) (context : Context) (octets : List ℕ) (h : Head × List ℕ) → 0 < length octets → header_at f context octets ≡ Ok h
     → IsTrue (is_whole f context octets)
     → IsTrue (is_whole f (context_after context h.0) h.1) × (headers_left f context octets ≡ h.0 ∷ headers_left f (context_after context h.0) h.1)
 one_off f context octets h some is whole =
@@ -260,12 +230,6 @@ one_off f context octets h some is whole =
     headers_step f context octets some ∙ ap (others f context) is in
     let both = first_and_others h.0 (headers_from f (context_after context h.0) h.1) (subst (λ (r : Result (List Head) AppFault). is_ok r ≡ true) same whole) in
     (both.0, ap (λ (r : Result (List Head) AppFault). result_unwrap_or r []) same ∙ both.1)
-
-pub one_off_any : (f : Form) (context other : Context) (octets : List ℕ) (h : Head × List ℕ) → 0 < length octets → header_at f context octets ≡ Ok h
-    → IsTrue (is_whole f context octets) → IsTrue (is_whole f other h.1) × (headers_left f context octets ≡ h.0 ∷ headers_left f other h.1)
-one_off_any f context other octets h some is whole =
-    subst (λ (r : Result (List Head) AppFault). IsTrue (is_ok r) × (headers_left f context octets ≡ h.0 ∷ result_unwrap_or r []))
-    (any_context f (context_after context h.0) other h.1) (one_off f context octets h some is whole)
 
 -- where headers divide the octets, one stands at the front
 pub front_whole : (f : Form) (context : Context) (octets : List ℕ) → 0 < length octets → IsTrue (is_whole f context octets)

@@ -17,75 +17,11 @@ use Rattle.dnp_appfragment.specs.declared.row_walk.Carried.{Carried}
 use Rattle.dnp_appfragment.specs.declared.row_walk.Carried.TheVariants as carried
 use Rattle.dnp_appfragment.specs.Headers.{head_of, count_of, prefix_size}
 use Rattle.dnp_appfragment.specs.Reading.{index_at, first_octets, object_at}
-use Rattle.dnp_appfragment.specs.Meaning.{start_of, bit_in, shaped_row_in, row_in}
-use Rattle.dnp_appfragment.specs.Objects.{IsSpan, HasRows}
+use Rattle.dnp_appfragment.specs.Meaning.{start_of, bit_in, shaped_row_in, whole_row_in}
+use Rattle.dnp_appfragment.specs.Objects.{IsSpan, HasWholeRows}
 use Rattle.dnp_appfragment.proofs.ObjectValues.{shape_sized}
 use Rattle.dnp_appfragment.proofs.There.{bits_of, rows_of}
-use Rattle.dnp_appfragment.specs.steps.Walking.{carried_by, Cut, cut_octets, cut_at, shaped_left, bits_left, rows_left}
-
--- ---- a step
-
-not_none : (n : ℕ) → (n ≡ 0 → ⊥) → 0 < n
-not_none zero some = absurd (some refl)
-not_none (suc n) some = omega arith
-
-pub none_left : (c : Carried) (r : Range) (octets : List ℕ) (k left : ℕ) → left ≡ 0 → rows_left c r octets k left ≡ []
-unfolding shaped_left bits_left
-none_left carried.Bits r octets k zero none = refl
-none_left (carried.Rows s) r octets k zero none = refl
-none_left carried.Nothing r octets k left none = refl
-none_left carried.Bits r octets k (suc n) none = absurd (omega arith)
-none_left (carried.Rows s) r octets k (suc n) none = absurd (omega arith)
-
-pub bit_step : (r : Range) (octets : List ℕ) (k left : ℕ) → 0 < left
-    → bits_left r octets left k ≡ option_map_or (λ (row : Row). row ∷ bits_left r octets (left - 1) (k + 1)) (bit_in (head_of 1 1 r octets) k) []
-unfolding bits_left
-bit_step r octets k zero some = absurd (omega arith)
-bit_step r octets k (suc n) some =
-    let same : n ≡ suc n - 1 = omega arith in
-    ap (λ (m : ℕ). option_map_or (λ (row : Row). row ∷ bits_left r octets m (k + 1)) (bit_in (head_of 1 1 r octets) k) []) same
-
-pub row_step : (s : Shape) (r : Range) (octets : List ℕ) (k left : ℕ) → 0 < left
-    → shaped_left s r left k octets
-    ≡ option_map_or (λ (cut : Cut). row_of s cut.index cut.octets ∷ shaped_left s r (left - 1) (k + 1) cut.rest) (cut_at r (shape_size s) k octets) []
-unfolding shaped_left
-row_step s r octets k zero some = absurd (omega arith)
-row_step s r octets k (suc n) some =
-    let same : n ≡ suc n - 1 = omega arith in
-    ap (λ (m : ℕ). option_map_or (λ (cut : Cut). row_of s cut.index cut.octets ∷ shaped_left s r m (k + 1) cut.rest) (cut_at r (shape_size s) k octets) []) same
-
--- a row that was cut off the front is the first of those that were left
-pub row_given : (before : List Row) (c : Carried) (r : Range) (octets : List ℕ) (k left : ℕ) (s : Shape) (size : ℕ) (cut : Cut) (row : Row)
-    → rows_left c r octets k left ≡ before → c ≡ carried.Rows s → (left ≡ 0 → ⊥) → size ≡ shape_size s
-    → Some cut ≡ cut_at r size k octets → row ≡ row_of s cut.index cut.octets
-    → before ≡ row ∷ rows_left c r cut.rest (k + 1) (left - 1)
-row_given before c r octets k left s size cut row view carries some sized is same =
-    let here : cut_at r (shape_size s) k octets ≡ Some cut = ap (λ (n : ℕ). cut_at r n k octets) (sym sized) ∙ sym is in
-    sym view ∙ ap (λ (c : Carried). rows_left c r octets k left) carries ∙ row_step s r octets k left (not_none left some)
-    ∙ ap (λ (o : Option Cut). option_map_or (λ (cut : Cut). row_of s cut.index cut.octets ∷ shaped_left s r (left - 1) (k + 1) cut.rest) o []) here
-    ∙ (λ i. sym same i ∷ rows_left (sym carries i) r cut.rest (k + 1) (left - 1))
-
--- and where none was, none was left
-pub no_row_given : (before : List Row) (c : Carried) (r : Range) (octets : List ℕ) (k left : ℕ) (s : Shape) (size : ℕ)
-    → rows_left c r octets k left ≡ before → c ≡ carried.Rows s → (left ≡ 0 → ⊥) → size ≡ shape_size s → None ≡ cut_at r size k octets → before ≡ []
-no_row_given before c r octets k left s size view carries some sized is =
-    let here : cut_at r (shape_size s) k octets ≡ None = ap (λ (n : ℕ). cut_at r n k octets) (sym sized) ∙ sym is in
-    sym view ∙ ap (λ (c : Carried). rows_left c r octets k left) carries ∙ row_step s r octets k left (not_none left some)
-    ∙ ap (λ (o : Option Cut). option_map_or (λ (cut : Cut). row_of s cut.index cut.octets ∷ shaped_left s r (left - 1) (k + 1) cut.rest) o []) here
-
-pub bit_given : (before : List Row) (c : Carried) (r : Range) (octets : List ℕ) (k left : ℕ) (row : Row)
-    → rows_left c r octets k left ≡ before → c ≡ carried.Bits → (left ≡ 0 → ⊥) → Some row ≡ bit_in (head_of 1 1 r octets) k
-    → before ≡ row ∷ rows_left c r octets (k + 1) (left - 1)
-bit_given before c r octets k left row view carries some is =
-    sym view ∙ ap (λ (c : Carried). rows_left c r octets k left) carries ∙ bit_step r octets k left (not_none left some)
-    ∙ ap (λ (o : Option Row). option_map_or (λ (row : Row). row ∷ bits_left r octets (left - 1) (k + 1)) o []) (sym is)
-    ∙ ap (λ (c : Carried). row ∷ rows_left c r octets (k + 1) (left - 1)) (sym carries)
-
-pub no_bit_given : (before : List Row) (c : Carried) (r : Range) (octets : List ℕ) (k left : ℕ)
-    → rows_left c r octets k left ≡ before → c ≡ carried.Bits → (left ≡ 0 → ⊥) → None ≡ bit_in (head_of 1 1 r octets) k → before ≡ []
-no_bit_given before c r octets k left view carries some is =
-    sym view ∙ ap (λ (c : Carried). rows_left c r octets k left) carries ∙ bit_step r octets k left (not_none left some)
-    ∙ ap (λ (o : Option Row). option_map_or (λ (row : Row). row ∷ bits_left r octets (left - 1) (k + 1)) o []) (sym is)
+use Rattle.dnp_appfragment.specs.steps.Walking.{carried_by, Cut, cut_octets, cut_at, cut_left, shaped_left, row_after, relative_left, bits_left, rows_left}
 
 -- ---- packed bits
 
@@ -218,7 +154,7 @@ object_none r octets size j none =
     (λ _. cond_both (nat_lt (length octets) (j * (prefix_size r + size))) None (first_octets size (index_at r j (drop (j * (prefix_size r + size)) octets)))
     (λ (o : Option (ℕ × List ℕ)). o ≡ None) (λ _. refl) (λ _. none)) (λ _. refl)
 
-object_past : (r : Range) (octets : List ℕ) (size j : ℕ) → count_of r ≤ j → object_at r octets size j ≡ None
+pub object_past : (r : Range) (octets : List ℕ) (size j : ℕ) → count_of r ≤ j → object_at r octets size j ≡ None
 object_past r octets size j past =
     ap (λ (b : Bool). cond b (cond (nat_lt (length octets) (j * (prefix_size r + size))) None (first_octets size (index_at r j (drop (j * (prefix_size r + size)) octets)))) None)
     (le-ltb j (count_of r) past)
@@ -246,51 +182,55 @@ object_stops r octets size k i none = go (object_lacks r k size (drop (k * (pref
         omega (arith, more, few, length-drop (k * each) octets, length-drop ((k + i) * each) octets) in
         object_none r octets size (k + i) (too_few r (k + i) size (drop ((k + i) * each) octets) fewer)
 
-pub rows_are : (s : Shape) (g v : ℕ) (r : Range) (octets : List ℕ) (n k i : ℕ) → k + n ≡ count_of r → k * (prefix_size r + shape_size s) ≤ length octets
-    → slice_get (shaped_left s r n k (drop (k * (prefix_size r + shape_size s)) octets)) i ≡ shaped_row_in (head_of g v r octets) (k + i) s
-unfolding shaped_left
-rows_are s g v r octets zero k i all room =
+-- object j as a row
+abbrev pub cut_row : (ℕ → List ℕ → Row) → ℕ → Range → List ℕ → ℕ → Option Row
+cut_row f size r octets j = option_map (λ (x : ℕ × List ℕ). f x.0 x.1) (object_at r octets size j)
+
+pub rows_are : (f : ℕ → List ℕ → Row) (size : ℕ) (r : Range) (octets : List ℕ) (n k i : ℕ) → k + n ≡ count_of r → k * (prefix_size r + size) ≤ length octets
+    → slice_get (cut_left f size r n k (drop (k * (prefix_size r + size)) octets)) i ≡ cut_row f size r octets (k + i)
+unfolding cut_left
+rows_are f size r octets zero k i all room =
     let past : count_of r ≤ k + i = omega (arith, all) in
-    sym (ap (option_map (λ (x : ℕ × List ℕ). row_of s x.0 x.1)) (object_past r octets (shape_size s) (k + i) past))
-rows_are s g v r octets (suc n) k i all room =
-    let each = prefix_size r + shape_size s in
+    sym (ap (option_map (λ (x : ℕ × List ℕ). f x.0 x.1)) (object_past r octets size (k + i) past))
+rows_are f size r octets (suc n) k i all room =
+    let each = prefix_size r + size in
     let here : k < count_of r = omega (arith, all) in
     let next : (k + 1) + n ≡ count_of r = omega (arith, all) in
     let front = drop (k * each) octets in
-    go here (λ room j. rows_are s g v r octets n (k + 1) j next room) (cut_at r (shape_size s) k front)
-    (cut_there (prefix_size r) (shape_size s) front (index_at r k front) (behind_index r k front)) i
+    go here (λ room j. rows_are f size r octets n (k + 1) j next room) (cut_at r size k front)
+    (cut_there (prefix_size r) size front (index_at r k front) (behind_index r k front)) i
   where
     go : k < count_of r
-        → ((k + 1) * (prefix_size r + shape_size s) ≤ length octets → (j : ℕ)
-        → slice_get (shaped_left s r n (k + 1) (drop ((k + 1) * (prefix_size r + shape_size s)) octets)) j ≡ shaped_row_in (head_of g v r octets) ((k + 1) + j) s)
+        → ((k + 1) * (prefix_size r + size) ≤ length octets → (j : ℕ)
+        → slice_get (cut_left f size r n (k + 1) (drop ((k + 1) * (prefix_size r + size)) octets)) j ≡ cut_row f size r octets ((k + 1) + j))
         → (o : Option Cut)
-        → MatchOption o (first_octets (shape_size s) (index_at r k (drop (k * (prefix_size r + shape_size s)) octets)) ≡ None)
-        (λ cut. (first_octets (shape_size s) (index_at r k (drop (k * (prefix_size r + shape_size s)) octets)) ≡ Some (cut.index, cut.octets))
-        × (cut.rest ≡ drop (prefix_size r + shape_size s) (drop (k * (prefix_size r + shape_size s)) octets))
-        × (prefix_size r + shape_size s ≤ length (drop (k * (prefix_size r + shape_size s)) octets)))
+        → MatchOption o (first_octets size (index_at r k (drop (k * (prefix_size r + size)) octets)) ≡ None)
+        (λ cut. (first_octets size (index_at r k (drop (k * (prefix_size r + size)) octets)) ≡ Some (cut.index, cut.octets))
+        × (cut.rest ≡ drop (prefix_size r + size) (drop (k * (prefix_size r + size)) octets))
+        × (prefix_size r + size ≤ length (drop (k * (prefix_size r + size)) octets)))
         → (i : ℕ)
-        → slice_get (option_map_or (λ (cut : Cut). row_of s cut.index cut.octets ∷ shaped_left s r n (k + 1) cut.rest) o []) i
-        ≡ shaped_row_in (head_of g v r octets) (k + i) s
-    go here others None is i = sym (ap (option_map (λ (x : ℕ × List ℕ). row_of s x.0 x.1)) (object_stops r octets (shape_size s) k i is))
+        → slice_get (option_map_or (λ (cut : Cut). f cut.index cut.octets ∷ cut_left f size r n (k + 1) cut.rest) o []) i
+        ≡ cut_row f size r octets (k + i)
+    go here others None is i = sym (ap (option_map (λ (x : ℕ × List ℕ). f x.0 x.1)) (object_stops r octets size k i is))
     go here others (Some cut) is zero =
         let same : k ≡ k + 0 = omega arith in
-        sym (ap (option_map (λ (x : ℕ × List ℕ). row_of s x.0 x.1)) (object_front r octets (shape_size s) k here room ∙ is.0))
-        ∙ ap (λ (j : ℕ). shaped_row_in (head_of g v r octets) j s) same
+        sym (ap (option_map (λ (x : ℕ × List ℕ). f x.0 x.1)) (object_front r octets size k here room ∙ is.0))
+        ∙ ap (λ (j : ℕ). cut_row f size r octets j) same
     go here others (Some cut) is (suc i) =
-        let each = prefix_size r + shape_size s in
+        let each = prefix_size r + size in
         let one : k + 1 ≡ suc k = omega arith in
         let times : (k + 1) * each ≡ k * each + each = ap (λ (m : ℕ). m * each) one ∙ suc-mul k each in
         let enough : (k + 1) * each ≤ length octets = omega (arith, times, is.2, length-drop (k * each) octets, room) in
         let rest : cut.rest ≡ drop ((k + 1) * each) octets =
         is.1 ∙ drop-drop each (k * each) octets ∙ ap (λ (m : ℕ). drop m octets) (sym times) in
         let same : (k + 1) + i ≡ k + suc i = omega arith in
-        ap (λ (rest : List ℕ). slice_get (shaped_left s r n (k + 1) rest) i) rest ∙ others enough i
-        ∙ ap (λ (j : ℕ). shaped_row_in (head_of g v r octets) j s) same
+        ap (λ (rest : List ℕ). slice_get (cut_left f size r n (k + 1) rest) i) rest ∙ others enough i
+        ∙ ap (λ (j : ℕ). cut_row f size r octets j) same
 
 -- ---- the whole walk
 
 pub walk_is : (g v : ℕ) (r : Range) (octets : List ℕ) (c : Carried) (left : ℕ) → c ≡ carried_by g v → left ≡ count_of r → (i : ℕ)
-    → slice_get (rows_left c r octets 0 left) i ≡ row_in (head_of g v r octets) i
+    → slice_get (rows_left c r octets 0 left) i ≡ whole_row_in (head_of g v r octets) i
 walk_is g v r octets c left carries counts i =
     (λ j. slice_get (rows_left (carries j) r octets 0 (counts j)) i) ∙ go ((g == 1) && (v == 1))
   where
@@ -304,7 +244,7 @@ walk_is g v r octets c left carries counts i =
     shaped (Some s) =
         let none : 0 * (prefix_size r + shape_size s) ≡ 0 = omega arith in
         ap (λ (n : ℕ). slice_get (shaped_left s r (count_of r) 0 (drop n octets)) i) (sym none)
-        ∙ rows_are s g v r octets (count_of r) 0 i (at (count_of r)) (omega (arith, none))
+        ∙ rows_are (row_of s) (shape_size s) r octets (count_of r) 0 i (at (count_of r)) (omega (arith, none))
         ∙ ap (λ (j : ℕ). shaped_row_in (head_of g v r octets) j s) (at i)
 
     go : (b : Bool)
@@ -312,6 +252,18 @@ walk_is g v r octets c left carries counts i =
         ≡ cond b (bit_in (head_of g v r octets) i) (option_and_then (shaped_row_in (head_of g v r octets) i) (shape_read g v))
     go true = bits_are r octets (count_of r) 0 i (at (count_of r)) ∙ ap (bit_in (head_of 1 1 r octets)) (at i)
     go false = shaped (shape_read g v)
+
+-- and of rows whose times are given after a common one
+pub relative_walk_is : (common : ℕ) (r : Range) (octets : List ℕ) (left : ℕ) → left ≡ count_of r → (i : ℕ)
+    → slice_get (rows_left (carried.Relative common) r octets 0 left) i ≡ cut_row (row_after common) 3 r octets i
+relative_walk_is common r octets left counts i =
+    let none : 0 * (prefix_size r + 3) ≡ 0 = omega arith in
+    let all : 0 + count_of r ≡ count_of r = omega arith in
+    let at : 0 + i ≡ i = omega arith in
+    ap (λ (m : ℕ). slice_get (rows_left (carried.Relative common) r octets 0 m) i) counts
+    ∙ ap (λ (n : ℕ). slice_get (relative_left common r (count_of r) 0 (drop n octets)) i) (sym none)
+    ∙ rows_are (row_after common) 3 r octets (count_of r) 0 i all (omega (arith, none))
+    ∙ ap (cut_row (row_after common) 3 r octets) at
 
 -- ---- how many rows there are
 
@@ -332,7 +284,7 @@ no_longer (x ∷ xs) f (suc n) gives none =
     omega (arith, fewer)
 
 -- no row after the count
-pub row_past : (g v : ℕ) (r : Range) (octets : List ℕ) (k : ℕ) → count_of r ≤ k → row_in (head_of g v r octets) k ≡ None
+pub row_past : (g v : ℕ) (r : Range) (octets : List ℕ) (k : ℕ) → count_of r ≤ k → whole_row_in (head_of g v r octets) k ≡ None
 row_past g v r octets k past =
     cond_both ((g == 1) && (v == 1)) (bit_in (head_of g v r octets) k) (option_and_then (shaped_row_in (head_of g v r octets) k) (shape_read g v))
     (λ (o : Option Row). o ≡ None) (λ _. bit_none r octets k (λ counted there. absurd (omega (arith, counted, past)))) (λ _. shaped (shape_read g v))
@@ -342,8 +294,8 @@ row_past g v r octets k past =
     shaped (Some s) = ap (option_map (λ (x : ℕ × List ℕ). row_of s x.0 x.1)) (object_past r octets (shape_size s) k past)
 
 -- in a response each row that the range names is there
-pub row_there_in : (g v : ℕ) (r : Range) (octets : List ℕ) (k : ℕ) → HasRows (head_of g v r octets) → k < count_of r
-    → is_some (row_in (head_of g v r octets) k) ≡ true
+pub row_there_in : (g v : ℕ) (r : Range) (octets : List ℕ) (k : ℕ) → HasWholeRows (head_of g v r octets) → k < count_of r
+    → is_some (whole_row_in (head_of g v r octets) k) ≡ true
 unfolding the_bit
 row_there_in g v r octets k has here = go ((g == 1) && (v == 1)) refl
   where
@@ -379,16 +331,3 @@ row_there_in g v r octets k has here = go ((g == 1) && (v == 1)) refl
         let is : ((g == 1) && (v == 1)) ≡ true = λ i. (group i == 1) && (variation i == 1) in cc in
         let rows = rows_of g v r octets k apart has here in
         shaped (shape_read g v) refl rows.0 rows.1
-
-no_rows_left : (c : Carried) (r : Range) (octets : List ℕ) → rows_left c r octets 0 0 ≡ []
-unfolding shaped_left bits_left
-no_rows_left carried.Bits r octets = refl
-no_rows_left (carried.Rows shape) r octets = refl
-no_rows_left carried.Nothing r octets = refl
-
--- where the range names none, nothing has to be known of the object
-pub no_walk_is : (g v : ℕ) (r : Range) (octets : List ℕ) (left : ℕ) → left ≡ count_of r → left ≡ 0 → (i : ℕ)
-    → slice_get (rows_left carried.Nothing r octets 0 left) i ≡ row_in (head_of g v r octets) i
-no_walk_is g v r octets left counts none i =
-    ap (λ (rows : List Row). slice_get rows i) (sym (no_rows_left (carried_by g v) r octets))
-    ∙ walk_is g v r octets (carried_by g v) 0 refl (sym none ∙ counts) i

@@ -8,7 +8,7 @@ use Rattle.dnp_appfragment.specs.declared.iin.Iin.{Iin}
 use Rattle.dnp_appfragment.specs.Control.{ControlBits}
 use Rattle.dnp_appfragment.specs.declared.table.Form.TheVariants as form
 use Rattle.dnp_appfragment.specs.Table.{form_eq, form_of, is_response}
-use Rattle.dnp_appfragment.specs.Headers.{Head, spelled}
+use Rattle.dnp_appfragment.specs.Headers.{Head, spelled, Context, begin, context_past}
 use Rattle.dnp_appfragment.specs.Fragments.{Asked, Answered}
 use Rattle.dnp_appfragment.specs.Joining.{joined}
 
@@ -22,6 +22,10 @@ pub record Built : Type 0 where
 -- the headers put so far
 abbrev pub heads : Built → List Head
 heads built = built.ended ++ option_to_list built.run
+
+-- what they say for a header after them
+abbrev pub context_of : Built → Context
+context_of built = context_past begin (heads built)
 
 -- how many octets the fragment has so far: control and function, in a response the two indications,
 -- and the headers

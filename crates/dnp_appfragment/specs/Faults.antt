@@ -3,14 +3,14 @@
 -- most.
 use Rattle.std.specs.Prelude.{◌≡◌, ◌≢◌, ℕ, ◌<◌, Bool, true, false, ◌==◌, if◌then◌else◌, ◌⊎◌, List, ◌∷◌, ◌++◌, length, Some, None}
 use Rattle.dnp_appfragment.specs.declared.fault.AppFault.{AppFault}
-use Rattle.dnp_appfragment.specs.declared.fault.AppFault.TheVariants.{Short, FunctionUnknown, HeaderCut, QualifierUnknown, ObjectUnknown, RangeBackward, ObjectsCut}
+use Rattle.dnp_appfragment.specs.declared.fault.AppFault.TheVariants.{Short, FunctionUnknown, HeaderCut, QualifierUnknown, ObjectUnknown, RangeBackward, ObjectsCut, CommonTime}
 use Rattle.dnp_appfragment.specs.declared.function.Function.{Function}
 use Rattle.dnp_appfragment.specs.declared.header.Range.{Range}
 use Rattle.dnp_appfragment.specs.declared.qualifier.TheConstants as qualifier
 use Rattle.dnp_appfragment.specs.declared.table.Form.{Form}
 use Rattle.dnp_appfragment.specs.declared.table.Form.TheVariants as form
 use Rattle.dnp_appfragment.specs.Table.{function_octet, form_of, is_response, takes_of, allows, IsInTable}
-use Rattle.dnp_appfragment.specs.Headers.{Head, qualifier_of, range_octets, NumbersFit, IsForward, objects_size, spelled, Context, AreHeaders, begin, context_past}
+use Rattle.dnp_appfragment.specs.Headers.{Head, qualifier_of, range_octets, NumbersFit, IsForward, objects_size, spelled, Context, AreHeaders, begin, context_past, head_after, is_relative, IsTimed}
 use Rattle.dnp_appfragment.specs.Fragments.{looked_at}
 
 -- the number of a fault
@@ -22,6 +22,7 @@ fault_number QualifierUnknown = 4
 fault_number ObjectUnknown = 5
 fault_number RangeBackward = 6
 fault_number ObjectsCut = 7
+fault_number CommonTime = 8
 
 -- ---- of a header
 
@@ -89,6 +90,21 @@ pub record LacksObjects (f : Form) (octets : List ℕ) : Type 0 where
   pub forward : IsForward range
   pub few : length rest < objects_size f group variation range
 
+-- the objects are there, and their times are given after a common time: there is none here, or a time is 2^48 ms or more
+pub record LacksCommon (f : Form) (context : Context) (octets : List ℕ) : Type 0 where
+  pub group : ℕ
+  pub variation : ℕ
+  pub range : Range
+  pub objects : List ℕ
+  pub rest : List ℕ
+  pub whole : octets ≡ group ∷ variation ∷ qualifier_of range ∷ (range_octets range ++ (objects ++ rest))
+  pub object : IsInTable f group variation (qualifier_of range)
+  pub fits : NumbersFit range
+  pub forward : IsForward range
+  pub all : length objects ≡ objects_size f group variation range
+  pub relative : is_relative group variation ≡ true
+  pub untimed : IsTimed (head_after context group variation range objects) → ⊥
+
 -- what is wrong where a header should begin
 abbrev pub IsHeaderFault : Form → Context → List ℕ → AppFault → Type 0
 IsHeaderFault f context octets HeaderCut = IsStub octets ⊎ LacksRange f octets
@@ -96,6 +112,7 @@ IsHeaderFault f context octets ObjectUnknown = LacksObject f octets
 IsHeaderFault f context octets QualifierUnknown = LacksQualifier f octets
 IsHeaderFault f context octets RangeBackward = IsBackward f octets
 IsHeaderFault f context octets ObjectsCut = LacksObjects f octets
+IsHeaderFault f context octets CommonTime = LacksCommon f context octets
 IsHeaderFault f context octets Short = ⊥
 IsHeaderFault f context octets FunctionUnknown = ⊥
 
@@ -150,6 +167,7 @@ IsRequestFault octets ObjectUnknown = HasRequestFault octets ObjectUnknown
 IsRequestFault octets QualifierUnknown = HasRequestFault octets QualifierUnknown
 IsRequestFault octets RangeBackward = HasRequestFault octets RangeBackward
 IsRequestFault octets ObjectsCut = HasRequestFault octets ObjectsCut
+IsRequestFault octets CommonTime = HasRequestFault octets CommonTime
 
 -- the octets are no response, for this fault
 abbrev pub IsResponseFault : List ℕ → AppFault → Type 0
@@ -160,3 +178,4 @@ IsResponseFault octets ObjectUnknown = HasResponseFault octets ObjectUnknown
 IsResponseFault octets QualifierUnknown = HasResponseFault octets QualifierUnknown
 IsResponseFault octets RangeBackward = HasResponseFault octets RangeBackward
 IsResponseFault octets ObjectsCut = HasResponseFault octets ObjectsCut
+IsResponseFault octets CommonTime = HasResponseFault octets CommonTime

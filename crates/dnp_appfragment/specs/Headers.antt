@@ -4,6 +4,7 @@ use Rattle.std.specs.Prelude.{◌≡◌, ℕ, ◌+◌, ◌-◌, ◌*◌, ◌/◌
 use Rattle.std.specs.List.{flat_map}
 use Rattle.byteorder.specs.Endian.{little_number}
 use Rattle.dnp_objects.specs.Objects.{object_size}
+use Rattle.dnp_objects.specs.declared.limits.TheConstants.{MAX_TIME}
 use Rattle.dnp_appfragment.specs.declared.header.Range.{Range}
 use Rattle.dnp_appfragment.specs.declared.header.Range.TheVariants as range
 use Rattle.dnp_appfragment.specs.declared.qualifier.TheConstants as qualifier
@@ -17,10 +18,16 @@ pub record Head : Type 0 where
   pub variation : ℕ
   pub range : Range
   pub octets : List ℕ
+  -- the common time after which its objects' times are given, if they are given after one
+  pub common : Option ℕ
 
--- a header of an object, a range and the octets of its objects
+-- a header of an object, a range and the octets of its objects, after a common time if there is one
+abbrev pub head_after : Option ℕ → ℕ → ℕ → Range → List ℕ → Head
+head_after common g v r octets = record { group = g; variation = v; range = r; octets = octets; common = common }
+
+-- one of times that stand whole, or of no times
 abbrev pub head_of : ℕ → ℕ → Range → List ℕ → Head
-head_of g v r octets = record { group = g; variation = v; range = r; octets = octets }
+head_of g v r octets = head_after None g v r octets
 
 -- ---- the range
 
@@ -127,10 +134,34 @@ context_after context h = if is_common h && nat_le 1 (count_of h.range) then Som
 abbrev pub context_past : Context → List Head → Context
 context_past context hs = fold context_after context hs
 
+-- objects of this one give their times after a common time, 2.3
+abbrev pub is_relative : ℕ → ℕ → Bool
+is_relative group variation = (group == 2) && (variation == 3)
+
+-- the common time of a header of this object
+abbrev pub common_of : Context → ℕ → ℕ → Option ℕ
+common_of context group variation = if is_relative group variation then context else None
+
+-- how many milliseconds after the common time object k's time is
+abbrev pub time_after : Head → ℕ → ℕ
+time_after h k = little_number 2 (drop (k * (prefix_size h.range + 3) + (prefix_size h.range + 1)) h.octets)
+
+-- there is a common time, and each object's time is under 2^48 ms
+pub record IsTimed (h : Head) : Type 0 where
+  pub common : ℕ
+  pub there : h.common ≡ Some common
+  pub sums : (k : ℕ) → k < count_of h.range → common + time_after h k < MAX_TIME
+
+-- it is a header, and its common time is that of its place, from which its objects' times follow
+pub record IsHeaderAt (f : Form) (context : Context) (h : Head) : Type 0 where
+  pub header : IsHeader f h
+  pub common : h.common ≡ common_of context h.group h.variation
+  pub timed : is_relative h.group h.variation ≡ true → IsTimed h
+
 -- each is a header where it stands
 abbrev pub AreHeaders : Form → Context → List Head → Type 0
 AreHeaders f context [] = ⊤
-AreHeaders f context (h ∷ hs) = IsHeader f h × AreHeaders f (context_after context h) hs
+AreHeaders f context (h ∷ hs) = IsHeaderAt f context h × AreHeaders f (context_after context h) hs
 
 -- their octets in order
 abbrev pub spelled : List Head → List ℕ

@@ -6,6 +6,7 @@ use Rattle.std.specs.Int.{bit_at}
 use Rattle.std.specs.Option.{option_map, option_and_then}
 use Rattle.dnp_objects.specs.Objects.{content_of, content_size, shape_read, shape_size}
 use Rattle.dnp_objects.specs.Parts.{row_of, command_of}
+use Rattle.dnp_objects.specs.Relative.{relative_row}
 use Rattle.dnp_objects.specs.declared.row.Kind.TheVariants.{Binary}
 use Rattle.dnp_objects.specs.declared.row.Row.{Row}
 use Rattle.dnp_objects.specs.declared.command.Command.{Command}
@@ -19,9 +20,9 @@ use Rattle.dnp_appfragment.specs.declared.header.Range.TheVariants as range
 use Rattle.dnp_appfragment.specs.declared.table.Form.TheVariants as form
 use Rattle.dnp_appfragment.specs.Control.{ControlBits}
 use Rattle.dnp_appfragment.specs.Table.{form_of, is_response, function_of}
-use Rattle.dnp_appfragment.specs.Headers.{Head, count_of}
+use Rattle.dnp_appfragment.specs.Headers.{Head, count_of, is_relative}
 use Rattle.dnp_appfragment.specs.Fragments.{Asked, Answered, looked_at}
-use Rattle.dnp_appfragment.specs.Reading.{◌>>=◌, headers_at, object_at}
+use Rattle.dnp_appfragment.specs.Reading.{◌>>=◌, headers_at, object_at, is_timed}
 
 -- ---- a fragment
 
@@ -82,11 +83,25 @@ bit_in h k =
 abbrev pub shaped_row_in : Head → ℕ → Shape → Option Row
 shaped_row_in h k shape = option_map (λ x. row_of shape x.0 x.1) (object_at h.range h.octets (shape_size shape) k)
 
+-- row k of a header whose objects have times of their own or none
+abbrev pub whole_row_in : Head → ℕ → Option Row
+whole_row_in h k =
+    if (h.group == 1) && (h.variation == 1) then bit_in h k
+    else option_and_then (shaped_row_in h k) (shape_read h.group h.variation)
+
+-- the common time with which each of a header's objects has a time
+abbrev pub common_in : Head → Option ℕ
+common_in h = if is_timed h then h.common else None
+
+-- the row that object k gives after this common time
+abbrev pub relative_row_in : Head → ℕ → ℕ → Option Row
+relative_row_in h k common = option_map (λ x. relative_row x.0 x.1 common) (object_at h.range h.octets 3 k)
+
 -- row k, if there is one
 abbrev pub row_in : Head → ℕ → Option Row
 row_in h k =
-    if (h.group == 1) && (h.variation == 1) then bit_in h k
-    else option_and_then (shaped_row_in h k) (shape_read h.group h.variation)
+    if is_relative h.group h.variation then option_and_then (relative_row_in h k) (common_in h)
+    else whole_row_in h k
 
 -- the command and the status that object k of this content gives
 abbrev pub content_command_in : Head → ℕ → Content → Option (Command × ℕ)

@@ -1,9 +1,10 @@
 -- Definition: the objects of one header, counted from 0: where each stands in the header's octets, with its
 -- index, and the row or the command that it is (IEEE Std 1815-2012, application layer: prefix and range).
-use Rattle.std.specs.Prelude.{◌≡◌, ℕ, ◌+◌, ◌*◌, ◌/◌, ◌%◌, ◌<◌, pos, ◌⊎◌, List, [], ◌++◌, length, slice_index, Some, None, IsSome, ⊤}
+use Rattle.std.specs.Prelude.{◌≡◌, ℕ, ◌+◌, ◌*◌, ◌/◌, ◌%◌, ◌<◌, pos, Bool, true, ◌⊎◌, List, [], ◌++◌, length, slice_index, Some, None, IsSome, ⊤}
 use Rattle.std.specs.Int.{bit_at}
 use Rattle.dnp_objects.specs.Objects.{object_size, shape_read}
 use Rattle.dnp_objects.specs.Rows.{Reads}
+use Rattle.dnp_objects.specs.Relative.{IsRelative}
 use Rattle.dnp_objects.specs.Commands.{ReadsCommand, command_size}
 use Rattle.dnp_objects.specs.declared.row.Kind.TheVariants.{Binary}
 use Rattle.dnp_objects.specs.declared.row.Row.{Row}
@@ -12,7 +13,7 @@ use Rattle.dnp_appfragment.specs.declared.header.Range.{Range}
 use Rattle.dnp_appfragment.specs.declared.header.Range.TheVariants as range
 use Rattle.dnp_appfragment.specs.declared.table.Form.{Form}
 use Rattle.dnp_appfragment.specs.declared.table.Form.TheVariants as form
-use Rattle.dnp_appfragment.specs.Headers.{Head, IsHeader, number, limit, count_of, prefix_size}
+use Rattle.dnp_appfragment.specs.Headers.{Head, IsHeader, number, limit, count_of, prefix_size, is_relative, IsTimed}
 
 -- the range is a span
 abbrev pub IsSpan : Range → Type 0
@@ -67,9 +68,22 @@ pub record IsObjectRow (h : Head) (k : ℕ) (row : Row) : Type 0 where
   pub object : IsObject h size k index octets
   pub reads : Reads h.group h.variation index octets row
 
+-- row k of a header whose objects have times of their own or none
+abbrev pub IsWholeRow : Head → ℕ → Row → Type 0
+IsWholeRow h k row = IsBit h k row ⊎ IsObjectRow h k row
+
+-- object k, whose time is given after the header's common time, with which each of its objects has one
+pub record IsRelativeRow (h : Head) (k : ℕ) (row : Row) : Type 0 where
+  pub relative : is_relative h.group h.variation ≡ true
+  pub timed : IsTimed h
+  pub index : ℕ
+  pub octets : List ℕ
+  pub object : IsObject h 3 k index octets
+  pub reads : IsRelative index octets timed.common row
+
 -- row k of a header
 abbrev pub IsRow : Head → ℕ → Row → Type 0
-IsRow h k row = IsBit h k row ⊎ IsObjectRow h k row
+IsRow h k row = IsWholeRow h k row ⊎ IsRelativeRow h k row
 
 -- command k of a header, with its status
 pub record IsCommand (h : Head) (k : ℕ) (answer : Command × ℕ) : Type 0 where
@@ -82,10 +96,20 @@ pub record IsCommand (h : Head) (k : ℕ) (answer : Command × ℕ) : Type 0 whe
 
 -- ---- headers whose objects are all there
 
--- a response's header of rows that are read, or of packed bits
-pub record HasRows (h : Head) : Type 0 where
+-- a response's header of rows that are read with times of their own or none, or of packed bits
+pub record HasWholeRows (h : Head) : Type 0 where
   pub header : IsHeader form.Response h
   pub rows : IsSome (shape_read h.group h.variation) ⊎ ((h.group ≡ 1) × (h.variation ≡ 1))
+
+-- a response's header of rows whose times are given after its common time
+pub record HasRelativeRows (h : Head) : Type 0 where
+  pub header : IsHeader form.Response h
+  pub relative : is_relative h.group h.variation ≡ true
+  pub timed : IsTimed h
+
+-- a response's header of rows that are read
+abbrev pub HasRows : Head → Type 0
+HasRows h = HasWholeRows h ⊎ HasRelativeRows h
 
 -- any fragment's header of commands
 pub record HasCommands (h : Head) : Type 0 where

@@ -2,15 +2,18 @@
 -- one, and the octets after it, or why there is none. Meaning.antt is made of them; what they have to answer
 -- is said in Headers.antt, Faults.antt and Objects.antt.
 use Rattle.std.specs.Prelude.{ℕ, zero, suc, ◌+◌, ◌*◌, Bool, true, false, nat_lt, ◌==◌, if◌then◌else◌, List, [], ◌∷◌, length, take, drop, Option, Some, None, Result, Ok, Err}
+use Rattle.std.specs.List.{list_all, range_with_len}
+use Rattle.std.specs.Option.{option_map_or}
 use Rattle.std.specs.Result.{result_ok}
+use Rattle.dnp_objects.specs.declared.limits.TheConstants.{MAX_TIME}
 use Rattle.dnp_appfragment.specs.declared.fault.AppFault.{AppFault}
-use Rattle.dnp_appfragment.specs.declared.fault.AppFault.TheVariants.{HeaderCut, QualifierUnknown, ObjectUnknown, RangeBackward, ObjectsCut}
+use Rattle.dnp_appfragment.specs.declared.fault.AppFault.TheVariants.{HeaderCut, QualifierUnknown, ObjectUnknown, RangeBackward, ObjectsCut, CommonTime}
 use Rattle.dnp_appfragment.specs.declared.header.Range.{Range}
 use Rattle.dnp_appfragment.specs.declared.header.Range.TheVariants as range
 use Rattle.dnp_appfragment.specs.declared.qualifier.TheConstants as qualifier
 use Rattle.dnp_appfragment.specs.declared.table.Form.{Form}
 use Rattle.dnp_appfragment.specs.Table.{takes_of, allows}
-use Rattle.dnp_appfragment.specs.Headers.{Head, head_of, objects_size, count_of, prefix_size, Context, begin, context_after}
+use Rattle.dnp_appfragment.specs.Headers.{Head, head_after, objects_size, count_of, prefix_size, Context, begin, context_after, is_relative, common_of, time_after}
 
 -- the next step, if there was no fault
 infixl 10 ◌>>=◌
@@ -57,10 +60,20 @@ abbrev pub taken : Option (List ℕ) → ℕ → Result (List ℕ) AppFault
 taken None q = Err ObjectUnknown
 taken (Some t) q = if allows t q then Ok t else Err QualifierUnknown
 
-abbrev pub objects_at : Form → ℕ → ℕ → Range → List ℕ → Result (Head × List ℕ) AppFault
-objects_at f g v r octets =
+-- where its objects' times are given after a common one, there is one, and each sum is under 2^48 ms
+abbrev pub are_under : Head → ℕ → Bool
+are_under h common = list_all (λ k. nat_lt (common + time_after h k) MAX_TIME) (range_with_len 0 (count_of h.range))
+
+abbrev pub is_timed : Head → Bool
+is_timed h = if is_relative h.group h.variation then option_map_or (are_under h) h.common false else true
+
+abbrev pub timed_at : Head → List ℕ → Result (Head × List ℕ) AppFault
+timed_at h rest = if is_timed h then Ok (h, rest) else Err CommonTime
+
+abbrev pub objects_at : Form → Context → ℕ → ℕ → Range → List ℕ → Result (Head × List ℕ) AppFault
+objects_at f context g v r octets =
     if nat_lt (length octets) (objects_size f g v r) then Err ObjectsCut
-    else Ok (head_of g v r (take (objects_size f g v r) octets), drop (objects_size f g v r) octets)
+    else timed_at (head_after (common_of context g v) g v r (take (objects_size f g v r) octets)) (drop (objects_size f g v r) octets)
 
 -- the header at the front, with its objects, and the octets after them
 unfoldable pub header_at : Form → Context → List ℕ → Result (Head × List ℕ) AppFault
@@ -70,7 +83,7 @@ header_at f context (g ∷ v ∷ []) = Err HeaderCut
 header_at f context (g ∷ v ∷ q ∷ octets) = do
   t ← taken (takes_of f g v) q
   r ← range_at q octets
-  objects_at f g v r.0 r.1
+  objects_at f context g v r.0 r.1
 
 -- at most so many headers, which are all of the octets
 unfoldable pub headers_in : ℕ → Form → Context → List ℕ → Result (List Head) AppFault

@@ -13,7 +13,7 @@ Gives view (Err e) wanted = wanted ≡ Err e
 
 -- a header as its fields and its octets
 abbrev pub head : Header → Head
-head h = record { group = h.group; variation = h.variation; range = h.range; octets = h.octets.now }
+head h = record { group = h.group; variation = h.variation; range = h.range; octets = h.octets.now; common = h.common }
 
 abbrev pub number_and_rest : ℕ × Bor (List ℕ) → ℕ × List ℕ
 number_and_rest x = (x.0, x.1.now)

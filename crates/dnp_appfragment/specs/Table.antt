@@ -125,9 +125,9 @@ listed =
     ++ lines form.Write ((50, 1) ∷ []) count
     ++ lines form.Command ((12, 1) ∷ (41, 1) ∷ (41, 2) ∷ []) indexed
     ++ lines form.Enable ((60, 2) ∷ (60, 3) ∷ (60, 4) ∷ []) all
-    ++ lines form.Response ((12, 1) ∷ (41, 1) ∷ (41, 2) ∷ []) indexed
+    ++ lines form.Response ((2, 3) ∷ (12, 1) ∷ (41, 1) ∷ (41, 2) ∷ []) indexed
     ++ lines form.Response ((40, 1) ∷ (40, 2) ∷ []) (span ++ indexed)
-    ++ lines form.Response ((50, 1) ∷ (52, 2) ∷ []) count
+    ++ lines form.Response ((50, 1) ∷ (51, 1) ∷ (51, 2) ∷ (52, 2) ∷ []) count
     ++ lines form.Response ((1, 1) ∷ (80, 1) ∷ []) span
 
 -- and in a response a line for each object of the object table that is written for rows

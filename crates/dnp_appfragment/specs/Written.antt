@@ -1,14 +1,16 @@
 -- Definition: what rows and commands are written as in a fragment, each as a header of its own (IEEE Std
 -- 1815-2012, application layer: object headers; object library).
-use Rattle.std.specs.Prelude.{◌≡◌, ℕ, ◌+◌, ⊤, Bool, true, IsTrue, ◌==◌, ◌&&◌, List, [], ◌∷◌, ◌++◌}
+use Rattle.std.specs.Prelude.{◌≡◌, ℕ, ◌+◌, ⊤, Bool, true, false, IsTrue, ◌==◌, ◌&&◌, List, [], ◌∷◌, ◌++◌, Some}
 use Rattle.std.specs.List.{list_any}
+use Rattle.byteorder.specs.Endian.{little_bytes}
+use Rattle.dnp_objects.specs.Relative.{relative_octets}
 use Rattle.dnp_objects.specs.Rows.{Fits, written}
 use Rattle.dnp_objects.specs.Events.{event_object}
 use Rattle.dnp_objects.specs.Commands.{object_of, index_of, command_octets}
 use Rattle.dnp_objects.specs.declared.command.Command.{Command}
 use Rattle.dnp_objects.specs.declared.row.Row.{Row}
 use Rattle.dnp_appfragment.specs.declared.header.Range.TheVariants as range
-use Rattle.dnp_appfragment.specs.Headers.{Head, head_of, number}
+use Rattle.dnp_appfragment.specs.Headers.{Head, head_of, head_after, number}
 
 -- ---- an object as a header of its own
 
@@ -50,6 +52,14 @@ point group variation row = spanned group variation row.index (written group var
 abbrev pub InOrder : ℕ → List Row → Type 0
 InOrder index [] = ⊤
 InOrder index (row ∷ rows) = (row.index ≡ index) × InOrder (index + 1) rows
+
+-- a common time: 51.1, qualifier 07
+abbrev pub common_head : ℕ → Head
+common_head time = head_of 51 1 (range.Count false 1) (little_bytes 6 time)
+
+-- an event whose time is given after a common one: 2.3, after its index
+abbrev pub relative : ℕ → Row → Head
+relative common row = head_after (Some common) 2 3 (range.Indexed true 1) (number true row.index ++ relative_octets common row)
 
 -- ---- commands
 

@@ -1,5 +1,6 @@
 //! Fragments that are built.
 
+use crate::common::common_after;
 use crate::control::Control;
 use crate::function::Function;
 use crate::header::Header;
@@ -9,13 +10,15 @@ use crate::putting::{
     header_size, push_front, push_header, push_run, range_size, write_front, write_number,
 };
 use crate::run::{Run, longer};
-use crate::table::{Form, form_of};
+use crate::table::Form;
 use crate::written::{Event, Indexed, Object, Point, span_of};
 use arrayvec::ArrayVec;
 use dnp_objects::laws::a_written_row_fills_its_object;
 use dnp_objects::{Command, Kind, MAX_FRAGMENT, Row, Status, object_size, write_command};
 use std::marker::Model;
 use thiserror::Error;
+
+mod times;
 
 /// There is no room in the 2,048 octets of a fragment.
 #[derive(Clone, Copy, Debug, PartialEq, Eq, Hash, Error)]
@@ -34,17 +37,21 @@ pub struct Builder {
     /// How many octets the front and the ended headers have: there the run's header begins.
     ended: usize,
     run: Option<Run>,
+    /// The common time that the headers so far leave.
+    common: Option<u64>,
 }
 
 impl Model for Builder {
-    ghost use Rattle.dnp_appfragment.specs.Built.{Built};
+    ghost use Rattle.std.specs.Prelude.{◌≡◌};
+    ghost use Rattle.dnp_appfragment.specs.Built.{Built, context_of};
     ghost use Rattle.dnp_appfragment.specs.steps.Building.{built_in, IsLaid};
 
     ghost Value = { Built };
 
     ghost view = { λ b. built_in b.function b.octets.items b.ended b.run };
 
-    ghost invariant = { λ b. IsLaid b.function b.octets.items b.ended b.run };
+    ghost invariant = { λ b. IsLaid b.function b.octets.items b.ended b.run
+        × (b.common ≡ context_of (built_in b.function b.octets.items b.ended b.run)) };
 }
 
 impl Builder {
@@ -57,7 +64,7 @@ impl Builder {
     ghost use Rattle.dnp_objects.specs.Objects.{object_size};
     ghost use Rattle.dnp_objects.specs.Events.{IsEvent};
     ghost use Rattle.dnp_appfragment.specs.Table as table;
-    ghost use Rattle.dnp_appfragment.specs.Headers.{IsHeader, NumbersFit, header_octets};
+    ghost use Rattle.dnp_appfragment.specs.Headers.{IsHeaderAt, NumbersFit, header_octets, is_common};
     ghost use Rattle.dnp_appfragment.specs.Seen.{head};
     ghost use Rattle.dnp_appfragment.specs.Built as built;
     ghost use Rattle.dnp_appfragment.specs.Lending.{StaysAsItWas};
@@ -77,6 +84,7 @@ impl Builder {
             octets,
             ended,
             run: None,
+            common: None,
         }
     }
 
@@ -88,6 +96,7 @@ impl Builder {
     {
         self.break_run();
         self.function = function;
+        self.common = None;
         self.octets.clear();
         self.ended = push_front(&mut self.octets, is_response);
     }
@@ -111,7 +120,7 @@ impl Builder {
     /// Puts a header with its objects, which no object joins. `Header::fits` is the test of what is
     /// required. Full, where the fragment would pass 2,048 octets; nothing is put then.
     pub fn header(&mut self, header: &Header<'_>) -> Result<(), Full>
-        requires { IsHeader (table.form_of self.old.function) (head header.now) }
+        requires { IsHeaderAt (table.form_of self.old.function) (built.context_of self.old) (head header.now) }
         ensures ok { OnOk result (self.new ≡ built.with_header self.old (head header.now)) }
         ensures full { IsErr result ↔ (MAX_FRAGMENT < built.size (built.with_header self.old (head header.now))) }
         ensures err { OnErr result (self.new ≡ self.old) }
@@ -122,6 +131,7 @@ impl Builder {
             return Err(Full);
         }
         self.break_run();
+        self.common = common_after(self.common, header);
         push_header(&mut self.octets, header);
         self.ended += size;
         Ok(())
@@ -132,7 +142,9 @@ impl Builder {
     #[inline(always)]
     fn put<O: Object + Copy>(&mut self, object: &O) -> Result<(), Full>
         requires can { O.can_put object.now }
-        requires fits { NumbersFit (O.head object.now).range → IsHeader (table.form_of self.old.function) (O.head object.now) }
+        requires fits { NumbersFit (O.head object.now).range
+            → IsHeaderAt (table.form_of self.old.function) (built.context_of self.old) (O.head object.now) }
+        requires other { is_common (O.head object.now) ≡ false }
         requires sized { IsSome (object_size (O.head object.now).group (O.head object.now).variation) }
         ensures ok { OnOk result (self.new ≡ built.with_object self.old (O.head object.now)) }
         ensures full { IsErr result ↔ (MAX_FRAGMENT < built.size (built.with_object self.old (O.head object.now))) }
@@ -165,7 +177,9 @@ impl Builder {
     #[inline(never)]
     fn begin<O: Object>(&mut self, object: &O) -> Result<(), Full>
         requires can { O.can_put object.now }
-        requires fits { NumbersFit (O.head object.now).range → IsHeader (table.form_of self.old.function) (O.head object.now) }
+        requires fits { NumbersFit (O.head object.now).range
+            → IsHeaderAt (table.form_of self.old.function) (built.context_of self.old) (O.head object.now) }
+        requires other { is_common (O.head object.now) ≡ false }
         ensures ok { OnOk result (self.new ≡ built.with_run self.old None (O.head object.now)) }
         ensures full { IsErr result ↔ (MAX_FRAGMENT < built.size self.old + length (header_octets (O.head object.now))) }
         ensures err { OnErr result (self.new ≡ self.old) }
@@ -268,6 +282,7 @@ impl Builder {
             group: GROUP,
             variation: VARIATION,
             range: span_of(first, first),
+            common: None,
         };
         let size = object_size(GROUP, VARIATION).unwrap();
         let count = rows.len().min(self.room_for(begun) / size);
@@ -368,18 +383,5 @@ impl Builder {
     {
         write_front(&mut self.octets, control, self.function, iin);
         &self.octets
-    }
-}
-
-impl Function {
-    ghost use Rattle.std.specs.Prelude.{◌≡◌};
-    ghost use Rattle.dnp_appfragment.specs.Built.{carries_commands};
-
-    /// Whether its fragments carry commands: SELECT, OPERATE, DIRECT_OPERATE, DIRECT_OPERATE_NR, and
-    /// the responses.
-    pub fn carries_commands(self) -> bool
-        ensures { result ≡ carries_commands self }
-    {
-        matches!(form_of(self), Form::Command | Form::Response)
     }
 }

@@ -1,11 +1,11 @@
 //! Headers of octets that were checked: they are read again, and nothing of them is checked again.
 ghost use Rattle.std.specs.Prelude.{◌≡◌, Ok, IsTrue};
 ghost use Rattle.std.specs.Result.{is_ok};
-ghost use Rattle.dnp_appfragment.specs.Headers.{begin};
 ghost use Rattle.dnp_appfragment.specs.Reading as spec;
 ghost use Rattle.dnp_appfragment.specs.Places.{Ends, IsPart};
 ghost use Rattle.dnp_appfragment.specs.Seen.{number_and_rest, range_and_rest, head_and_rest};
 
+use crate::common::common_of;
 use crate::header::{Header, Range};
 use crate::qualifier::{ALL, COUNT, SPAN, WIDE_COUNT, WIDE_INDEXED, WIDE_SPAN};
 use crate::range::objects_size;
@@ -57,14 +57,20 @@ fn checked_range(qualifier: u8, octets: &[u8]) -> (Range, &[u8])
 /// The header at the front, with its objects, and the octets after them.
 #[inline]
 #[tactic(auto, unfolding(crate::specs::Reading::header_at))]
-pub(crate) fn checked_header(form: Form, octets: &[u8]) -> (Header<'_>, &[u8])
-    requires { IsTrue (is_ok (spec.header_at form begin octets.now)) }
-    ensures gives { spec.header_at form begin octets.now ≡ Ok (head_and_rest result) }
+pub(crate) fn checked_header(form: Form, common: Option<u64>, octets: &[u8]) -> (Header<'_>, &[u8])
+    requires { IsTrue (is_ok (spec.header_at form common octets.now)) }
+    ensures gives { spec.header_at form common octets.now ≡ Ok (head_and_rest result) }
     ensures part { IsPart octets.entry result.0.octets result.1 }
 {
     let (group, variation) = (octets[0], octets[1]);
     let (range, rest) = checked_range(octets[2], &octets[3..]);
     let size = objects_size(form, group, variation, range);
-    let header = Header::new(group, variation, range, &rest[..size]);
+    let header = Header {
+        group,
+        variation,
+        range,
+        octets: &rest[..size],
+        common: common_of(common, group, variation),
+    };
     (header, &rest[size..])
 }

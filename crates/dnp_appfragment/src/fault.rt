@@ -7,7 +7,7 @@ use thiserror::Error;
 /// Why octets are no fragment (IEEE Std 1815-2012, application layer). Of several causes it is the
 /// first one from left to right: `Short`, `FunctionUnknown`, and then header by header
 /// `HeaderCut` for fewer than three octets, `ObjectUnknown`, `QualifierUnknown`, `HeaderCut` for a
-/// range that is cut, `RangeBackward`, `ObjectsCut`.
+/// range that is cut, `RangeBackward`, `ObjectsCut`, `CommonTime`.
 #[derive(Clone, Copy, Debug, PartialEq, Eq, Hash, Error)]
 pub enum AppFault {
     /// A request of fewer than 2 octets, or a response of fewer than 4.
@@ -31,10 +31,14 @@ pub enum AppFault {
     /// The octets end before the last of the objects that the range names.
     #[error("objects that are cut")]
     ObjectsCut = 7,
+    /// The objects' times are given after a common time, and there is none before them, or a time is
+    /// 2^48 ms or more.
+    #[error("times without a common time, or over the last one")]
+    CommonTime = 8,
 }
 
 impl AppFault {
-    /// Its number, 1 to 7.
+    /// Its number, 1 to 8.
     pub fn number(self) -> u8
         ensures { result ≡ fault_number self }
     {

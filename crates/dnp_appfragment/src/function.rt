@@ -2,6 +2,9 @@
 ghost use Rattle.std.specs.Prelude.{◌≡◌, ◌↔◌, IsTrue, IfSome};
 ghost use Rattle.dnp_appfragment.specs.declared.function.Function.{Function as FunctionValue};
 ghost use Rattle.dnp_appfragment.specs.Table.{function_octet, function_of, is_response};
+ghost use Rattle.dnp_appfragment.specs.Built.{carries_commands};
+
+use crate::table::{Form, form_of};
 
 /// What a fragment asks for, or that it answers (IEEE Std 1815-2012, application layer: function
 /// codes).
@@ -82,5 +85,13 @@ impl Function {
         ensures { result ≡ is_response self }
     {
         matches!(self, Function::Response | Function::UnsolicitedResponse)
+    }
+
+    /// Whether its fragments carry commands: SELECT, OPERATE, DIRECT_OPERATE, DIRECT_OPERATE_NR, and
+    /// the responses.
+    pub fn carries_commands(self) -> bool
+        ensures { result ≡ carries_commands self }
+    {
+        matches!(form_of(self), Form::Command | Form::Response)
     }
 }

@@ -2,8 +2,8 @@
 ghost use Rattle.std.specs.Prelude.{◌<◌, ◌^◌, All, length};
 
 use crate::function::Function;
-use crate::laws::{objects_say_rows_and_commands, rows_are_events};
-use crate::objects::{command_at, row_at};
+use crate::laws::{objects_say_rows_and_commands, rows_are_events, what_is_there_is_said};
+use crate::objects::{command_at, header_row_at};
 use crate::range::{count_of, is_range, objects_size, qualifier_of};
 use crate::row_walk::RowWalk;
 use crate::table::{allows, form_of, takes_of};
@@ -35,6 +35,9 @@ pub struct Header<'a> {
     pub range: Range,
     /// The octets of the objects, with their indexes where the range has any.
     pub octets: &'a [u8],
+    /// The common time after which the objects' times are given, in ms: of 2.3 that of the last header
+    /// before it in the fragment that has any, of others none.
+    pub common: Option<u64>,
 }
 
 /// An octet is below 2^8, wherever it is read, and a slice has fewer than 2^63 of them.
@@ -55,7 +58,7 @@ impl<'a> Header<'a> {
     ghost use Rattle.dnp_appfragment.specs.Table.{form_of};
     ghost use Rattle.dnp_appfragment.specs.Seen.{head};
 
-    /// The header of this object and range, whose objects are these octets.
+    /// The header of this object and range, whose objects are these octets, without a common time.
     #[inline(always)]
     pub const fn new(group: u8, variation: u8, range: Range, octets: &'a [u8]) -> Header<'a>
         ensures value { head result ≡ head_of group variation range octets.now }
@@ -66,6 +69,7 @@ impl<'a> Header<'a> {
             variation,
             range,
             octets,
+            common: None,
         }
     }
 
@@ -110,7 +114,11 @@ impl<'a> Header<'a> {
         // In a response each row that the range names is there.
         ensures there { HasRows (head self.now) → k < count_of self.now.range → IsSome result }
     {
-        row_at(self.group, self.variation, self.range, self.octets, k)
+        // (laws, for the proof: they do nothing)
+        objects_say_rows_and_commands();
+        what_is_there_is_said();
+        a_slice_is_of_octets(self.octets);
+        header_row_at(self, k)
     }
 
     /// The rows of the header, in order: as the k-th item it gives what `row(k)` gives, and it ends

@@ -1,6 +1,7 @@
 //! The headers of a fragment, one after the other.
 
 use crate::checked::checked_header;
+use crate::common::common_after;
 use crate::fault::AppFault;
 use crate::header::{Header, a_slice_is_of_octets};
 use crate::reading::header_at;
@@ -12,19 +13,20 @@ use std::marker::Model;
 #[derive(Debug, Drop)]
 pub struct Headers<'a> {
     form: Form,
+    /// The common time that the headers passed leave.
+    common: Option<u64>,
     rest: &'a [u8],
 }
 
 impl<'a> Model for Headers<'a> {
     ghost use Rattle.std.specs.Prelude.{IsTrue};
-    ghost use Rattle.dnp_appfragment.specs.Headers.{begin};
-    ghost use Rattle.dnp_appfragment.specs.Left.{Left, headers_of, is_whole};
+    ghost use Rattle.dnp_appfragment.specs.Left.{Left, headers_left, is_whole};
 
     ghost Value = { Left };
 
-    ghost view = { λ h. record { rest = h.rest; headers = headers_of h.form h.rest.now } };
+    ghost view = { λ h. record { rest = h.rest; headers = headers_left h.form h.common h.rest.now } };
 
-    ghost invariant = { λ h. IsTrue (is_whole h.form begin h.rest.now) };
+    ghost invariant = { λ h. IsTrue (is_whole h.form h.common h.rest.now) };
 }
 
 impl<'a> Headers<'a> {
@@ -41,12 +43,20 @@ impl<'a> Headers<'a> {
         ensures gives { Gives (λ l. l.headers) result (headers_at form octets.now) }
         ensures rest { IfOk result (λ l. l.rest ≡ octets.entry) }
     {
+        let mut common = None;
         let mut rest = octets;
         while !rest.is_empty() {
-            let (_, after) = header_at(form, rest)?;
+            // (a law, for the proof: it does nothing)
+            a_slice_is_of_octets(rest);
+            let (header, after) = header_at(form, common, rest)?;
+            common = common_after(common, &header);
             rest = after;
         }
-        Ok(Headers { form, rest: octets })
+        Ok(Headers {
+            form,
+            common: None,
+            rest: octets,
+        })
     }
 
     /// The headers from the k-th on, counted from 0, and none past the end. They lie in the same
@@ -57,6 +67,7 @@ impl<'a> Headers<'a> {
     {
         let mut left = Headers {
             form: self.form,
+            common: self.common,
             rest: self.rest,
         };
         for passed in 0..k {
@@ -78,6 +89,7 @@ impl<'a> Headers<'a> {
         a_slice_is_of_octets(self.rest);
         let left = Headers {
             form: self.form,
+            common: self.common,
             rest: self.rest,
         };
         let mut count = 0;
@@ -104,7 +116,10 @@ impl<'a> Iterator for Headers<'a> {
         if self.rest.is_empty() {
             return None;
         }
-        let (header, rest) = checked_header(self.form, self.rest);
+        // (a law, for the proof: it does nothing)
+        a_slice_is_of_octets(self.rest);
+        let (header, rest) = checked_header(self.form, self.common, self.rest);
+        self.common = common_after(self.common, &header);
         self.rest = rest;
         Some(header)
     }

@@ -17,7 +17,7 @@ mod built;
 mod read;
 
 pub use built::{
-    a_header_holds_what_was_put, what_is_held_is_read, what_is_put_is_held,
+    a_common_time_stays, a_header_holds_what_was_put, what_is_held_is_read, what_is_put_is_held,
     what_is_put_stands_in_a_response,
 };
 pub use read::{

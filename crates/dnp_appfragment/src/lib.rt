@@ -4,6 +4,7 @@
 
 mod builder;
 mod checked;
+mod common;
 mod control;
 mod fault;
 mod fragments;

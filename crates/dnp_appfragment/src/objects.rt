@@ -1,16 +1,17 @@
 //! The objects of a header, one by one.
-ghost use Rattle.std.specs.Prelude.{◌≡◌, ◌≤◌, ◌<◌, ◌/◌, ℕ, List, length, IsSome, IfSome, Some};
+ghost use Rattle.std.specs.Prelude.{◌≡◌, ◌≤◌, ◌<◌, ◌/◌, ℕ, true, List, length, IsSome, IfSome, Some};
 ghost use Rattle.std.specs.Option.{option_map, option_and_then, IsSomeAnd};
 ghost use Rattle.dnp_objects.specs.Objects.{shape_read, object_size as size_of};
 ghost use Rattle.dnp_objects.specs.declared.row.Row.{Row as RowValue};
 ghost use Rattle.dnp_objects.specs.declared.command.Command.{Command as CommandValue};
-ghost use Rattle.dnp_appfragment.specs.Headers.{head_of, count_of as count};
+ghost use Rattle.dnp_appfragment.specs.Headers.{head_of, count_of as count, is_relative as spec_is_relative};
 ghost use Rattle.dnp_appfragment.specs.Meaning as meaning;
 ghost use Rattle.dnp_appfragment.specs.Objects as spec;
 ghost use Rattle.dnp_appfragment.specs.Reading as reading;
-ghost use Rattle.dnp_appfragment.specs.Seen.{number_and_rest};
+ghost use Rattle.dnp_appfragment.specs.Seen.{head, number_and_rest};
 
-use crate::header::Range;
+use crate::common::{binary_after, common_in, is_relative};
+use crate::header::{Header, Range};
 use crate::range::{count_of, prefix_size};
 use crate::reading::number_at;
 use dnp_objects::laws::octets_are_read_as_one_command;
@@ -86,17 +87,44 @@ fn object_row_at(group: u8, variation: u8, range: Range, octets: &[u8], k: usize
     Some(shape.row(index, octets))
 }
 
-/// Row k of a header of this object and range, with these octets.
-pub(crate) fn row_at(group: u8, variation: u8, range: Range, octets: &[u8], k: usize) -> Option<Row>
-    ensures value { result ≡ meaning.row_in (head_of group variation range octets.now) k }
-    ensures found { IfSome result (spec.IsRow (head_of group variation range octets.now) k) }
-    ensures only { (row : RowValue) → spec.IsRow (head_of group variation range octets.now) k row → result ≡ Some row }
-    ensures there { spec.HasRows (head_of group variation range octets.now) → k < count range → IsSome result }
+/// Row k of a header of this object and range, with these octets, whose times stand whole.
+fn row_at(group: u8, variation: u8, range: Range, octets: &[u8], k: usize) -> Option<Row>
+    ensures value { result ≡ meaning.whole_row_in (head_of group variation range octets.now) k }
+    ensures found { IfSome result (spec.IsWholeRow (head_of group variation range octets.now) k) }
+    ensures only { (row : RowValue) → spec.IsWholeRow (head_of group variation range octets.now) k row → result ≡ Some row }
+    ensures there { spec.HasWholeRows (head_of group variation range octets.now) → k < count range → IsSome result }
 {
     if group == 1 && variation == 1 {
         bit_at(range, octets, k)
     } else {
         object_row_at(group, variation, range, octets, k)
+    }
+}
+
+/// Row k of a header whose times are given after its common one.
+fn relative_row_at(header: &Header<'_>, k: usize) -> Option<Row>
+    requires relative { spec_is_relative header.now.group header.now.variation ≡ true }
+    ensures { result ≡ meaning.row_in (head header.now) k }
+{
+    let common = common_in(header)?;
+    let (index, octets) = object_at(header.range, header.octets, 3, k)?;
+    Some(binary_after(index, octets, common))
+}
+
+/// Row k of a header.
+pub(crate) fn header_row_at(header: &Header<'_>, k: usize) -> Option<Row>
+    ensures { result ≡ meaning.row_in (head header.now) k }
+{
+    if is_relative(header.group, header.variation) {
+        relative_row_at(header, k)
+    } else {
+        row_at(
+            header.group,
+            header.variation,
+            header.range,
+            header.octets,
+            k,
+        )
     }
 }
 

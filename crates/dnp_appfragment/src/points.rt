@@ -47,6 +47,7 @@ impl<'a, R: PointRows + Copy, const GROUP: u8, const VARIATION: u8> Object
             group: GROUP,
             variation: VARIATION,
             range: span_of(self.first, self.last),
+            common: None,
         }
     }
 

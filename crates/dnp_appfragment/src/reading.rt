@@ -1,10 +1,10 @@
 //! Headers from the front of octets, checked.
 ghost use Rattle.std.specs.Prelude.{◌≡◌, ◌≤◌, IfOk};
-ghost use Rattle.dnp_appfragment.specs.Headers.{begin};
 ghost use Rattle.dnp_appfragment.specs.Reading as spec;
 ghost use Rattle.dnp_appfragment.specs.Places.{Ends, IsPart};
 ghost use Rattle.dnp_appfragment.specs.Seen.{Gives, number_and_rest, range_and_rest, head_and_rest};
 
+use crate::common::{common_of, is_timed};
 use crate::fault::AppFault;
 use crate::header::{Header, Range};
 use crate::qualifier::{ALL, COUNT, INDEXED, SPAN, WIDE_COUNT, WIDE_INDEXED, WIDE_SPAN};
@@ -76,8 +76,12 @@ fn range_at(qualifier: u8, octets: &[u8]) -> Result<(Range, &[u8]), AppFault>
 /// The header at the front, with its objects, and the octets after them.
 #[inline(always)]
 #[tactic(auto, unfolding(crate::specs::Reading::header_at))]
-pub(crate) fn header_at(form: Form, octets: &[u8]) -> Result<(Header<'_>, &[u8]), AppFault>
-    ensures gives { Gives head_and_rest result (spec.header_at form begin octets.now) }
+pub(crate) fn header_at(
+    form: Form,
+    common: Option<u64>,
+    octets: &[u8],
+) -> Result<(Header<'_>, &[u8]), AppFault>
+    ensures gives { Gives head_and_rest result (spec.header_at form common octets.now) }
     // Nothing is copied: the objects lie in the octets, just before the rest.
     ensures part { IfOk result (λ x. IsPart octets.entry x.0.octets x.1) }
 {
@@ -95,6 +99,15 @@ pub(crate) fn header_at(form: Form, octets: &[u8]) -> Result<(Header<'_>, &[u8])
     if rest.len() < size {
         return Err(AppFault::ObjectsCut);
     }
-    let header = Header::new(*group, *variation, range, &rest[..size]);
+    let header = Header {
+        group: *group,
+        variation: *variation,
+        range,
+        octets: &rest[..size],
+        common: common_of(common, *group, *variation),
+    };
+    if !is_timed(&header) {
+        return Err(AppFault::CommonTime);
+    }
     Ok((header, &rest[size..]))
 }

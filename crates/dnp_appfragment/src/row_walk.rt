@@ -1,9 +1,11 @@
 //! The rows of a header, one after the other.
-ghost use Rattle.std.specs.Prelude.{◌≡◌, ◌≤◌, ◌<◌, length, IfSome};
+ghost use Rattle.std.specs.Prelude.{◌≡◌, ◌≤◌, ◌<◌, true, length, IfSome};
 ghost use Rattle.std.specs.Option.{option_map};
-ghost use Rattle.dnp_appfragment.specs.Headers.{count_of as count};
+ghost use Rattle.dnp_appfragment.specs.Headers.{count_of as count, is_relative as spec_is_relative};
+ghost use Rattle.dnp_appfragment.specs.Seen.{head};
 ghost use Rattle.dnp_appfragment.specs.steps.Walking as spec;
 
+use crate::common::{binary_after, common_in, is_relative};
 use crate::header::{Header, Range};
 use crate::objects::{bit_at, index_at};
 use crate::range::count_of;
@@ -17,11 +19,13 @@ pub enum Carried {
     Bits,
     /// A row in each object.
     Rows(Shape),
+    /// A binary in each object, whose time is given after this one.
+    Relative(u64),
     /// No rows that are read.
     Nothing,
 }
 
-/// The rows that a header of this object carries.
+/// The rows that a header of this object carries, where their times stand whole.
 fn carried_by(group: u8, variation: u8) -> Carried
     ensures value { result ≡ spec.carried_by group variation }
     ensures sound { spec.IsCarried result }
@@ -32,6 +36,32 @@ fn carried_by(group: u8, variation: u8) -> Carried
     match row_shape(group, variation) {
         Some(shape) => Carried::Rows(shape),
         None => Carried::Nothing,
+    }
+}
+
+/// What a header carries whose times are given after its common one.
+fn relative_by(header: &Header<'_>) -> Carried
+    requires some { 0 < count header.now.range }
+    requires relative { spec_is_relative header.now.group header.now.variation ≡ true }
+    ensures value { result ≡ spec.relative_by (head header.now) }
+    ensures sound { spec.IsCarried result }
+{
+    match common_in(header) {
+        Some(common) => Carried::Relative(common),
+        None => Carried::Nothing,
+    }
+}
+
+/// What a header of some objects carries.
+fn carried_in(header: &Header<'_>) -> Carried
+    requires some { 0 < count header.now.range }
+    ensures value { result ≡ spec.carried_in (head header.now) }
+    ensures sound { spec.IsCarried result }
+{
+    if is_relative(header.group, header.variation) {
+        relative_by(header)
+    } else {
+        carried_by(header.group, header.variation)
     }
 }
 
@@ -90,7 +120,7 @@ impl<'a> RowWalk<'a> {
         let carried = if left == 0 {
             Carried::Nothing
         } else {
-            carried_by(header.group, header.variation)
+            carried_in(header)
         };
         RowWalk {
             carried,
@@ -120,6 +150,11 @@ impl<'a> Iterator for RowWalk<'a> {
                 let (index, octets, rest) = cut_at(self.range, shape.size(), self.k, self.octets)?;
                 self.octets = rest;
                 shape.row(index, octets)
+            }
+            Carried::Relative(common) => {
+                let (index, octets, rest) = cut_at(self.range, 3, self.k, self.octets)?;
+                self.octets = rest;
+                binary_after(index, octets, common)
             }
             Carried::Bits => bit_at(self.range, self.octets, self.k)?,
             Carried::Nothing => return None,

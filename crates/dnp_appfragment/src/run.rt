@@ -14,6 +14,8 @@ pub struct Run {
     pub variation: u8,
     /// The range so far.
     pub range: Range,
+    /// The common time after which its objects' times are given, if they are given after one.
+    pub common: Option<u64>,
 }
 
 /// The range of the objects of both, where the second go on after the first.

@@ -87,9 +87,9 @@ fn line_of(form: Form, group: u8, variation: u8) -> Option<&'static [u8]>
             _ => return None,
         },
         Form::Response => match (group, variation) {
-            (12, 1) | (41, 1 | 2) => INDEXES,
+            (2, 3) | (12, 1) | (41, 1 | 2) => INDEXES,
             (40, 1 | 2) => SPAN_OR_INDEXES,
-            (50, 1) | (52, 2) => COUNTS,
+            (50, 1) | (51, 1 | 2) | (52, 2) => COUNTS,
             (1 | 80, 1) => SPANS,
             _ => return None,
         },

@@ -1,6 +1,7 @@
 //! What rows are written as in a fragment.
 ghost use Rattle.std.specs.Prelude.{◌≡◌, ◌+◌, ◌≤◌, ◌↔◌, ◌++◌, IsTrue, length, true};
 ghost use Rattle.arrayvec.specs.ArrayVec.{array_vec_len};
+ghost use Rattle.dnp_objects.specs.Relative.{FitsRelative};
 ghost use Rattle.dnp_objects.specs.Rows.{Fits, written};
 ghost use Rattle.dnp_appfragment.specs.declared.header.Range.TheVariants as range;
 ghost use Rattle.dnp_appfragment.specs.Headers.{Head, NumbersFit};
@@ -12,7 +13,7 @@ use crate::putting::push_number;
 use crate::run::Run;
 use arrayvec::ArrayVec;
 use dnp_objects::laws::a_written_row_fills_its_object;
-use dnp_objects::{MAX_FRAGMENT, Row, append_object, fits_object, object_size};
+use dnp_objects::{MAX_FRAGMENT, Row, append_object, append_relative, fits_object, object_size};
 
 /// The range of one object after its index: qualifier 28.
 const BEHIND_INDEX: Range = Range::Indexed { wide: true, n: 1 };
@@ -83,6 +84,7 @@ impl<'a, const GROUP: u8, const VARIATION: u8> Object for Event<'a, GROUP, VARIA
             group: GROUP,
             variation: VARIATION,
             range: BEHIND_INDEX,
+            common: None,
         }
     }
 
@@ -135,6 +137,7 @@ impl Object for Point {
             group: self.group,
             variation: self.variation,
             range: span_of(self.row.index, self.row.index),
+            common: None,
         }
     }
 
@@ -169,6 +172,7 @@ impl<'a> Object for Indexed<'a> {
             group: self.group,
             variation: self.variation,
             range: BEHIND_INDEX,
+            common: None,
         }
     }
 
@@ -181,5 +185,41 @@ impl<'a> Object for Indexed<'a> {
     fn append(&self, octets: &mut ArrayVec<u8, MAX_FRAGMENT>) {
         push_number(octets, true, self.index);
         octets.try_extend_from_slice(self.octets).unwrap();
+    }
+}
+
+/// A row after a common time, 2.3, after its index: qualifier 28.
+#[derive(Clone, Copy)]
+pub(crate) struct Relative<'a> {
+    pub row: &'a Row,
+    pub common: u64,
+}
+
+impl<'a> Object for Relative<'a> {
+    ghost can_put = { λ o. FitsRelative o.common o.row.now };
+
+    ghost head = { λ o. spec.relative o.common o.row.now };
+
+    #[inline]
+    fn run(&self) -> Run {
+        Run {
+            group: 2,
+            variation: 3,
+            range: BEHIND_INDEX,
+            common: Some(self.common),
+        }
+    }
+
+    #[inline]
+    fn size(&self) -> usize {
+        5
+    }
+
+    #[inline]
+    fn append(&self, octets: &mut ArrayVec<u8, MAX_FRAGMENT>) {
+        // (all of the row is read before anything is written)
+        let (number, row) = (self.row.index, *self.row);
+        push_number(octets, true, number);
+        append_relative(&row, self.common, octets);
     }
 }

@@ -2,9 +2,9 @@
 
 ghost use Rattle.std.specs.Prelude.{◌≡◌, ◌+◌, ◌≤◌, ◌<◌, ◌++◌, [], ◌∷◌, true, ℕ, IsTrue, None, length};
 ghost use Rattle.byteorder.specs.Endian.{little_bytes};
-ghost use Rattle.dnp_appfragment.specs.Built.{carries_commands, heads, size, with_header};
+ghost use Rattle.dnp_appfragment.specs.Built.{carries_commands, context_of, heads, size, with_header};
 ghost use Rattle.dnp_appfragment.specs.Fragments.{IsRequest, request_octets};
-ghost use Rattle.dnp_appfragment.specs.Headers.{IsHeader, header_octets};
+ghost use Rattle.dnp_appfragment.specs.Headers.{IsHeader, IsHeaderAt, header_octets};
 ghost use Rattle.dnp_appfragment.specs.Seen.{head};
 ghost use Rattle.dnp_appfragment.specs.Table.{form_of};
 ghost use Rattle.dnp_appfragment.specs.Written.{order};
@@ -21,7 +21,7 @@ pub type Fragment = ArrayVec<u8, MAX_FRAGMENT>;
 
 /// Puts a header for which there is room.
 fn put(builder: &mut Builder, header: &Header<'_>)
-    requires fits { IsHeader (form_of builder.old.function) (head header.now) }
+    requires fits { IsHeaderAt (form_of builder.old.function) (context_of builder.old) (head header.now) }
     requires room { size builder.old + length (header_octets (head header.now)) ≤ MAX_FRAGMENT }
     ensures { builder.new ≡ with_header builder.old (head header.now) }
 {

@@ -19,7 +19,7 @@ use Rattle.dnp_objects.proofs.RowFaults.{shape_read_sound}
 use Rattle.dnp_objects.proofs.Spelling.{is_reading, length-row_octets, only_reading}
 use Rattle.dnp_objects.proofs.Values.{AreOctets}
 
-all_octets : (octets : List ℕ) → All (λ octet. octet < 2 ^ 8) octets → AreOctets octets
+pub all_octets : (octets : List ℕ) → All (λ octet. octet < 2 ^ 8) octets → AreOctets octets
 all_octets octets all i = elim (cases_lt i (length octets)) [
   | inl below ↦ all i 0 below
   | inr past ↦ let none : get_or octets i 0 ≡ 0 = get_or_past octets i 0 past in omega arith

@@ -49,7 +49,7 @@ relative_back common row fits =
     λ i. record { kind = (back i).kind; index = row.index; flags = (back i).flags; value = (back i).value; time = time i }
 
 -- the row is the one that the octets give
-only_relative : (index : ℕ) (octets : List ℕ) (common : ℕ) (row : Row) → IsRelative index octets common row → row ≡ relative_row index octets common
+pub only_relative : (index : ℕ) (octets : List ℕ) (common : ℕ) (row : Row) → IsRelative index octets common row → row ≡ relative_row index octets common
 only_relative index octets common row is =
     sym (relative_back common row is.fits)
     ∙ ap (λ (n : ℕ). relative_row n (relative_octets common row) common) is.index_is
@@ -131,3 +131,8 @@ no_relative_fault index octets common row ValueRange is fault =
     let same = only_relative index octets common row is in
     let low = time_low row (common + little_number 2 (drop 1 octets)) (ap (λ (r : Row). r.time) same) is.fits.event in
     omega arith
+
+pub relative_low : (common : ℕ) (row : Row) → FitsRelative common row → common + little_number 2 (drop 1 (relative_octets common row)) < MAX_TIME
+relative_low common row fits =
+    time_low row (common + little_number 2 (drop 1 (relative_octets common row)))
+    (sym (ap (λ (r : Row). r.time) (relative_back common row fits))) fits.event

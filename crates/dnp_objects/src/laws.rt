@@ -1,6 +1,7 @@
 //! Laws of the words of `specs/`: each function does nothing, and its contract is a law.
 ghost use Rattle.std.specs.Prelude.{◌≡◌, ◌≤◌, ◌<◌, ◌+◌, ◌-◌, ◌^◌, ◌↔◌, ℕ, Bool, List, [], ◌∷◌, ◌++◌, Some, IsSome, IfSome};
-ghost use Rattle.std.specs.Prelude.{nat_eq, map, filter, length, All, Contains};
+ghost use Rattle.std.specs.Prelude.{nat_eq, map, filter, length, drop, All, Contains};
+ghost use Rattle.byteorder.specs.Endian.{little_number};
 ghost use Rattle.std.specs.Option.{option_map, option_and_then};
 ghost use Rattle.std.specs.List.Sorted.{IsPermutation};
 ghost use Rattle.dnp_objects.specs.Counts.{count, IsCoveredBy, HasNoRepeat, IsEqualityTest};
@@ -178,10 +179,17 @@ pub fn a_number_is_of_one_lane()
 {}
 
 /// A row that was written after a common time is read as itself, and octets that are read so are those that
-/// the row is written as.
+/// the row is written as. Three octets are read as the row of their parts, where its time is under 2^48 ms, and
+/// as no other.
 pub fn a_relative_row_is_read()
     ensures read { (common : ℕ) (row : Row) → FitsRelative common row
         → relative_row row.index (relative_octets common row) common ≡ row }
     ensures written { (index common : ℕ) (octets : List ℕ) (row : Row) → IsRelative index octets common row
         → octets ≡ relative_octets common row }
+    ensures parts { (index common : ℕ) (octets : List ℕ) → All (λ octet. octet < 2 ^ 8) octets → length octets ≡ 3
+        → common + little_number 2 (drop 1 octets) < limits.MAX_TIME → IsRelative index octets common (relative_row index octets common) }
+    ensures only { (index common : ℕ) (octets : List ℕ) (row : Row) → IsRelative index octets common row
+        → relative_row index octets common ≡ row }
+    ensures low { (common : ℕ) (row : Row) → FitsRelative common row
+        → common + little_number 2 (drop 1 (relative_octets common row)) < limits.MAX_TIME }
 {}

@@ -1,8 +1,10 @@
 //! Worked fragments that are built.
-ghost use Rattle.std.specs.Prelude.{◌≡◌};
+ghost use Rattle.std.specs.Prelude.{◌≡◌, IsTrue};
+ghost use Rattle.dnp_appfragment.specs.Table.{is_response};
 
+use dnp_appfragment::laws::a_common_time_stays;
 use dnp_appfragment::{Builder, Control, Full, Function, Header, Iin, Range, fits_point};
-use dnp_objects::{Command, Kind, Row, Status, is_event};
+use dnp_objects::{Command, Kind, MAX_TIME, Row, Status, fits_relative, is_event};
 use std::process::Abort;
 
 /// What is put into a fragment.
@@ -11,6 +13,8 @@ enum Part {
     Event(Row),
     Point(u8, u8, Row),
     Whole(Header<'static>),
+    /// A common time, and rows whose times are given after it.
+    Group(u64, &'static [Row]),
     /// The next object begins a header.
     Break,
 }
@@ -19,7 +23,7 @@ use Function::{
     DelayMeasure, DirectOperateNr, EnableUnsolicited, Operate, Read, Response, Select,
     UnsolicitedResponse, Write,
 };
-use Part::{Break, Event, Point, Whole};
+use Part::{Break, Event, Group, Point, Whole};
 
 macro_rules! row {
     ($kind:ident, $index:expr, $flags:literal, $value:literal, $time:expr) => {
@@ -29,7 +33,7 @@ macro_rules! row {
 
 macro_rules! header {
     ($group:literal, $variation:literal, $range:expr, $octets:expr) => {
-        Header { group: $group, variation: $variation, range: $range, octets: $octets }
+        Header { group: $group, variation: $variation, range: $range, octets: $octets, common: None }
     };
 }
 
@@ -48,6 +52,22 @@ const EARLIER: Part = Event(row!(Binary, 0, 1, 0, Some(2)));
 
 /// Point 0 goes on after that.
 const LATER: Part = Event(row!(Binary, 0, 1, 1, Some(3)));
+
+/// Three events, the last of them as late as can be given after the first.
+#[rattlefmt::skip]
+const GROUP: Part = Group(1_000, &[
+    row!(Binary, 0, 1, 1, Some(1_000)), row!(Binary, 0, 1, 0, Some(1_005)),
+    row!(Binary, 0, 1, 1, Some(66_535)),
+]);
+
+/// Point 5 goes on 2 ms after a time.
+const AFTER: Part = Group(1_000, &[row!(Binary, 5, 1, 1, Some(1_002))]);
+
+/// Point 5 goes on at the last time that there is.
+const LAST: Part = Group(
+    281_474_976_710_655,
+    &[row!(Binary, 5, 1, 1, Some(281_474_976_710_655))],
+);
 
 /// Events of class 1.
 const CLASS_1: Part = Whole(header!(60, 2, Range::All, &[]));
@@ -82,7 +102,7 @@ macro_rules! ranged {
 
 /// Fragments: the function, the control octet, the indications, the parts and the octets.
 #[rattlefmt::skip]
-const BUILT: [(Function, u8, Iin, &[Part], &[u8]); 28] = [
+const BUILT: [(Function, u8, Iin, &[Part], &[u8]); 33] = [
     // Events: with a time, without one, joined, apart after a break, and of two objects.
     (Response, 0xE1, Iin::NONE, &[ON],
         &[0xE1, 0x81, 0, 0, 2, 2, 0x28, 1, 0, 3, 0, 0x81, 0xE8, 3, 0, 0, 0, 0]),
@@ -114,6 +134,28 @@ const BUILT: [(Function, u8, Iin, &[Part], &[u8]); 28] = [
     ]),
     (UnsolicitedResponse, 0xF1, Iin::DEVICE_RESTART, &[ON],
         &[0xF1, 0x82, 0x80, 0, 2, 2, 0x28, 1, 0, 3, 0, 0x81, 0xE8, 3, 0, 0, 0, 0]),
+    // Events after a common time: one, three under one header, and each group under its own; what is put after a group
+    // as its own object; and the last time that there is.
+    (Response, 0xC0, Iin::NONE, &[AFTER], &[
+        0xC0, 0x81, 0, 0, 0x33, 1, 7, 1, 0xE8, 3, 0, 0, 0, 0, 2, 3, 0x28, 1, 0, 5, 0, 0x81, 2, 0,
+    ]),
+    (Response, 0xE1, Iin::NONE, &[GROUP], &[
+        0xE1, 0x81, 0, 0, 0x33, 1, 7, 1, 0xE8, 3, 0, 0, 0, 0,
+        2, 3, 0x28, 3, 0, 0, 0, 0x81, 0, 0, 0, 0, 1, 5, 0, 0, 0, 0x81, 0xFF, 0xFF,
+    ]),
+    (Response, 0xE1, Iin::NONE, &[AFTER, AFTER, EARLIER], &[
+        0xE1, 0x81, 0, 0, 0x33, 1, 7, 1, 0xE8, 3, 0, 0, 0, 0, 2, 3, 0x28, 1, 0, 5, 0, 0x81, 2, 0,
+        0x33, 1, 7, 1, 0xE8, 3, 0, 0, 0, 0, 2, 3, 0x28, 1, 0, 5, 0, 0x81, 2, 0,
+        2, 2, 0x28, 1, 0, 0, 0, 1, 2, 0, 0, 0, 0, 0,
+    ]),
+    (UnsolicitedResponse, 0xF1, Iin::DEVICE_RESTART, &[ON, AFTER], &[
+        0xF1, 0x82, 0x80, 0, 2, 2, 0x28, 1, 0, 3, 0, 0x81, 0xE8, 3, 0, 0, 0, 0,
+        0x33, 1, 7, 1, 0xE8, 3, 0, 0, 0, 0, 2, 3, 0x28, 1, 0, 5, 0, 0x81, 2, 0,
+    ]),
+    (Response, 0xC0, Iin::NONE, &[LAST], &[
+        0xC0, 0x81, 0, 0, 0x33, 1, 7, 1, 0xFF, 0xFF, 0xFF, 0xFF, 0xFF, 0xFF,
+        2, 3, 0x28, 1, 0, 5, 0, 0x81, 0, 0,
+    ]),
     // Points of following indexes.
     (Response, 0xC0, Iin::DEVICE_RESTART,
         &[Point(1, 2, row!(Binary, 1, 2, 0, None)), Point(1, 2, row!(Binary, 2, 2, 0, None))],
@@ -145,6 +187,22 @@ const BUILT: [(Function, u8, Iin, &[Part], &[u8]); 28] = [
     (Write, 0xC2, Iin::NONE, &[TIME], &[0xC2, 2, 0x32, 1, 7, 1, 0xE8, 3, 0, 0, 0, 0]),
 ];
 
+/// Puts a common time into a response, and rows after it, where they may stand.
+fn put_group(rt: &impl Abort, builder: &mut Builder, common: u64, rows: &[Row]) -> Result<(), Full>
+    requires { IsTrue (is_response builder.old.function) }
+    ensures { builder.new.function ≡ builder.old.function }
+{
+    // (a law, for the proof: it does nothing)
+    a_common_time_stays();
+    assert!(rt; common < MAX_TIME);
+    builder.common(common)?;
+    for row in rows {
+        assert!(rt; fits_relative(row, common));
+        builder.relative(row)?;
+    }
+    Ok(())
+}
+
 /// Puts a part into a fragment of this function, where the part may stand.
 fn put(rt: &impl Abort, builder: &mut Builder, function: Function, part: Part) -> Result<(), Full>
     requires { builder.old.function ≡ function }
@@ -160,8 +218,12 @@ fn put(rt: &impl Abort, builder: &mut Builder, function: Function, part: Part) -
             builder.point(group, variation, &row)
         }
         Whole(header) => {
-            assert!(rt; header.fits(function));
+            assert!(rt; builder.takes(&header));
             builder.header(&header)
+        }
+        Group(common, rows) => {
+            assert!(rt; function.is_response());
+            put_group(rt, builder, common, rows)
         }
         Break => {
             builder.break_run();
@@ -248,11 +310,35 @@ fn fragments(rt: HostRuntime) {
     }
 }
 
+/// A header with a common time is taken after that time only, and one whose times are over the last one never.
+#[test]
+fn headers_after_a_common_time(rt: HostRuntime) {
+    let one = Range::Indexed { wide: true, n: 1 };
+    let mut after = header!(2, 3, one, &[5, 0, 0x81, 2, 0]);
+    let mut builder = Builder::new(Response, true);
+    assert!(rt; !builder.takes(&after));
+    after.common = Some(1_000);
+    assert!(rt; !builder.takes(&after));
+    assert!(rt; builder.common(1_000) == Ok(()));
+    assert!(rt; builder.takes(&after) && builder.header(&after) == Ok(()));
+    after.common = Some(1_001);
+    assert!(rt; !builder.takes(&after));
+    after.common = Some(281_474_976_710_655);
+    assert!(rt; builder.common(281_474_976_710_655) == Ok(()) && !builder.takes(&after));
+    let built = builder.finish(Control::read(0xC0), Iin::NONE);
+    assert!(rt; built.len() == 34);
+}
+
 /// 156 analog events with times fill a fragment: no further one goes in. What is smaller still
-/// does: a header of 7 octets, and a point of one.
+/// does: a header of 7 octets, and a point of one; and a common time, but no row after it.
 #[test]
 fn a_full_fragment(rt: HostRuntime) {
-    for (with_point, size) in [(false, 2_037), (true, 2_045)] {
+    let point = Point(1, 2, row!(Binary, 0, 1, 1, None));
+    for (part, is_put, size) in [
+        (Break, true, 2_037),
+        (point, true, 2_045),
+        (AFTER, false, 2_047),
+    ] {
         let mut builder = Builder::new(Response, true);
         for index in 0..156 {
             let event = Event(row!(Analog, index, 1, 0, Some(1)));
@@ -260,10 +346,7 @@ fn a_full_fragment(rt: HostRuntime) {
         }
         let event = Event(row!(Analog, 156, 1, 0, Some(1)));
         assert!(rt; put(&rt, &mut builder, Response, event) == Err(Full));
-        if with_point {
-            let point = Point(1, 2, row!(Binary, 0, 1, 1, None));
-            assert!(rt; put(&rt, &mut builder, Response, point) == Ok(()));
-        }
+        assert!(rt; put(&rt, &mut builder, Response, part).is_ok() == is_put);
         let octets = builder.finish(Control::read(0xA0), Iin::CLASS_1_EVENTS);
         assert!(rt; octets.len() == size);
         assert!(rt; octets.starts_with(&[0xA0, 0x81, 0x02, 0, 0x20, 3, 0x28, 0x9C, 0]));

@@ -5,7 +5,7 @@ use dnp_objects::{Command, Kind, Row, Status};
 
 /// What is no request, its fault, and the fault's number.
 #[rattlefmt::skip]
-const NO_REQUESTS: [(&[u8], AppFault, u8); 13] = [
+const NO_REQUESTS: [(&[u8], AppFault, u8); 15] = [
     (&[], AppFault::Short, 1),
     (&[0xC0], AppFault::Short, 1),
     (&[0xC0, 0x07], AppFault::FunctionUnknown, 2),
@@ -21,11 +21,14 @@ const NO_REQUESTS: [(&[u8], AppFault, u8); 13] = [
     (&[0xC0, 0x01, 0x3C, 0x02, 0x06, 0x6E, 0x00, 0x06, 0x3C], AppFault::ObjectUnknown, 5),
     // 65,535 commands are claimed and none is there.
     (&[0xC0, 0x03, 0x0C, 0x01, 0x28, 0xFF, 0xFF], AppFault::ObjectsCut, 7),
+    // Common times, and times after one, are of responses.
+    (&[0xC0, 0x01, 0x02, 0x03, 0x06], AppFault::ObjectUnknown, 5),
+    (&[0xC0, 0x01, 0x33, 0x01, 0x06], AppFault::ObjectUnknown, 5),
 ];
 
 /// What is no response, and its fault.
 #[rattlefmt::skip]
-const NO_RESPONSES: [(&[u8], AppFault); 6] = [
+const NO_RESPONSES: [(&[u8], AppFault); 13] = [
     (&[0xC0, 0x81, 0x80], AppFault::Short),
     (&[0xC0, 0x01, 0x80, 0x00], AppFault::FunctionUnknown),
     (&[0xC0, 0x01, 0x80], AppFault::Short),
@@ -35,6 +38,17 @@ const NO_RESPONSES: [(&[u8], AppFault); 6] = [
     (&[0xC0, 0x81, 0, 0, 0x01, 0x01, 0x00, 0, 8, 0xFF], AppFault::ObjectsCut),
     // 65,536 flags are claimed.
     (&[0xC0, 0x81, 0, 0, 0x01, 0x02, 0x01, 0, 0, 0xFF, 0xFF, 0x01], AppFault::ObjectsCut),
+    // Times after a common one, of which there is none: before it are no common times, or none at all.
+    (&[0xC0, 0x81, 0, 0, 0x02, 0x03, 0x28, 1, 0, 0, 0, 0x81, 0, 0], AppFault::CommonTime),
+    (&[0xC0, 0x81, 0, 0, 0x02, 0x03, 0x28, 0, 0], AppFault::CommonTime),
+    (&[0xC0, 0x81, 0, 0, 0x33, 0x01, 0x07, 0, 0x02, 0x03, 0x17, 1, 0, 0x81, 0, 0], AppFault::CommonTime),
+    // The objects are looked at before the times.
+    (&[0xC0, 0x81, 0, 0, 0x02, 0x03, 0x28, 1, 0, 0, 0, 0x81, 0], AppFault::ObjectsCut),
+    // A time of 2^48 ms.
+    (&[0xC0, 0x81, 0, 0, 0x33, 0x01, 0x07, 1, 0xFF, 0xFF, 0xFF, 0xFF, 0xFF, 0xFF, 0x02, 0x03, 0x17, 1, 0, 0x81, 1, 0], AppFault::CommonTime),
+    // Common times are counted, and times after one have indexes.
+    (&[0xC0, 0x81, 0, 0, 0x33, 0x01, 0x17, 1, 0, 0xE8, 0x03, 0, 0, 0, 0], AppFault::QualifierUnknown),
+    (&[0xC0, 0x81, 0, 0, 0x33, 0x01, 0x07, 1, 0xE8, 0x03, 0, 0, 0, 0, 0x02, 0x03, 0x00, 0, 0, 0x81, 0, 0], AppFault::QualifierUnknown),
 ];
 
 #[test]
@@ -48,11 +62,12 @@ fn faults(rt: HostRuntime) {
     for (case, (octets, fault)) in NO_RESPONSES.into_iter().enumerate() {
         assert!(rt; read_response(octets).err() == Some(fault), "case {case}");
     }
+    assert!(rt; AppFault::CommonTime as u8 == 8);
 }
 
 macro_rules! header {
     ($group:literal, $variation:literal, $range:expr, $octets:expr) => {
-        Header { group: $group, variation: $variation, range: $range, octets: $octets }
+        Header { group: $group, variation: $variation, range: $range, octets: $octets, common: None }
     };
 }
 
@@ -198,5 +213,56 @@ fn responses(rt: HostRuntime) {
             }
             assert!(rt; header.row(rows.len()).is_none() && header.command(0).is_none());
         }
+    }
+}
+
+/// Responses in which times are given after a common one: after the time of 51.1, as often as it is needed; after that of
+/// 51.2, which an empty header leaves as it was; and after the last of two times. Then their headers, with the common
+/// times that these have, and the rows.
+#[rattlefmt::skip]
+const RELATIVES: [(&[u8], &[(u8, u8, Option<u64>)], &[Row]); 4] = [
+    (&[0xE1, 0x81, 0, 0, 0x33, 0x01, 0x07, 1, 0xE8, 0x03, 0, 0, 0, 0,
+        0x02, 0x03, 0x28, 3, 0, 0, 0, 0x81, 0, 0, 0, 0, 0x01, 5, 0, 0, 0, 0x81, 0xFF, 0xFF],
+        &[(51, 1, None), (2, 3, Some(1_000))],
+        &[
+            row!(Binary, 0, 0x01, 1, Some(1_000)), row!(Binary, 0, 0x01, 0, Some(1_005)),
+            row!(Binary, 0, 0x01, 1, Some(66_535)),
+        ]),
+    (&[0xC0, 0x81, 0, 0, 0x33, 0x02, 0x08, 1, 0, 0xE8, 0x03, 0, 0, 0, 0, 0x33, 0x01, 0x07, 0,
+        0x02, 0x03, 0x17, 1, 5, 0x01, 2, 0, 0x02, 0x01, 0x17, 1, 6, 0x81],
+        &[(51, 2, None), (51, 1, None), (2, 3, Some(1_000)), (2, 1, None)],
+        &[row!(Binary, 5, 0x01, 0, Some(1_002)), row!(Binary, 6, 0x01, 1, None)]),
+    (&[0xC0, 0x81, 0, 0, 0x33, 0x01, 0x07, 2, 1, 0, 0, 0, 0, 0, 0xE8, 0x03, 0, 0, 0, 0,
+        0x02, 0x03, 0x17, 1, 5, 0x01, 0, 0, 0x33, 0x01, 0x07, 1, 7, 0, 0, 0, 0, 0, 0x02, 0x03, 0x17, 1, 5, 0x81, 0, 0],
+        &[(51, 1, None), (2, 3, Some(1_000)), (51, 1, None), (2, 3, Some(7))],
+        &[row!(Binary, 5, 0x01, 0, Some(1_000)), row!(Binary, 5, 0x01, 1, Some(7))]),
+    // The last time that there is.
+    (&[0xC0, 0x81, 0, 0, 0x33, 0x01, 0x07, 1, 0xFE, 0xFF, 0xFF, 0xFF, 0xFF, 0xFF, 0x02, 0x03, 0x17, 1, 0, 0x81, 1, 0],
+        &[(51, 1, None), (2, 3, Some(281_474_976_710_654))],
+        &[row!(Binary, 0, 0x01, 1, Some(281_474_976_710_655))]),
+];
+
+#[test]
+fn rows_after_a_common_time(rt: HostRuntime) {
+    for (case, (octets, objects, rows)) in RELATIVES.into_iter().enumerate() {
+        let Ok(response) = read_response(octets) else {
+            assert!(rt; false, "case {case}");
+            return;
+        };
+        let mut objects = objects.iter();
+        let mut rows = rows.iter();
+        for header in response.headers {
+            let found = (header.group, header.variation, header.common);
+            assert!(rt; objects.next() == Some(&found), "case {case}");
+            for k in 0..header.count() {
+                if let Some(row) = header.row(k) {
+                    assert!(rt; rows.next() == Some(&row), "row {k} of case {case}");
+                }
+            }
+        }
+        assert!(rt;
+            objects.next().is_none() && rows.next().is_none(),
+            "case {case}"
+        );
     }
 }

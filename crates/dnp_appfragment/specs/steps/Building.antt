@@ -8,13 +8,13 @@ use Rattle.dnp_appfragment.specs.declared.header.Range.TheVariants as range
 use Rattle.dnp_appfragment.specs.declared.run.Run.{Run}
 use Rattle.dnp_appfragment.specs.Joining.{joined_range}
 use Rattle.dnp_appfragment.specs.Table.{form_of}
-use Rattle.dnp_appfragment.specs.Headers.{Head, head_of, range_octets, header_octets, IsHeader, Divide}
+use Rattle.dnp_appfragment.specs.Headers.{Head, head_after, range_octets, header_octets, IsHeaderAt, Divide, begin, context_past}
 use Rattle.dnp_appfragment.specs.Left.{headers_of}
 use Rattle.dnp_appfragment.specs.Built.{Built, front_size, size}
 
 -- the run with the octets of its objects
 abbrev pub run_head : List ℕ → Run → Head
-run_head objects run = head_of run.group run.variation run.range objects
+run_head objects run = head_after run.common run.group run.variation run.range objects
 
 -- the ended headers stand in octets, as in the fragment
 abbrev pub built : Function → List ℕ → Option Run → List ℕ → Built
@@ -23,7 +23,7 @@ built function ended run objects =
 
 pub record IsBuilt (function : Function) (ended : List ℕ) (run : Option Run) (objects : List ℕ) : Type 0 where
   pub divides : Divide (form_of function) ended (headers_of (form_of function) ended)
-  pub run_is : IfSome run (λ r. IsHeader (form_of function) (run_head objects r))
+  pub run_is : IfSome run (λ r. IsHeaderAt (form_of function) (context_past begin (headers_of (form_of function) ended)) (run_head objects r))
   pub room : size (built function ended run objects) ≤ MAX_FRAGMENT
 
 -- ---- where they stand in the fragment
@@ -64,7 +64,7 @@ range_end (range.Indexed wide n) = (0, n)
 abbrev pub joined_run : Head → Run → Option Run
 joined_run object run =
     if (run.group == object.group) && (run.variation == object.variation)
-    then option_map (λ r. record { group = run.group; variation = run.variation; range = r }) (joined_range run.range object.range)
+    then option_map (λ r. record { group = run.group; variation = run.variation; range = r; common = run.common }) (joined_range run.range object.range)
     else None
 
 abbrev pub longer : Option Run → Head → Option Run

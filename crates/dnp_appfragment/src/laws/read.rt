@@ -12,7 +12,8 @@ ghost use Rattle.dnp_appfragment.specs.Meaning.{request_at, response_at, row_in,
 ghost use Rattle.dnp_appfragment.specs.Objects.{IsRow, IsCommand, HasRows, HasCommands};
 
 use dnp_objects::laws::{
-    a_read_row_is_an_event, octets_are_read_as_one_command, octets_are_read_as_one_row,
+    a_read_row_is_an_event, a_relative_row_is_read, octets_are_read_as_one_command,
+    octets_are_read_as_one_row,
 };
 
 /// `request_at` gives the request that octets are, and the fault that they have.
@@ -42,6 +43,7 @@ pub fn objects_say_rows_and_commands()
     ensures command_there { (header : Head) (k : ℕ) → HasCommands header → k < count_of header.range → IsSome (command_in header k) }
 {
     octets_are_read_as_one_row();
+    a_relative_row_is_read();
     octets_are_read_as_one_command();
 }
 
@@ -53,6 +55,7 @@ pub fn what_is_there_is_said()
         → command_in header k ≡ Some answer }
 {
     octets_are_read_as_one_row();
+    a_relative_row_is_read();
     octets_are_read_as_one_command();
 }
 
@@ -61,4 +64,5 @@ pub fn rows_are_events()
     ensures { (header : Head) (k : ℕ) (row : Row) → IsRow header k row → IsEvent row }
 {
     a_read_row_is_an_event();
+    a_relative_row_is_read();
 }

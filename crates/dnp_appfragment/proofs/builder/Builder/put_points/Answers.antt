@@ -5,11 +5,14 @@ use Rattle.std.proofs.Math.Nat.{mul-le-mul, le_refl}
 use Rattle.dnp_objects.specs.declared.limits.TheConstants.{MAX_FRAGMENT}
 use Rattle.dnp_objects.specs.Objects.{object_size}
 use Rattle.dnp_appfragment.specs.declared.header.Range.{Range}
-use Rattle.dnp_appfragment.specs.Built.{size, with_object}
+use Rattle.dnp_appfragment.specs.Built.{context_of, size, with_object}
 use Rattle.dnp_appfragment.specs.Headers.{head_of}
 use Rattle.dnp_appfragment.specs.steps.Spans.{row_head, all_written, span}
+use Rattle.dnp_appfragment.specs.Table.{form_of}
+use Rattle.dnp_appfragment.proofs.Places.{any_place, span_whole, span_other}
 use Rattle.dnp_appfragment.proofs.ObjectHeaders.{response_form}
-use Rattle.dnp_appfragment.proofs.Spans.{AreSized, each_size, taken_size, many_fit, size_behind, size_with, span_header, ArePut, no_rows_put, rows_put}
+use Rattle.dnp_appfragment.proofs.Spans.{many_fit, size_behind, size_with, span_header, ArePut, no_rows_put, rows_put}
+use Rattle.dnp_appfragment.proofs.SpanSizes.{AreSized, each_size, taken_size}
 use Rattle.dnp_appfragment.proofs.builder.Builder.put_points.Given.{Over}
 use Rattle.dnp_appfragment.proofs.builder.Builder.put_points.Goals.{After-min-count, After-put}
 use Rattle.dnp_appfragment.proofs.builder.Builder.put_points.Goals as goal
@@ -82,11 +85,13 @@ put-requires-clause-can g c =
 pub put-requires-clause-fits : goal.put-requires-clause-fits
 put-requires-clause-fits g c = λ numbers.
     let at = (goal.at.put-requires-clause-fits g c).After-min-count in
-    span_header c.args.self.now.function g.row.GROUP g.row.VARIATION c.unwrap-size.result c.args.first (c.min-count.result - 1)
+    any_place (form_of c.args.self.now.function) (context_of c.args.self.now) _
+    (span_header c.args.self.now.function g.row.GROUP g.row.VARIATION c.unwrap-size.result c.args.first (c.min-count.result - 1)
     (all_written g.row.GROUP g.row.VARIATION (take c.min-count.result (g.R.PointRows.rows c.args.rows)))
     (response_form c.args.self.now.function c.requires.response) c.requires.object (sized g at) numbers.1
     (long g at
-    ∙ ap (λ (n : ℕ). n * c.unwrap-size.result) (let one : c.min-count.result ≡ suc (c.min-count.result - 1) = omega (arith, c.if-count-eq0.false) in one))
+    ∙ ap (λ (n : ℕ). n * c.unwrap-size.result) (let one : c.min-count.result ≡ suc (c.min-count.result - 1) = omega (arith, c.if-count-eq0.false) in one)))
+    refl (span_whole g.row.GROUP g.row.VARIATION c.requires.object)
 
 ok_of : {A E : Type 0} (r : Result A E) → (IsErr r → ⊥) → IsOk r
 ok_of (Ok x) never = refl
@@ -150,3 +155,6 @@ returns-clause-put g c =
 
 pub returns-clause-few : goal.returns-clause-few
 returns-clause-few g c = (fit g (goal.at.returns-clause-few g c).After-min-count).0
+
+pub put-requires-clause-other : goal.put-requires-clause-other
+put-requires-clause-other g c = span_other g.row.GROUP g.row.VARIATION c.requires.object

@@ -1,8 +1,8 @@
 -- What is left is counted on, up to none.
 use Rattle.std.proofs.Common.{◌≡◌, ◌≤◌, ◌∙◌, ◌+◌, ℕ, List, length, sym, ap, arith, subst}
 use Rattle.dnp_appfragment.specs.EventRows.{events_in}
-use Rattle.dnp_appfragment.specs.Headers.{Head, AreHeaders, begin}
-use Rattle.dnp_appfragment.specs.Left.{Left, headers_of}
+use Rattle.dnp_appfragment.specs.Headers.{Head, AreHeaders}
+use Rattle.dnp_appfragment.specs.Left.{Left, headers_left}
 use Rattle.dnp_appfragment.specs.Seen.{head}
 use Rattle.dnp_appfragment.specs.declared.table.Form.TheVariants as form
 use Rattle.dnp_appfragment.proofs.EventRows.{IsCounting, events_counted, others_passed, whole_few}
@@ -21,10 +21,10 @@ loop-header-init c =
 
 pub overflow_add-count : goal.overflow_add-count
 overflow_add-count c =
-    let hs : List Head = headers_of c.self.inside.form c.self.inside.rest.now in
+    let hs : List Head = headers_left c.self.inside.form c.self.inside.common c.self.inside.rest.now in
     let same : hs ≡ c.args.self.now.headers = ap (λ (l : Left). l.headers) c.self.view_is in
     let few : length (events_in hs) ≤ length c.self.inside.rest.now =
-    whole_few c.self.inside.form begin c.requires.response.0 c.self.inside.rest.now
+    whole_few c.self.inside.form c.self.inside.common c.requires.response.0 c.self.inside.rest.now
     (octets_all c.self.inside.rest.now c.a_slice_is_of_octets.ensures.each) c.self.invariant
     (subst (AreHeaders form.Response c.requires.response.0) (sym same) c.requires.response.1) in
     let counted = events_counted (length (events_in c.args.self.now.headers)) c.loop-header.count (head c.in-Some.header) c.next.new.self.headers

@@ -6,7 +6,7 @@ use Rattle.dnp_appfragment.proofs.headers.Headers.new.Given as goal
 
 -- the first fault of what is left is that of all
 abbrev pub invariant-loop-rest : goal.invariant-loop-rest
-invariant-loop-rest l = fault_of (headers_from l.form begin l.rest) ≡ fault_of (headers_from l.form begin l.octets)
+invariant-loop-rest l = fault_of (headers_from l.form l.common l.rest) ≡ fault_of (headers_from l.form begin l.octets)
 
 abbrev pub decreases-loop-rest : goal.decreases-loop-rest
 decreases-loop-rest l = length l.rest

@@ -4,7 +4,7 @@ use Rattle.dnp_objects.specs.declared.row.Row.{Row}
 use Rattle.dnp_objects.specs.declared.limits.TheConstants.{MAX_FRAGMENT}
 use Rattle.dnp_objects.specs.Rows.{Fits, written}
 use Rattle.dnp_appfragment.specs.steps.Spans.{all_written}
-use Rattle.dnp_appfragment.proofs.Spans.{first_written}
+use Rattle.dnp_appfragment.proofs.SpanSizes.{first_written}
 use Rattle.dnp_appfragment.proofs.points.PointsObject.append.Given.{Over}
 use Rattle.dnp_appfragment.proofs.points.PointsObject.append.Goals.{After-row}
 use Rattle.dnp_appfragment.proofs.points.PointsObject.append.Goals as goal

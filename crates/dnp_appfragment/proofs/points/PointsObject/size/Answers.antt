@@ -1,6 +1,6 @@
 use Rattle.std.proofs.Common.{◌≡◌, ◌∙◌, ℕ, ◌*◌, sym, subst, length, take, Option, IsSome, arith}
 use Rattle.dnp_appfragment.specs.steps.Spans.{all_written}
-use Rattle.dnp_appfragment.proofs.Spans.{there_is_size, taken_size}
+use Rattle.dnp_appfragment.proofs.SpanSizes.{there_is_size, taken_size}
 use Rattle.dnp_appfragment.proofs.points.PointsObject.size.Given.{Over}
 use Rattle.dnp_appfragment.proofs.points.PointsObject.size.Goals.{After-unwrap}
 use Rattle.dnp_appfragment.proofs.points.PointsObject.size.Goals as goal
