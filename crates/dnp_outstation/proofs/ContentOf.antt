@@ -9,7 +9,7 @@ use Rattle.dnp_appfragment.specs.EventRows.{events_in as rows_said}
 use Rattle.dnp_appfragment.specs.Fragments.{Asked, IsRequest}
 use Rattle.dnp_appfragment.specs.declared.table.Form.{Form}
 use Rattle.dnp_appfragment.specs.declared.table.Form.TheVariants as form
-use Rattle.dnp_appfragment.specs.Headers.{Head, IsHeader, AreHeaders, begin}
+use Rattle.dnp_appfragment.specs.Headers.{Head, Context, IsHeader, IsHeaderAt, AreHeaders, begin}
 use Rattle.dnp_appfragment.specs.Table.{takes_of, rules, form_of, function_octet}
 use Rattle.dnp_objects.specs.Objects.{objects, content_of as object_content}
 use Rattle.dnp_objects.specs.declared.command.Command.{Command}
@@ -18,6 +18,7 @@ use Rattle.std.proofs.Math.ListN.{length-set}
 use Rattle.dnp_controls.specs.Panel.{Panel}
 use Rattle.dnp_controls.specs.Selecting.{Select}
 use Rattle.dnp_objects.specs.declared.limits.TheConstants.{MAX_FRAGMENT}
+use Rattle.dnp_appfragment.proofs.Places.{any_place}
 use Rattle.dnp_outstation.specs.Items.{first_place, last_in, is_inside}
 use Rattle.dnp_outstation.specs.State.{State}
 use Rattle.dnp_outstation.specs.Content.{Content, Executed, plain, answered, content_of, for_request, by_function, read_content, source_of, refused, written, write_bits, time_written, enabled_after, switched, class_in, no_delay, bits_of, parameter_error, no_func_code_support}
@@ -65,11 +66,14 @@ delay_header : IsHeader form.Response no_delay
 unfolding takes_of rules objects object_content
 delay_header = record { object = refl; fits = omega arith; forward = tt; objects = refl }
 
+pub delay_stands : (context : Context) → IsHeaderAt form.Response context no_delay
+delay_stands context = any_place form.Response context no_delay delay_header refl refl
+
 pub no_headers : HoldNoEvents []
 no_headers = record { stand = tt; none = refl }
 
 pub delay_alone : HoldNoEvents (no_delay ∷ [])
-delay_alone = record { stand = (delay_header, tt); none = refl }
+delay_alone = record { stand = (delay_stands begin, tt); none = refl }
 
 -- octets are read as the request that they are
 abbrev pub RequestsAreRead : Type 0

@@ -9,11 +9,12 @@ use Rattle.dnp_objects.specs.Objects.{objects, content_of, object_size}
 use Rattle.dnp_objects.specs.declared.command.Command.{Command}
 use Rattle.dnp_appfragment.specs.declared.table.Form.TheVariants as form
 use Rattle.dnp_appfragment.specs.Table.{Rule, allows, form_eq, rules, takes_of, is_rule, IsInTable}
-use Rattle.dnp_appfragment.specs.Headers.{Head, head_of, IsHeader, count_of, octets_of, prefix_size, header_octets, qualifier_of, range_octets, spelled}
+use Rattle.dnp_appfragment.specs.Headers.{Head, head_after, Context, IsHeader, IsHeaderAt, is_relative, count_of, octets_of, prefix_size, header_octets, qualifier_of, range_octets, spelled}
 use Rattle.dnp_appfragment.specs.declared.header.Range.{Range}
 use Rattle.std.proofs.lemmas.List.Concat.{flat_map-append}
 use Rattle.dnp_appfragment.specs.Built.{Built, heads, size, with_header}
 use Rattle.dnp_objects.specs.declared.limits.TheConstants.{MAX_FRAGMENT}
+use Rattle.dnp_appfragment.proofs.Places.{any_place}
 use Rattle.dnp_outstation.specs.Controls.{command_at, object_in, with_status, answered_object, answered_from, answered_head, headers_with}
 use Rattle.dnp_outstation.proofs.ControlCommands.{more_from}
 
@@ -82,20 +83,23 @@ by_carrier P block wide narrow g v is = first (g == 12 && v == 1) refl is
 
 -- ---- a header of commands
 
--- its objects have as many octets each, and with others of the same size it stands in a response
+-- its objects have as many octets each, none gives its time after a common one, and with others of the same size it
+-- stands in a response
 pub record OfCommands (h : Head) : Type 0 where
+  pub other : is_relative h.group h.variation ≡ false
   pub each : ℕ
   pub some : 1 ≤ each
   pub whole : length h.octets ≡ count_of h.range * each
   pub answers : (octets : List ℕ) → length octets ≡ length h.octets → IsHeader form.Response (record h { octets = octets })
 
 OfObject : ℕ → ℕ → Type 0
-OfObject g v = (r : Range) (octets : List ℕ) → IsHeader form.Command (head_of g v r octets) → OfCommands (head_of g v r octets)
+OfObject g v = (o : Option ℕ) (r : Range) (octets : List ℕ) → IsHeader form.Command (head_after o g v r octets) → OfCommands (head_after o g v r octets)
 
 -- objects of n octets each, which may stand in a response too
-of_size : (n g v : ℕ) (r : Range) (octets : List ℕ) → 1 ≤ n → object_size g v ≡ Some n → IsInTable form.Response g v (qualifier_of r)
-    → IsHeader form.Command (head_of g v r octets) → OfCommands (head_of g v r octets)
-of_size n g v r octets some size stands is = record {
+of_size : (n g v : ℕ) (o : Option ℕ) (r : Range) (octets : List ℕ) → 1 ≤ n → object_size g v ≡ Some n → is_relative g v ≡ false
+    → IsInTable form.Response g v (qualifier_of r) → IsHeader form.Command (head_after o g v r octets) → OfCommands (head_after o g v r octets)
+of_size n g v o r octets some size other stands is = record {
+  other = other;
   each = prefix_size r + n;
   some = omega arith;
   whole = is.objects ∙ ap (octets_of (count_of r) (prefix_size r)) size;
@@ -104,21 +108,21 @@ of_size n g v r octets some size stands is = record {
 
 block : OfObject 12 1
 unfolding OfObject takes_of rules objects content_of
-block r octets is = of_size 11 12 1 r octets (omega arith) refl is.object is
+block o r octets is = of_size 11 12 1 o r octets (omega arith) refl refl is.object is
 
 wide : OfObject 41 1
 unfolding OfObject takes_of rules objects content_of
-wide r octets is = of_size 5 41 1 r octets (omega arith) refl is.object is
+wide o r octets is = of_size 5 41 1 o r octets (omega arith) refl refl is.object is
 
 narrow : OfObject 41 2
 unfolding OfObject takes_of rules objects content_of
-narrow r octets is = of_size 3 41 2 r octets (omega arith) refl is.object is
+narrow o r octets is = of_size 3 41 2 o r octets (omega arith) refl refl is.object is
 
 pub of_commands : (h : Head) → IsHeader form.Command h → OfCommands h
 unfolding OfObject takes_of
 of_commands h is =
     by_carrier OfObject block wide narrow h.group h.variation (found_carries rules all_carry h.group h.variation (qualifier_of h.range) is.object)
-    h.range h.octets is
+    h.common h.range h.octets is
 
 -- ---- places of objects
 
@@ -181,8 +185,16 @@ answered_length code h is = by (count_of h.range) refl
         status_length (object_in h i) (option_map code (command_at h i)) (rw long facts.some) ∙ long)
         ∙ sym facts.whole
 
-pub answered_header : (code : Command → ℕ) (h : Head) → IsHeader form.Command h → IsHeader form.Response (answered_head code h)
-answered_header code h is = (of_commands h is).answers (answered_head code h).octets (answered_length code h is)
+-- and it stands anywhere in a response
+pub answered_header : (code : Command → ℕ) (h : Head) → IsHeader form.Command h → h.common ≡ None → (context : Context)
+    → IsHeaderAt form.Response context (answered_head code h)
+answered_header code h is none context =
+    let of = of_commands h is in
+    any_place form.Response context (answered_head code h) (of.answers (answered_head code h).octets (answered_length code h is)) none of.other
+
+-- in a request it has no common time
+pub no_common : (context : Context) (h : Head) → IsHeaderAt form.Command context h → h.common ≡ None
+no_common context h is = is.common ∙ ap (λ (b : Bool). cond b context None) (of_commands h is.header).other
 
 -- ---- the headers in a fragment
 

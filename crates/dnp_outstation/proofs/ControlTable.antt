@@ -9,7 +9,7 @@ use Rattle.dnp_appfragment.specs.EventRows.{is_event_group, is_event_header, eve
 use Rattle.dnp_appfragment.specs.Headers.{Head, IsHeader, Context, AreHeaders, context_after, qualifier_of}
 use Rattle.dnp_appfragment.specs.Table.{Rule, takes_of, rules, allows, IsInTable}
 use Rattle.dnp_outstation.specs.Controls.{answered_head, headers_with}
-use Rattle.dnp_outstation.proofs.ControlHeaders.{answered_header}
+use Rattle.dnp_outstation.proofs.ControlHeaders.{answered_header, no_common}
 
 abbrev IsNoEvent : ℕ → Type 0
 IsNoEvent g = is_event_group g ≡ false
@@ -41,9 +41,11 @@ header_silent h is = no_event h.group h.variation (qualifier_of h.range) is.obje
 pub headers_stand : (code : Command → ℕ) (asked answered : Context) (hs : List Head) → AreHeaders form.Command asked hs
     → AreHeaders form.Response answered (headers_with code hs)
 headers_stand code asked answered [] are = tt
-headers_stand code asked answered (h ∷ hs) are =
-    (answered_header code h are.0, headers_stand code (context_after asked h) (context_after answered (answered_head code h)) hs are.1)
+headers_stand code asked answered (h ∷ hs) are = (
+  answered_header code h are.0.header (no_common asked h are.0) answered,
+  headers_stand code (context_after asked h) (context_after answered (answered_head code h)) hs are.1,
+)
 
 pub headers_silent : (code : Command → ℕ) (asked : Context) (hs : List Head) → AreHeaders form.Command asked hs → rows_said (headers_with code hs) ≡ []
 headers_silent code asked [] are = refl
-headers_silent code asked (h ∷ hs) are = rw (header_silent h are.0) (headers_silent code (context_after asked h) hs are.1)
+headers_silent code asked (h ∷ hs) are = rw (header_silent h are.0.header) (headers_silent code (context_after asked h) hs are.1)

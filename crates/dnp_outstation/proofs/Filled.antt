@@ -1,16 +1,22 @@
 -- What is filled item by item is what is offered: the longest beginning of the items that fits.
-use Rattle.std.proofs.Common.{◌≡◌, Bool, true, false, if◌then◌else◌, refl, sym, ◌∙◌, ap, ℕ, ◌==◌, List, [], ◌∷◌, ◌++◌, map, take, length, arith, append_assoc, append-nil, eq-eqb, ne_eqb, None, Some}
+use Rattle.std.proofs.Common.{◌≡◌, Bool, true, false, if◌then◌else◌, refl, sym, ◌∙◌, ap, subst, ℕ, ◌==◌, List, [], ◌∷◌, ◌++◌, map, take, length, arith, append_assoc, append-nil, eq-eqb, ne_eqb, Option, None, Some, IfSome}
 use Rattle.std.specs.List.{AllByRecursion}
 use Rattle.std.proofs.lemmas.List.{length-append, length-map}
 use Rattle.dnp_appfragment.specs.Headers.{Head}
 use Rattle.dnp_outstation.specs.declared.offer.place.Place.{Place}
 use Rattle.dnp_outstation.specs.declared.offer.writer.Writer.{Writer}
-use Rattle.dnp_outstation.specs.Items.{Item}
-use Rattle.dnp_outstation.specs.Layout.{Laid, item_of, lay, fits_fragment}
+use Rattle.dnp_outstation.specs.Forms.{in_groups, told_by}
+use Rattle.dnp_outstation.specs.Items.{Thing, Item}
+use Rattle.dnp_outstation.specs.Items.Thing.{Event, Present}
+use Rattle.dnp_outstation.specs.Layout.{Laid, item_of, fits_fragment}
 use Rattle.dnp_outstation.specs.Offer.{longest, held_laid, Filled, filled_with, offered_of}
+use Rattle.dnp_outstation.specs.steps.Grouping.{opened, laid_from}
+use Rattle.dnp_outstation.specs.steps.Grouping.Open.{Shut}
 use Rattle.dnp_outstation.specs.steps.Filling.{empty_from, put_laid, fits, ended, fill_laid, fill}
 use Rattle.dnp_outstation.proofs.Grows.{fits_begins}
-use Rattle.dnp_outstation.proofs.Joined.{IsTold}
+use Rattle.dnp_outstation.proofs.Coming.{laid_so}
+use Rattle.dnp_outstation.proofs.Grouped.{grouped_items, told_each}
+use Rattle.dnp_outstation.proofs.Joined.{IsTold, told_whole}
 use Rattle.dnp_outstation.proofs.Longest.{longest_is}
 use Rattle.dnp_outstation.proofs.Taken.{Holds, heads_are, empty_holds, put_holds, fits_is}
 
@@ -80,16 +86,37 @@ filled place w items (y ∷ ys) holds fit told = by (λ within. filled place (pu
             ≡ true = fits_begins (items ++ y ∷ []) zs (ap fits_fragment (append_assoc items (y ∷ []) zs) ∙ it) in cc)
         over zs past false it = refl
 
--- what is laid tells its whole time
-laid_told : (items : List Item) → AllByRecursion IsTold (map lay items)
-laid_told [] = tt
-laid_told (x ∷ xs) = (tt, laid_told xs)
+-- what goes as its own object or as 2.3 is told so
+pub told_so : (x : Laid) → x ≡ told_by x.common x.item → IsTold x
+told_so x is = go x.item.thing x.common refl is
+  where
+    go : (thing : Thing) (common : Option ℕ) → x.common ≡ common → x ≡ told_by common (record { header = x.item.header; thing = thing }) → IsTold x
+    go thing None none is = told_whole x none
+    go (Present static) (Some t) some is =
+        absurd (let none : x.common ≡ None = ap (λ (y : Laid). y.common) is in let no : None ≡ Some t = sym none ∙ some in cc)
+    go (Event lane row) (Some t) some is =
+        subst (λ (c : Option ℕ). IfSome c (λ _. (x.object.group ≡ 2) × (x.object.variation ≡ 3))) (sym some)
+        (ap (λ (y : Laid). y.object.group) is, ap (λ (y : Laid). y.object.variation) is)
+
+all_told_so : (xs : List Laid) → AllByRecursion (λ x. x ≡ told_by x.common x.item) xs → AllByRecursion IsTold xs
+all_told_so [] all = tt
+all_told_so (x ∷ xs) all = (told_so x all.0, all_told_so xs all.1)
+
+-- what is filled with events as they come is the longest beginning of them all in groups
+pub feed_offers : (may : ℕ → Bool) (place : Place) (items : List Item) → (let rows = in_groups may items in
+    fill_laid (empty_from place) (laid_from Shut (map (opened may) items)) ≡ offered_with place rows (longest fits_fragment rows))
+feed_offers may place items =
+    let rows = in_groups may items in
+    ap (fill_laid (empty_from place)) (sym (laid_so may items))
+    ∙ filled place (empty_from place) [] rows (empty_holds place) refl (all_told_so rows (told_each may items))
 
 -- from a place on
-pub fill_offers : (may : ℕ → Bool) (place : Place) (items : List Item) → fill (empty_from place) items ≡ offered_of may place items
+pub fill_offers : (may : ℕ → Bool) (place : Place) (items : List Item) → fill (empty_from place) (map (opened may) items) ≡ offered_of may place items
 unfolding offered_of held_laid
 fill_offers may place items =
-    let held = longest fits_fragment (map lay items) in
-    filled place (empty_from place) [] (map lay items) (empty_holds place) refl (laid_told items)
-    ∙ ap (λ (n : ℕ). filled_with (n == length (map lay items)) place held) (sym (length-map held item_of))
-    ∙ ap (λ (n : ℕ). filled_with (length (map item_of held) == n) place held) (length-map items lay)
+    let rows = in_groups may items in
+    let held = longest fits_fragment rows in
+    let many : length rows ≡ length items = sym (length-map rows item_of) ∙ ap length (grouped_items may items) in
+    feed_offers may place items
+    ∙ ap (λ (n : ℕ). filled_with (n == length rows) place held) (sym (length-map held item_of))
+    ∙ ap (λ (n : ℕ). filled_with (length (map item_of held) == n) place held) many

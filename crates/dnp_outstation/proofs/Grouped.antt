@@ -11,10 +11,13 @@ use Rattle.dnp_objects.specs.declared.row.Kind.{Kind}
 use Rattle.dnp_objects.specs.declared.row.Kind.TheVariants.{Binary, Counter, Analog}
 use Rattle.dnp_objects.specs.declared.row.Row.{Row}
 use Rattle.dnp_objects.specs.Equality.{kind_eq}
-use Rattle.dnp_objects.specs.Events.{event_object}
+use Rattle.dnp_objects.specs.Events.{event_object, IsEvent}
+use Rattle.dnp_eventbuf.specs.declared.numbered.Numbered.{Numbered}
 use Rattle.dnp_objects.specs.Relative.{FitsRelative}
 use Rattle.dnp_objects.specs.Rows.{Fits}
-use Rattle.dnp_outstation.specs.Forms.{CanTell, in_groups, is_in_reach, lay_group, reaches, time_of, told_after, told_by}
+use Rattle.dnp_outstation.specs.declared.offer.grouping.Coming.{Coming}
+use Rattle.dnp_outstation.specs.declared.offer.grouping.Pair.{Pair}
+use Rattle.dnp_outstation.specs.Forms.{CanTell, in_groups, is_in_reach, lay_group, reaches, reaches_by, time_of, told_after, told_by}
 use Rattle.dnp_outstation.specs.Groups.{Group, members, cut}
 use Rattle.dnp_outstation.specs.Items.{Thing, Item}
 use Rattle.dnp_outstation.specs.Items.Thing.{Event, Present}
@@ -91,6 +94,9 @@ groups_told (g ∷ gs) = joined IsTold (lay_group g) (flat_map lay_group gs) (by
     by true = after_told (time_of g.first) (members g)
     by false = own_told (members g)
 
+pub told_each : (may : ℕ → Bool) (items : List Item) → AllByRecursion (λ x. x ≡ told_by x.common x.item) (in_groups may items)
+told_each may items = groups_told (cut (reaches may) items)
+
 pub grouped_told : (may : ℕ → Bool) (items : List Item) → All IsTold (in_groups may items)
 grouped_told may items = All-from_recursion IsTold (in_groups may items) (groups_told (cut (reaches may) items))
 
@@ -135,7 +141,46 @@ tells common row fits kind near = go row.time refl near
           near = subst (λ (o : Option ℕ). IsSomeAnd o (IsNear common)) (sym time) near;
         }
 
--- the first of a group and another one can tell their times after its time
+-- so can an event whose time is in reach of it
+pub near_tells : (common : ℕ) (row : Row) → (kind_eq row.kind Binary && is_in_reach (Some common) row.time) ≡ true → IsEvent row → FitsRelative common row
+near_tells common row is fits =
+    let parts = and_parts (kind_eq row.kind Binary) (is_in_reach (Some common) row.time) is in
+    let n = near_in (Some common) row.time parts.1 in
+    let c : common ≡ n.common = ap (λ (o : Option ℕ). unwrap_or o 0) n.first_is in
+    tells common row fits (binary_is row.kind parts.0) (subst (λ (t : ℕ). IsSomeAnd row.time (IsNear t)) (sym c) n.near)
+
+-- the first of a group and another row can tell their times after its time
+pub record PairTells (first x : Row) : Type 0 where
+  pub begins : FitsRelative (unwrap_or first.time 0) first
+  pub goes_on : FitsRelative (unwrap_or first.time 0) x
+
+pub pair_tells : (b b' : Bool) (lane lane' : ℕ) (first x : Numbered) → reaches_by b b' (Event lane first) (Event lane' x) ≡ true
+    → IsEvent first.row → IsEvent x.row → PairTells first.row x.row
+pair_tells b b' lane lane' first x is fits fits' =
+    let both : Bool = kind_eq first.row.kind Binary && kind_eq x.row.kind Binary in
+    let close : Bool = is_in_reach first.row.time x.row.time in
+    let parts = and_parts both close (and_parts (lane == lane') (both && close) (and_parts (b && b') ((lane == lane') && (both && close)) is).1).1 in
+    let kinds = and_parts (kind_eq first.row.kind Binary) (kind_eq x.row.kind Binary) parts.0 in
+    let n = near_in first.row.time x.row.time parts.1 in
+    let c : unwrap_or first.row.time 0 ≡ n.common = ap (λ (o : Option ℕ). unwrap_or o 0) n.first_is in
+    record {
+      begins = subst (λ (common : ℕ). FitsRelative common first.row) (sym c) (tells n.common first.row fits (binary_is first.row.kind kinds.0)
+          (subst (λ (o : Option ℕ). IsSomeAnd o (IsNear n.common)) (sym n.first_is) (near_itself n.common)));
+      goes_on = subst (λ (common : ℕ). FitsRelative common x.row) (sym c) (tells n.common x.row fits' (binary_is x.row.kind kinds.1) n.near);
+    }
+
+pub tells_after : (first x : Coming) (common : ℕ) → common ≡ unwrap_or first.row.row.time 0
+    → reaches_by first.is_open x.is_open (Event first.lane first.row) (Event x.lane x.row) ≡ true → FitsRelative common x.row.row
+tells_after first x common is near =
+    subst (λ (t : ℕ). FitsRelative t x.row.row) (sym is)
+    (pair_tells first.is_open x.is_open first.lane x.lane first.row x.row near first.event x.event).goes_on
+
+pub tells_begun : (pair : Pair) (common : ℕ) → common ≡ unwrap_or pair.first.row.row.time 0 → FitsRelative common pair.first.row.row
+tells_begun pair common is =
+    subst (λ (t : ℕ). FitsRelative t pair.first.row.row) (sym is)
+    (pair_tells pair.first.is_open pair.second.is_open pair.first.lane pair.second.lane pair.first.row pair.second.row pair.near
+    pair.first.event pair.second.event).begins
+
 record BothTell (first x : Item) : Type 0 where
   begins : CanTell (told_after (time_of first) first)
   goes_on : CanTell (told_after (time_of first) x)
@@ -146,20 +191,10 @@ both_tell may first x is can can' = go first.thing x.thing is can can'
     go : (t t' : Thing) → (let y : Item = record { header = first.header; thing = t } in let z : Item = record { header = x.header; thing = t' } in
         reaches may y z ≡ true → CanStand y → CanStand z → BothTell y z)
     go (Event lane a) (Event lane' b) is can can' =
-        let both : Bool = kind_eq a.row.kind Binary && kind_eq b.row.kind Binary in
-        let close : Bool = is_in_reach a.row.time b.row.time in
-        let parts = and_parts both close (and_parts (lane == lane') (both && close)
-        (and_parts (may first.header && may x.header) ((lane == lane') && (both && close)) is).1).1 in
-        let kinds = and_parts (kind_eq a.row.kind Binary) (kind_eq b.row.kind Binary) parts.0 in
-        let n = near_in a.row.time b.row.time parts.1 in
-        let c : unwrap_or a.row.time 0 ≡ n.common = ap (λ (o : Option ℕ). unwrap_or o 0) n.first_is in
-        record {
-          begins = subst (λ (common : ℕ). FitsRelative common a.row) (sym c) (tells n.common a.row can.0 (binary_is a.row.kind kinds.0)
-              (subst (λ (o : Option ℕ). IsSomeAnd o (IsNear n.common)) (sym n.first_is) (near_itself n.common)));
-          goes_on = subst (λ (common : ℕ). FitsRelative common b.row) (sym c) (tells n.common b.row can'.0 (binary_is b.row.kind kinds.1) n.near);
-        }
-    go (Event lane a) (Present b) is can can' = absurd (let no : false ≡ true = (and_parts (may first.header && may x.header) false is).1 in cc)
-    go (Present a) t' is can can' = absurd (let no : false ≡ true = (and_parts (may first.header && may x.header) false is).1 in cc)
+        let pair = pair_tells (may first.header) (may x.header) lane lane' a b is can.0 can'.0 in
+        record { begins = pair.begins; goes_on = pair.goes_on }
+    go (Event lane a) (Present b) is can can' = cc
+    go (Present a) t' is can can' = cc
 
 all_tell : (may : ℕ → Bool) (first : Item) (xs : List Item) → CanStand first → AllByRecursion (λ x. IsTrue (reaches may first x)) xs
     → AllByRecursion CanStand xs → AllByRecursion CanTell (map (told_after (time_of first)) xs)

@@ -6,10 +6,11 @@ use Rattle.std.proofs.lemmas.List.{length-append}
 use Rattle.std.proofs.lemmas.List.Concat.{flat_map-append}
 use Rattle.dnp_appfragment.specs.Headers.{Head, header_octets, spelled}
 use Rattle.dnp_appfragment.specs.Items.{Item as Object, item_octets}
+use Rattle.dnp_appfragment.specs.Written.{common_head}
 use Rattle.dnp_objects.specs.declared.limits.TheConstants.{MAX_FRAGMENT}
 use Rattle.dnp_outstation.specs.Items.{Thing}
 use Rattle.dnp_outstation.specs.Items.Thing.{Event, Present}
-use Rattle.dnp_outstation.specs.Layout.{Laid, object_of, goes_on, Stretch, alone, in_front, stretches, range_of, header_of, common_head, front_of, heads_of, response_size, fits_fragment}
+use Rattle.dnp_outstation.specs.Layout.{Laid, object_of, goes_on, Stretch, alone, in_front, stretches, range_of, header_of, front_of, heads_of, response_size, fits_fragment}
 use Rattle.dnp_outstation.proofs.Stretches.{laid_as, same_common, begins, in_front_on, in_front_off}
 
 abbrev size_of : List Stretch → ℕ
@@ -177,6 +178,16 @@ fits_begins xs ys fit =
     let within = leb-true (response_size (xs ++ ys)) MAX_FRAGMENT fit in
     let grows = response_grows xs ys in
     le-leb (response_size xs) MAX_FRAGMENT (omega arith)
+
+-- nor is what stands behind others
+sizes_behind : (xs ys : List Laid) → size_with ys ≤ size_with (xs ++ ys)
+sizes_behind [] ys = omega arith
+sizes_behind (x ∷ xs) ys = omega (arith, size_more x (xs ++ ys), sizes_behind xs ys)
+
+pub fits_behind : (xs ys : List Laid) → fits_fragment (xs ++ ys) ≡ true → fits_fragment ys ≡ true
+fits_behind xs ys fit =
+    let within = leb-true (response_size (xs ++ ys)) MAX_FRAGMENT fit in
+    le-leb (response_size ys) MAX_FRAGMENT (omega (arith, sizes_behind xs ys))
 
 -- one item's response: the front, its headers, the object
 pub one_size : (x : Laid) → response_size (x ∷ []) ≡ 4 + (own x + overhead x)

@@ -1,13 +1,17 @@
 -- What a fragment holds of the items that are left: a beginning, and as long a one as fits.
 use Rattle.std.proofs.Common.{◌≡◌, refl, sym, ◌∙◌, ap, subst, ℕ, Bool, List, [], ◌∷◌, ◌++◌, map, take, drop, length, arith}
-use Rattle.std.specs.List.{All}
+use Rattle.std.specs.List.{All, AllByRecursion}
 use Rattle.std.proofs.lemmas.List.{length-map, take-append-drop, take_all, take-map}
 use Rattle.std.proofs.lemmas.List.Elements.{All-take}
 use Rattle.dnp_outstation.specs.Forms.{laid}
 use Rattle.dnp_outstation.specs.Items.{Item}
 use Rattle.dnp_outstation.specs.Laws.{IsLongest}
 use Rattle.dnp_outstation.specs.Layout.{Laid, item_of, fits_fragment}
-use Rattle.dnp_outstation.specs.Offer.{held_laid, held_of}
+use Rattle.dnp_outstation.specs.Offer.{longest, held_laid, held_of}
+use Rattle.dnp_outstation.specs.steps.Grouping.{marked, opened, laid_from}
+use Rattle.dnp_outstation.specs.steps.Grouping.Open.{Shut}
+use Rattle.dnp_outstation.proofs.Coming.{laid_so}
+use Rattle.dnp_outstation.proofs.Grouped.{grouped_items}
 use Rattle.dnp_outstation.proofs.Longest.{longest_longest}
 
 pub held_longest : (may : ℕ → Bool) (items : List Item) → IsLongest fits_fragment (laid may items) (held_laid may items)
@@ -18,16 +22,11 @@ held_longest may items = longest_longest fits_fragment (laid may items) refl
 pub held_are_laid : (P : Laid → Type 0) (may : ℕ → Bool) (items : List Item) → All P (laid may items) → All P (held_laid may items)
 held_are_laid P may items all = subst (All P) (held_longest may items).begins (All-take P (length (held_laid may items)) (laid may items) all)
 
--- items stay what they are, however they go
-pub laid_items : (may : ℕ → Bool) (items : List Item) → map item_of (laid may items) ≡ items
-laid_items may [] = refl
-laid_items may (x ∷ xs) = ap (λ (l : List Item). x ∷ l) (laid_items may xs)
-
 pub held_begins : (may : ℕ → Bool) (items : List Item) → take (length (held_of may items)) items ≡ held_of may items
 held_begins may items =
     let n = length (held_laid may items) in
     ap (λ (k : ℕ). take k items) (length-map (held_laid may items) item_of)
-    ∙ ap (take n) (sym (laid_items may items))
+    ∙ ap (take n) (sym (grouped_items may items))
     ∙ take-map item_of n (laid may items)
     ∙ ap (map item_of) (held_longest may items).begins
 
@@ -45,7 +44,14 @@ pub held_none : (may : ℕ → Bool) → held_laid may [] ≡ []
 unfolding held_laid
 held_none may = refl
 
--- what headers leave open makes no difference yet
-pub held_any : (may may' : ℕ → Bool) (items : List Item) → held_laid may items ≡ held_laid may' items
+-- what headers of no item leave open makes no difference
+opened_same : (may may' : ℕ → Bool) (items : List Item) → AllByRecursion (λ x. may x.header ≡ may' x.header) items
+    → map (opened may) items ≡ map (opened may') items
+opened_same may may' [] all = refl
+opened_same may may' (x ∷ xs) all = (λ i. marked (all.0 i) x ∷ opened_same may may' xs all.1 i)
+
+pub held_same : (may may' : ℕ → Bool) (items : List Item) → AllByRecursion (λ x. may x.header ≡ may' x.header) items
+    → held_laid may items ≡ held_laid may' items
 unfolding held_laid
-held_any may may' items = refl
+held_same may may' items all =
+    ap (longest fits_fragment) (laid_so may items ∙ ap (laid_from Shut) (opened_same may may' items all) ∙ sym (laid_so may' items))

@@ -19,6 +19,7 @@ use Rattle.dnp_outstation.specs.declared.held.NewRow.{NewRow}
 use Rattle.dnp_outstation.specs.declared.offer.writer.Writer.{Writer}
 use Rattle.dnp_outstation.specs.Items.{Item, event_of, class_lanes, enabled_lanes, lane_items}
 use Rattle.dnp_outstation.specs.steps.Filling.{put, fill, has_rows_in}
+use Rattle.dnp_outstation.specs.steps.Grouping.{Marked, marked, mark}
 use Rattle.dnp_outstation.specs.steps.Holding.{AreFirst, new_of, kept_of, more_of}
 use Rattle.dnp_outstation.specs.steps.Putting.{Puts, least_of}
 use Rattle.dnp_outstation.proofs.LeftLanes.{last_is}
@@ -28,11 +29,15 @@ use Rattle.dnp_outstation.proofs.Rising.{last_or}
 
 -- ---- one list of items after the other
 
-pub puts_both : (w v w' : Writer) (xs ys : List Item) (fit : Bool) → Puts w xs true v → Puts v ys fit w' → Puts w (xs ++ ys) fit w'
+pub puts_both : (w v w' : Writer) (xs ys : List Marked) (fit : Bool) → Puts w xs true v → Puts v ys fit w' → Puts w (xs ++ ys) fit w'
 puts_both w v w' xs ys fit first second = λ more. ap (fill w) (append_assoc xs ys more) ∙ first (ys ++ more) ∙ second more
 
-pub puts_none_more : (w w' : Writer) (xs ys : List Item) → Puts w xs false w' → Puts w (xs ++ ys) false w'
+pub puts_none_more : (w w' : Writer) (xs ys : List Marked) → Puts w xs false w' → Puts w (xs ++ ys) false w'
 puts_none_more w w' xs ys first = λ more. ap (fill w) (append_assoc xs ys more) ∙ first (ys ++ more)
+
+-- of items that are all marked alike
+marked_both : (xs ys : List Item) → mark true (xs ++ ys) ≡ mark true xs ++ mark true ys
+marked_both xs ys = map-append (marked true) xs ys
 
 -- ---- the rows of one lane
 
@@ -69,26 +74,27 @@ kept_kinds kind rows (Some new) lane all = by (new.lane == lane && new.has_dropp
 
 -- where the held rows don't all fit, what comes after doesn't matter
 pub held_full : (w w' : Writer) (lane most : ℕ) (all rows kept : List Numbered) (new : Option NewRow) → 1 ≤ most → rows ≡ take most all
-    → kept ≡ kept_of rows new lane → Puts w (map (event_of 0 lane) kept) false w'
-    → Puts w (map (event_of 0 lane) (kept_of all new lane ++ more_of new lane)) false w'
+    → kept ≡ kept_of rows new lane → Puts w (mark true (map (event_of 0 lane) kept)) false w'
+    → Puts w (mark true (map (event_of 0 lane) (kept_of all new lane ++ more_of new lane))) false w'
 held_full w w' lane zero all rows kept new some is kept_is full = absurd (omega arith)
 held_full w w' lane (suc n) all rows kept new some is kept_is full =
     let event : Numbered → Item = event_of 0 lane in
     let rest : List Numbered = drop (suc n) all ++ more_of new lane in
-    let split : map event (kept_of all new lane ++ more_of new lane) ≡ map event kept ++ map event rest =
-    ap (λ (l : List Numbered). map event (l ++ more_of new lane)) (kept_begins n all new lane)
+    let split : mark true (map event (kept_of all new lane ++ more_of new lane)) ≡ mark true (map event kept) ++ mark true (map event rest) =
+    ap (mark true) (ap (λ (l : List Numbered). map event (l ++ more_of new lane)) (kept_begins n all new lane)
     ∙ ap (map event) (append_assoc (kept_of (take (suc n) all) new lane) (drop (suc n) all) (more_of new lane))
     ∙ ap (λ (l : List Numbered). map event (kept_of l new lane ++ rest)) (sym is)
     ∙ ap (λ (l : List Numbered). map event (l ++ rest)) (sym kept_is)
-    ∙ map-append event kept rest
+    ∙ map-append event kept rest)
+    ∙ marked_both (map event kept) (map event rest)
     in
-    subst (λ (items : List Item). Puts w items false w') (sym split) (puts_none_more w w' (map event kept) (map event rest) full)
+    subst (λ (items : List Marked). Puts w items false w') (sym split) (puts_none_more w w' (mark true (map event kept)) (mark true (map event rest)) full)
 
 -- where they do, they are all
 pub held_fits : (w v w' : Writer) (lane : ℕ) (all rows kept : List Numbered) (new : Option NewRow) (fit : Bool) → AreFirst all rows
-    → kept ≡ kept_of rows new lane → least_of kept ≤ MAX_FRAGMENT → Puts w (map (event_of 0 lane) kept) true v
-    → Puts v (map (event_of 0 lane) (more_of new lane)) fit w'
-    → Puts w (map (event_of 0 lane) (kept_of all new lane ++ more_of new lane)) fit w'
+    → kept ≡ kept_of rows new lane → least_of kept ≤ MAX_FRAGMENT + 7 → Puts w (mark true (map (event_of 0 lane) kept)) true v
+    → Puts v (mark true (map (event_of 0 lane) (more_of new lane))) fit w'
+    → Puts w (mark true (map (event_of 0 lane) (kept_of all new lane ++ more_of new lane))) fit w'
 held_fits w v w' lane all rows kept new fit firsts kept_is room first second =
     let event : Numbered → Item = event_of 0 lane in
     let of_kind : All (λ x. x.row.kind ≡ firsts.kind) kept =
@@ -99,10 +105,12 @@ held_fits w v w' lane all rows kept new fit firsts kept_is room first second =
     let few : length rows < firsts.most = omega arith in
     let whole : rows ≡ all = firsts.is ∙ take_whole firsts.most all (subst (λ (l : List Numbered). length l < firsts.most) firsts.is few) in
     let same : kept ≡ kept_of all new lane = kept_is ∙ ap (λ (l : List Numbered). kept_of l new lane) whole in
-    let split : map event (kept_of all new lane ++ more_of new lane) ≡ map event kept ++ map event (more_of new lane) =
-    ap (λ (l : List Numbered). map event (l ++ more_of new lane)) (sym same) ∙ map-append event kept (more_of new lane)
+    let split : mark true (map event (kept_of all new lane ++ more_of new lane)) ≡ mark true (map event kept) ++ mark true (map event (more_of new lane)) =
+    ap (mark true) (ap (λ (l : List Numbered). map event (l ++ more_of new lane)) (sym same) ∙ map-append event kept (more_of new lane))
+    ∙ marked_both (map event kept) (map event (more_of new lane))
     in
-    subst (λ (items : List Item). Puts w items fit w') (sym split) (puts_both w v w' (map event kept) (map event (more_of new lane)) fit first second)
+    subst (λ (items : List Marked). Puts w items fit w') (sym split)
+    (puts_both w v w' (mark true (map event kept)) (mark true (map event (more_of new lane))) fit first second)
 
 -- ---- the lanes after the append
 
@@ -192,8 +200,8 @@ dropped_then s x rows sound low is =
 -- ---- whole lanes, one after the other
 
 pub lane_put : (s : Stock) (made : Option LaneRow) (new : Option NewRow) (lane : ℕ) (w w' : Writer) (fit : Bool) → IsSound s → lane < LANES → new ≡ new_of s made
-    → Puts w (map (event_of 0 lane) (kept_of (lane_at s lane).rows new lane ++ more_of new lane)) fit w'
-    → Puts w (lane_items (with_rows s (option_to_list made)) (lane ∷ [])) fit w'
+    → Puts w (mark true (map (event_of 0 lane) (kept_of (lane_at s lane).rows new lane ++ more_of new lane))) fit w'
+    → Puts w (mark true (lane_items (with_rows s (option_to_list made)) (lane ∷ []))) fit w'
 lane_put s made new lane w w' fit sound low new_is put =
     let rows : List Numbered = (lane_at s lane).rows in
     let event : Numbered → Item = event_of 0 lane in
@@ -202,23 +210,25 @@ lane_put s made new lane w w' fit sound low new_is put =
     ∙ ap (map event) (sym (rows_then s made lane sound.nine low))
     ∙ sym (append-nil (map event (lane_at (with_rows s (option_to_list made)) lane).rows))
     in
-    subst (λ (items : List Item). Puts w items fit w') is put
+    subst (λ (items : List Item). Puts w (mark true items) fit w') is put
 
-pub lanes_put : (t : Stock) (lanes others : List ℕ) (w v w' : Writer) (fit : Bool) → Puts w (lane_items t lanes) true v → Puts v (lane_items t others) fit w'
-    → Puts w (lane_items t (lanes ++ others)) fit w'
+pub lanes_put : (t : Stock) (lanes others : List ℕ) (w v w' : Writer) (fit : Bool) → Puts w (mark true (lane_items t lanes)) true v
+    → Puts v (mark true (lane_items t others)) fit w' → Puts w (mark true (lane_items t (lanes ++ others))) fit w'
 lanes_put t lanes others w v w' fit first second =
-    subst (λ (items : List Item). Puts w items fit w') (sym (lanes_both t lanes others))
-    (puts_both w v w' (lane_items t lanes) (lane_items t others) fit first second)
+    subst (λ (items : List Marked). Puts w items fit w')
+    (sym (ap (mark true) (lanes_both t lanes others) ∙ marked_both (lane_items t lanes) (lane_items t others)))
+    (puts_both w v w' (mark true (lane_items t lanes)) (mark true (lane_items t others)) fit first second)
 
-pub lanes_full : (t : Stock) (lanes others : List ℕ) (w w' : Writer) → Puts w (lane_items t lanes) false w'
-    → Puts w (lane_items t (lanes ++ others)) false w'
+pub lanes_full : (t : Stock) (lanes others : List ℕ) (w w' : Writer) → Puts w (mark true (lane_items t lanes)) false w'
+    → Puts w (mark true (lane_items t (lanes ++ others))) false w'
 lanes_full t lanes others w w' first =
-    subst (λ (items : List Item). Puts w items false w') (sym (lanes_both t lanes others))
-    (puts_none_more w w' (lane_items t lanes) (lane_items t others) first)
+    subst (λ (items : List Marked). Puts w items false w')
+    (sym (ap (mark true) (lanes_both t lanes others) ∙ marked_both (lane_items t lanes) (lane_items t others)))
+    (puts_none_more w w' (mark true (lane_items t lanes)) (mark true (lane_items t others)) first)
 
-pub class_on : (t : Stock) (class : ℕ) (on : Bool) (w w' : Writer) (fit : Bool) → on ≡ true → Puts w (lane_items t (class_lanes class)) fit w'
-    → Puts w (lane_items t (if on then class_lanes class else [])) fit w'
-class_on t class on w w' fit is put = subst (λ (b : Bool). Puts w (lane_items t (if b then class_lanes class else [])) fit w') (sym is) put
+pub class_on : (t : Stock) (class : ℕ) (on : Bool) (w w' : Writer) (fit : Bool) → on ≡ true
+    → Puts w (mark true (lane_items t (class_lanes class))) fit w' → Puts w (mark true (lane_items t (if on then class_lanes class else []))) fit w'
+class_on t class on w w' fit is put = subst (λ (b : Bool). Puts w (mark true (lane_items t (if b then class_lanes class else []))) fit w') (sym is) put
 
 -- the lanes of the three classes
 pub three_classes : (enabled : List Bool) → length enabled ≡ 3

@@ -1,7 +1,7 @@
 -- What is so of all rows of the lanes and of all present values is so of the items of a READ.
-use Rattle.std.proofs.Common.{◌≡◌, Bool, true, false, if◌then◌else◌, refl, subst, ℕ, zero, suc, ◌+◌, ◌<◌, ◌≤◌, ◌==◌, ◌&&◌, nat_le, nat_lt, List, [], ◌∷◌, ◌++◌, map, drop, fold, length, slice_index, arith, Option, None, Some}
-use Rattle.std.specs.List.{All, filter}
-use Rattle.std.proofs.lemmas.List.Elements.{All-nil, All-append, All-map, All-filter, All-take, All-drop, All-weaker}
+use Rattle.std.proofs.Common.{◌≡◌, Bool, true, false, if◌then◌else◌, refl, sym, subst, ℕ, zero, suc, ◌+◌, ◌<◌, ◌≤◌, ◌==◌, ◌&&◌, nat_le, nat_lt, List, [], ◌∷◌, ◌++◌, map, drop, fold, length, slice_index, arith, Option, None, Some}
+use Rattle.std.specs.List.{All, AllByRecursion, filter}
+use Rattle.std.proofs.lemmas.List.Elements.{All-nil, All-append, All-map, All-filter, All-take, All-drop, All-weaker, All-from_recursion, recursion_from_All}
 use Rattle.dnp_objects.specs.Lanes.{lane_number}
 use Rattle.dnp_objects.specs.declared.lane.Lane.{Lane}
 use Rattle.dnp_objects.specs.declared.limits.TheConstants.{LANES}
@@ -12,13 +12,14 @@ use Rattle.dnp_eventbuf.specs.Sound.{IsSound}
 use Rattle.dnp_eventbuf.specs.Stock.{Stock, lane_at}
 use Rattle.dnp_appfragment.specs.Headers.{Head}
 use Rattle.dnp_outstation.specs.declared.offer.place.Place.{Place}
-use Rattle.dnp_outstation.specs.Forms.{may_in, may_each, laid}
+use Rattle.dnp_outstation.specs.Forms.{CanGo, may_in, may_each, in_groups, laid}
 use Rattle.dnp_outstation.specs.Items.{Source, Static, statics_of, each_static, in_range, is_within, Part, part_of, Item, at_most, less, rows_left, event_of, event_items, present_of, given_after, part_items, items_of, part_after, parts_left, items_left, enabled_lanes, lane_items}
 use Rattle.dnp_outstation.specs.Items.Part.{RowsOf, StaticsOf}
-use Rattle.dnp_outstation.specs.Layout.{lay}
+use Rattle.dnp_outstation.specs.Layout.{Laid, item_of}
 use Rattle.dnp_outstation.specs.Offer.{held_laid, held_of}
-use Rattle.dnp_outstation.specs.Said.{CanStand, CanGo, AreWritable}
+use Rattle.dnp_outstation.specs.Said.{CanStand, AreWritable}
 use Rattle.dnp_outstation.proofs.ByLanes.{IsLow}
+use Rattle.dnp_outstation.proofs.Grouped.{grouped_items, grouped_told, grouped_tell}
 use Rattle.dnp_outstation.proofs.HeldItems.{held_are_laid, held_begins}
 
 abbrev AreLow : List ℕ → Type 0
@@ -172,9 +173,17 @@ pub left_stand : (s : Source) (stood : ℕ) (place : Place) (headers : List Head
 left_stand s stood place headers sound writable = left_are CanStand s stood place headers (all_stand s sound writable)
 
 -- and so they go
-laid_go : (may : ℕ → Bool) (items : List Item) → All CanStand items → All CanGo (laid may items)
+under : (rows : List Laid) → AllByRecursion CanStand (map item_of rows) → AllByRecursion (λ x. CanStand x.item) rows
+under [] all = tt
+under (x ∷ xs) all = (all.0, under xs all.1)
+
+pub laid_go : (may : ℕ → Bool) (items : List Item) → All CanStand items → All CanGo (laid may items)
 laid_go may items all =
-    All-map CanGo lay items (All-weaker CanStand (λ (x : Item). CanGo (lay x)) (λ x can. record { stands = can; says = refl; whole = refl }) items all)
+    let rows = in_groups may items in
+    let stand : All (λ x. CanStand x.item) rows =
+    All-from_recursion (λ x. CanStand x.item) rows
+    (under rows (subst (AllByRecursion CanStand) (sym (grouped_items may items)) (recursion_from_All CanStand items all))) in
+    λ k d less. record { stands = stand k d less; says = grouped_told may items k d less; tells = grouped_tell may items all k d less }
 
 pub held_stand : (s : Source) (stood : ℕ) (place : Place) (headers : List Head) → IsSound s.lanes → AreWritable s
     → All CanGo (held_laid (may_in headers) (items_left s stood place headers))

@@ -7,7 +7,7 @@ use Rattle.std.proofs.lemmas.Bool.{and_parts, and_from, lt-ltb}
 use Rattle.std.proofs.lemmas.List.{map_push, flat_map_more, length_push}
 use Rattle.dnp_appfragment.specs.declared.header.Range.{Range}
 use Rattle.dnp_appfragment.specs.declared.header.Range.TheVariants as range
-use Rattle.dnp_appfragment.specs.Headers.{Head}
+use Rattle.dnp_appfragment.specs.Headers.{Head, head_after, number}
 use Rattle.dnp_appfragment.specs.Items.{item_octets}
 use Rattle.dnp_appfragment.specs.Joining.{joined, joined_range}
 use Rattle.dnp_appfragment.specs.Written as written
@@ -32,7 +32,8 @@ abbrev pub written_of : Laid → Head
 written_of x = of x.item.thing
   where
     of : Thing → Head
-    of (Event lane row) = written.indexed x.object.group x.object.variation x.object.index x.object.octets
+    of (Event lane row) =
+        head_after x.common x.object.group x.object.variation (range.Indexed true 1) (number true x.object.index ++ x.object.octets)
     of (Present static) = written.spanned x.object.group x.object.variation static.row.index x.object.octets
 
 -- so many places after another, under the same header
@@ -94,6 +95,17 @@ chain_behind x (y ∷ ys) chain =
     behind_on x y (last_item y ys) 1 (length ys) (behind_next x y chain.0) (chain_behind y ys chain.1) in
     let e : 1 + length ys ≡ length (y ∷ ys) = omega arith in
     rw (sym e) far
+
+-- it is of the same group
+pub object_behind : (x y : Laid) (k : ℕ) → IsBehind x k y → x.object.group ≡ y.object.group
+object_behind x y k behind = go x.item.thing y.item.thing behind
+  where
+    go : (t t' : Thing) → IsBehind (laid_as x.item.header t x.object x.common) k (laid_as y.item.header t' y.object y.common)
+        → x.object.group ≡ y.object.group
+    go (Event lane a) (Event lane' b) p = p.1
+    go (Event lane a) (Present b) p = absurd p
+    go (Present a) (Event lane' b) p = absurd p
+    go (Present a) (Present b) p = p.0
 
 pub same_run : (x y : Laid) → goes_on x y ≡ true → is_same_run (run_at x) (run_at y) ≡ true
 same_run x y on = go x.item.thing y.item.thing on

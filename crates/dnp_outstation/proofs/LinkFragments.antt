@@ -22,12 +22,12 @@ use Rattle.dnp_eventbuf.specs.Buffered.{Buffered, buffered_in, buffered_row, id_
 use Rattle.dnp_eventbuf.specs.Sound.{IsSound}
 use Rattle.dnp_eventbuf.specs.Stock.{Stock, lane_at, all_up_to}
 use Rattle.dnp_outstation.specs.declared.offer.place.Place.{Place}
-use Rattle.dnp_outstation.specs.Forms.{may_in, may_each}
+use Rattle.dnp_outstation.specs.Forms.{CanGo, may_in, may_each}
 use Rattle.dnp_outstation.specs.Items.{Item, no_ids, first_place, last_in, items_left, enabled_lanes, lane_items}
 use Rattle.dnp_outstation.specs.Layout.{Laid, item_of, headers_of, fits_fragment}
 use Rattle.dnp_outstation.specs.Offer.{held_laid, last_ids, Filled, offered_of, pushed}
 use Rattle.dnp_outstation.specs.Laws.{rows_in_lane, AreRowsUpto, IsTidy}
-use Rattle.dnp_outstation.specs.Said.{CanGo, AreWritable}
+use Rattle.dnp_outstation.specs.Said.{AreWritable}
 use Rattle.dnp_outstation.specs.Links.{Reports}
 use Rattle.dnp_outstation.specs.State.{State}
 use Rattle.dnp_outstation.specs.Content.{Content, plain, content_from, content_of, read_content, source_of, indications}

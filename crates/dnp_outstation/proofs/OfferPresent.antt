@@ -10,7 +10,7 @@ use Rattle.dnp_appfragment.specs.declared.header.Range.TheVariants as range
 use Rattle.dnp_pointdb.specs.declared.state.PointState.{PointState}
 use Rattle.dnp_pointdb.specs.declared.state.BlockState.{BlockState}
 use Rattle.dnp_outstation.specs.declared.offer.writer.Writer.{Writer}
-use Rattle.dnp_outstation.specs.Items.{Item, Static, present_of, given_after, is_within, in_range, statics_from, statics_in, output_row, outputs_from}
+use Rattle.dnp_outstation.specs.Items.{Static, present_of, given_after, is_within, in_range, statics_from, statics_in, output_row, outputs_from}
 use Rattle.dnp_outstation.specs.Items.{statics_of, each_static, Source}
 use Rattle.dnp_objects.specs.declared.row.Kind.{Kind}
 use Rattle.dnp_objects.specs.declared.row.Kind.TheVariants.{Binary, Counter, Analog}
@@ -20,7 +20,8 @@ use Rattle.dnp_objects.specs.Objects.{content_of, objects}
 use Rattle.dnp_appfragment.specs.Written.{FitsPoint, is_point_object}
 use Rattle.dnp_pointdb.specs.Sound.{static_object}
 use Rattle.dnp_outstation.specs.steps.Filling.{fill, ended}
-use Rattle.dnp_outstation.specs.steps.Putting.{Puts, presents}
+use Rattle.dnp_outstation.specs.steps.Grouping.{Marked, marked, mark}
+use Rattle.dnp_outstation.specs.steps.Putting.{Puts, shown, presents}
 
 -- present values of a kind go as an object for present values, whatever variation was asked for
 static_is : (kind : Kind) (asked : ℕ) → IsTrue (is_point_object (static_object kind asked).0 (static_object kind asked).1)
@@ -173,24 +174,28 @@ length_named r asked block kind base lo hi n ps hi_is named =
 -- ---- items, one after the other
 
 -- after items that were put stand the others
-pub puts_more : (w w' : Writer) (fit : Bool) (xs ys more : List Item)
+pub puts_more : (w w' : Writer) (fit : Bool) (xs ys more : List Marked)
     → Puts w xs fit w' → fit ≡ true → fill w ((xs ++ ys) ++ more) ≡ fill w' (ys ++ more)
 puts_more w w' fit xs ys more put fits =
     ap (fill w) (append_assoc xs ys more) ∙ put (ys ++ more) ∙ ap (λ (b : Bool). cond b (fill w' (ys ++ more)) (ended false w')) fits
 
 -- where not all of them fit the others don't matter
-pub puts_full : (w w' : Writer) (fit : Bool) (xs ys more : List Item)
+pub puts_full : (w w' : Writer) (fit : Bool) (xs ys more : List Marked)
     → Puts w xs fit w' → fit ≡ false → fill w ((xs ++ ys) ++ more) ≡ ended false w'
 puts_full w w' fit xs ys more put full =
     ap (fill w) (append_assoc xs ys more) ∙ put (ys ++ more) ∙ ap (λ (b : Bool). cond b (fill w' (ys ++ more)) (ended false w')) full
+
+shown_both : (header : ℕ) (xs ys : List Static) → shown header (xs ++ ys) ≡ shown header xs ++ shown header ys
+shown_both header xs ys =
+    ap (mark false) (map-append (present_of header) xs ys) ∙ map-append (marked false) (map (present_of header) xs) (map (present_of header) ys)
 
 -- what a header asks for of present values, one after the other
 pub presents_both : (header skip skip' : ℕ) (r : Range) (xs ys : List Static) → skip' ≡ skip - length (in_range r xs)
     → presents header skip (in_range r (xs ++ ys)) ≡ presents header skip (in_range r xs) ++ presents header skip' (in_range r ys)
 presents_both header skip skip' r xs ys skipped =
     ap (λ (l : List Static). presents header skip l) (filter-append (λ x. is_within r x.row.index) xs ys)
-    ∙ ap (map (present_of header)) (drop_both skip (in_range r xs) (in_range r ys))
-    ∙ map-append (present_of header) (drop skip (in_range r xs)) (drop (skip - length (in_range r xs)) (in_range r ys))
+    ∙ ap (shown header) (drop_both skip (in_range r xs) (in_range r ys))
+    ∙ shown_both header (drop skip (in_range r xs)) (drop (skip - length (in_range r xs)) (in_range r ys))
     ∙ ap (λ (k : ℕ). presents header skip (in_range r xs) ++ presents header k (in_range r ys)) (sym skipped)
 
 pub skipped_both : (skip skip' : ℕ) (r : Range) (xs ys : List Static) → skip' ≡ skip - length (in_range r xs)
@@ -303,5 +308,5 @@ given_by given header [] = refl
 given_by given header (x ∷ xs) = given_by given header xs
 
 pub given_presents : (given given' : List ℕ) (header skip : ℕ) (statics : List Static) → given' ≡ given
-    → given' ≡ fold given_after given (presents header skip statics)
+    → given' ≡ fold given_after given (map (present_of header) (drop skip statics))
 given_presents given given' header skip statics same = same ∙ given_by given header (drop skip statics)

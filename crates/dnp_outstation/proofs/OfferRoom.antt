@@ -8,10 +8,11 @@ use Rattle.std.proofs.lemmas.List.Concat.{flat_map-append}
 use Rattle.std.proofs.lemmas.List.Elements.{All-head, All-tail}
 use Rattle.dnp_appfragment.specs.declared.header.Range.{Range}
 use Rattle.dnp_appfragment.specs.declared.header.Range.TheVariants as range
-use Rattle.dnp_appfragment.specs.Headers.{Head, number, range_octets, header_octets, spelled}
+use Rattle.dnp_appfragment.specs.Headers.{Head, head_after, number, range_octets, header_octets, spelled}
 use Rattle.dnp_appfragment.specs.Joining.{joined, joined_range}
-use Rattle.dnp_appfragment.specs.Built.{Built, heads, size, broken, with_run, with_object, front_size}
-use Rattle.dnp_appfragment.specs.Written.{indexed, event}
+use Rattle.dnp_appfragment.specs.Built.{Built, heads, size, broken, with_header, with_run, with_object, front_size}
+use Rattle.dnp_appfragment.specs.Written.{event, common_head, relative}
+use Rattle.dnp_objects.specs.Relative.{relative_octets}
 use Rattle.dnp_objects.specs.Rows.{written}
 use Rattle.dnp_objects.specs.Events.{event_object}
 use Rattle.dnp_objects.specs.Objects.{content_of, objects}
@@ -43,9 +44,10 @@ header_size : (h : Head) → length (header_octets h) ≡ 3 + length (range_octe
 header_size h = let both = length-append (range_octets h.range) h.octets in omega arith
 
 -- a header that an object joins is longer by the object's octets
-joined_size : (run longer : Head) (group variation index : ℕ) (octets : List ℕ) → joined run (indexed group variation index octets) ≡ Some longer
+joined_size : (run longer : Head) (common : Option ℕ) (group variation index : ℕ) (octets : List ℕ)
+    → joined run (head_after common group variation (range.Indexed true 1) (number true index ++ octets)) ≡ Some longer
     → length (header_octets run) + (2 + length octets) ≤ length (header_octets longer)
-joined_size run longer group variation index octets is = by ((run.group == group) && (run.variation == variation))
+joined_size run longer common group variation index octets is = by ((run.group == group) && (run.variation == variation))
     (joined_range run.range (range.Indexed true 1)) refl is
   where
     object : List ℕ
@@ -74,13 +76,13 @@ one_more hs h =
     ∙ ap (λ (l : List ℕ). length (spelled hs) + length l) (append-nil (header_octets h))
 
 -- a fragment is longer by an object and the index before it, and may have a header more
-event_grows : (b : Built) (group variation index : ℕ) (octets : List ℕ)
-    → size b + (2 + length octets) ≤ size (with_object b (indexed group variation index octets))
+event_grows : (b : Built) (common : Option ℕ) (group variation index : ℕ) (octets : List ℕ)
+    → size b + (2 + length octets) ≤ size (with_object b (head_after common group variation (range.Indexed true 1) (number true index ++ octets)))
 unfolding with_object
-event_grows b group variation index octets = by_run b.run refl
+event_grows b common group variation index octets = by_run b.run refl
   where
     object : Head
-    object = indexed group variation index octets
+    object = head_after common group variation (range.Indexed true 1) (number true index ++ octets)
 
     anew : size b + (2 + length octets) ≤ size (with_run b None object)
     anew =
@@ -93,7 +95,7 @@ event_grows b group variation index octets = by_run b.run refl
     by_join run is (Some longer) joins =
         let old = ap (λ (o : Option Head). length (spelled (b.ended ++ option_to_list o))) is ∙ one_more b.ended run in
         let new = one_more b.ended longer in
-        let longer_by = joined_size run longer group variation index octets joins in
+        let longer_by = joined_size run longer common group variation index octets joins in
         omega arith
 
     by_run : (o : Option Head) → b.run ≡ o → size b + (2 + length octets) ≤ size (with_run b (option_and_then (λ run. joined run object) o) object)
@@ -119,11 +121,11 @@ put_grows w header lane x = by (is_same_run w.run (OfLane lane None))
   where
     by : (same : Bool) → size w.builder + least_octets x.row.kind ≤ size (with_object (cond same w.builder (broken w.builder)) (event x.row))
     by true =
-        let more = event_grows w.builder (event x.row).group (event x.row).variation x.row.index
+        let more = event_grows w.builder None (event x.row).group (event x.row).variation x.row.index
         (written (event x.row).group (event x.row).variation x.row) in
         omega (arith, at_least x.row)
     by false =
-        let more = event_grows (broken w.builder) (event x.row).group (event x.row).variation x.row.index
+        let more = event_grows (broken w.builder) None (event x.row).group (event x.row).variation x.row.index
         (written (event x.row).group (event x.row).variation x.row) in
         let same : size (broken w.builder) ≡ size w.builder = ap (λ (hs : List Head). front_size w.builder.function + length (spelled hs))
         (heads_broken w.builder) in
@@ -132,6 +134,21 @@ put_grows w header lane x = by (is_same_run w.run (OfLane lane None))
 pub put_room : (w w' : Writer) (header lane : ℕ) (x : Numbered) → w' ≡ put w (event_of header lane x)
     → size w.builder + least_octets x.row.kind ≤ size w'.builder
 put_room w w' header lane x is = let same = ap (λ (v : Writer). size v.builder) is in let more = put_grows w header lane x in omega arith
+
+-- a group begins with 20 octets: 51.1, and 2.3 with its first row
+pub group_begins : (b : Built) (t : ℕ) (row : Row) → size (with_object (with_header b (common_head t)) (relative t row)) ≡ size b + 20
+unfolding with_object
+group_begins b t row =
+    let begun : Built = with_header b (common_head t) in
+    let plain : length (spelled (heads begun)) ≡ length (spelled (heads b ++ common_head t ∷ [])) =
+    ap (λ (hs : List Head). length (spelled hs)) (append-nil (heads b ++ common_head t ∷ [])) in
+    let ten : length (header_octets (common_head t)) ≡ 10 = refl in
+    let own : length (header_octets (relative t row)) ≡ 10 = refl in
+    omega (arith, plain, one_more (heads b) (common_head t), one_more (heads begun) (relative t row))
+
+-- and goes on with 5 or more
+pub group_grows : (b : Built) (t : ℕ) (row : Row) → size b + 5 ≤ size (with_object b (relative t row))
+group_grows b t row = event_grows b (Some t) 2 3 row.index (relative_octets t row)
 
 -- ---- rows of one kind
 
@@ -160,9 +177,9 @@ take_whole (suc n) (x ∷ xs) few = ap (λ (l : List Numbered). x ∷ l) (take_w
 
 -- rows that have room are all, where more were asked for than have room
 pub all_asked : (kind : Kind) (b : Built) (few left : ℕ) (all rows : List Numbered) → All (λ x. x.row.kind ≡ kind) rows → rows ≡ take few all
-    → ((n : ℕ) → least_octets kind * n ≤ left → n < few) → left + size b ≡ MAX_FRAGMENT
-    → (size b ≤ MAX_FRAGMENT → size b + least_of rows ≤ MAX_FRAGMENT) → rows ≡ all
+    → ((n : ℕ) → least_octets kind * n ≤ left + 7 → n < few) → left + size b ≡ MAX_FRAGMENT
+    → (size b ≤ MAX_FRAGMENT → size b + least_of rows ≤ MAX_FRAGMENT + 7) → rows ≡ all
 all_asked kind b few left all rows of_kind is enough left_is room =
-    let within : size b + least_of rows ≤ MAX_FRAGMENT = room (omega arith) in
+    let within : size b + least_of rows ≤ MAX_FRAGMENT + 7 = room (omega arith) in
     let fewer : length rows < few = enough (length rows) (omega (arith, of_one_kind kind rows of_kind)) in
     is ∙ take_whole few all (subst (λ (l : List Numbered). length l < few) is fewer)

@@ -16,6 +16,7 @@ use Rattle.dnp_objects.specs.declared.limits.TheConstants.{LANES}
 use Rattle.dnp_outstation.specs.declared.offer.writer.Writer.{Writer}
 use Rattle.dnp_outstation.specs.Items.{Item, event_of, at_most, rows_left}
 use Rattle.dnp_outstation.specs.steps.Filling.{after_release, over_of, fill, ended}
+use Rattle.dnp_outstation.specs.steps.Grouping.{Marked, marked, mark}
 use Rattle.dnp_outstation.specs.steps.Putting.{Puts}
 use Rattle.dnp_outstation.proofs.OfferPresent.{puts_full}
 
@@ -108,12 +109,15 @@ lane_kinds s lane after most sound low =
     ((sound.each (lane_number lane) low).carried lane refl)))
 
 -- where the first of them don't all fit, neither do they
-pub lane_full : (w w' : Writer) (fit : Bool) (header lane lane' few : ℕ) (all rows : List Numbered) (more : List Item)
-    → lane' ≡ lane → rows ≡ take few all → Puts w (map (event_of header lane') rows) fit w' → fit ≡ false
-    → fill w (map (event_of header lane) all ++ more) ≡ ended false w'
-lane_full w w' fit header lane lane' few all rows more same is put full =
-    ap (λ (xs : List Numbered). fill w (map (event_of header lane) xs ++ more)) (sym (take-append-drop few all))
-    ∙ ap (λ (xs : List Item). fill w (xs ++ more)) (map-append (event_of header lane) (take few all) (drop few all))
-    ∙ ap (λ (xs : List Numbered). fill w ((map (event_of header lane) xs ++ map (event_of header lane) (drop few all)) ++ more)) (sym is)
-    ∙ ap (λ (n : ℕ). fill w ((map (event_of header n) rows ++ map (event_of header lane) (drop few all)) ++ more)) (sym same)
-    ∙ puts_full w w' fit (map (event_of header lane') rows) (map (event_of header lane) (drop few all)) more put full
+pub lane_full : (w w' : Writer) (fit is_open : Bool) (header lane lane' few : ℕ) (all rows : List Numbered) (more : List Marked)
+    → lane' ≡ lane → rows ≡ take few all → Puts w (mark is_open (map (event_of header lane') rows)) fit w' → fit ≡ false
+    → fill w (mark is_open (map (event_of header lane) all) ++ more) ≡ ended false w'
+lane_full w w' fit is_open header lane lane' few all rows more same is put full =
+    let e : Numbered → Item = event_of header lane in
+    let rest : List Marked = mark is_open (map e (drop few all)) in
+    ap (λ (xs : List Numbered). fill w (mark is_open (map e xs) ++ more)) (sym (take-append-drop few all))
+    ∙ ap (λ (xs : List Item). fill w (mark is_open xs ++ more)) (map-append e (take few all) (drop few all))
+    ∙ ap (λ (xs : List Marked). fill w (xs ++ more)) (map-append (marked is_open) (map e (take few all)) (map e (drop few all)))
+    ∙ ap (λ (xs : List Numbered). fill w ((mark is_open (map e xs) ++ rest) ++ more)) (sym is)
+    ∙ ap (λ (n : ℕ). fill w ((mark is_open (map (event_of header n) rows) ++ rest) ++ more)) (sym same)
+    ∙ puts_full w w' fit (mark is_open (map (event_of header lane') rows)) rest more put full

@@ -20,8 +20,9 @@ use Rattle.dnp_outstation.specs.declared.offer.place.Place.{Place}
 use Rattle.dnp_outstation.specs.declared.offer.writer.Run.{Run}
 use Rattle.dnp_outstation.specs.declared.offer.writer.Run.TheVariants.{OfBlock}
 use Rattle.dnp_outstation.specs.declared.offer.writer.Writer.{Writer}
-use Rattle.dnp_outstation.specs.Items.{Item, present_of, passed, static_at, statics_from}
-use Rattle.dnp_outstation.specs.steps.Filling.{put, fits, fill, ended, built_for, is_same_run}
+use Rattle.dnp_outstation.specs.Items.{present_of, passed, static_at, statics_from}
+use Rattle.dnp_outstation.specs.Layout.{Laid, lay}
+use Rattle.dnp_outstation.specs.steps.Filling.{put, fits, fill_laid, ended, built_for, is_same_run}
 use Rattle.dnp_outstation.specs.Offer.{Filled}
 use Rattle.dnp_outstation.specs.steps.Putting.{rows_from, passed_by, group_of}
 use Rattle.dnp_outstation.proofs.OfferLemmas.{heads_broken}
@@ -91,17 +92,17 @@ heads_from asked kind index ps = map (point_of kind asked) (rows_from kind index
 -- the writer once so many were put
 abbrev pub after_points : Writer → ℕ → ℕ → ℕ → Built → ℕ → Writer
 after_points w header group block b n =
-    record { builder = b; run = OfBlock header group block; place = passed_by w.place header n; upto = w.upto }
+    record { builder = b; run = OfBlock header group block; place = passed_by w.place header n; upto = w.upto; waiting = w.waiting }
 
 -- what is filled from there: where all were put with what comes after, or else no more
-abbrev pub Ends : Writer → ℕ → ℕ → ℕ → List Item → Bool → Built → ℕ → Filled
+abbrev pub Ends : Writer → ℕ → ℕ → ℕ → List Laid → Bool → Built → ℕ → Filled
 Ends w header group block more all b n =
-    cond all (fill (after_points w header group block b n) more) (ended false (after_points w header group block b n))
+    cond all (fill_laid (after_points w header group block b n) more) (ended false (after_points w header group block b n))
 
 -- the points of a block are put one by one as they are put at once, onto this
-abbrev pub PutsFrom : Writer → Built → ℕ → ℕ → ℕ → Kind → ℕ → List PointState → List Item → Type 0
+abbrev pub PutsFrom : Writer → Built → ℕ → ℕ → ℕ → Kind → ℕ → List PointState → List Laid → Type 0
 PutsFrom w b header asked block kind index ps more =
-    fill w (map (present_of header) (statics_from asked block kind index ps) ++ more)
+    fill_laid w (map lay (map (present_of header) (statics_from asked block kind index ps)) ++ more)
     ≡ Ends w header (group_of kind asked) block more (objects_put b (heads_from asked kind index ps) == length ps)
     (with_objects b (heads_from asked kind index ps)) (objects_put b (heads_from asked kind index ps))
 
@@ -120,7 +121,7 @@ no_count : (m : ℕ) → (0 == suc m) ≡ false
 no_count m = grind (arith, nat_tests)
 
 -- the first is put, and so are the others after it
-first_put : (w : Writer) (b : Built) (header asked block : ℕ) (kind : Kind) (index : ℕ) (p : PointState) (ps : List PointState) (more : List Item)
+first_put : (w : Writer) (b : Built) (header asked block : ℕ) (kind : Kind) (index : ℕ) (p : PointState) (ps : List PointState) (more : List Laid)
     → built_for w (OfBlock header (group_of kind asked) block) ≡ b → nat_le (size (with_object b (point_of kind asked (row_of kind index p.reading)))) MAX_FRAGMENT ≡ true
     → ((w' : Writer) → w'.run ≡ OfBlock header (group_of kind asked) block → passed_by w'.place header 0 ≡ w'.place
     → PutsFrom w' w'.builder header asked block kind (index + 1) ps more)
@@ -129,39 +130,40 @@ first_put w b header asked block kind index p ps more built_is fit others =
     let h = point_of kind asked (row_of kind index p.reading) in
     let hs = heads_from asked kind (index + 1) ps in
     let x = present_of header (static_at asked block kind index p) in
-    let rest = map (present_of header) (statics_from asked block kind (index + 1) ps) ++ more in
-    let w' : Writer = record { builder = with_object b h; run = OfBlock header (group_of kind asked) block; place = passed w.place header; upto = w.upto } in
+    let rest = map lay (map (present_of header) (statics_from asked block kind (index + 1) ps)) ++ more in
+    let run : Run = OfBlock header (group_of kind asked) block in
+    let w' : Writer = record { builder = with_object b h; run = run; place = passed w.place header; upto = w.upto; waiting = w.waiting } in
     let put_is : put w x ≡ w' =
-    (λ i. record { builder = with_object (built_is i) h; run = OfBlock header (group_of kind asked) block; place = passed w.place header; upto = w.upto }) in
+    (λ i. record { builder = with_object (built_is i) h; run = run; place = passed w.place header; upto = w.upto; waiting = w.waiting }) in
     let n = objects_put (with_object b h) hs in
     let b' = with_objects (with_object b h) hs in
     let count : n + 1 ≡ objects_put b (h ∷ hs) = sym (ap (λ (t : Bool). cond t (n + 1) 0) fit) in
     let builder : b' ≡ with_objects b (h ∷ hs) = sym (ap (λ (t : Bool). cond t b' b) fit) in
     let all : (n == length ps) ≡ (objects_put b (h ∷ hs) == suc (length ps)) =
     sym (next_count n (length ps)) ∙ ap (λ (k : ℕ). k == suc (length ps)) count in
-    ap (λ (y : Writer). cond (fits y) (fill y rest) (ended false w)) put_is
-    ∙ ap (λ (t : Bool). cond t (fill w' rest) (ended false w)) fit
+    ap (λ (y : Writer). cond (fits y) (fill_laid y rest) (ended false w)) put_is
+    ∙ ap (λ (t : Bool). cond t (fill_laid w' rest) (ended false w)) fit
     ∙ others w' refl (place_stays w.place header)
     ∙ (λ i.
-    let y : Writer = record { builder = b'; run = OfBlock header (group_of kind asked) block; place = place_more w.place header n i; upto = w.upto } in
-    cond (n == length ps) (fill y more) (ended false y))
+    let y : Writer = record { builder = b'; run = run; place = place_more w.place header n i; upto = w.upto; waiting = w.waiting } in
+    cond (n == length ps) (fill_laid y more) (ended false y))
     ∙ (λ i. Ends w header (group_of kind asked) block more (all i) (builder i) (count i))
 
 -- the first doesn't fit
-none_put : (w : Writer) (b : Built) (header asked block : ℕ) (kind : Kind) (index : ℕ) (p : PointState) (ps : List PointState) (more : List Item)
+none_put : (w : Writer) (b : Built) (header asked block : ℕ) (kind : Kind) (index : ℕ) (p : PointState) (ps : List PointState) (more : List Laid)
     → built_for w (OfBlock header (group_of kind asked) block) ≡ b → nat_le (size (with_object b (point_of kind asked (row_of kind index p.reading)))) MAX_FRAGMENT ≡ false
-    → fill w (map (present_of header) (statics_from asked block kind index (p ∷ ps)) ++ more) ≡ ended false w
+    → fill_laid w (map lay (map (present_of header) (statics_from asked block kind index (p ∷ ps))) ++ more) ≡ ended false w
 none_put w b header asked block kind index p ps more built_is full =
     let x = present_of header (static_at asked block kind index p) in
-    let rest = map (present_of header) (statics_from asked block kind (index + 1) ps) ++ more in
-    ap (λ (y : Built). cond (nat_le (size (with_object y (point_of kind asked (row_of kind index p.reading)))) MAX_FRAGMENT) (fill (put w x) rest) (ended false w))
-    built_is
-    ∙ ap (λ (t : Bool). cond t (fill (put w x) rest) (ended false w)) full
+    let rest = map lay (map (present_of header) (statics_from asked block kind (index + 1) ps)) ++ more in
+    ap (λ (y : Built). cond (nat_le (size (with_object y (point_of kind asked (row_of kind index p.reading)))) MAX_FRAGMENT)
+    (fill_laid (put w x) rest) (ended false w)) built_is
+    ∙ ap (λ (t : Bool). cond t (fill_laid (put w x) rest) (ended false w)) full
 
-put_behind : (w : Writer) (header asked block : ℕ) (kind : Kind) (index : ℕ) (ps : List PointState) (more : List Item)
+put_behind : (w : Writer) (header asked block : ℕ) (kind : Kind) (index : ℕ) (ps : List PointState) (more : List Laid)
     → w.run ≡ OfBlock header (group_of kind asked) block → passed_by w.place header 0 ≡ w.place → PutsFrom w w.builder header asked block kind index ps more
 put_behind w header asked block kind index [] more run_is place_is =
-    (λ i. fill (record { builder = w.builder; run = run_is i; place = sym place_is i; upto = w.upto }) more)
+    (λ i. fill_laid (record { builder = w.builder; run = run_is i; place = sym place_is i; upto = w.upto; waiting = w.waiting }) more)
 put_behind w header asked block kind index (p ∷ ps) more run_is place_is =
     by_test (nat_le (size (with_object w.builder (point_of kind asked (row_of kind index p.reading)))) MAX_FRAGMENT) refl
     (λ w' run_is' place_is'. put_behind w' header asked block kind (index + 1) ps more run_is' place_is')
@@ -180,7 +182,7 @@ put_behind w header asked block kind index (p ∷ ps) more run_is place_is =
         first_put w w.builder header asked block kind index p ps more (built_same w header (group_of kind asked) block run_is) fit others
     by_test false full others =
         none_put w w.builder header asked block kind index p ps more (built_same w header (group_of kind asked) block run_is) full
-        ∙ (λ i. ended false (record { builder = w.builder; run = run_is i; place = sym place_is i; upto = w.upto }))
+        ∙ (λ i. ended false (record { builder = w.builder; run = run_is i; place = sym place_is i; upto = w.upto; waiting = w.waiting }))
         ∙ (λ i. Ends w header (group_of kind asked) block more (sym (no_count (length ps)) i) w.builder 0)
         ∙ (λ i. Ends w header (group_of kind asked) block more (sym (ap (λ (t : Bool). cond t (objects_put (with_object w.builder h) hs + 1) 0) full) i == suc (length ps))
         (sym (ap (λ (t : Bool). cond t (with_objects (with_object w.builder h) hs) w.builder) full) i)
@@ -189,7 +191,7 @@ put_behind w header asked block kind index (p ∷ ps) more run_is place_is =
 -- ---- from any writer
 
 -- some are put
-pub some_puts : (w : Writer) (header asked block : ℕ) (kind : Kind) (index : ℕ) (ps : List PointState) (more : List Item)
+pub some_puts : (w : Writer) (header asked block : ℕ) (kind : Kind) (index : ℕ) (ps : List PointState) (more : List Laid)
     → 0 < objects_put (built_for w (OfBlock header (group_of kind asked) block)) (heads_from asked kind index ps)
     → PutsFrom w (built_for w (OfBlock header (group_of kind asked) block)) header asked block kind index ps more
 some_puts w header asked block kind index [] more some = absurd (omega arith)
@@ -215,16 +217,16 @@ abbrev pub ended_with : Writer → Built → Filled
 ended_with w b = record { headers = heads b; upto = w.upto; left = Some w.place }
 
 -- none is
-pub none_puts : (w : Writer) (header asked block : ℕ) (kind : Kind) (index : ℕ) (ps : List PointState) (more : List Item) → 0 < length ps
+pub none_puts : (w : Writer) (header asked block : ℕ) (kind : Kind) (index : ℕ) (ps : List PointState) (more : List Laid) → 0 < length ps
     → objects_put (built_for w (OfBlock header (group_of kind asked) block)) (heads_from asked kind index ps) ≡ 0
-    → fill w (map (present_of header) (statics_from asked block kind index ps) ++ more)
+    → fill_laid w (map lay (map (present_of header) (statics_from asked block kind index ps)) ++ more)
     ≡ ended_with w (with_objects (built_for w (OfBlock header (group_of kind asked) block)) (heads_from asked kind index ps))
 none_puts w header asked block kind index [] more some none = absurd (omega arith)
 none_puts w header asked block kind index (p ∷ ps) more some none =
     by_test (nat_le (size (with_object (built_for w (OfBlock header (group_of kind asked) block)) (point_of kind asked (row_of kind index p.reading)))) MAX_FRAGMENT) refl
   where
     by_test : (t : Bool) → nat_le (size (with_object (built_for w (OfBlock header (group_of kind asked) block)) (point_of kind asked (row_of kind index p.reading)))) MAX_FRAGMENT ≡ t
-        → fill w (map (present_of header) (statics_from asked block kind index (p ∷ ps)) ++ more)
+        → fill_laid w (map lay (map (present_of header) (statics_from asked block kind index (p ∷ ps))) ++ more)
         ≡ ended_with w (with_objects (built_for w (OfBlock header (group_of kind asked) block)) (heads_from asked kind index (p ∷ ps)))
     by_test true fit =
         let b' = with_object (built_for w (OfBlock header (group_of kind asked) block)) (point_of kind asked (row_of kind index p.reading)) in

@@ -27,6 +27,7 @@ use Rattle.dnp_outstation.specs.declared.case.Case.TheVariants.{Again, Asks, Pas
 use Rattle.dnp_outstation.specs.declared.offer.place.Place.{Place}
 use Rattle.dnp_outstation.specs.declared.session.Awaited.{Awaited}
 use Rattle.dnp_outstation.specs.declared.session.Unsolicited.{Unsolicited}
+use Rattle.dnp_appfragment.proofs.Places.{any_place}
 use Rattle.dnp_outstation.specs.Polled.{Offers, are_all_polled, poll_octets, poll_request, polled_headers, polled_rows}
 use Rattle.dnp_outstation.proofs.PolledLayout.{IsOffered, read_offered}
 use Rattle.dnp_outstation.proofs.PolledNone.{lanes_are_empty, no_rows_polled, none_enabled}
@@ -103,8 +104,11 @@ answer_of s o now seq = responds (asked s (poll_octets seq)) now (last_in s.lane
 are_read : AreHeaders form.Read begin polled_headers
 unfolding takes_of rules content_of objects
 are_read = (
-  record { object = refl; fits = tt; forward = tt; objects = refl },
-  (record { object = refl; fits = tt; forward = tt; objects = refl }, (record { object = refl; fits = tt; forward = tt; objects = refl }, tt)),
+  any_place form.Read _ _ (record { object = refl; fits = tt; forward = tt; objects = refl }) refl refl,
+  (
+    any_place form.Read _ _ (record { object = refl; fits = tt; forward = tt; objects = refl }) refl refl,
+    (any_place form.Read _ _ (record { object = refl; fits = tt; forward = tt; objects = refl }) refl refl, tt),
+  ),
 )
 
 is_asked : OfferLaws → (seq : ℕ) → seq < 16 → request_at (poll_octets seq) ≡ Ok (poll_request seq)

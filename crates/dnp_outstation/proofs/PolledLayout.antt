@@ -1,22 +1,26 @@
 -- How rows are laid out in a fragment doesn't depend on the headers of the READ that they are given for.
 use Rattle.std.proofs.Common.{◌≡◌, Bool, true, false, if◌then◌else◌, refl, sym, ap, ◌∙◌, subst, ℕ, zero, suc, ◌+◌, ◌==◌, nat_le, List, [], ◌∷◌, ◌++◌, map, length, take, None, Some, is_none}
 use Rattle.std.specs.Prelude.{fold}
-use Rattle.std.specs.List.{cons_option, flat_map}
+use Rattle.std.specs.List.{AllByRecursion, cons_option, flat_map}
 use Rattle.std.proofs.lemmas.List.{length-map, take-map}
-use Rattle.dnp_appfragment.specs.Headers.{Head, head_of, spelled}
+use Rattle.dnp_appfragment.specs.Headers.{Head, head_after, spelled}
 use Rattle.dnp_appfragment.specs.Items.{Item as Object, item_octets}
 use Rattle.dnp_eventbuf.specs.Sound.{IsSound}
 use Rattle.dnp_eventbuf.specs.Stock.{Stock, lane_at}
 use Rattle.dnp_eventbuf.specs.declared.numbered.Numbered.{Numbered}
 use Rattle.dnp_objects.specs.declared.limits.TheConstants.{MAX_FRAGMENT}
 use Rattle.dnp_objects.specs.declared.row.Row.{Row}
-use Rattle.dnp_outstation.specs.Forms.{may_in, may_each, laid}
+use Rattle.dnp_outstation.specs.Forms.{may_in, may_each, laid, time_of, told_after}
 use Rattle.dnp_outstation.specs.Items.{Item, Source, Thing, class_lanes, event_of, first_place, given_after, items_left, last_in, no_ids}
 use Rattle.dnp_outstation.specs.Items.Thing.{Event, Present}
-use Rattle.dnp_outstation.specs.Layout.{Laid, Stretch, alone, fits_fragment, front_of, goes_on, header_of, heads_of, headers_of, in_front, item_of, lay, object_of, range_of, stretches}
+use Rattle.dnp_outstation.specs.Layout.{Laid, Stretch, alone, fits_fragment, front_of, goes_on, header_of, heads_of, headers_of, in_front, item_of, lay, object_of, range_of, stretches, time_before}
 use Rattle.dnp_outstation.specs.Offer.{Filled, held_laid, held_of, last_ids, longest, longest_up_to, offered, offered_of}
 use Rattle.dnp_outstation.specs.Said.{event_in, events_in}
-use Rattle.dnp_outstation.proofs.HeldItems.{held_any, held_longest, laid_items}
+use Rattle.dnp_outstation.specs.steps.Grouping.{Marked, marked, opened, reaches_marked, Open, laid_from}
+use Rattle.dnp_outstation.specs.steps.Grouping.Open.{Shut, One, Two, Within}
+use Rattle.dnp_outstation.proofs.Coming.{laid_so}
+use Rattle.dnp_outstation.proofs.Grouped.{grouped_items}
+use Rattle.dnp_outstation.proofs.HeldItems.{held_same, held_longest}
 use Rattle.dnp_outstation.proofs.Stretches.{laid_as}
 use Rattle.dnp_outstation.specs.Polled.{are_all_polled, polled_headers, polled_held, polled_ids, polled_items, polled_rows}
 use Rattle.dnp_outstation.proofs.PolledItems.{by_class, of_lanes, plain_item, plain_read, read_items}
@@ -104,7 +108,7 @@ plain_objects [] = refl
 plain_objects (x ∷ xs) = ap (λ (os : List Object). object_of x ∷ os) (plain_objects xs)
 
 abbrev header_with : Laid → ℕ → List Object → Head
-header_with first more objects = head_of first.object.group first.object.variation (range_of first.item.thing more)
+header_with first more objects = head_after (time_before first) first.object.group first.object.variation (range_of first.item.thing more)
     (flat_map (item_octets (range_of first.item.thing more)) (first.object ∷ objects))
 
 plain_header : (x : Stretch) → header_of (plain_stretch x) ≡ header_of x
@@ -141,19 +145,84 @@ plain_longest (suc n) xs all =
     by true ys zs = refl
     by false ys zs = refl
 
-plain_are_laid : (xs : List Item) → map lay (map plain_item xs) ≡ map plain_laid (map lay xs)
-plain_are_laid [] = refl
-plain_are_laid (x ∷ xs) = ap (λ (ys : List Laid). lay (plain_item x) ∷ ys) (plain_are_laid xs)
+plain_told : (t : ℕ) (x : Item) → told_after t (plain_item x) ≡ plain_laid (told_after t x)
+plain_told t x = go x.thing
+  where
+    go : (thing : Thing) → (let y : Item = record { header = x.header; thing = thing } in told_after t (plain_item y) ≡ plain_laid (told_after t y))
+    go (Event lane row) = refl
+    go (Present static) = refl
+
+abbrev plain_marked : Marked → Marked
+plain_marked x = marked x.is_open (plain_item x.item)
+
+abbrev plain_open : Open → Open
+plain_open Shut = Shut
+plain_open (One x) = One (plain_marked x)
+plain_open (Two x y) = Two (plain_marked x) (plain_marked y)
+plain_open (Within first) = Within (plain_marked first)
+
+plain_from : (o : Open) (xs : List Marked) → laid_from (plain_open o) (map plain_marked xs) ≡ map plain_laid (laid_from o xs)
+plain_from Shut [] = refl
+plain_from Shut (z ∷ zs) = plain_from (One z) zs
+plain_from (One x) [] = refl
+plain_from (One x) (z ∷ zs) = by (reaches_marked x z) (plain_from (Two x z) zs) (plain_from (One z) zs)
+  where
+    by : (b : Bool) → laid_from (plain_open (Two x z)) (map plain_marked zs) ≡ map plain_laid (laid_from (Two x z) zs)
+        → laid_from (plain_open (One z)) (map plain_marked zs) ≡ map plain_laid (laid_from (One z) zs)
+        → (if b then laid_from (Two (plain_marked x) (plain_marked z)) (map plain_marked zs)
+        else lay (plain_item x.item) ∷ laid_from (One (plain_marked z)) (map plain_marked zs))
+        ≡ map plain_laid (if b then laid_from (Two x z) zs else lay x.item ∷ laid_from (One z) zs)
+    by true two one = two
+    by false two one = ap (λ (l : List Laid). plain_laid (lay x.item) ∷ l) one
+plain_from (Two x y) [] = refl
+plain_from (Two x y) (z ∷ zs) = by (reaches_marked x z) (plain_from (Within x) zs) (plain_from (One z) zs)
+  where
+    t : ℕ
+    t = time_of x.item
+
+    by : (b : Bool) → laid_from (plain_open (Within x)) (map plain_marked zs) ≡ map plain_laid (laid_from (Within x) zs)
+        → laid_from (plain_open (One z)) (map plain_marked zs) ≡ map plain_laid (laid_from (One z) zs)
+        → (if b then told_after t (plain_item x.item) ∷ told_after t (plain_item y.item) ∷ told_after t (plain_item z.item)
+        ∷ laid_from (Within (plain_marked x)) (map plain_marked zs)
+        else lay (plain_item x.item) ∷ lay (plain_item y.item) ∷ laid_from (One (plain_marked z)) (map plain_marked zs))
+        ≡ map plain_laid (if b then told_after t x.item ∷ told_after t y.item ∷ told_after t z.item ∷ laid_from (Within x) zs
+        else lay x.item ∷ lay y.item ∷ laid_from (One z) zs)
+    by true within one = (λ i. plain_told t x.item i ∷ plain_told t y.item i ∷ plain_told t z.item i ∷ within i)
+    by false within one = ap (λ (l : List Laid). plain_laid (lay x.item) ∷ plain_laid (lay y.item) ∷ l) one
+plain_from (Within first) [] = refl
+plain_from (Within first) (z ∷ zs) = by (reaches_marked first z) (plain_from (Within first) zs) (plain_from (One z) zs)
+  where
+    t : ℕ
+    t = time_of first.item
+
+    by : (b : Bool) → laid_from (plain_open (Within first)) (map plain_marked zs) ≡ map plain_laid (laid_from (Within first) zs)
+        → laid_from (plain_open (One z)) (map plain_marked zs) ≡ map plain_laid (laid_from (One z) zs)
+        → (if b then told_after t (plain_item z.item) ∷ laid_from (Within (plain_marked first)) (map plain_marked zs)
+        else laid_from (One (plain_marked z)) (map plain_marked zs))
+        ≡ map plain_laid (if b then told_after t z.item ∷ laid_from (Within first) zs else laid_from (One z) zs)
+    by true within one = (λ i. plain_told t z.item i ∷ within i)
+    by false within one = one
+
+plain_marks : (xs : List Item) → map (opened may_each) (map plain_item xs) ≡ map plain_marked (map (opened may_each) xs)
+plain_marks [] = refl
+plain_marks (x ∷ xs) = ap (λ (l : List Marked). marked true (plain_item x) ∷ l) (plain_marks xs)
+
+plain_are_laid : (xs : List Item) → laid may_each (map plain_item xs) ≡ map plain_laid (laid may_each xs)
+plain_are_laid xs =
+    laid_so may_each (map plain_item xs)
+    ∙ ap (laid_from Shut) (plain_marks xs)
+    ∙ plain_from Shut (map (opened may_each) xs)
+    ∙ ap (map plain_laid) (sym (laid_so may_each xs))
 
 rows_laid : (may : ℕ → Bool) (xs : List Item) → AreRows xs → AreRows (map item_of (laid may xs))
-rows_laid may xs all = subst AreRows (sym (laid_items may xs)) all
+rows_laid may xs all = subst AreRows (sym (grouped_items may xs)) all
 
-plain_held : (may : ℕ → Bool) (xs : List Item) → AreRows xs → held_laid may (map plain_item xs) ≡ map plain_laid (held_laid may xs)
+plain_held : (xs : List Item) → AreRows xs → held_laid may_each (map plain_item xs) ≡ map plain_laid (held_laid may_each xs)
 unfolding held_laid
-plain_held may xs all =
+plain_held xs all =
     ap (longest fits_fragment) (plain_are_laid xs)
-    ∙ ap (λ (n : ℕ). longest_up_to fits_fragment n (map plain_laid (laid may xs))) (length-map (laid may xs) plain_laid)
-    ∙ plain_longest (length (laid may xs)) (laid may xs) (rows_laid may xs all)
+    ∙ ap (λ (n : ℕ). longest_up_to fits_fragment n (map plain_laid (laid may_each xs))) (length-map (laid may_each xs) plain_laid)
+    ∙ plain_longest (length (laid may_each xs)) (laid may_each xs) (rows_laid may_each xs all)
 
 rows_held : (may : ℕ → Bool) (xs : List Item) → AreRows xs → AreRows (held_of may xs)
 rows_held may xs all =
@@ -178,6 +247,31 @@ plain_ids given (x ∷ xs) = plain_ids (given_after given x) xs
 abbrev polled_may : ℕ → Bool
 polled_may = may_in polled_headers
 
+abbrev LeavesOpen : Item → Type 0
+LeavesOpen x = may_each x.header ≡ polled_may x.header
+
+joined_open : (xs ys : List Item) → AllByRecursion LeavesOpen xs → AllByRecursion LeavesOpen ys → AllByRecursion LeavesOpen (xs ++ ys)
+joined_open [] ys first second = second
+joined_open (x ∷ xs) ys first second = (first.0, joined_open xs ys first.1 second)
+
+lane_open : (header lane : ℕ) (rows : List Numbered) → true ≡ polled_may header → AllByRecursion LeavesOpen (map (event_of header lane) rows)
+lane_open header lane [] is = tt
+lane_open header lane (x ∷ xs) is = (is, lane_open header lane xs is)
+
+lanes_open : (s : Stock) (header : ℕ) (lanes : List ℕ) → true ≡ polled_may header → AllByRecursion LeavesOpen (of_lanes s header lanes)
+lanes_open s header [] is = tt
+lanes_open s header (lane ∷ lanes) is =
+    joined_open (map (event_of header lane) (lane_at s lane).rows) (of_lanes s header lanes) (lane_open header lane (lane_at s lane).rows is)
+    (lanes_open s header lanes is)
+
+all_leave_open : (s : Stock) → AllByRecursion LeavesOpen (by_class s)
+all_leave_open s =
+    let one : List Item = of_lanes s 0 (class_lanes 0) in
+    let two : List Item = of_lanes s 1 (class_lanes 1) in
+    let three : List Item = of_lanes s 2 (class_lanes 2) in
+    joined_open one (two ++ (three ++ [])) (lanes_open s 0 (class_lanes 0) refl)
+    (joined_open two (three ++ []) (lanes_open s 1 (class_lanes 1) refl) (joined_open three [] (lanes_open s 2 (class_lanes 2) refl) tt))
+
 -- what the first fragment of the READ holds
 pub record IsPolled (s : Stock) (items : List Item) : Type 0 where
   pub headers : headers_of (held_laid polled_may items) ≡ headers_of (polled_held s)
@@ -192,7 +286,7 @@ class_polled s =
     let all : AreRows items = read_are_rows s in
     let few : AreRows held = rows_held polled_may items all in
     let same_laid : polled_held s ≡ map plain_laid (held_laid polled_may items) =
-    held_any may_each polled_may (polled_items s) ∙ ap (held_laid polled_may) (sym (plain_read s)) ∙ plain_held polled_may items all in
+    ap (held_laid may_each) (sym (plain_read s)) ∙ plain_held items all ∙ ap (map plain_laid) (held_same may_each polled_may items (all_leave_open s)) in
     let same : held_of may_each (polled_items s) ≡ map plain_item held = ap (map item_of) same_laid ∙ plain_items (held_laid polled_may items) in
     let held_long : length held ≡ length (held_of may_each (polled_items s)) = sym (length-map held plain_item) ∙ ap length (sym same) in
     let long : length items ≡ length (polled_items s) = sym (length-map items plain_item) ∙ ap length (plain_read s) in

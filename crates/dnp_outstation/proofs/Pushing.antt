@@ -5,7 +5,7 @@ use Rattle.std.specs.List.{All}
 use Rattle.std.specs.Option.{option_and_then}
 use Rattle.std.proofs.Math.Seq.{drop-cons}
 use Rattle.std.proofs.lemmas.Bool.{le-leb}
-use Rattle.std.proofs.lemmas.List.{get_or-replicate}
+use Rattle.std.proofs.lemmas.List.{get_or-replicate, map-append}
 use Rattle.std.proofs.lemmas.List.Elements.{All-nil, All-cons, All-head}
 use Rattle.dnp_appfragment.specs.declared.function.Function.{Function}
 use Rattle.dnp_appfragment.specs.declared.function.Function.TheVariants as function
@@ -19,15 +19,16 @@ use Rattle.dnp_eventbuf.specs.Sound.{IsSound}
 use Rattle.dnp_outstation.specs.declared.offer.writer.Writer.{Writer}
 use Rattle.dnp_outstation.specs.Forms.{may_each}
 use Rattle.dnp_outstation.specs.Items.{Item, no_ids, first_place, place_after, given_after, rows_left, event_of, event_items, class_lanes, enabled_lanes, lane_items}
-use Rattle.dnp_outstation.specs.steps.Filling.{after_release, is_same_run, put_laid, fits, fill_laid, fill, ended, common_of, begun, built_for, empty_for, empty_from}
-use Rattle.dnp_outstation.specs.Layout.{Laid, lay}
+use Rattle.dnp_outstation.specs.steps.Filling.{after_release, put_laid, fits, fill_laid, fill, ended, common_of, continues, begun, built_for, empty_for, empty_from}
+use Rattle.dnp_outstation.specs.Layout.{Laid}
+use Rattle.dnp_outstation.specs.steps.Grouping.{Marked, marked, mark, laid_from}
+use Rattle.dnp_outstation.specs.steps.Grouping.Open.{Shut}
 use Rattle.dnp_outstation.specs.Offer.{Filled, pushed}
 use Rattle.dnp_outstation.specs.steps.Putting.{Puts}
 use Rattle.dnp_outstation.proofs.Carried.{lane_rises}
 use Rattle.dnp_outstation.proofs.Filled.{fill_offers}
 use Rattle.dnp_outstation.proofs.Joined.{run_at, written_of}
 use Rattle.dnp_outstation.proofs.Left.{StaySound}
-use Rattle.dnp_outstation.proofs.OfferParts.{ended_if}
 use Rattle.dnp_outstation.proofs.OfferPresent.{puts_more, puts_full}
 use Rattle.dnp_outstation.proofs.OfferRows.{stood_at}
 use Rattle.dnp_outstation.proofs.Rising.{over, over_all}
@@ -100,25 +101,28 @@ abbrev lanes_if : Bool → ℕ → List ℕ
 lanes_if on class = if on then class_lanes class else []
 
 class_first : (s : Stock) (class : ℕ) (on : Bool) (left others : List Bool) → left ≡ on ∷ others
-    → lane_items s (enabled_lanes class left) ≡ lane_items s (lanes_if on class) ++ lane_items s (enabled_lanes (class + 1) others)
+    → mark true (lane_items s (enabled_lanes class left))
+    ≡ mark true (lane_items s (lanes_if on class)) ++ mark true (lane_items s (enabled_lanes (class + 1) others))
 class_first s class on left others is =
-    ap (λ (l : List Bool). lane_items s (enabled_lanes class l)) is ∙ lanes_both s (lanes_if on class) (enabled_lanes (class + 1) others)
+    ap (λ (l : List Bool). mark true (lane_items s (enabled_lanes class l))) is
+    ∙ ap (mark true) (lanes_both s (lanes_if on class) (enabled_lanes (class + 1) others))
+    ∙ map-append (marked true) (lane_items s (lanes_if on class)) (lane_items s (enabled_lanes (class + 1) others))
 
 -- the rows of a class were put, if it is enabled, and the others are left
-pub class_put : (s : Stock) (class : ℕ) (on : Bool) (left others : List Bool) (w w' : Writer) (fit : Bool) (more : List Item)
-    → left ≡ on ∷ others → Puts w (lane_items s (lanes_if on class)) fit w' → fit ≡ true
-    → fill w' (lane_items s (enabled_lanes (class + 1) others) ++ more) ≡ fill w (lane_items s (enabled_lanes class left) ++ more)
+pub class_put : (s : Stock) (class : ℕ) (on : Bool) (left others : List Bool) (w w' : Writer) (fit : Bool) (more : List Marked)
+    → left ≡ on ∷ others → Puts w (mark true (lane_items s (lanes_if on class))) fit w' → fit ≡ true
+    → fill w' (mark true (lane_items s (enabled_lanes (class + 1) others)) ++ more) ≡ fill w (mark true (lane_items s (enabled_lanes class left)) ++ more)
 class_put s class on left others w w' fit more left_is put fits =
-    sym (puts_more w w' fit (lane_items s (lanes_if on class)) (lane_items s (enabled_lanes (class + 1) others)) more put fits)
-    ∙ ap (λ (items : List Item). fill w (items ++ more)) (sym (class_first s class on left others left_is))
+    sym (puts_more w w' fit (mark true (lane_items s (lanes_if on class))) (mark true (lane_items s (enabled_lanes (class + 1) others))) more put fits)
+    ∙ ap (λ (items : List Marked). fill w (items ++ more)) (sym (class_first s class on left others left_is))
 
 -- not all of them fitted
-pub class_full : (s : Stock) (class : ℕ) (on : Bool) (left others : List Bool) (w w' : Writer) (fit : Bool) (more : List Item)
-    → left ≡ on ∷ others → Puts w (lane_items s (lanes_if on class)) fit w' → fit ≡ false
-    → fill w (lane_items s (enabled_lanes class left) ++ more) ≡ ended false w'
+pub class_full : (s : Stock) (class : ℕ) (on : Bool) (left others : List Bool) (w w' : Writer) (fit : Bool) (more : List Marked)
+    → left ≡ on ∷ others → Puts w (mark true (lane_items s (lanes_if on class))) fit w' → fit ≡ false
+    → fill w (mark true (lane_items s (enabled_lanes class left)) ++ more) ≡ ended false w'
 class_full s class on left others w w' fit more left_is put full =
-    ap (λ (items : List Item). fill w (items ++ more)) (class_first s class on left others left_is)
-    ∙ puts_full w w' fit (lane_items s (lanes_if on class)) (lane_items s (enabled_lanes (class + 1) others)) more put full
+    ap (λ (items : List Marked). fill w (items ++ more)) (class_first s class on left others left_is)
+    ∙ puts_full w w' fit (mark true (lane_items s (lanes_if on class))) (mark true (lane_items s (enabled_lanes (class + 1) others))) more put full
 
 -- ---- an unsolicited response is filled as a response
 
@@ -144,12 +148,12 @@ built_as f w (Some t) false = refl
 put_as : (f : Function) (w : Writer) (x : Laid) → put_laid (under f w) x ≡ under f (put_laid w x)
 put_as f w x =
     put_is (under f w) x
-    ∙ ap (λ (b : Built). with_builder (with_object b (written_of x))) (built_as f w (common_of (run_at x)) (is_same_run w.run (run_at x)))
+    ∙ ap (λ (b : Built). with_builder (with_object b (written_of x))) (built_as f w (common_of (run_at x)) (continues w (run_at x)))
     ∙ ap with_builder (object_as f (built_for w (run_at x)) (written_of x))
     ∙ ap (under f) (sym (put_is w x))
   where
     with_builder : Built → Writer
-    with_builder b = record { builder = b; run = run_at x; place = place_after w.place x.item; upto = given_after w.upto x.item }
+    with_builder b = record { builder = b; run = run_at x; place = place_after w.place x.item; upto = given_after w.upto x.item; waiting = w.waiting }
 
 -- the function doesn't matter, as long as it is that of a response
 filled_as : (f g : Function) (w : Writer) (xs : List Laid) → front_size f ≡ front_size g → fill_laid (under f w) xs ≡ fill_laid (under g w) xs
@@ -163,12 +167,10 @@ filled_as f g w (x ∷ xs) same =
 
 -- what the rows of the enabled classes are filled with
 pub filled_pushed : (s : Stock) (enabled : List Bool) (w w' : Writer) (is_last : Bool) → w ≡ empty_for function.UnsolicitedResponse first_place
-    → Puts w (lane_items s (enabled_lanes 0 enabled)) is_last w' → ended is_last w' ≡ pushed s enabled
-filled_pushed s enabled w w' is_last empty put =
+    → ended is_last w' ≡ fill w (mark true (lane_items s (enabled_lanes 0 enabled))) → ended is_last w' ≡ pushed s enabled
+filled_pushed s enabled w w' is_last empty is =
     let items : List Item = lane_items s (enabled_lanes 0 enabled) in
-    sym (ended_if is_last w')
-    ∙ sym (put [])
-    ∙ ap (fill w) (append-nil items)
-    ∙ ap (λ (v : Writer). fill v items) empty
-    ∙ filled_as function.UnsolicitedResponse function.Response (empty_from first_place) (map lay items) refl
+    is
+    ∙ ap (λ (v : Writer). fill v (mark true items)) empty
+    ∙ filled_as function.UnsolicitedResponse function.Response (empty_from first_place) (laid_from Shut (mark true items)) refl
     ∙ fill_offers may_each first_place items

@@ -15,18 +15,19 @@ use Rattle.dnp_appfragment.specs.Table.{is_response}
 use Rattle.dnp_eventbuf.specs.Sound.{IsSound}
 use Rattle.dnp_eventbuf.specs.Stock.{Stock, all_up_to}
 use Rattle.dnp_outstation.specs.declared.offer.place.Place.{Place}
-use Rattle.dnp_outstation.specs.Forms.{may_in, may_each}
+use Rattle.dnp_outstation.specs.Forms.{CanGo, may_in, may_each}
 use Rattle.dnp_outstation.specs.Items.{Item, Source, no_ids, items_left, enabled_lanes, lane_items}
 use Rattle.dnp_outstation.specs.Layout.{Laid, item_of, headers_of, fits_fragment}
 use Rattle.dnp_outstation.specs.Offer.{held_laid, last_ids, offered_of, offered, pushed}
 use Rattle.dnp_outstation.specs.Laws.{AreRowsUpto, IsTidy}
-use Rattle.dnp_outstation.specs.Said.{events_in, CanGo, AreWritable}
+use Rattle.dnp_outstation.specs.Said.{events_in, AreWritable}
 use Rattle.dnp_outstation.proofs.ByLanes.{IsLow, same_by_lanes}
 use Rattle.dnp_outstation.proofs.Carried.{fragment_rows, pushed_rows, released_rows}
 use Rattle.dnp_outstation.proofs.HeldItems.{held_longest}
 use Rattle.dnp_outstation.proofs.ItemsOf.{held_stand, held_low, pushed_stand, pushed_low}
 use Rattle.dnp_outstation.proofs.LaneRows.{length_given}
-use Rattle.dnp_outstation.proofs.SaidRows.{EventsAreSaid, headers_say}
+use Rattle.dnp_outstation.proofs.SaidRows.{EventsAreSaid}
+use Rattle.dnp_outstation.proofs.SaidStretches.{items_say}
 use Rattle.dnp_outstation.proofs.Written.{PutLaws, items_written}
 
 -- by the law of what is spelled: a response is said of its octets
@@ -45,7 +46,7 @@ ResponsesAreSaid = (answered : Answered) (xs : List Laid) → answered.headers �
 pub rows_are_said : PutLaws → EventsAreSaid → RowsAreSaid
 rows_are_said law said items can fit =
     let each = recursion_from_All CanGo items can in
-    headers_say said (headers_of items) items each (items_written law items each fit).hold
+    items_say law said items each fit
 
 pub response_is : PutLaws → SpelledIsSaid → ResponsesAreSaid
 response_is law said answered items headers_are control function can fit =

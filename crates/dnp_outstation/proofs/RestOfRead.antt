@@ -82,7 +82,7 @@ part_few s h few fit =
 -- the numbers of headers that are read fit
 pub all_fit : (f : Form) (context : Context) (hs : List Head) → AreHeaders f context hs → All (λ h. NumbersFit h.range) hs
 all_fit f context [] are = All-nil (λ (h : Head). NumbersFit h.range)
-all_fit f context (h ∷ hs) are = All-cons (λ (k : Head). NumbersFit k.range) h hs are.0.fits (all_fit f (context_after context h) hs are.1)
+all_fit f context (h ∷ hs) are = All-cons (λ (k : Head). NumbersFit k.range) h hs are.0.header.fits (all_fit f (context_after context h) hs are.1)
 
 -- a count that is as great as a number can be says the same as a greater one
 pub count_is : (count : ℕ) (part : Part) → IsFew part → part_after (min count MOST) part ≡ part_after count part

@@ -1,19 +1,20 @@
 -- What a writer holds after some items: their headers.
-use Rattle.std.proofs.Common.{◌≡◌, ◌⊎◌, inl, inr, Bool, true, false, if◌then◌else◌, refl, sym, ◌∙◌, ap, subst, ℕ, ◌+◌, ◌*◌, ◌≤◌, nat_le, List, [], ◌∷◌, ◌++◌, map, length, arith, Option, Some, None, append_assoc, append-nil}
-use Rattle.std.specs.Prelude.{option_to_list, fold}
+use Rattle.std.proofs.Common.{◌≡◌, ◌⊎◌, inl, inr, Bool, true, false, if◌then◌else◌, refl, sym, ◌∙◌, ap, subst, ℕ, ◌+◌, ◌*◌, ◌≤◌, nat_le, ◌||◌, List, [], ◌∷◌, ◌++◌, map, length, arith, Option, Some, None, IfSome, append_assoc, append-nil, eq-eqb}
+use Rattle.std.specs.Prelude.{option_to_list, fold, nat_eq, ◌&&◌, ◌==◌}
 use Rattle.std.specs.List.{flat_map}
-use Rattle.std.specs.Option.{option_and_then}
-use Rattle.std.proofs.lemmas.Bool.{leb-true}
+use Rattle.std.specs.Option.{option_and_then, option_eq}
+use Rattle.std.proofs.lemmas.Bool.{and_from, leb-true}
 use Rattle.std.proofs.lemmas.List.{length-append, length-map, map_push}
 use Rattle.std.proofs.lemmas.List.Concat.{flat_map-append}
 use Rattle.std.proofs.lemmas.List.Sums.{fold_push}
 use Rattle.dnp_appfragment.specs.declared.function.Function.{Function}
 use Rattle.dnp_appfragment.specs.declared.function.Function.TheVariants as function
 use Rattle.dnp_appfragment.specs.declared.header.Range.TheVariants as range
-use Rattle.dnp_appfragment.specs.Built.{Built, front_size, heads, size, with_run, with_object}
-use Rattle.dnp_appfragment.specs.Headers.{Head, number, header_octets, range_octets, spelled}
+use Rattle.dnp_appfragment.specs.Built.{Built, front_size, heads, context_of, size, with_run, with_object}
+use Rattle.dnp_appfragment.specs.Headers.{Head, number, header_octets, range_octets, spelled, is_common, last_time, begin, context_past}
 use Rattle.dnp_appfragment.specs.Items.{Item as Object, item_octets}
 use Rattle.dnp_appfragment.specs.Joining.{joined}
+use Rattle.dnp_appfragment.specs.Written.{common_head}
 use Rattle.dnp_objects.specs.declared.limits.TheConstants.{MAX_FRAGMENT}
 use Rattle.dnp_outstation.specs.declared.offer.place.Place.{Place}
 use Rattle.dnp_outstation.specs.declared.offer.writer.Run.{Run}
@@ -21,9 +22,10 @@ use Rattle.dnp_outstation.specs.declared.offer.writer.Run.TheVariants.{NoRun}
 use Rattle.dnp_outstation.specs.declared.offer.writer.Writer.{Writer}
 use Rattle.dnp_outstation.specs.Items.{Thing, no_ids, given_after, place_after}
 use Rattle.dnp_outstation.specs.Items.Thing.{Event, Present}
-use Rattle.dnp_outstation.specs.Layout.{Laid, item_of, object_of, goes_on, Stretch, alone, header_of, common_head, front_of, heads_of, headers_of, fits_fragment}
-use Rattle.dnp_outstation.specs.steps.Filling.{is_same_run, common_of, no_headers, empty_from, begun, built_for, put_laid, fits}
-use Rattle.dnp_outstation.proofs.Joined.{run_at, written_of, IsBehind, behind_on, behind_next, chain_behind, same_run, IsTold, no_front, IsFew, joins, no_join}
+use Rattle.dnp_outstation.specs.Layout.{Laid, item_of, object_of, goes_on, Stretch, alone, header_of, front_of, heads_of, headers_of, fits_fragment}
+use Rattle.dnp_outstation.specs.steps.Filling.{is_same_run, common_of, continues_by, continues, no_headers, empty_from, begun, built_for, put_laid, fits}
+use Rattle.dnp_outstation.proofs.CommonTimes.{IsTimed, continues_same, another_run, past_one, begun_timed, same_time, told_run}
+use Rattle.dnp_outstation.proofs.Joined.{run_at, written_of, IsBehind, behind_on, behind_next, chain_behind, same_run, IsTold, no_front, IsFew, joins, no_join, object_behind}
 use Rattle.dnp_outstation.proofs.Stretches.{laid_as, IsChain, last_item, chain_push, last_push, one_stretch, stretch_ends}
 
 -- the writer's last header is that of the last items, and those before it are ended
@@ -37,6 +39,7 @@ pub record Stands (b : Built) (run : Run) (items : List Laid) : Type 0 where
   pub ended_is : b.ended ≡ before ++ front_of first
   pub run_is : b.run ≡ Some (header_of (record { first = first; more = more }))
   pub run_at_is : run ≡ run_at (last_item first more)
+  pub timed : IsTimed b.ended (common_of run)
   pub headers : (others : List Laid) → headers_of (items ++ others) ≡ before ++ headers_of (first ∷ (more ++ others))
 
 pub record IsEmpty (b : Built) (run : Run) (items : List Laid) : Type 0 where
@@ -92,6 +95,7 @@ pub put_is : (w : Writer) (x : Laid)
       run = run_at x;
       place = place_after w.place x.item;
       upto = given_after w.upto x.item;
+      waiting = w.waiting;
     }
 put_is w x = go x.item.thing
   where
@@ -101,6 +105,7 @@ put_is w x = go x.item.thing
           run = run_at y;
           place = place_after w.place y.item;
           upto = given_after w.upto y.item;
+          waiting = w.waiting;
         })
     go (Event lane row) = refl
     go (Present static) = refl
@@ -155,11 +160,45 @@ put_joined b object run longer run_is joins =
     ap (λ (r : Option Head). with_run b (option_and_then (λ x. joined x object) r) object) run_is
     ∙ ap (λ (r : Option Head). with_run b r object) joins
 
-built_same : (w : Writer) (run : Run) → is_same_run w.run run ≡ true → built_for w run ≡ w.builder
+built_same : (w : Writer) (run : Run) → continues w run ≡ true → built_for w run ≡ w.builder
 built_same w run same = ap (λ (t : Bool). if t then w.builder else begun w.builder (common_of run)) same
 
-built_other : (w : Writer) (run : Run) → is_same_run w.run run ≡ false → built_for w run ≡ begun w.builder (common_of run)
+built_other : (w : Writer) (run : Run) → continues w run ≡ false → built_for w run ≡ begun w.builder (common_of run)
 built_other w run other = ap (λ (t : Bool). if t then w.builder else begun w.builder (common_of run)) other
+
+-- ---- common times
+
+-- so the item that goes on continues
+on_continues : (w : Writer) (items : List Laid) (s : Stands w.builder w.run items) (y : Laid) → goes_on (last_item s.first s.more) y ≡ true
+    → continues w (run_at y) ≡ true
+on_continues w items s y on =
+    go (common_of (run_at y)) (subst (IsTimed w.builder.ended) times s.timed)
+    (subst (λ (c : Option ℕ). IfSome c (λ _. last.object.group ≡ 2)) (same_time last y on) (told_run last s.told))
+  where
+    last : Laid
+    last = last_item s.first s.more
+
+    h : Head
+    h = header_of (record { first = s.first; more = s.more })
+
+    times : common_of w.run ≡ common_of (run_at y)
+    times = ap common_of s.run_at_is ∙ same_time last y on
+
+    same : is_same_run w.run (run_at y) ≡ true
+    same = ap (λ (run : Run). is_same_run run (run_at y)) s.run_at_is ∙ same_run last y on
+
+    go : (common : Option ℕ) → IsTimed w.builder.ended common → IfSome common (λ _. last.object.group ≡ 2) → continues_by w (run_at y) common ≡ true
+    go None timed two = same
+    go (Some t) timed two =
+        let group : h.group ≡ 2 = object_behind s.first last (length s.more) (chain_behind s.first s.more s.chain) ∙ two in
+        let other : is_common h ≡ false = ap (λ (g : ℕ). (g == 51) && ((h.variation == 1) || (h.variation == 2))) group in
+        let there : context_of w.builder ≡ Some (last_time (common_head t)) =
+        ap (λ (o : Option Head). context_past begin (w.builder.ended ++ option_to_list o)) s.run_is
+        ∙ past_one w.builder.ended h other
+        ∙ timed in
+        and_from _ _ same
+        (ap (λ (o : Option ℕ). option_eq nat_eq o (Some (last_time (common_head t)))) there
+        ∙ eq-eqb (last_time (common_head t)) (last_time (common_head t)) refl)
 
 -- ---- the writer after one item more
 
@@ -177,11 +216,12 @@ was_empty w items y empty told =
       ended_is = refl;
       run_is = ap Some (alone_is y);
       run_at_is = refl;
+      timed = begun_timed [] y;
       headers = λ others. refl;
     }))
   where
-    other : is_same_run w.run (run_at y) ≡ false
-    other = ap (λ (run : Run). is_same_run run (run_at y)) empty.run_is
+    other : continues w (run_at y) ≡ false
+    other = another_run w (run_at y) (ap (λ (run : Run). is_same_run run (run_at y)) empty.run_is)
 
     is : with_object (built_for w (run_at y)) (written_of y) ≡ record { function = function.Response; ended = front_of y; run = Some (written_of y) }
     is =
@@ -203,14 +243,15 @@ went_on w items y s few on told =
       ended_is = s.ended_is;
       run_is = refl;
       run_at_is = ap run_at (sym (last_push s.first s.more y));
+      timed = subst (IsTimed w.builder.ended) (ap common_of s.run_at_is ∙ same_time (last_item s.first s.more) y on) s.timed;
       headers = λ others.
           ap headers_of (append_assoc items (y ∷ []) others)
           ∙ s.headers (y ∷ others)
           ∙ ap (λ (xs : List Laid). s.before ++ headers_of (s.first ∷ xs)) (sym (append_assoc s.more (y ∷ []) others));
     })
   where
-    same : is_same_run w.run (run_at y) ≡ true
-    same = ap (λ (run : Run). is_same_run run (run_at y)) s.run_at_is ∙ same_run (last_item s.first s.more) y on
+    same : continues w (run_at y) ≡ true
+    same = on_continues w items s y on
 
     behind : IsBehind s.first (length s.more + 1) y
     behind = behind_on s.first (last_item s.first s.more) y (length s.more) 1 (chain_behind s.first s.more s.chain)
@@ -227,7 +268,7 @@ went_on w items y s few on told =
 began_anew : (w : Writer) (items : List Laid) (y : Laid) (s : Stands w.builder w.run items) → goes_on (last_item s.first s.more) y ≡ false → IsTold y
     → Stands (with_object (built_for w (run_at y)) (written_of y)) (run_at y) (items ++ y ∷ [])
 began_anew w items y s off told =
-    subst (λ (b : Built). Stands b (run_at y) (items ++ y ∷ [])) (sym (is (is_same_run w.run (run_at y)) refl)) (record {
+    subst (λ (b : Built). Stands b (run_at y) (items ++ y ∷ [])) (sym (is (continues w (run_at y)) refl)) (record {
       first = y;
       more = [];
       before = heads w.builder;
@@ -237,6 +278,7 @@ began_anew w items y s off told =
       ended_is = refl;
       run_is = ap Some (alone_is y);
       run_at_is = refl;
+      timed = begun_timed (heads w.builder) y;
       headers = λ others.
           ap headers_of (append_assoc items (y ∷ []) others)
           ∙ s.headers (y ∷ others)
@@ -248,15 +290,15 @@ began_anew w items y s off told =
     last : Stretch
     last = record { first = s.first; more = s.more }
 
-    at_last : (run : Run) → is_same_run w.run run ≡ is_same_run (run_at (last_item s.first s.more)) run
-    at_last run = ap (λ (r : Run). is_same_run r run) s.run_at_is
+    one_run : continues w (run_at y) ≡ true → is_same_run (run_at (last_item s.first s.more)) (run_at y) ≡ true
+    one_run same = ap (λ (r : Run). is_same_run r (run_at y)) (sym s.run_at_is) ∙ continues_same w (run_at y) same
 
-    is : (t : Bool) → is_same_run w.run (run_at y) ≡ t → with_object (built_for w (run_at y)) (written_of y) ≡ with_new w.builder y
+    is : (t : Bool) → continues w (run_at y) ≡ t → with_object (built_for w (run_at y)) (written_of y) ≡ with_new w.builder y
     is true same =
         ap (λ (b : Built). with_object b (written_of y)) (built_same w (run_at y) same)
         ∙ put_new w.builder y (header_of last) s.run_is
-        (no_join s.first s.more (last_item s.first s.more) y (chain_behind s.first s.more s.chain) (sym (at_last (run_at y)) ∙ same) off)
-        (no_front (last_item s.first s.more) y s.told told (sym (at_last (run_at y)) ∙ same) off)
+        (no_join s.first s.more (last_item s.first s.more) y (chain_behind s.first s.more s.chain) (one_run same) off)
+        (no_front (last_item s.first s.more) y s.told told (one_run same) off)
     is false other =
         ap (λ (b : Built). with_object b (written_of y)) (built_other w (run_at y) other)
         ∙ put_begun w.builder y

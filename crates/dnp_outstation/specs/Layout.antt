@@ -3,11 +3,11 @@
 use Rattle.std.specs.Prelude.{ℕ, ◌+◌, ◌==◌, Bool, true, false, ◌&&◌, if◌then◌else◌, nat_eq, nat_le, List, [], ◌∷◌, ◌++◌, length, map, Option, None, option_to_list}
 use Rattle.std.specs.List.{flat_map}
 use Rattle.std.specs.Option.{option_eq}
-use Rattle.byteorder.specs.Endian.{little_bytes}
 use Rattle.dnp_appfragment.specs.declared.header.Range.{Range}
 use Rattle.dnp_appfragment.specs.declared.header.Range.TheVariants as range
-use Rattle.dnp_appfragment.specs.Headers.{Head, head_of, spelled}
+use Rattle.dnp_appfragment.specs.Headers.{Head, head_after, spelled}
 use Rattle.dnp_appfragment.specs.Items.{Item as Object, item_octets, event_item, point_item}
+use Rattle.dnp_appfragment.specs.Written.{common_head}
 use Rattle.dnp_objects.specs.declared.limits.TheConstants.{MAX_FRAGMENT}
 use Rattle.dnp_outstation.specs.Items.{Thing, Item}
 use Rattle.dnp_outstation.specs.Items.Thing.{Event, Present}
@@ -85,21 +85,21 @@ abbrev pub range_of : Thing → ℕ → Range
 range_of (Event lane row) more = range.Indexed true (more + 1)
 range_of (Present static) more = range.Span true static.row.index (static.row.index + more)
 
+-- the common time after which an event's header gives its times, if it has one
+abbrev pub time_before : Laid → Option ℕ
+time_before x = of x.item.thing
+  where
+    of : Thing → Option ℕ
+    of (Event lane row) = x.common
+    of (Present static) = None
+
 abbrev pub header_of : Stretch → Head
-header_of s = head_of s.first.object.group s.first.object.variation (range_of s.first.item.thing (length s.more))
+header_of s = head_after (time_before s.first) s.first.object.group s.first.object.variation (range_of s.first.item.thing (length s.more))
     (flat_map (item_octets (range_of s.first.item.thing (length s.more))) (map object_of (s.first ∷ s.more)))
 
--- a common time in a header of its own, 51.1: milliseconds in six octets, the low one first
-abbrev pub common_head : ℕ → Head
-common_head time = head_of 51 1 (range.Count false 1) (little_bytes 6 time)
-
--- the headers in front of an event that begins a stretch: that of its common time, if it has one
+-- the headers in front of an item that begins a stretch: that of its common time, 51.1, if it has one
 abbrev pub front_of : Laid → List Head
-front_of x = of x.item.thing
-  where
-    of : Thing → List Head
-    of (Event lane row) = map common_head (option_to_list x.common)
-    of (Present static) = []
+front_of x = map common_head (option_to_list (time_before x))
 
 abbrev pub heads_of : Stretch → List Head
 heads_of s = front_of s.first ++ header_of s ∷ []

@@ -1,13 +1,12 @@
 -- Definition: the event rows among items, and the items that can be written (IEEE Std 1815-2012, application layer:
 -- responses).
-use Rattle.std.specs.Prelude.{◌≡◌, ℕ, ◌<◌, ◌^◌, List, Option, None, Some, All}
+use Rattle.std.specs.Prelude.{ℕ, ◌<◌, ◌^◌, List, Option, None, Some, All}
 use Rattle.std.specs.List.{filter_map}
 use Rattle.dnp_objects.specs.Events.{IsEvent}
 use Rattle.dnp_objects.specs.declared.row.Row.{Row}
 use Rattle.dnp_appfragment.specs.Written.{FitsPoint}
 use Rattle.dnp_outstation.specs.Items.{Thing, Item, Source, statics_of}
 use Rattle.dnp_outstation.specs.Items.Thing.{Event, Present}
-use Rattle.dnp_outstation.specs.Layout.{Laid, own_object}
 
 -- the item's event row, if it is one
 abbrev pub event_in : Item → Option Row
@@ -29,12 +28,6 @@ CanStand x = of x.thing
     of : Thing → Type 0
     of (Event lane row) = IsEvent row.row × (row.row.index < 2 ^ 16)
     of (Present static) = FitsPoint static.object.0 static.object.1 static.row × (static.row.index < 2 ^ 16)
-
--- with the object as which it goes: that says it, and all of its time
-pub record CanGo (x : Laid) : Type 0 where
-  pub stands : CanStand x.item
-  pub says : x.object ≡ own_object x.item.thing
-  pub whole : x.common ≡ None
 
 -- the present values that a READ may give can be written
 abbrev pub AreWritable : Source → Type 0

@@ -2,6 +2,7 @@
 pub mod Answering
 pub mod Deciding
 pub mod Filling
+pub mod Grouping
 pub mod Holding
 pub mod Performing
 pub mod Pushing

@@ -72,7 +72,8 @@ pub(crate) fn bits_of(fault: AppFault) -> u8
         | AppFault::HeaderCut
         | AppFault::QualifierUnknown
         | AppFault::RangeBackward
-        | AppFault::ObjectsCut => PARAMETER_ERROR,
+        | AppFault::ObjectsCut
+        | AppFault::CommonTime => PARAMETER_ERROR,
     }
 }
 

@@ -14,6 +14,7 @@ ghost use Rattle.dnp_objects.specs.declared.limits.TheConstants.{LANES};
 ghost use Rattle.dnp_outstation.specs.steps.Filling.{empty_for, ended, has_rows_in};
 ghost use Rattle.dnp_outstation.specs.steps.Holding.{AreFirst, IsLaneHeld, IsClassHeld, IsHeld, AreClassEvents, AreEvents, new_of, kept_of, more_of};
 ghost use Rattle.dnp_outstation.specs.Items.{event_of, class_lanes, enabled_lanes, lane_items, first_place};
+ghost use Rattle.dnp_outstation.specs.steps.Grouping.{mark};
 ghost use Rattle.dnp_outstation.specs.Offer.{pushed};
 ghost use Rattle.dnp_outstation.specs.steps.Putting.{Puts};
 ghost use Rattle.dnp_outstation.specs.Stores.{IsLook};
@@ -163,12 +164,12 @@ fn kept<'a>(rows: &'a [Numbered], new: &Option<NewRow>, lane: usize) -> &'a [Num
 }
 
 impl Writer {
-    /// Puts the row that the lane took, if it took one and it fits; answers whether that is so.
+    /// Puts the row that the lane took, if it took one and it fits or waits; answers whether that is so.
     fn put_new(&mut self, lane: usize, new: &Option<NewRow>) -> bool
         requires lane { lane < LANES }
         requires response { IsTrue (is_response self.old.builder.function) }
         requires event { IfSome new.now (λ new. IsEvent new.row.row) }
-        ensures written { Puts self.old (map (event_of 0 lane) (more_of new.now lane)) result self.new }
+        ensures written { Puts self.old (mark true (map (event_of 0 lane) (more_of new.now lane))) result self.new }
         ensures response { self.new.builder.function ≡ self.old.builder.function }
     {
         let Some(new) = new else {
@@ -177,7 +178,7 @@ impl Writer {
         if new.lane != lane {
             return true;
         }
-        self.put_event(0, lane, &new.row)
+        self.put_event(0, true, lane, &new.row)
     }
 
     /// Puts the rows of a lane as they are once the new one was appended, as far as they fit; answers whether
@@ -188,12 +189,12 @@ impl Writer {
         requires events { All (λ x. IsEvent x.row) rows.now }
         requires event { IfSome new.now (λ new. IsEvent new.row.row) }
         ensures written { (all : List NumberedRow) → AreFirst all rows.now
-            → Puts self.old (map (event_of 0 lane) (kept_of all new.now lane ++ more_of new.now lane)) result self.new }
+            → Puts self.old (mark true (map (event_of 0 lane) (kept_of all new.now lane ++ more_of new.now lane))) result self.new }
         ensures response { self.new.builder.function ≡ self.old.builder.function }
     {
         // What is left says that the fragment fits.
         let _left = self.builder.left();
-        if !self.put_rows(0, lane, kept(rows, new, lane)) {
+        if !self.put_rows(0, true, lane, kept(rows, new, lane)) {
             return false;
         }
         self.put_new(lane, new)
@@ -212,7 +213,7 @@ impl Writer {
         requires events { AreClassEvents held.now }
         requires event { IfSome new.now (λ new. IsEvent new.row.row) }
         ensures written { (s : Stock) (made : Option LaneRowValue) → IsSound s → new.now ≡ new_of s made → (is_enabled ≡ true → IsClassHeld s class held.now)
-            → Puts self.old (lane_items (with_rows s (option_to_list made)) (if is_enabled then class_lanes class else [])) result self.new }
+            → Puts self.old (mark true (lane_items (with_rows s (option_to_list made)) (if is_enabled then class_lanes class else []))) result self.new }
         ensures response { self.new.builder.function ≡ self.old.builder.function }
     {
         if !is_enabled {
@@ -254,5 +255,8 @@ pub(crate) fn put_held<L: Lanes>(
     if !writer.put_held_class(1, enabled[1], &held.second, &new) {
         return false;
     }
-    writer.put_held_class(2, enabled[2], &held.third, &new)
+    if !writer.put_held_class(2, enabled[2], &held.third, &new) {
+        return false;
+    }
+    writer.settle()
 }

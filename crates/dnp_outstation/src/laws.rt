@@ -18,19 +18,19 @@ ghost use Rattle.dnp_eventbuf.specs.Stock.{Stock, all_up_to, with_rows, without,
 ghost use Rattle.dnp_outstation.specs.declared.offer.place.Place.{Place};
 ghost use Rattle.dnp_outstation.specs.declared.session.Awaited.{Awaited};
 ghost use Rattle.dnp_outstation.specs.declared.session.LastRequest.{LastRequest};
-ghost use Rattle.dnp_outstation.specs.Forms.{may_in, may_each, laid};
+ghost use Rattle.dnp_outstation.specs.Forms.{CanGo, may_in, may_each, laid};
 ghost use Rattle.dnp_outstation.specs.Items.{Source, Item, no_ids, items_left, enabled_lanes, lane_items};
 ghost use Rattle.dnp_outstation.specs.Layout.{Laid, item_of, object_of, headers_of, response_size, fits_fragment};
 ghost use Rattle.dnp_outstation.specs.Offer.{held_laid, held_of, offered_of, offered, pushed};
 ghost use Rattle.dnp_outstation.specs.Laws.{IsLongest, rows_by_lane, AreRowsUpto, IsTidy, LeavesOnly, AreNext, IsOnward, AreGiven, AreBefore};
-ghost use Rattle.dnp_outstation.specs.Said.{events_in, CanGo, AreWritable};
+ghost use Rattle.dnp_outstation.specs.Said.{events_in, AreWritable};
 ghost use Rattle.dnp_outstation.specs.State.{State};
 ghost use Rattle.dnp_outstation.specs.Connection.{closed};
 ghost use Rattle.dnp_outstation.specs.Calls.{connection_after, tick_of, change_of, opened_of, restart_of};
 ghost use Rattle.dnp_outstation.specs.Tidy.{LeavesNothing};
 
 use dnp_appfragment::laws::{
-    a_header_holds_what_was_put, what_is_held_is_read, what_is_put_is_held,
+    a_common_time_stays, a_header_holds_what_was_put, what_is_held_is_read, what_is_put_is_held,
     what_is_put_stands_in_a_response, what_is_spelled_is_said, what_is_there_is_said,
 };
 use dnp_eventbuf::laws::{a_release_is_lane_by_lane, ids_are_used_once, lanes_stay_sound};
@@ -96,7 +96,7 @@ pub fn nothing_else_given_is_left()
     ids_are_used_once();
 }
 
-/// Items that can be written, each as an object that says it, and fit are a response, whose headers hold just
+/// Items that can be written, each as an object that says it or after a common time, and fit are a response, whose headers hold just
 /// these objects, and the rows that its event headers say are the event rows among them, in order. The items of a READ can be written where the
 /// rows of the lanes and the present values can, and then each fragment that leaves something holds something.
 pub fn octets_say_what_is_held()
@@ -114,6 +114,7 @@ pub fn octets_say_what_is_held()
 {
     a_header_holds_what_was_put();
     what_is_put_is_held();
+    a_common_time_stays();
     what_is_put_stands_in_a_response();
     what_is_held_is_read();
     what_is_there_is_said();

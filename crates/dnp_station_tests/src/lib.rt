@@ -18,6 +18,8 @@ mod books;
 #[cfg(test)]
 mod controls;
 #[cfg(test)]
+mod groups;
+#[cfg(test)]
 mod journals;
 #[cfg(test)]
 mod lanes;

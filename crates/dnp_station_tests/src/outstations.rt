@@ -4,6 +4,7 @@
 ghost use Rattle.std.specs.Prelude.{◌≤◌, All};
 
 use crate::controls::CONTROLS;
+use crate::groups::{GROUPS, ROOM};
 use crate::plans::{Alike, plan_of};
 use crate::polls::POLLS;
 use crate::unsolicited::UNSOLICITED;
@@ -342,6 +343,8 @@ fn outstations_step_by_step(rt: HostRuntime) -> Result<(), Fail> {
     let alloc = rt.alloc();
     let tables = [
         ("polls", POLLS.as_slice()),
+        ("groups", GROUPS.as_slice()),
+        ("room", ROOM.as_slice()),
         ("unsolicited", UNSOLICITED.as_slice()),
         ("controls", CONTROLS.as_slice()),
     ];

@@ -64,6 +64,10 @@ fn fragments_print(alloc: Global) -> Result<bool, AllocError> {
             "a range whose stop is under its start",
         ),
         (AppFault::ObjectsCut, "objects that are cut"),
+        (
+            AppFault::CommonTime,
+            "times without a common time, or over the last one",
+        ),
     ];
     let objects = [
         (ObjectFault::ObjectUnknown, "no such object"),

@@ -15,13 +15,13 @@ use Rattle.dnp_outstation.specs.steps.Putting.{least_octets}
 
 -- ---- what is held
 
--- the first rows of a lane, which are of one kind: over those that a fragment has room for one at least, and one
--- beside it, which may be dropped
+-- the first rows of a lane, which are of one kind: over those that a fragment has room for, with those that may wait, one
+-- at least, and one beside it, which may be dropped
 pub record AreFirst (all rows : List Numbered) : Type 0 where
   pub kind : Kind
   pub of_kind : All (λ x. x.row.kind ≡ kind) rows
   pub most : ℕ
-  pub enough : (n : ℕ) → least_octets kind * n ≤ MAX_FRAGMENT → n + 1 < most
+  pub enough : (n : ℕ) → least_octets kind * n ≤ MAX_FRAGMENT + 7 → n + 1 < most
   pub is : rows ≡ take most all
 
 -- those of a lane are held

@@ -1,5 +1,5 @@
 -- Private steps: how a writer comes of another by items that are put into it.
-use Rattle.std.specs.Prelude.{[], ◌∷◌, ◌≡◌, ℕ, ◌+◌, ◌-◌, ◌^◌, ◌==◌, min, Bool, false, ◌++◌, if◌then◌else◌, List, map, drop}
+use Rattle.std.specs.Prelude.{[], ◌∷◌, ◌≡◌, ℕ, ◌+◌, ◌-◌, ◌^◌, ◌==◌, min, Bool, false, ◌++◌, if◌then◌else◌, List, map, drop, ⊤}
 use Rattle.dnp_objects.specs.declared.row.Kind.{Kind}
 use Rattle.dnp_objects.specs.declared.row.Row.{Row}
 use Rattle.dnp_eventbuf.specs.declared.numbered.Numbered.{Numbered}
@@ -9,12 +9,25 @@ use Rattle.dnp_pointdb.specs.Events.{row_of}
 use Rattle.dnp_pointdb.specs.Sound.{static_object}
 use Rattle.dnp_outstation.specs.declared.offer.place.Place.{Place}
 use Rattle.dnp_outstation.specs.declared.offer.writer.Writer.{Writer}
-use Rattle.dnp_outstation.specs.Items.{Item, Static, present_of}
-use Rattle.dnp_outstation.specs.steps.Filling.{fill, ended}
+use Rattle.dnp_appfragment.specs.Built.{size}
+use Rattle.dnp_outstation.specs.declared.offer.grouping.Given.{Given}
+use Rattle.dnp_outstation.specs.declared.offer.grouping.Given.TheVariants as given
+use Rattle.dnp_outstation.specs.declared.offer.grouping.Waiting.{Waiting}
+use Rattle.dnp_outstation.specs.declared.offer.grouping.Waiting.TheVariants as waiting
+use Rattle.dnp_outstation.specs.Items.{Static, present_of}
+use Rattle.dnp_appfragment.specs.Headers.{Head}
+use Rattle.dnp_outstation.specs.Forms.{leaves_open}
+use Rattle.dnp_outstation.specs.steps.Grouping.{Marked, mark}
+use Rattle.dnp_outstation.specs.steps.Filling.{fill_laid, fill, ended}
+use Rattle.dnp_outstation.specs.Layout.{Laid}
 
 -- the items were put, all of them or, where they don't fit, as many as do: whatever comes after
-abbrev pub Puts : Writer → List Item → Bool → Writer → Type 0
-Puts w items fit w' = (more : List Item) → fill w (items ++ more) ≡ (if fit then fill w' more else ended false w')
+abbrev pub Puts : Writer → List Marked → Bool → Writer → Type 0
+Puts w items fit w' = (more : List Marked) → fill w (items ++ more) ≡ (if fit then fill w' more else ended false w')
+
+-- what comes of rows that are laid, whatever comes after
+abbrev pub PutsLaid : Writer → List Laid → Bool → Writer → Type 0
+PutsLaid w xs fit w' = (more : List Laid) → fill_laid w (xs ++ more) ≡ (if fit then fill_laid w' more else ended false w')
 
 -- the fewest octets that an event of a kind takes in a fragment: its index, its flags, and of a counter or an analog
 -- its value, as 2.1, 22.1 and 32.1 have them
@@ -23,14 +36,36 @@ least_octets Binary = 3
 least_octets Counter = 7
 least_octets Analog = 7
 
+-- those that the rows that wait take: two of a group are binaries
+abbrev pub least_waiting : Waiting → ℕ
+least_waiting waiting.Nothing = 0
+least_waiting (waiting.One x) = least_octets x.row.row.kind
+least_waiting (waiting.Two pair) = 6
+least_waiting (waiting.Within first) = 0
+
+-- the octets of the fragment, with those
+abbrev pub weight : Writer → ℕ
+weight w = size w.builder + least_waiting w.waiting
+
+-- those of the rows that are given
+abbrev pub least_given : Given → ℕ
+least_given given.Nothing = 0
+least_given (given.First a) = least_octets a.row.row.row.kind
+least_given (given.Second a b) = least_octets a.row.row.row.kind + least_octets b.row.row.row.kind
+least_given (given.Third a b c) = least_octets a.row.row.row.kind + least_octets b.row.row.row.kind + least_octets c.row.row.row.kind
+
 -- those that rows take
 abbrev pub least_of : List Numbered → ℕ
 least_of [] = 0
 least_of (x ∷ xs) = least_octets x.row.kind + least_of xs
 
+-- present values, whose objects are never left open
+abbrev pub shown : ℕ → List Static → List Marked
+shown header statics = mark false (map (present_of header) statics)
+
 -- what a header gives of present values but for the first so many
-abbrev pub presents : ℕ → ℕ → List Static → List Item
-presents header skip statics = map (present_of header) (drop skip statics)
+abbrev pub presents : ℕ → ℕ → List Static → List Marked
+presents header skip statics = shown header (drop skip statics)
 
 -- the rows of points of a kind, of which the first has this index
 abbrev pub rows_from : Kind → ℕ → List PointState → List Row
@@ -48,3 +83,8 @@ passed_by place header count = record {
 -- the group of the object that a present value of a kind goes as, where this variation was asked for
 abbrev pub group_of : Kind → ℕ → ℕ
 group_of kind asked = (static_object kind asked).0
+
+-- headers from this number on leave it open by this as which object a binary event goes
+abbrev pub LeavesOpen : (ℕ → Bool) → ℕ → List Head → Type 0
+LeavesOpen may at [] = ⊤
+LeavesOpen may at (h ∷ hs) = (may at ≡ leaves_open h) × LeavesOpen may (at + 1) hs

@@ -1,6 +1,6 @@
 //! What commands are answered, and the headers of a request with that in them.
 
-ghost use Rattle.std.specs.Prelude.{◌≡◌, ◌≤◌, ◌+◌, [], ◌++◌, length};
+ghost use Rattle.std.specs.Prelude.{◌≡◌, ◌≤◌, ◌+◌, [], ◌++◌, length, None};
 ghost use Rattle.std.specs.Option.{option_map};
 ghost use Rattle.arrayvec.specs.ArrayVec.{array_vec_len};
 ghost use Rattle.dnp_appfragment.specs.declared.function.Function.TheVariants as function;
@@ -106,6 +106,7 @@ impl Writer {
         requires empty { octets.old.items ≡ [] }
         requires few { length header.now.octets.now ≤ N }
         requires whole { IsHeader form.Command (head header.now) }
+        requires alone { (head header.now).common ≡ None }
         requires response { self.old.builder.function ≡ function.Response }
         requires room { size self.old.builder + length (header_octets (head header.now)) ≤ MAX_FRAGMENT }
         ensures { self.new ≡ record self.old {
@@ -125,6 +126,7 @@ impl Writer {
     #[inline(never)]
     fn put_many<O: Outputs>(&mut self, outputs: &O, told: &Told, header: &Header<'_>)
         requires whole { IsHeader form.Command (head header.now) }
+        requires alone { (head header.now).common ≡ None }
         requires response { self.old.builder.function ≡ function.Response }
         requires room { size self.old.builder + length (header_octets (head header.now)) ≤ MAX_FRAGMENT }
         ensures { self.new ≡ record self.old {
@@ -138,6 +140,7 @@ impl Writer {
     /// Puts a header of commands, each with its status.
     fn put_answered<O: Outputs>(&mut self, outputs: &O, told: &Told, header: &Header<'_>)
         requires whole { IsHeader form.Command (head header.now) }
+        requires alone { (head header.now).common ≡ None }
         requires response { self.old.builder.function ≡ function.Response }
         requires room { size self.old.builder + length (header_octets (head header.now)) ≤ MAX_FRAGMENT }
         ensures { self.new ≡ record self.old {

@@ -1,12 +1,13 @@
 //! The rows of an unsolicited response: those of the classes that are enabled, as far as they fit.
 
-ghost use Rattle.std.specs.Prelude.{if◌then◌else◌, ◌≡◌, ◌≢◌, ◌<◌, ◌≤◌, ◌-◌, false, IsTrue, IfOk, IfErr, IfSome, Err, [], length};
+ghost use Rattle.std.specs.Prelude.{if◌then◌else◌, ◌≡◌, ◌≢◌, ◌<◌, ◌≤◌, ◌-◌, false, true, IsTrue, IfOk, IfErr, IfSome, Err, [], length};
 ghost use Rattle.dnp_appfragment.specs.declared.function.Function.TheVariants as function;
 ghost use Rattle.dnp_appfragment.specs.Table.{is_response};
 ghost use Rattle.dnp_eventbuf.specs.Sound.{IsSound};
 ghost use Rattle.dnp_eventbuf.specs.Stock.{rows_in};
 ghost use Rattle.dnp_outstation.specs.Items.{class_lanes, lane_items, enabled_lanes, first_place};
 ghost use Rattle.dnp_outstation.specs.steps.Filling.{after_release, empty_for, ended};
+ghost use Rattle.dnp_outstation.specs.steps.Grouping.{mark};
 ghost use Rattle.dnp_outstation.specs.Offer.{pushed};
 ghost use Rattle.dnp_outstation.specs.steps.Putting.{Puts};
 ghost use Rattle.dnp_outstation.specs.Stores.{IsLook};
@@ -44,7 +45,7 @@ impl Writer {
         requires class { class < 3 }
         requires sound { L.honest lanes.old → IsSound (L.contents lanes.old) }
         ensures written { L.honest lanes.new → IfOk result (λ fit. Puts self.old
-            (lane_items (after_release (L.contents lanes.old) released.now) (if is_enabled then class_lanes class else [])) fit self.new) }
+            (mark true (lane_items (after_release (L.contents lanes.old) released.now) (if is_enabled then class_lanes class else []))) fit self.new) }
         ensures response { self.new.builder.function ≡ self.old.builder.function }
         ensures look { IsLook L.honest L.is_stopped L.contents L.beside L.place L.asks_memory L.may_fault lanes.old lanes.new result }
     {
@@ -56,6 +57,7 @@ impl Writer {
         let part = RowPart {
             lanes: of_class(class + 1),
             most: None,
+            is_open: true,
         };
         let bounds = Bounds {
             given: &[0; LANES],
@@ -77,7 +79,7 @@ impl Writer {
         requires response { IsTrue (is_response self.old.builder.function) }
         requires sound { L.honest lanes.old → IsSound (L.contents lanes.old) }
         ensures written { L.honest lanes.new → IfOk result (λ fit. Puts self.old
-            (lane_items (after_release (L.contents lanes.old) released.now) (enabled_lanes 0 enabled)) fit self.new) }
+            (mark true (lane_items (after_release (L.contents lanes.old) released.now) (enabled_lanes 0 enabled))) fit self.new) }
         ensures response { self.new.builder.function ≡ self.old.builder.function }
         ensures look { IsLook L.honest L.is_stopped L.contents L.beside L.place L.asks_memory L.may_fault lanes.old lanes.new result }
     {
@@ -109,6 +111,8 @@ pub(crate) fn put_enabled<L: Lanes>(
 {
     // Whatever the lanes say without a refusal says that ids rise from 1 on.
     let _raised = lanes.raised();
-    let is_last = writer.put_classes(alloc, lanes, enabled, released)?;
-    Ok(is_last)
+    if !writer.put_classes(alloc, lanes, enabled, released)? {
+        return Ok(false);
+    }
+    Ok(writer.settle())
 }

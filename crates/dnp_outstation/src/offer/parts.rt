@@ -1,14 +1,16 @@
 //! What the headers of a READ ask for is put into a fragment, one header after another.
 
-ghost use Rattle.std.specs.Prelude.{◌≡◌, ◌≢◌, ◌<◌, ◌+◌, ◌^◌, false, fold, map, length, IsTrue, IfOk, IfErr, Err, [], ℕ};
+ghost use Rattle.std.specs.Prelude.{◌≡◌, ◌≢◌, ◌<◌, ◌+◌, ◌^◌, false, fold, map, length, IsTrue, IfOk, IfErr, Err, [], ℕ, Bool};
 ghost use Rattle.dnp_appfragment.specs.Seen.{head};
 ghost use Rattle.dnp_appfragment.specs.Table.{is_response};
 ghost use Rattle.dnp_eventbuf.specs.Stock.{rows_in};
 ghost use Rattle.dnp_outstation.specs.Items.{Source, part_of, part_after, part_items, parts_left, items_of, given_after};
 ghost use Rattle.dnp_outstation.specs.declared.offer.place.Place.{Place as PlaceValue};
-ghost use Rattle.dnp_outstation.specs.steps.Filling.{after_release, empty_from, ended};
+ghost use Rattle.dnp_outstation.specs.Forms.{leaves_open};
+ghost use Rattle.dnp_outstation.specs.steps.Filling.{after_release, empty_from, ended, reached};
+ghost use Rattle.dnp_outstation.specs.steps.Grouping.{mark, opened};
 ghost use Rattle.dnp_outstation.specs.Offer.{offered};
-ghost use Rattle.dnp_outstation.specs.steps.Putting.{Puts};
+ghost use Rattle.dnp_outstation.specs.steps.Putting.{Puts, LeavesOpen};
 ghost use Rattle.dnp_outstation.specs.Stores.{IsLook};
 
 use crate::offer::place::Wanted;
@@ -47,10 +49,10 @@ impl Writer {
         requires { IsTrue (is_response self.old.builder.function) }
         ensures written { L.honest lanes.new → IfOk result (λ fit. (s : Source) → s.points ≡ from.now.points.now → s.panel ≡ O.panel from.now.outputs.now
             → s.lanes ≡ after_release (L.contents lanes.old) from.now.released.now
-            → Puts self.old (part_items s from.now.stood self.old.place.given at (part_after count (part_of s (head header.now)))) fit self.new) }
+            → Puts self.old (mark (leaves_open (head header.now)) (part_items s from.now.stood (reached self.old) at (part_after count (part_of s (head header.now))))) fit self.new) }
         ensures given { L.honest lanes.new → IfOk result (λ fit. (s : Source) → s.points ≡ from.now.points.now → s.panel ≡ O.panel from.now.outputs.now
             → s.lanes ≡ after_release (L.contents lanes.old) from.now.released.now
-            → IsTrue fit → self.new.place.given ≡ fold given_after self.old.place.given (part_items s from.now.stood self.old.place.given at (part_after count (part_of s (head header.now))))) }
+            → IsTrue fit → reached self.new ≡ fold given_after (reached self.old) (part_items s from.now.stood (reached self.old) at (part_after count (part_of s (head header.now))))) }
         ensures response { self.new.builder.function ≡ self.old.builder.function }
 
         ensures look { IsLook L.honest L.is_stopped L.contents L.beside L.place L.asks_memory L.may_fault lanes.old lanes.new result }
@@ -58,7 +60,7 @@ impl Writer {
         match wanted(header) {
             Wanted::Rows(mut part) => {
                 part.most = less(part.most, count as usize);
-                let given = self.place.given;
+                let given = self.reached();
                 let bounds = Bounds {
                     given: &given,
                     stood: from.stood,
@@ -93,7 +95,8 @@ impl Writer {
         requires few { first + length headers.headers < 2 ^ 64 }
         ensures written { L.honest lanes.new → IfOk result (λ fit. (s : Source) → s.points ≡ from.now.points.now → s.panel ≡ O.panel from.now.outputs.now
             → s.lanes ≡ after_release (L.contents lanes.old) from.now.released.now
-            → Puts self.old (items_of s from.now.stood self.old.place.given first (parts_left given (map (part_of s) headers.entry.headers))) fit self.new) }
+            → (may : ℕ → Bool) → LeavesOpen may first headers.entry.headers
+            → Puts self.old (map (opened may) (items_of s from.now.stood (reached self.old) first (parts_left given (map (part_of s) headers.entry.headers)))) fit self.new) }
         ensures response { self.new.builder.function ≡ self.old.builder.function }
 
         ensures look { IsLook L.honest L.is_stopped L.contents L.beside L.place L.asks_memory L.may_fault lanes.old lanes.new result }
@@ -140,6 +143,8 @@ pub(crate) fn put_parts<L: Lanes, O: Outputs>(
     let first = writer.place.header;
     let given = writer.place.count;
     let left = headers.after(first);
-    let is_last = writer.put_headers(alloc, lanes, &from, first, given, left)?;
-    Ok(is_last)
+    if !writer.put_headers(alloc, lanes, &from, first, given, left)? {
+        return Ok(false);
+    }
+    Ok(writer.settle())
 }

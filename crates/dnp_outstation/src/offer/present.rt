@@ -1,14 +1,14 @@
 //! Present values that a READ gives.
 
-ghost use Rattle.std.specs.Prelude.{◌≡◌, ◌≤◌, ◌<◌, ◌++◌, ◌+◌, ◌-◌, ◌^◌, ℕ, ◌&&◌, ◌∷◌, [], nat_le, nat_lt, IsTrue, length, map, fold, List, All};
+ghost use Rattle.std.specs.Prelude.{◌≡◌, ◌≤◌, ◌<◌, ◌++◌, ◌+◌, ◌-◌, ◌^◌, ℕ, ◌&&◌, ◌∷◌, [], nat_le, nat_lt, IsTrue, length, map, drop, fold, List, All};
 ghost use Rattle.std.specs.List.{flat_map};
 ghost use Rattle.dnp_appfragment.specs.Table.{is_response};
 ghost use Rattle.dnp_appfragment.specs.Written.{FitsPoint};
 ghost use Rattle.dnp_pointdb.specs.Events.{row_of};
 ghost use Rattle.dnp_pointdb.specs.Sound.{IsSoundPoint, IsSoundBlock, AreSound};
 ghost use Rattle.dnp_outstation.specs.Items.{present_of, static_at, is_within, in_range, statics_from, statics_in, output_row, outputs_from, statics_of, each_static, Source, Static, given_after};
-ghost use Rattle.dnp_outstation.specs.steps.Filling.{built_for};
-ghost use Rattle.dnp_outstation.specs.steps.Putting.{Puts, presents, rows_from, passed_by};
+ghost use Rattle.dnp_outstation.specs.steps.Filling.{built_for, reached};
+ghost use Rattle.dnp_outstation.specs.steps.Putting.{Puts, shown, presents, rows_from, passed_by};
 
 use crate::offer::place::Place;
 use crate::offer::writer::{Run, Writer};
@@ -133,13 +133,16 @@ impl Writer {
         requires response { IsTrue (is_response self.old.builder.function) }
         requires narrow { first + length points.now ≤ 2 ^ 16 }
         requires sound { All (IsSoundPoint kind) points.now }
-        ensures written { Puts self.old (map (present_of ask.header) (statics_from ask.variation block kind first points.now)) result self.new }
+        ensures written { Puts self.old (shown ask.header (statics_from ask.variation block kind first points.now)) result self.new }
         ensures response { self.new.builder.function ≡ self.old.builder.function }
-        ensures given { self.new.place.given ≡ self.old.place.given }
+        ensures given { IsTrue result → reached self.new ≡ reached self.old }
     {
         let len = points.len();
         if len == 0 {
             return true;
+        }
+        if !self.settle() {
+            return false;
         }
         // (laws, for the proof: they do nothing)
         readings_fit_their_static_objects();
@@ -174,7 +177,7 @@ impl Writer {
         ensures written { Puts self.old (presents ask.header skip.old (in_range ask.range (statics_from ask.variation number kind block.now.base block.now.points))) result self.new }
         ensures skipped { skip.new ≡ skip.old - length (in_range ask.range (statics_from ask.variation number kind block.now.base block.now.points)) }
         ensures response { self.new.builder.function ≡ self.old.builder.function }
-        ensures given { self.new.place.given ≡ self.old.place.given }
+        ensures given { IsTrue result → reached self.new ≡ reached self.old }
     {
         let points = block.points.as_slice();
         let (from, to) = places(ask.range, block.base, points.len());
@@ -193,7 +196,7 @@ impl Writer {
         ensures written { Puts self.old (presents ask.header skip.old (in_range ask.range (statics_in ask.variation kind 0 blocks.now))) result self.new }
         ensures skipped { IsTrue result → skip.new ≡ skip.old - length (in_range ask.range (statics_in ask.variation kind 0 blocks.now)) }
         ensures response { self.new.builder.function ≡ self.old.builder.function }
-        ensures given { self.new.place.given ≡ self.old.place.given }
+        ensures given { IsTrue result → reached self.new ≡ reached self.old }
     {
         for (number, block) in blocks.iter().enumerate() {
             if !self.put_block(ask, kind, number, block, skip) {
@@ -201,6 +204,17 @@ impl Writer {
             }
         }
         true
+    }
+
+    /// Puts an output's status, and the rows that wait before it, if they fit; answers whether they do.
+    fn put_status(&mut self, header: usize, row: &Row) -> bool
+        requires response { IsTrue (is_response self.old.builder.function) }
+        requires fits { FitsPoint 10 2 row.now }
+        ensures written { Puts self.old (shown header ((record { object = (10, 2); block = 0; row = row.now }) ∷ [])) result self.new }
+        ensures response { self.new.builder.function ≡ self.old.builder.function }
+        ensures given { IsTrue result → reached self.new ≡ reached self.old }
+    {
+        self.settle() && self.put_present(header, (10, 2), 0, row)
     }
 
     #[tactic(auto, using(crate::proofs::OfferPresent::next_output))]
@@ -215,14 +229,14 @@ impl Writer {
     ) -> bool
         requires response { IsTrue (is_response self.old.builder.function) }
         requires narrow { end ≤ 2 ^ 16 }
-        ensures written { Puts self.old (map (present_of header) (outputs_from (O.panel outputs.now).status first (end - first))) result self.new }
+        ensures written { Puts self.old (shown header (outputs_from (O.panel outputs.now).status first (end - first))) result self.new }
         ensures response { self.new.builder.function ≡ self.old.builder.function }
-        ensures given { self.new.place.given ≡ self.old.place.given }
+        ensures given { IsTrue result → reached self.new ≡ reached self.old }
     {
         for index in first..end {
             let index = index as u16;
             let row = output_row(index, outputs.status(index));
-            if !self.put_present(header, (10, 2), 0, &row) {
+            if !self.put_status(header, &row) {
                 return false;
             }
         }
@@ -236,7 +250,7 @@ impl Writer {
         ensures written { Puts self.old (presents ask.header skip.old (in_range ask.range (outputs_from (O.panel outputs.now).status 0 (O.panel outputs.now).outputs))) result self.new }
         ensures skipped { skip.new ≡ skip.old - length (in_range ask.range (outputs_from (O.panel outputs.now).status 0 (O.panel outputs.now).outputs)) }
         ensures response { self.new.builder.function ≡ self.old.builder.function }
-        ensures given { self.new.place.given ≡ self.old.place.given }
+        ensures given { IsTrue result → reached self.new ≡ reached self.old }
     {
         let (from, to) = places(ask.range, 0, usize::from(outputs.outputs()));
         let passed = (*skip).min(to - from);
@@ -260,7 +274,7 @@ impl Writer {
         ensures skipped { (s : Source) → s.points ≡ points.now → s.panel ≡ O.panel outputs.now
             → IsTrue result → skip.new ≡ skip.old - length (in_range ask.range (statics_of s ask.variation group)) }
         ensures response { self.new.builder.function ≡ self.old.builder.function }
-        ensures given { self.new.place.given ≡ self.old.place.given }
+        ensures given { IsTrue result → reached self.new ≡ reached self.old }
     {
         match group {
             1 => self.put_blocks(ask, Kind::Binary, points.blocks(Kind::Binary), skip),
@@ -285,7 +299,7 @@ impl Writer {
         ensures written { (s : Source) → s.points ≡ points.now → s.panel ≡ O.panel outputs.now
             → Puts self.old (presents ask.header skip.old (in_range ask.range (flat_map (statics_of s ask.variation) groups.now))) result self.new }
         ensures response { self.new.builder.function ≡ self.old.builder.function }
-        ensures given { self.new.place.given ≡ self.old.place.given }
+        ensures given { IsTrue result → reached self.new ≡ reached self.old }
     {
         for group in groups {
             if !self.put_group(ask, *group, points, outputs, skip) {
@@ -310,7 +324,7 @@ impl Writer {
         ensures written { (s : Source) → s.points ≡ points.now → s.panel ≡ O.panel outputs.now
             → Puts self.old (presents ask.header given (in_range ask.range (statics_of s ask.variation group))) result self.new }
         ensures response { self.new.builder.function ≡ self.old.builder.function }
-        ensures given { (statics : List Static) → self.new.place.given ≡ fold given_after self.old.place.given (presents ask.header given statics) }
+        ensures given { (statics : List Static) → IsTrue result → reached self.new ≡ fold given_after (reached self.old) (map (present_of ask.header) (drop given statics)) }
     {
         let mut skip = given as usize;
         self.put_group(ask, group, points, outputs, &mut skip)
@@ -330,7 +344,7 @@ impl Writer {
         ensures written { (s : Source) → s.points ≡ points.now → s.panel ≡ O.panel outputs.now
             → Puts self.old (presents header given (each_static s)) result self.new }
         ensures response { self.new.builder.function ≡ self.old.builder.function }
-        ensures given { (statics : List Static) → self.new.place.given ≡ fold given_after self.old.place.given (presents header given statics) }
+        ensures given { (statics : List Static) → IsTrue result → reached self.new ≡ fold given_after (reached self.old) (map (present_of header) (drop given statics)) }
     {
         let ask = Ask {
             header,

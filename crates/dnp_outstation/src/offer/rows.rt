@@ -8,10 +8,12 @@ ghost use Rattle.dnp_appfragment.specs.Built.{size};
 ghost use Rattle.dnp_appfragment.specs.Table.{is_response};
 ghost use Rattle.dnp_objects.specs.declared.limits.TheConstants.{LANES, MAX_FRAGMENT};
 ghost use Rattle.dnp_outstation.specs.Items.{event_of, given_after, event_items, rows_left, at_most, less};
-ghost use Rattle.dnp_outstation.specs.steps.Filling.{after_release, over_of};
+ghost use Rattle.dnp_outstation.specs.steps.Filling.{after_release, over_of, reached};
+ghost use Rattle.dnp_outstation.specs.steps.Grouping.{mark};
 ghost use Rattle.dnp_outstation.specs.steps.Putting.{Puts, least_octets, least_of};
 ghost use Rattle.dnp_outstation.specs.Stores.{IsLook};
 
+use crate::offer::next::goes_on;
 use crate::offer::place::RowPart;
 use crate::offer::writer::Writer;
 use dnp_eventbuf::laws::an_offer_after_a_release;
@@ -42,17 +44,20 @@ impl<'a> Bounds<'a> {
     }
 }
 
-/// How many more rows of a lane are asked for than have room: where this one is put too, none was left out.
-const SPARE: usize = 1;
+/// How many more binaries of a lane are asked for than have room: where all are put or wait, none was left out. Rows
+/// of seven octets may wait, which are two binaries or one of another kind.
+const SPARE_BINARIES: usize = 4;
+
+const SPARE: usize = 2;
 
 /// How many rows of a lane of this kind are asked for where so many octets are left: a binary takes three of
 /// them at least, its index and its flags, and a counter or an analog four more, its value.
 pub(crate) fn enough(kind: Kind, left: usize) -> usize
-    ensures enough { (n : ℕ) → least_octets kind * n ≤ left → n < result }
-    ensures few { result ≤ left + 1 }
+    ensures enough { (n : ℕ) → least_octets kind * n ≤ left + 7 → n < result }
+    ensures few { result ≤ left + 4 }
 {
     match kind {
-        Kind::Binary => left / 3 + SPARE,
+        Kind::Binary => left / 3 + SPARE_BINARIES,
         Kind::Counter | Kind::Analog => left / 7 + SPARE,
     }
 }
@@ -106,37 +111,54 @@ pub(crate) fn less(most: Option<usize>, given: usize) -> Option<usize>
 }
 
 impl Writer {
-    /// Puts rows of a lane as far as they fit; answers whether all do.
+    /// Puts rows of a lane as far as they fit; answers whether all do that don't wait.
     #[inline(always)]
-    pub(crate) fn put_rows(&mut self, header: usize, lane: usize, rows: &[Numbered]) -> bool
+    pub(crate) fn put_rows(
+        &mut self,
+        header: usize,
+        is_open: bool,
+        lane: usize,
+        rows: &[Numbered],
+    ) -> bool
         requires lane { lane < LANES }
         requires response { IsTrue (is_response self.old.builder.function) }
         requires events { All (λ x. IsEvent x.row) rows.now }
-        ensures given { IsTrue result → self.new.place.given ≡ fold given_after self.old.place.given (map (event_of header lane) rows.now) }
-        ensures written { Puts self.old (map (event_of header lane) rows.now) result self.new }
-        ensures room { IsTrue result → size self.old.builder ≤ MAX_FRAGMENT → size self.old.builder + least_of rows.now ≤ MAX_FRAGMENT }
+        ensures given { IsTrue result → reached self.new ≡ fold given_after (reached self.old) (map (event_of header lane) rows.now) }
+        ensures written { Puts self.old (mark is_open (map (event_of header lane) rows.now)) result self.new }
+        ensures room { IsTrue result → size self.old.builder ≤ MAX_FRAGMENT → size self.old.builder + least_of rows.now ≤ MAX_FRAGMENT + 7 }
         ensures response { self.new.builder.function ≡ self.old.builder.function }
     {
         if rows.is_empty() {
             return true;
         }
-        self.put_each(header, lane, rows)
+        self.put_each(header, is_open, lane, rows)
     }
 
     /// The same. It stands apart, so that a lane without rows costs next to nothing.
     #[inline(never)]
-    fn put_each(&mut self, header: usize, lane: usize, rows: &[Numbered]) -> bool
+    fn put_each(&mut self, header: usize, is_open: bool, lane: usize, rows: &[Numbered]) -> bool
         requires lane { lane < LANES }
         requires response { IsTrue (is_response self.old.builder.function) }
         requires events { All (λ x. IsEvent x.row) rows.now }
-        ensures given { IsTrue result → self.new.place.given ≡ fold given_after self.old.place.given (map (event_of header lane) rows.now) }
-        ensures written { Puts self.old (map (event_of header lane) rows.now) result self.new }
-        ensures room { IsTrue result → size self.old.builder ≤ MAX_FRAGMENT → size self.old.builder + least_of rows.now ≤ MAX_FRAGMENT }
+        ensures given { IsTrue result → reached self.new ≡ fold given_after (reached self.old) (map (event_of header lane) rows.now) }
+        ensures written { Puts self.old (mark is_open (map (event_of header lane) rows.now)) result self.new }
+        ensures room { IsTrue result → size self.old.builder ≤ MAX_FRAGMENT → size self.old.builder + least_of rows.now ≤ MAX_FRAGMENT + 7 }
         ensures response { self.new.builder.function ≡ self.old.builder.function }
     {
+        let mut last: Option<Option<u64>> = None;
         for x in rows {
-            if !self.put_event(header, lane, x) {
-                return false;
+            match last {
+                Some(common) if goes_on(common, is_open, &x.row) => {
+                    if !self.put_next(common, header, is_open, lane, x) {
+                        return false;
+                    }
+                }
+                _ => {
+                    if !self.put_event(header, is_open, lane, x) {
+                        return false;
+                    }
+                    last = self.last_common(header, is_open, lane);
+                }
             }
         }
         true
@@ -149,14 +171,15 @@ impl Writer {
         alloc: Global,
         lanes: &mut L,
         header: usize,
+        is_open: bool,
         lane: Lane,
         bounds: &Bounds<'_>,
         most: Option<usize>,
     ) -> Result<Option<usize>, StoreFault>
         requires { IsTrue (is_response self.old.builder.function) }
-        ensures written { L.honest lanes.new → IfOk result (λ given. Puts self.old (map (event_of header (lane_number lane))
-            (at_most most (rows_left (after_release (L.contents lanes.new) bounds.now.released.now) bounds.now.stood bounds.now.given.now (lane_number lane)))) (is_some given) self.new) }
-        ensures given { L.honest lanes.new → IfOk result (λ given. IsSome given → self.new.place.given ≡ fold given_after self.old.place.given (map (event_of header (lane_number lane))
+        ensures written { L.honest lanes.new → IfOk result (λ given. Puts self.old (mark is_open (map (event_of header (lane_number lane))
+            (at_most most (rows_left (after_release (L.contents lanes.new) bounds.now.released.now) bounds.now.stood bounds.now.given.now (lane_number lane))))) (is_some given) self.new) }
+        ensures given { L.honest lanes.new → IfOk result (λ given. IsSome given → reached self.new ≡ fold given_after (reached self.old) (map (event_of header (lane_number lane))
             (at_most most (rows_left (after_release (L.contents lanes.new) bounds.now.released.now) bounds.now.stood bounds.now.given.now (lane_number lane))))) }
         ensures counted { L.honest lanes.new → IfOk result (λ given. IfSome given (λ n.
             n ≡ length (at_most most (rows_left (after_release (L.contents lanes.new) bounds.now.released.now) bounds.now.stood bounds.now.given.now (lane_number lane))))) }
@@ -165,7 +188,7 @@ impl Writer {
     {
         let few = enough(lane.kind, self.builder.left());
         let rows = rows_to_give(lanes, alloc, lane, bounds, most, few)?;
-        if !self.put_rows(header, lane.number(), rows.as_slice()) {
+        if !self.put_rows(header, is_open, lane.number(), rows.as_slice()) {
             return Ok(None);
         }
         Ok(Some(rows.len()))
@@ -182,9 +205,9 @@ impl Writer {
         bounds: &Bounds<'_>,
     ) -> Result<bool, StoreFault>
         requires { IsTrue (is_response self.old.builder.function) }
-        ensures written { L.honest lanes.new → IfOk result (λ fit. Puts self.old
-            (event_items (after_release (L.contents lanes.old) bounds.now.released.now) bounds.now.stood bounds.now.given.now header part.now.most (map lane_number part.now.lanes)) fit self.new) }
-        ensures given { L.honest lanes.new → IfOk result (λ fit. IsTrue fit → self.new.place.given ≡ fold given_after self.old.place.given
+        ensures written { L.honest lanes.new → IfOk result (λ fit. Puts self.old (mark part.now.is_open
+            (event_items (after_release (L.contents lanes.old) bounds.now.released.now) bounds.now.stood bounds.now.given.now header part.now.most (map lane_number part.now.lanes))) fit self.new) }
+        ensures given { L.honest lanes.new → IfOk result (λ fit. IsTrue fit → reached self.new ≡ fold given_after (reached self.old)
             (event_items (after_release (L.contents lanes.old) bounds.now.released.now) bounds.now.stood bounds.now.given.now header part.now.most (map lane_number part.now.lanes))) }
         ensures response { self.new.builder.function ≡ self.old.builder.function }
 
@@ -192,7 +215,16 @@ impl Writer {
     {
         let mut left = part.most;
         for lane in &part.lanes {
-            let Some(given) = self.put_lane(alloc, lanes, header, *lane, bounds, left)? else {
+            let Some(given) = self.put_lane(
+                alloc,
+                lanes,
+                header,
+                part.is_open,
+                *lane,
+                bounds,
+                left,
+            )?
+            else {
                 return Ok(false);
             };
             left = less(left, given);

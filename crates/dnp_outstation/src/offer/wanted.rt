@@ -3,6 +3,8 @@
 ghost use Rattle.std.specs.Prelude.{◌≡◌, ◌≤◌, ◌-◌, map};
 ghost use Rattle.dnp_objects.specs.Lanes.{lane_number, kind_number};
 ghost use Rattle.dnp_appfragment.specs.Seen.{head};
+ghost use Rattle.dnp_outstation.specs.declared.offer.place.RowPart.{RowPart as RowsPart};
+ghost use Rattle.dnp_outstation.specs.Forms.{leaves_open};
 ghost use Rattle.dnp_outstation.specs.Items.{Source, class_lanes, kind_lanes, limit_of, part_of};
 ghost use Rattle.dnp_outstation.specs.steps.Filling.{part_by};
 
@@ -58,9 +60,11 @@ fn of_kind(kind: Kind) -> [Lane; 3]
 
 /// What a header asks for.
 pub(crate) fn wanted(header: &Header<'_>) -> Wanted
-    ensures { (s : Source) → part_of s (head header.now) ≡ part_by s result }
+    ensures part { (s : Source) → part_of s (head header.now) ≡ part_by s result }
+    ensures marks { (part : RowsPart) → result ≡ Wanted.Rows part → part.is_open ≡ leaves_open (head header.now) }
 {
     let most = limit(header.range);
+    let is_open = header.group == 60 || (header.group == 2 && header.variation == 0);
     let lanes = match (header.group, header.variation) {
         (60, 2) => of_class(1),
         (60, 3) => of_class(2),
@@ -71,5 +75,9 @@ pub(crate) fn wanted(header: &Header<'_>) -> Wanted
         (60, _) => return Wanted::EachGroup,
         (group, variation) => return Wanted::OneGroup(group, variation, header.range),
     };
-    Wanted::Rows(RowPart { lanes, most })
+    Wanted::Rows(RowPart {
+        lanes,
+        most,
+        is_open,
+    })
 }

@@ -1,16 +1,13 @@
 //! A fragment that is written, item by item, as far as they fit.
 
-ghost use Rattle.std.specs.Prelude.{◌≡◌, ◌<◌, ◌≤◌, ◌+◌, false, true, IsTrue};
-ghost use Rattle.dnp_objects.specs.Events.{IsEvent};
-ghost use Rattle.dnp_appfragment.specs.Built.{size};
+ghost use Rattle.std.specs.Prelude.{◌≡◌, ◌<◌, false, true, IsTrue};
 ghost use Rattle.dnp_appfragment.specs.Table.{is_response};
 ghost use Rattle.dnp_appfragment.specs.Written.{FitsPoint};
-ghost use Rattle.dnp_objects.specs.declared.limits.TheConstants.{MAX_FRAGMENT};
 ghost use Rattle.dnp_outstation.specs.Items.{first_place, event_of, present_of, passed, place_after};
 ghost use Rattle.dnp_appfragment.specs.declared.function.Function.TheVariants as function;
 ghost use Rattle.dnp_outstation.specs.steps.Filling.{put, fits, ended, empty_from, empty_for, is_same_run};
-ghost use Rattle.dnp_outstation.specs.steps.Putting.{least_octets};
 
+use crate::offer::grouping::Waiting;
 use crate::offer::place::Place;
 use dnp_appfragment::{Builder, Function};
 use dnp_eventbuf::Numbered;
@@ -28,7 +25,7 @@ pub enum Run {
 
 impl Run {
     /// Whether events of this lane stand there, their times told after this common time or none.
-    fn is_lane(&self, lane: usize, common: Option<u64>) -> bool
+    pub(crate) fn is_lane(&self, lane: usize, common: Option<u64>) -> bool
         ensures { result ≡ is_same_run self.now (Run.OfLane lane common) }
     {
         match self {
@@ -50,14 +47,15 @@ impl Run {
     }
 }
 
-/// A fragment so far: its headers, what stands under the last one, where the READ has come to, and of
-/// each lane the last id in it.
+/// A fragment so far: its headers, what stands under the last one, where the READ has come to, of each lane
+/// the last id in it, and the rows that wait to be put.
 #[derive(Debug, Drop)]
 pub struct Writer {
     pub builder: Builder,
     pub run: Run,
     pub place: Place,
     pub upto: [u64; LANES],
+    pub waiting: Waiting,
 }
 
 impl Place {
@@ -71,7 +69,7 @@ impl Place {
     }
 
     /// A row of a lane was given for this header.
-    fn pass_event(&mut self, header: usize, lane: usize, x: &Numbered)
+    pub(crate) fn pass_event(&mut self, header: usize, lane: usize, x: &Numbered)
         requires { lane < LANES }
         ensures { self.new ≡ place_after self.old (event_of header lane x.now) }
     {
@@ -94,6 +92,7 @@ impl Writer {
                 given: [0; LANES],
             },
             upto: [0; LANES],
+            waiting: Waiting::Nothing,
         }
     }
 
@@ -106,6 +105,7 @@ impl Writer {
         self.run = Run::NoRun;
         self.place = place;
         self.upto = [0; LANES];
+        self.waiting = Waiting::Nothing;
     }
 
     /// Starts over, with an empty fragment for a READ that has come to this place: so that one writer
@@ -128,35 +128,6 @@ impl Writer {
         self.begin(Function::UnsolicitedResponse, place);
     }
 
-    /// Puts a row of a lane, if it fits; answers whether it does. It stands in its callers, which are loops.
-    #[inline(always)]
-    #[tactic(auto, using(crate::proofs::OfferLemmas::heads_broken))]
-    pub(crate) fn put_event(&mut self, header: usize, lane: usize, x: &Numbered) -> bool
-        requires lane { lane < LANES }
-        requires response { IsTrue (is_response self.old.builder.function) }
-        requires event { IsEvent x.now.row }
-        ensures fits { IsTrue result → self.new ≡ put self.old (event_of header lane x.now) }
-        ensures room { result ≡ fits (put self.old (event_of header lane x.now)) }
-        ensures longer { IsTrue result → size self.old.builder + least_octets x.now.row.kind ≤ size self.new.builder }
-        ensures short { IsTrue result → size self.new.builder ≤ MAX_FRAGMENT }
-        ensures full { result ≡ false → ended false self.new ≡ ended false self.old }
-        ensures response { self.new.builder.function ≡ self.old.builder.function }
-    {
-        let joins = self.run.is_lane(lane, None);
-        if !joins {
-            self.builder.break_run();
-        }
-        if self.builder.event(&x.row).is_err() {
-            return false;
-        }
-        if !joins {
-            self.run = Run::OfLane(lane, None);
-        }
-        self.place.pass_event(header, lane, x);
-        self.upto[lane] = x.id;
-        true
-    }
-
     /// Puts a present value as this object, by group and variation, if it fits; answers whether it does.
     #[tactic(auto, using(crate::proofs::OfferLemmas::heads_broken))]
     pub(crate) fn put_present(
@@ -173,6 +144,7 @@ impl Writer {
         ensures full { result ≡ false → ended false self.new ≡ ended false self.old }
         ensures response { self.new.builder.function ≡ self.old.builder.function }
         ensures given { self.new.place.given ≡ self.old.place.given }
+        ensures waiting { self.new.waiting ≡ self.old.waiting }
     {
         let (group, variation) = object;
         let joins = self.run.is_block(header, group, block);

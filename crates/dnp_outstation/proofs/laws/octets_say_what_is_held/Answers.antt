@@ -1,5 +1,5 @@
 use Rattle.std.proofs.lemmas.List.Elements.{recursion_from_All}
-use Rattle.dnp_outstation.specs.Said.{CanGo}
+use Rattle.dnp_outstation.specs.Forms.{CanGo}
 use Rattle.dnp_outstation.proofs.ItemsOf.{held_stand}
 use Rattle.dnp_outstation.proofs.Moves.{goes_on_behind_some}
 use Rattle.dnp_outstation.proofs.Reported.{rows_are_said, response_is}
@@ -14,6 +14,12 @@ laws c = record {
   object_stands = c.what_is_put_stands_in_a_response.ensures.object;
   event_holds = c.a_header_holds_what_was_put.ensures.event;
   point_holds = c.a_header_holds_what_was_put.ensures.point;
+  common_stands = c.what_is_put_stands_in_a_response.ensures.common;
+  relative_stands = c.what_is_put_stands_in_a_response.ensures.relative;
+  header_stands = c.what_is_put_stands_in_a_response.ensures.header;
+  relative_holds = c.a_header_holds_what_was_put.ensures.relative;
+  common_held = c.what_is_put_is_held.ensures.common;
+  time_put = c.a_common_time_stays.ensures.put;
   object_held = c.what_is_put_is_held.ensures.object;
 }
 
@@ -27,8 +33,12 @@ returns-clause-response c =
 
 pub returns-clause-rows : goal.returns-clause-rows
 returns-clause-rows c =
-    rows_are_said (laws (goal.at.returns-clause-rows c).After-what_is_spelled_is_said) (λ h objects k row holds event at.
-    c.what_is_there_is_said.ensures.row h k row (c.what_is_held_is_read.ensures.event h objects k row holds event at))
+    rows_are_said (laws (goal.at.returns-clause-rows c).After-what_is_spelled_is_said) (record {
+      events = λ h objects k row holds event at.
+          c.what_is_there_is_said.ensures.row h k row (c.what_is_held_is_read.ensures.event h objects k row holds event at);
+      relatives = λ h objects k common row holds timed there fits at.
+          c.what_is_there_is_said.ensures.row h k row (c.what_is_held_is_read.ensures.relative h objects k common row holds timed there fits at);
+    })
 
 pub returns-clause-written : goal.returns-clause-written
 returns-clause-written c = held_stand

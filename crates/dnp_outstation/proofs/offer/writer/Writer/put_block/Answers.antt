@@ -1,8 +1,9 @@
 use Rattle.std.proofs.Common.{◌≡◌, ℕ, ◌+◌, ◌-◌, ◌++◌, ap, sym, ◌∙◌, arith, List, map, drop, take, length}
 use Rattle.std.proofs.lemmas.List.{take_all, length-drop}
 use Rattle.dnp_pointdb.specs.declared.state.PointState.{PointState}
-use Rattle.dnp_outstation.specs.Items.{Static, present_of, in_range, statics_from}
+use Rattle.dnp_outstation.specs.Items.{Static, in_range, statics_from}
 use Rattle.dnp_outstation.specs.steps.Filling.{fill}
+use Rattle.dnp_outstation.specs.steps.Putting.{shown}
 use Rattle.dnp_outstation.proofs.OfferPresent.{named_left, length_named}
 use Rattle.dnp_outstation.proofs.offer.writer.Writer.put_block.Goals as goal
 
@@ -16,7 +17,7 @@ returns-clause-written c = λ more.
     let at = c.from.result + lo + passed in
     let asked = c.args.ask.variation in
     let statics = λ (index : ℕ) (ps : List PointState). statics_from asked c.args.number c.args.kind index ps in
-    let filled = λ (xs : List Static). fill c.args.self.now (map (present_of c.args.ask.header) xs ++ more) in
+    let filled = λ (xs : List Static). fill c.args.self.now (shown c.args.ask.header xs ++ more) in
     ap (λ (ps : List PointState). filled (drop c.args.skip.now (in_range c.args.ask.range (statics c.args.block.now.base ps)))) (sym c.as_slice-points.ensures)
     ∙ ap filled (named_left c.args.ask.range asked c.args.number c.args.kind c.args.block.now.base lo hi (hi - lo) c.args.skip.now passed at points
     (omega (arith, c.places-from.ensures.ordered)) c.places-from.ensures.named c.min-passed.ensures (omega (arith, c.from.ensures)))

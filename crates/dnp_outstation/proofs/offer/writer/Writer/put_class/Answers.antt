@@ -2,6 +2,7 @@ use Rattle.std.proofs.Common.{rules, ◌≡◌, ◌^◌, ◌+◌, ◌-◌, true,
 use Rattle.dnp_objects.specs.Lanes.{lane_number}
 use Rattle.dnp_outstation.specs.Items.{Item, class_lanes, lane_items}
 use Rattle.dnp_outstation.specs.steps.Filling.{after_release}
+use Rattle.dnp_outstation.specs.steps.Grouping.{mark}
 use Rattle.dnp_outstation.specs.steps.Putting.{Puts}
 use Rattle.dnp_outstation.proofs.Pushing.{class_left}
 use Rattle.dnp_outstation.proofs.offer.writer.Writer.put_class.Goals as goal
@@ -16,5 +17,5 @@ returns-clause-written g c = λ honest.
     (map lane_number c.of_class.result) (c.requires.sound before) c.has_nine.ensures (omega arith) c.requires.class lanes_are in
     let on : true ≡ c.args.is_enabled = search rules in
     let all = same ∙ ap (λ (b : Bool). lane_items old (if b then class_lanes c.args.class else [])) on in
-    subst (λ (items : List Item). IfOk c.put_lanes.result (λ fit. Puts c.args.self.now items fit c.put_lanes.new.self)) all
+    subst (λ (items : List Item). IfOk c.put_lanes.result (λ fit. Puts c.args.self.now (mark true items) fit c.put_lanes.new.self)) all
     (c.put_lanes.ensures.written honest)

@@ -1,7 +1,8 @@
-use Rattle.std.proofs.Common.{rules, ◌≡◌, ◌∷◌, ◌+◌, Bool, if◌then◌else◌, [], false, subst, sym, ◌∙◌, drop, get_or, length}
+use Rattle.std.proofs.Common.{rules, ◌≡◌, ◌∷◌, ◌+◌, Bool, if◌then◌else◌, [], true, false, subst, sym, ◌∙◌, drop, get_or, length}
 use Rattle.dnp_eventbuf.specs.Stock.{Stock}
 use Rattle.dnp_outstation.specs.Items.{class_lanes, lane_items}
 use Rattle.dnp_outstation.specs.steps.Filling.{after_release}
+use Rattle.dnp_outstation.specs.steps.Grouping.{mark}
 use Rattle.dnp_outstation.specs.steps.Putting.{Puts}
 use Rattle.dnp_outstation.proofs.Pushing.{class_at, class_put, class_full}
 use Rattle.dnp_outstation.proofs.offer.writer.Writer.put_classes.Goals as goal
@@ -20,7 +21,7 @@ loop-class-preserved g c =
           let on : Bool = get_or c.args.enabled c.from.result false in
           class_put t l.class on (drop l.class c.args.enabled) (drop (l.class + 1) c.args.enabled) l.self c.put_class.new.self
           c.in_ok-put_class.field-0 more left
-          (subst (λ (s : Stock). Puts l.self (lane_items (after_release s c.args.released.now) (if on then class_lanes l.class else []))
+          (subst (λ (s : Stock). Puts l.self (mark true (lane_items (after_release s c.args.released.now) (if on then class_lanes l.class else [])))
           c.in_ok-put_class.field-0 c.put_class.new.self) (l.invariant.same before) (put.written honest))
           c.if-not-branch.false
           ∙ l.invariant.written before more;
@@ -44,5 +45,5 @@ returns-then-not-branch-clause-written g c = λ honest more.
     sym (l.invariant.written before more)
     ∙ class_full t l.class on (drop l.class c.args.enabled) (drop (l.class + 1) c.args.enabled) l.self c.put_class.new.self c.in_ok-put_class.field-0 more
     (class_at c.args.enabled l.class c.from.result few c.from.ensures c.loop-class-test.true)
-    (subst (λ (s : Stock). Puts l.self (lane_items (after_release s c.args.released.now) (if on then class_lanes l.class else []))
+    (subst (λ (s : Stock). Puts l.self (mark true (lane_items (after_release s c.args.released.now) (if on then class_lanes l.class else [])))
     c.in_ok-put_class.field-0 c.put_class.new.self) (l.invariant.same before) (put.written honest)) full

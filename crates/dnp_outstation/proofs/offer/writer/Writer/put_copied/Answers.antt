@@ -2,8 +2,8 @@ use Rattle.std.proofs.Common.{◌≡◌, ◌<◌, ℕ, List, ap, sym, subst, ◌
 use Rattle.dnp_objects.specs.declared.limits.TheConstants.{MAX_FRAGMENT}
 use Rattle.dnp_appfragment.specs.declared.function.Function.{Function}
 use Rattle.dnp_appfragment.specs.declared.table.Form.TheVariants as form
-use Rattle.dnp_appfragment.specs.Built.{Built, size, with_header}
-use Rattle.dnp_appfragment.specs.Headers.{Head, IsHeader}
+use Rattle.dnp_appfragment.specs.Built.{Built, context_of, size, with_header}
+use Rattle.dnp_appfragment.specs.Headers.{Head, IsHeaderAt}
 use Rattle.dnp_appfragment.specs.Seen.{head}
 use Rattle.dnp_appfragment.specs.Table.{form_of}
 use Rattle.dnp_outstation.specs.Controls.{answered_head}
@@ -17,9 +17,10 @@ header-put-requires g c =
     let h = head c.args.header.now in
     let code = code_by (g.O.Outputs.panel c.args.outputs.now) c.args.told.now in
     let same : c.as_slice.result.now ≡ (answered_head code h).octets = c.as_slice.ensures.value ∙ c.fill.ensures in
-    let there : IsHeader form.Response (answered_head code h) = answered_header code h c.requires.whole in
-    subst (λ (f : Function). IsHeader (form_of f) (record h { octets = c.as_slice.result.now })) (sym c.requires.response)
-    (subst (λ (octets : List ℕ). IsHeader form.Response (record h { octets = octets })) (sym same) there)
+    let before = context_of c.args.self.now.builder in
+    let there : IsHeaderAt form.Response before (answered_head code h) = answered_header code h c.requires.whole c.requires.alone before in
+    subst (λ (f : Function). IsHeaderAt (form_of f) before (record h { octets = c.as_slice.result.now })) (sym c.requires.response)
+    (subst (λ (octets : List ℕ). IsHeaderAt form.Response before (record h { octets = octets })) (sym same) there)
 
 pub returns : goal.returns
 returns g c =

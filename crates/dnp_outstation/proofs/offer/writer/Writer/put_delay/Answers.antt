@@ -1,19 +1,15 @@
-use Rattle.std.proofs.Common.{refl, sym, subst, ap, arith}
-use Rattle.dnp_objects.specs.Objects.{content_of, objects}
+use Rattle.std.proofs.Common.{sym, subst, ap}
 use Rattle.dnp_appfragment.specs.declared.function.Function.{Function}
-use Rattle.dnp_appfragment.specs.declared.table.Form.TheVariants as form
-use Rattle.dnp_appfragment.specs.Table.{form_of, rules, takes_of}
-use Rattle.dnp_appfragment.specs.Headers.{Head, IsHeader}
+use Rattle.dnp_appfragment.specs.Built.{context_of}
+use Rattle.dnp_appfragment.specs.Table.{form_of}
+use Rattle.dnp_appfragment.specs.Headers.{Head, IsHeaderAt}
 use Rattle.dnp_outstation.specs.declared.offer.writer.Writer.{Writer}
 use Rattle.dnp_outstation.specs.Content.{no_delay}
+use Rattle.dnp_outstation.proofs.ContentOf.{delay_stands}
 use Rattle.dnp_outstation.proofs.offer.writer.Writer.put_delay.Goals as goal
-
--- a delay of no milliseconds stands in the table for responses
-delay_is_header : IsHeader form.Response no_delay
-unfolding takes_of rules objects content_of
-delay_is_header = record { object = refl; fits = omega arith; forward = tt; objects = refl }
 
 pub header-put-requires : goal.header-put-requires
 header-put-requires c =
-    subst (λ (h : Head). IsHeader (form_of c.args.self.now.builder.function) h) (sym c.new-no_delay.ensures.value)
-    (subst (λ (f : Function). IsHeader (form_of f) no_delay) (sym (ap (λ (w : Writer). w.builder.function) c.requires)) delay_is_header)
+    let before = context_of c.args.self.now.builder in
+    subst (λ (h : Head). IsHeaderAt (form_of c.args.self.now.builder.function) before h) (sym c.new-no_delay.ensures.value)
+    (subst (λ (f : Function). IsHeaderAt (form_of f) before no_delay) (sym (ap (λ (w : Writer). w.builder.function) c.requires)) (delay_stands before))

@@ -1,8 +1,9 @@
 use Rattle.std.proofs.Common.{rules, ℕ, ◌+◌, ◌-◌, ◌++◌, ap, refl, sym, ◌∙◌, List, get_or, drop, length}
 use Rattle.std.proofs.lemmas.List.{drop_more}
 use Rattle.std.specs.List.{flat_map}
-use Rattle.dnp_outstation.specs.Items.{Item, in_range, statics_of}
+use Rattle.dnp_outstation.specs.Items.{in_range, statics_of}
 use Rattle.dnp_outstation.specs.steps.Filling.{fill}
+use Rattle.dnp_outstation.specs.steps.Grouping.{Marked}
 use Rattle.dnp_outstation.specs.steps.Putting.{presents}
 use Rattle.dnp_outstation.proofs.OfferPresent.{group_first, puts_more, puts_full}
 use Rattle.dnp_outstation.proofs.offer.writer.Writer.put_groups.Goals as goal
@@ -19,7 +20,7 @@ returns-then-not-put_group-clause-written g c = λ s points panel more.
     sym (l.invariant.written s points panel more)
     ∙ ap (λ (gs : List ℕ). fill l.self (presents header l.skip (in_range r (flat_map (statics_of s c.args.ask.variation) gs)) ++ more))
     (drop_more groups l.group-index 0 (search rules))
-    ∙ ap (λ (items : List Item). fill l.self (items ++ more)) (group_first header l.skip skip' r s c.args.ask.variation group rest refl)
+    ∙ ap (λ (items : List Marked). fill l.self (items ++ more)) (group_first header l.skip skip' r s c.args.ask.variation group rest refl)
     ∙ puts_full l.self c.put_group.new.self c.put_group.result
     (presents header l.skip (in_range r (statics_of s c.args.ask.variation group))) (presents header skip' (in_range r (flat_map (statics_of s c.args.ask.variation) rest))) more
     (c.put_group.ensures.written s points panel) (search rules)
@@ -38,11 +39,11 @@ loop-group-preserved g c =
           sym (puts_more l.self c.put_group.new.self c.put_group.result
           (presents header l.skip (in_range r (statics_of s c.args.ask.variation group))) (presents header skip' (in_range r (flat_map (statics_of s c.args.ask.variation) rest))) more
           (c.put_group.ensures.written s points panel) (search rules))
-          ∙ ap (λ (items : List Item). fill l.self (items ++ more))
+          ∙ ap (λ (items : List Marked). fill l.self (items ++ more))
           (sym (group_first header l.skip skip' r s c.args.ask.variation group rest (c.put_group.ensures.skipped s points panel (search rules))))
           ∙ ap (λ (gs : List ℕ). fill l.self (presents header l.skip (in_range r (flat_map (statics_of s c.args.ask.variation) gs)) ++ more))
           (sym (drop_more groups l.group-index 0 (search rules)))
           ∙ l.invariant.written s points panel more;
       response = c.put_group.ensures.response ∙ l.invariant.response;
-      given = c.put_group.ensures.given ∙ l.invariant.given;
+      given = c.put_group.ensures.given (search rules) ∙ l.invariant.given;
     }

@@ -1,4 +1,4 @@
-use Rattle.std.proofs.Common.{rules, ◌≡◌, ◌≤◌, ◌*◌, Bool, if◌then◌else◌, true, IsTrue, ap, arith}
+use Rattle.std.proofs.Common.{rules, ◌≡◌, ◌≤◌, ◌+◌, ◌*◌, Bool, if◌then◌else◌, true, IsTrue, ap, arith}
 use Rattle.dnp_appfragment.specs.Built.{size, front_size}
 use Rattle.dnp_objects.specs.declared.limits.TheConstants.{MAX_FRAGMENT}
 use Rattle.dnp_objects.specs.declared.row.Kind.{Kind}
@@ -7,7 +7,7 @@ use Rattle.dnp_outstation.specs.steps.Putting.{least_octets}
 use Rattle.dnp_outstation.proofs.Holding.{held_full, held_fits}
 use Rattle.dnp_outstation.proofs.offer.writer.Writer.put_held_lane.Goals as goal
 
-none : (kind : Kind) → least_octets kind * 0 ≤ MAX_FRAGMENT
+none : (kind : Kind) → least_octets kind * 0 ≤ MAX_FRAGMENT + 7
 none Binary = omega arith
 none Counter = omega arith
 none Analog = omega arith

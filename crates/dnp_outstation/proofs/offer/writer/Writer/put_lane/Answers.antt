@@ -3,7 +3,8 @@ use Rattle.std.specs.List.{All}
 use Rattle.dnp_objects.specs.Lanes.{lane_number}
 use Rattle.dnp_eventbuf.specs.declared.numbered.Numbered.{Numbered}
 use Rattle.dnp_outstation.specs.Items.{at_most, event_of, given_after, rows_left}
-use Rattle.dnp_outstation.specs.steps.Filling.{after_release}
+use Rattle.dnp_outstation.specs.steps.Filling.{after_release, reached}
+use Rattle.dnp_outstation.specs.steps.Grouping.{mark}
 use Rattle.dnp_outstation.specs.steps.Putting.{Puts}
 use Rattle.dnp_outstation.proofs.OfferRoom.{all_asked}
 use Rattle.dnp_outstation.proofs.OfferRows.{lane_full}
@@ -17,7 +18,7 @@ returns-then-not-put_rows-clause-written g c = λ honest more.
     let all : List Numbered = at_most c.args.most
     (rows_left (after_release (g.L.Lanes.contents c.rows_to_give.new.lanes) bounds.released.now) bounds.stood bounds.given.now number) in
     let full : c.put_rows.result ≡ false = search rules in
-    lane_full c.args.self.now c.put_rows.new.self c.put_rows.result c.args.header number c.number.result _ all c.as_slice.result.now more
+    lane_full c.args.self.now c.put_rows.new.self c.put_rows.result c.args.is_open c.args.header number c.number.result _ all c.as_slice.result.now more
     c.number.ensures.value (c.as_slice.ensures.value ∙ c.in_ok-rows.ensures.rows honest) c.put_rows.ensures.written full
 
 -- the rows that the header may still give of the lane
@@ -38,14 +39,15 @@ are_all g c honest =
 pub returns-clause-written : goal.returns-clause-written
 returns-clause-written g c = λ honest.
     let header = c.args.header in
-    subst (λ (rows : List Numbered). Puts c.args.self.now (map (event_of header (lane_number c.args.lane)) rows) true c.put_rows.new.self) (are_all g c honest)
-    (subst (λ (n : ℕ). Puts c.args.self.now (map (event_of header n) c.as_slice.result.now) true c.put_rows.new.self) c.number.ensures.value
-    c.if-not-put_rows.ensures.written)
+    let puts : ℕ → List Numbered → Type 0 =
+    λ (n : ℕ) (rows : List Numbered). Puts c.args.self.now (mark c.args.is_open (map (event_of header n) rows)) true c.put_rows.new.self in
+    subst (λ (rows : List Numbered). puts (lane_number c.args.lane) rows) (are_all g c honest)
+    (subst (λ (n : ℕ). puts n c.as_slice.result.now) c.number.ensures.value c.if-not-put_rows.ensures.written)
 
 pub returns-clause-given : goal.returns-clause-given
 returns-clause-given g c = λ honest some.
     let put' : IsTrue true = search rules in
-    let before = c.args.self.now.place.given in
+    let before = reached c.args.self.now in
     let header = c.args.header in
     c.if-not-put_rows.ensures.given put'
     ∙ ap (λ (n : ℕ). fold given_after before (map (event_of header n) c.as_slice.result.now)) c.number.ensures.value
