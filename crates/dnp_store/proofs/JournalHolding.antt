@@ -1,18 +1,12 @@
 -- The events that a journal's tables hold after a statement.
-use Rattle.std.proofs.Common.{◌≡◌, ℕ, zero, suc, ◌+◌, ◌<◌, ◌≤◌, ◌^◌, pos, Bool, true, false, List, [], ◌∷◌, ◌++◌, map, length, codes, Option, Some, None, Ok, refl, sym, ap, ap₂, subst, subst₂, ◌∙◌, arith, nat_cmp, Ordering, IsPermutation, append_assoc, length-append, append-nil, add-one}
-use Rattle.std.specs.List.{AllByRecursion, IsDistinct}
-use Rattle.std.specs.Ordering.{is_lt, is_eq}
-use Rattle.std.specs.List.Sorted.{IsSorted}
+use Rattle.std.proofs.Common.{◌≡◌, ℕ, suc, ◌+◌, ◌<◌, ◌≤◌, ◌^◌, pos, Bool, true, false, List, [], ◌∷◌, ◌++◌, map, length, codes, Option, Some, None, Ok, refl, sym, ap, ap₂, subst, subst₂, ◌∙◌, arith, nat_cmp, IsPermutation, append_assoc, length-append, append-nil}
+use Rattle.std.specs.List.{AllByRecursion}
 use Rattle.std.specs.Prelude.{AllPairs, All, option_map}
-use Rattle.std.proofs.lemmas.Cmp.{on_total, nat_cmp_total}
 use Rattle.std.proofs.lemmas.List.{map-append}
-use Rattle.std.proofs.lemmas.List.Sorted.{IsPermutation-append_left, IsPermutation-sym, IsPermutation-map}
+use Rattle.std.proofs.lemmas.List.Sorted.{IsPermutation-append_left, IsPermutation-map}
 use Rattle.std.proofs.lemmas.List.Elements.{All-from_recursion}
 use Rattle.std.proofs.lemmas.List.Kept.{AllPairs-cons}
-use Rattle.std.proofs.lemmas.Map.Keys.{IsDistinct-IsPermutation}
-use Rattle.std.specs.Cmp.{IsTotalOrder}
 use Rattle.sqlite_keyed.specs.Lists.{sort_by}
-use Rattle.sqlite_keyed.proofs.SortLemmas.{HasNoTies, sorted_is-sort_by}
 use Rattle.sqlite_keyed.proofs.ListLemmas.{ascending-map, all_map}
 use Rattle.sqlite_trees.proofs.ListLemmas.{all_weaker}
 use Rattle.sqlite.specs.declared.types.Value.{Value}
@@ -34,6 +28,7 @@ use Rattle.dnp_store.proofs.IdRows as id_rows
 use Rattle.dnp_store.proofs.Counting.{PutsAt}
 use Rattle.dnp_store.proofs.JournalStatements.{insert_text, inserts}
 use Rattle.dnp_store.proofs.QueueStatements.{insert_params}
+use Rattle.dnp_store.proofs.Rising.{in_order}
 
 -- ---- one event more
 
@@ -138,44 +133,8 @@ pub told : (xs : List Queued) → map event_in (map queued_row xs) ≡ map event
 told [] = refl
 told (x ∷ xs) = ap₂ (λ (e : Numbered) es. e ∷ es) (time_in x) (told xs)
 
-abbrev pub by_id : Numbered → Numbered → Ordering
-by_id x y = nat_cmp x.id y.id
-
-less_is : (a b : ℕ) → a < b → is_lt (nat_cmp b a) ≡ false
-less_is a b h = grind (h, arith)
-
-apart_is : (a b : ℕ) → a < b → is_eq (nat_cmp a b) ≡ false
-apart_is a b h = grind (h, arith)
-
 abbrev Rise : List Numbered → Type 0
 Rise = IsAscending (λ x y. x.id < y.id)
-
-sorted : (es : List Numbered) → Rise es → IsSorted by_id es
-sorted [] rise k d low high = absurd (omega arith)
-sorted (e ∷ []) rise k d low high = absurd (omega arith)
-sorted (e ∷ f ∷ es) rise zero d low high = less_is e.id f.id rise.0.0
-sorted (e ∷ f ∷ es) rise (suc k) d low high = rw add-one (rw add-one at (sorted (f ∷ es) rise.1 k d (omega arith) (omega arith)))
-
--- ids that rise differ, in whatever order they stand
-abbrev Apart : List Numbered → Type 0
-Apart = IsDistinct (λ x y. is_eq (by_id x y))
-
-flips : (x y : Numbered) → is_eq (by_id x y) ≡ is_eq (by_id y x)
-flips x y = grind arith
-
-distinct : (es : List Numbered) → Rise es → Apart es
-unfolding IsDistinct
-distinct [] rise = tt
-distinct (e ∷ es) rise =
-    (all_weaker (λ (f : Numbered). e.id < f.id) (λ (f : Numbered). is_eq (by_id e f) ≡ false) (λ f h. apart_is e.id f.id h) es rise.0, distinct es rise.1)
-
-total : IsTotalOrder by_id
-total = on_total (λ (x : Numbered). x.id) nat_cmp_total
-
-no_ties : (es : List Numbered) → Apart es → HasNoTies by_id total es
-unfolding IsDistinct
-no_ties [] h = tt
-no_ties (e ∷ es) h = (h.0, no_ties es h.1)
 
 events_rise : (xs : List Queued) → IsAscending (λ x y. x.id < y.id) xs → Rise (map event_of xs)
 events_rise xs rise = ascending-map (λ (x y : Numbered). x.id < y.id) event_of xs rise
@@ -186,9 +145,7 @@ archive_is db a h =
     let rise : Rise es = events_rise h.logged h.rise in
     let same : IsPermutation es (map event_in (db 1)) =
     subst (λ l. IsPermutation l (map event_in (db 1))) (told h.logged) (IsPermutation-map event_in (map queued_row h.logged) (db 1) h.logged_is) in
-    let apart = no_ties (map event_in (db 1)) (IsDistinct-IsPermutation (λ x y. is_eq (by_id x y)) flips es (map event_in (db 1)) same (distinct es rise)) in
-    let is : es ≡ sort_by by_id (map event_in (db 1)) =
-    sorted_is-sort_by by_id total (map event_in (db 1)) es apart (IsPermutation-sym es (map event_in (db 1)) same) (sorted es rise) in
+    let is : es ≡ sort_by (λ x y. nat_cmp x.id y.id) (map event_in (db 1)) = in_order (λ (x : Numbered). x.id) (map event_in (db 1)) es same rise in
     ap (λ (xs : List Numbered). record { rows = xs; last_id = a.last_id }) (sym is ∙ sym h.rows)
 
 -- ---- it is sound

@@ -42,3 +42,5 @@ pub mod Sixteen
 pub mod QueueMany
 pub mod JournalMany
 pub mod Blocks
+pub mod Rising
+pub mod Once

@@ -21,6 +21,7 @@ mod journal_opening;
 mod journal_paging;
 mod journal_reading;
 mod journal_writing;
+pub mod laws;
 mod open;
 mod queue;
 mod queue_form;
