@@ -72,18 +72,19 @@ OUTPUT
               an object after its header: the index, the value, the flags without the state bit, the
               time (UTC). So are the states of outputs, 10.2, and setpoints, 40.1 and 40.2; 1.1,
               20.5, 20.6, 30.3 and 30.4 have no flags of their own, and are printed with 01; an
-              indication, 80.1, has no flags, and a time, 50.1, and a delay, 52.2, have no index
+              indication, 80.1, has no flags, and a time, 50.1, common times, 51.1 and 51.2, and a
+              delay, 52.2, have no index; the time of 2.3 is printed whole
     12.1 x1: 5 code 81 count 2 on 100 off 200 status 0, 41.2 x1: 5 set -2 status 0
               a command to output 5, its code in hexadecimal, times in milliseconds
   What is refused has a line with the fault's name and its place, an octet of the frame or the
   fragment, from 0, as 'frame refused: BlockCheck 1 at octet 28'. Of a frame: Length (under 5) and
   BlockCheck; of a segment: Size (under 2 octets) and Series (it doesn't continue the one before, or
   makes the fragment too long); of a fragment: Short (too few octets for one), FunctionUnknown, and of
-  a header HeaderCut, QualifierUnknown, ObjectUnknown, RangeBackward and ObjectsCut, with the place
-  where the header begins; those before it have their lines. Functions and objects that the stations
-  here don't speak are unknown to it; an unknown function of the link layer isn't refused. Octets at
-  which no frame begins are 'skipped', and so is a header with a wrong check word, after which a frame
-  is looked for at each octet; those at the end of the input that are too few for a frame are 'Cut',
+  a header HeaderCut, QualifierUnknown, ObjectUnknown, RangeBackward, ObjectsCut and CommonTime, with
+  the place where the header begins; those before it have their lines. Functions and objects that the
+  stations here don't speak are unknown to it; an unknown function of the link layer isn't refused.
+  Octets at which no frame begins are 'skipped', and so is a header with a wrong check word, after
+  which a frame is looked for at each octet; those at the end that are too few for a frame are 'Cut',
   with their number: all count as refused. A fragment whose first or last segments are missing has no
   line, and doesn't. A line that isn't hexadecimal is 'text refused', and none of its octets are
   taken. Of no octets there is no line, and the status is 0. docs/decode.md lists all the names.

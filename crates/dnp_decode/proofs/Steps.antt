@@ -5,16 +5,15 @@ use Rattle.dnp_linkframe.specs.declared.frame.Frame.{Frame}
 use Rattle.dnp_linkframe.specs.Stream.{Waits, IsFront}
 use Rattle.dnp_decode.specs.declared.line.Line.{Line}
 use Rattle.dnp_decode.specs.declared.line.Line.TheVariants as line
-use Rattle.dnp_decode.specs.declared.ports.Port.{Port}
 use Rattle.dnp_decode.specs.StreamLines.{AreLines, Ends, Cuts, GoesOn}
-use Rattle.dnp_decode.specs.steps.Remembered.{Remembers}
+use Rattle.dnp_decode.specs.steps.Remembered.{Ports, Remembers}
 use Rattle.dnp_decode.specs.steps.Stepped.{Stepped, SoFar}
 use Rattle.dnp_decode.proofs.Remembering.{remembers_none}
 
-pub so_far_none : (stream : List ℕ) → SoFar stream 0 [] []
-so_far_none stream = record { within = omega arith; heard = []; remembers = remembers_none; rest = λ more lines. lines }
+pub so_far_none : (stream : List ℕ) (ports : Ports) → ports.entries ≡ [] → SoFar stream 0 [] ports
+so_far_none stream ports none = record { within = omega arith; heard = []; remembers = remembers_none ports none; rest = λ more lines. lines }
 
-pub so_far_more : (stream : List ℕ) (done n : ℕ) (old new : List Line) (before ports : List Port) → SoFar stream done old before → 0 < n
+pub so_far_more : (stream : List ℕ) (done n : ℕ) (old new : List Line) (before ports : Ports) → SoFar stream done old before → 0 < n
     → n ≤ length (drop done stream)
     → ((heard : List Frame) → Remembers heard before → Stepped heard (drop done stream) n old new ports) → SoFar stream (done + n) new ports
 so_far_more stream done n old new before ports so_far some within does =
@@ -32,7 +31,7 @@ so_far_more stream done n old new before ports so_far some within does =
     }
 
 -- at the end, where octets are left that wait
-pub so_far_cut : (stream : List ℕ) (done : ℕ) (lines : List Line) (ports : List Port) → SoFar stream done lines ports → done < length stream
+pub so_far_cut : (stream : List ℕ) (done : ℕ) (lines : List Line) (ports : Ports) → SoFar stream done lines ports → done < length stream
     → IsFront (drop done stream) Waits → AreLines [] stream (lines ++ line.Cut (length stream - done) ∷ [])
 so_far_cut stream done lines ports so_far less waits =
     let left : length (drop done stream) ≡ length stream - done = length-drop done stream in
@@ -40,7 +39,7 @@ so_far_cut stream done lines ports so_far less waits =
     (so_far.rest (line.Cut (length (drop done stream)) ∷ []) (Cuts so_far.heard (drop done stream) (omega arith) waits))
 
 -- and where none are left
-pub so_far_end : (stream : List ℕ) (done : ℕ) (lines : List Line) (ports : List Port) → SoFar stream done lines ports → length stream ≤ done
+pub so_far_end : (stream : List ℕ) (done : ℕ) (lines : List Line) (ports : Ports) → SoFar stream done lines ports → length stream ≤ done
     → AreLines [] stream lines
 so_far_end stream done lines ports so_far past =
     let none : AreLines so_far.heard (drop done stream) [] =

@@ -1,14 +1,14 @@
 -- Definition: the lines of a fragment (IEEE Std 1815-2012, application layer): its own, one for each object header, and
 -- one for each object that is a row, a state, a time or a command. A refused fragment has the lines of its longest beginning that is a
 -- fragment, and one that says where that ends, and why the whole is refused.
-use Rattle.std.specs.Prelude.{◌≡◌, ℕ, ◌<◌, Bool, nat_lt, ◌==◌, ◌&&◌, ◌||◌, if◌then◌else◌, List, [], ◌∷◌, ◌++◌, length, take, slice_index, Option, Some, None, Result, Ok, Err, option_to_list}
+use Rattle.std.specs.Prelude.{◌≡◌, ℕ, ◌*◌, ◌/◌, ◌<◌, Bool, nat_lt, ◌==◌, ◌&&◌, ◌||◌, if◌then◌else◌, List, [], ◌∷◌, ◌++◌, length, take, drop, slice_index, Option, Some, None, Result, Ok, Err, option_to_list}
 use Rattle.std.specs.List.{flat_map, range_with_len}
 use Rattle.std.specs.Option.{option_map}
 use Rattle.byteorder.specs.Endian.{little_number}
 use Rattle.dnp_objects.specs.declared.row.Row.{Row}
 use Rattle.dnp_objects.specs.declared.command.Command.{Command}
 use Rattle.dnp_appfragment.specs.declared.fault.AppFault.{AppFault}
-use Rattle.dnp_appfragment.specs.declared.fault.AppFault.TheVariants.{Short, FunctionUnknown, HeaderCut, QualifierUnknown, ObjectUnknown, RangeBackward, ObjectsCut}
+use Rattle.dnp_appfragment.specs.declared.fault.AppFault.TheVariants.{Short, FunctionUnknown, HeaderCut, QualifierUnknown, ObjectUnknown, RangeBackward, ObjectsCut, CommonTime}
 use Rattle.dnp_appfragment.specs.Fragments.{Asked, Answered}
 use Rattle.dnp_appfragment.specs.Headers.{Head, count_of}
 use Rattle.dnp_appfragment.specs.Left.{Left}
@@ -36,14 +36,21 @@ state_in group h k = row_in (record h { group = group }) k
 abbrev pub number_in : ℕ → Head → ℕ → Option ℕ
 number_in size h k = if (k == 0) && (length h.octets == size) then Some (little_number size h.octets) else None
 
+-- common time k of a header: the number that so many octets are, after those of the times before it
+abbrev pub common_in : Head → ℕ → Option ℕ
+common_in h k =
+    if nat_lt k (length h.octets / TIME_OCTETS) then Some (little_number TIME_OCTETS (drop (k * TIME_OCTETS) h.octets)) else None
+
 -- the line of object k of a header, if it has one. The states of outputs, 10.2, and indications, 80.1, are laid out as
--- binary inputs, those of setpoints, 40.1 and 40.2, as analog inputs; a time, 50.1, and a delay, 52.2, are numbers
+-- binary inputs, those of setpoints, 40.1 and 40.2, as analog inputs; a time, 50.1, common times, 51.1 and
+-- 51.2, and a delay, 52.2, are numbers
 abbrev pub object_line : Head → ℕ → Option Line
 object_line h k =
     if (h.group == 10) && (h.variation == 2) then option_map line.Output (state_in BINARY_INPUTS h k)
     else if (h.group == 40) && ((h.variation == 1) || (h.variation == 2)) then option_map line.Setpoint (state_in ANALOG_INPUTS h k)
     else if (h.group == 80) && (h.variation == 1) then option_map line.Indication (state_in BINARY_INPUTS h k)
     else if (h.group == 50) && (h.variation == 1) then option_map line.Time (number_in TIME_OCTETS h k)
+    else if (h.group == 51) && ((h.variation == 1) || (h.variation == 2)) then option_map line.Common (common_in h k)
     else if (h.group == 52) && (h.variation == 2) then option_map line.Delay (number_in DELAY_OCTETS h k)
     else point_line h k
 
@@ -115,6 +122,7 @@ fault_place QualifierUnknown octets = length octets
 fault_place ObjectUnknown octets = length octets
 fault_place RangeBackward octets = length octets
 fault_place ObjectsCut octets = length octets
+fault_place CommonTime octets = length octets
 
 -- the lines of a fragment that is read, of one that is refused after what was read, and of one that is refused at once
 pub data AreFragmentLines (octets : List ℕ) (lines : List Line) : Type 0 where

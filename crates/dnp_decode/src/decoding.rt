@@ -3,6 +3,7 @@ ghost use Rattle.std.specs.Prelude.{[], IfOk};
 ghost use Rattle.dnp_decode.specs.StreamLines.{AreLines};
 
 use crate::line::Line;
+use crate::ports::Ports;
 use crate::stream::step;
 use std::alloc::{AllocError, Global};
 
@@ -18,10 +19,10 @@ pub fn decode(alloc: Global, stream: &[u8]) -> Result<Vec<Line>, AllocError>
     ensures { IfOk result (λ lines. AreLines [] stream.now lines.items) }
 {
     let mut lines = Vec::new(alloc);
-    let mut ports = Vec::new(alloc);
+    let mut ports = Ports::new(alloc);
     let mut done = 0;
     'fronts: loop {
-        let used = step(&stream[done..], &mut ports, &mut lines)?;
+        let used = step(alloc, &stream[done..], &mut ports, &mut lines)?;
         if used == 0 {
             break 'fronts;
         }

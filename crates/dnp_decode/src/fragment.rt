@@ -19,7 +19,7 @@ pub(crate) const BINARY_INPUTS: u8 = 1;
 /// The group of analog inputs. So are the states of setpoints, 40.1 and 40.2.
 pub(crate) const ANALOG_INPUTS: u8 = 30;
 
-/// The octets of a time (50.1) and of a delay (52.2).
+/// The octets of a time (50.1, 51.1, 51.2) and of a delay (52.2).
 pub(crate) const TIME_OCTETS: usize = 6;
 
 pub(crate) const DELAY_OCTETS: usize = 2;
@@ -42,6 +42,17 @@ fn time_at(header: &Header<'_>, k: usize) -> Option<u64>
 {
     if k == 0 && header.octets.len() == TIME_OCTETS {
         Some(LittleEndian::read_u48(header.octets))
+    } else {
+        None
+    }
+}
+
+/// Common time k of a header.
+fn common_at(header: &Header<'_>, k: usize) -> Option<u64>
+    ensures { result ≡ spec.common_in (head header.now) k }
+{
+    if k < header.octets.len() / TIME_OCTETS {
+        Some(LittleEndian::read_u48(&header.octets[k * TIME_OCTETS..]))
     } else {
         None
     }
@@ -80,6 +91,7 @@ fn object_line(header: &Header<'_>, k: usize) -> Option<Line>
         (40, 1 | 2) => state_at(header, ANALOG_INPUTS, k).map(Line::Setpoint),
         (80, 1) => state_at(header, BINARY_INPUTS, k).map(Line::Indication),
         (50, 1) => time_at(header, k).map(Line::Time),
+        (51, 1 | 2) => common_at(header, k).map(Line::Common),
         (52, 2) => delay_at(header, k).map(Line::Delay),
         _ => point_line(header, k),
     }

@@ -9,10 +9,10 @@ ghost use Rattle.dnp_decode.specs.declared.line.Line.{Line as LineValue};
 
 use crate::fragment::push_fragment;
 use crate::line::Line;
-use crate::ports::{Port, place_of};
+use crate::ports::{Ports, direction_of, put, taken};
 use dnp_linkframe::Frame;
 use dnp_transport::{Assembler, MAX_SEGMENT, Pushed, SEGMENT_NUMBERS};
-use std::alloc::AllocError;
+use std::alloc::{AllocError, Global};
 
 /// The bit PRM of CONTROL: the frame is of the station that asks (IEEE Std 1815-2012, data link layer).
 pub(crate) const PRIMARY: u8 = 0x40;
@@ -66,11 +66,12 @@ fn push_data(user: &[u8], assembler: &mut Assembler, out: &mut Vec<Line>) -> Res
 
 /// Appends the lines of a frame, and remembers its user data.
 pub(crate) fn hear(
+    alloc: Global,
     frame: &Frame,
-    ports: &mut Vec<Port>,
+    ports: &mut Ports,
     out: &mut Vec<Line>,
 ) -> Result<(), AllocError>
-    ensures { (heard : List FrameValue) → Remembers heard ports.old.items → OnOk result ((lines : List LineValue) × AreFrameLines heard frame.now lines × (out.new.items ≡ out.old.items ++ lines) × Remembers (frame.now ∷ heard) ports.new.items) }
+    ensures { (heard : List FrameValue) → Remembers heard ports.old → OnOk result ((lines : List LineValue) × AreFrameLines heard frame.now lines × (out.new.items ≡ out.old.items ++ lines) × Remembers (frame.now ∷ heard) ports.new) }
 {
     out.push(Line::Frame {
         control: frame.control,
@@ -83,8 +84,9 @@ pub(crate) fn hear(
     }
     let user = frame.user.as_slice();
     out.push(segment_line(user))?;
-    let place = place_of(ports, frame.source, frame.dest)?;
-    let port = &mut ports[place];
-    push_data(user, &mut port.assembler, out)?;
+    let direction = direction_of(frame.source, frame.dest);
+    let mut assembler = taken(alloc, ports, direction)?;
+    push_data(user, &mut assembler, out)?;
+    put(ports, direction, assembler)?;
     Ok(())
 }

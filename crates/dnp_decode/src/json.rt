@@ -187,6 +187,9 @@ impl Display for Said {
                     "\"layer\":\"fragment\",\"refused\":\"{fault}\",\"octet\":{place}"
                 )
             }
+            Line::Time(time) => write!(f, "\"layer\":\"time\",\"time\":{time}"),
+            Line::Common(time) => write!(f, "\"layer\":\"common\",\"time\":{time}"),
+            Line::Delay(ms) => write!(f, "\"layer\":\"delay\",\"ms\":{ms}"),
             line => {
                 let carried = Carried(line);
                 write!(f, "{carried}")
@@ -298,8 +301,6 @@ impl Display for Members {
                 f,
                 "\"layer\":\"indication\",\"index\":{index},\"value\":{value}"
             ),
-            Line::Time(time) => write!(f, "\"layer\":\"time\",\"time\":{time}"),
-            Line::Delay(ms) => write!(f, "\"layer\":\"delay\",\"ms\":{ms}"),
             Line::Command(command, status) => {
                 let told = Told(command, status);
                 write!(f, "{told}")

@@ -78,6 +78,9 @@ pub enum Line {
     Indication(Row),
     /// An object that is a time which is written (50.1), in milliseconds since 1970-01-01 00:00 UTC.
     Time(u64),
+    /// An object that is a common time (51.1, and 51.2 of a clock that isn't synchronized), after which the times of events
+    /// are given (2.3), in milliseconds since 1970-01-01 00:00 UTC.
+    Common(u64),
     /// An object that is a delay (52.2), in milliseconds.
     Delay(u16),
     /// An object that is a command, with its status.

@@ -60,6 +60,7 @@ pub(crate) fn fault_name(fault: AppFault) -> &'static str {
         AppFault::ObjectUnknown => "ObjectUnknown",
         AppFault::RangeBackward => "RangeBackward",
         AppFault::ObjectsCut => "ObjectsCut",
+        AppFault::CommonTime => "CommonTime",
     }
 }
 

@@ -233,7 +233,7 @@ impl Display for Line {
                 write!(f, "{reading}")
             }
             Line::Indication(Row { index, value, .. }) => write!(f, "{index} = {value}"),
-            Line::Time(time) => {
+            Line::Time(time) | Line::Common(time) => {
                 let moment = Moment(time);
                 write!(f, "{moment}")
             }

@@ -9,10 +9,10 @@ ghost use Rattle.dnp_decode.specs.steps.Stepped.{Stepped};
 
 use crate::hearing::hear;
 use crate::line::Line;
-use crate::ports::Port;
+use crate::ports::Ports;
 use dnp_linkframe::laws::a_spelling_has_no_fault;
 use dnp_linkframe::{FrameFault, check_word, read_frame};
-use std::alloc::AllocError;
+use std::alloc::{AllocError, Global};
 
 /// The octets of a header with its check word.
 pub(crate) const CHECKED_HEADER: usize = 10;
@@ -83,20 +83,21 @@ fn refused_line(stream: &[u8], octets: usize, fault: FrameFault) -> Line
 
 /// Appends the lines of the first `size` octets, which the header at the front says.
 fn read_unit(
+    alloc: Global,
     stream: &[u8],
     size: usize,
-    ports: &mut Vec<Port>,
+    ports: &mut Ports,
     out: &mut Vec<Line>,
 ) -> Result<(), AllocError>
     requires begins { BeginsFrame stream.now }
     requires said { size ≡ said_size stream.now }
     requires within { size ≤ length stream.now }
-    ensures { (heard : List FrameValue) → Remembers heard ports.old.items → OnOk result (Stepped heard stream.now size out.old.items out.new.items ports.new.items) }
+    ensures { (heard : List FrameValue) → Remembers heard ports.old → OnOk result (Stepped heard stream.now size out.old.items out.new.items ports.new) }
 {
     a_spelling_has_no_fault();
     match read_frame(&stream[..size]) {
         Ok(frame) => {
-            hear(&frame, ports, out)?;
+            hear(alloc, &frame, ports, out)?;
             Ok(())
         }
         Err(fault) => {
@@ -109,14 +110,15 @@ fn read_unit(
 /// Appends the lines of the frame at the front, whose header is there if there are octets enough, and answers how many
 /// octets it has: none where it is not whole.
 fn read_header(
+    alloc: Global,
     stream: &[u8],
-    ports: &mut Vec<Port>,
+    ports: &mut Ports,
     out: &mut Vec<Line>,
 ) -> Result<usize, AllocError>
     requires { 10 ≤ length stream.now → HasHeader stream.now }
     ensures within { IfOk result (λ n. n ≤ length stream.now) }
-    ensures waits { result ≡ Ok 0 → IsFront stream.now Waits × (out.new.items ≡ out.old.items) × (ports.new.items ≡ ports.old.items) }
-    ensures step { (heard : List FrameValue) → Remembers heard ports.old.items → IfOk result (λ n. 0 < n → Stepped heard stream.now n out.old.items out.new.items ports.new.items) }
+    ensures waits { result ≡ Ok 0 → IsFront stream.now Waits × (out.new.items ≡ out.old.items) × (ports.new ≡ ports.old) }
+    ensures step { (heard : List FrameValue) → Remembers heard ports.old → IfOk result (λ n. 0 < n → Stepped heard stream.now n out.old.items out.new.items ports.new) }
 {
     if stream.len() < CHECKED_HEADER {
         return Ok(0);
@@ -129,20 +131,21 @@ fn read_header(
     if stream.len() < size {
         return Ok(0);
     }
-    read_unit(stream, size, ports, out)?;
+    read_unit(alloc, stream, size, ports, out)?;
     Ok(size)
 }
 
 /// Appends the lines of what stands at the front of the stream, and answers how many octets that are: none where they
 /// are too few to tell.
 pub(crate) fn step(
+    alloc: Global,
     stream: &[u8],
-    ports: &mut Vec<Port>,
+    ports: &mut Ports,
     out: &mut Vec<Line>,
 ) -> Result<usize, AllocError>
     ensures within { IfOk result (λ n. n ≤ length stream.now) }
-    ensures waits { result ≡ Ok 0 → IsFront stream.now Waits × (out.new.items ≡ out.old.items) × (ports.new.items ≡ ports.old.items) }
-    ensures step { (heard : List FrameValue) → Remembers heard ports.old.items → IfOk result (λ n. 0 < n → Stepped heard stream.now n out.old.items out.new.items ports.new.items) }
+    ensures waits { result ≡ Ok 0 → IsFront stream.now Waits × (out.new.items ≡ out.old.items) × (ports.new ≡ ports.old) }
+    ensures step { (heard : List FrameValue) → Remembers heard ports.old → IfOk result (λ n. 0 < n → Stepped heard stream.now n out.old.items out.new.items ports.new) }
 {
     let skipped = noise(stream);
     if skipped > 0 {
@@ -152,5 +155,5 @@ pub(crate) fn step(
         })?;
         return Ok(skipped);
     }
-    read_header(stream, ports, out)
+    read_header(alloc, stream, ports, out)
 }

@@ -53,6 +53,7 @@ fn is_object(line: &Line) -> bool {
             | Line::Setpoint(_)
             | Line::Indication(_)
             | Line::Time(_)
+            | Line::Common(_)
             | Line::Delay(_)
             | Line::Command(..)
     )

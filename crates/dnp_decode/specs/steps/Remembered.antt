@@ -1,25 +1,28 @@
 -- Private steps: what the assemblers of a decoder remember of the frames that were heard.
-use Rattle.std.specs.Prelude.{◌≡◌, ℕ, zero, suc, Bool, true, false, ◌==◌, ◌&&◌, if◌then◌else◌, List, [], ◌∷◌}
+use Rattle.std.specs.Prelude.{ℕ, ◌+◌, ◌*◌, ◌<◌, List, Option, Some, None}
+use Rattle.std.specs.Ordering.{nat_cmp}
+use Rattle.std.specs.BTreeMap.{BTreeMap, get}
+use Rattle.std.specs.Global.{Box}
 use Rattle.dnp_linkframe.specs.declared.frame.Frame.{Frame}
 use Rattle.dnp_transport.specs.Assembly.{Assembly, Idle, Stands}
-use Rattle.dnp_decode.specs.declared.ports.Port.{Port}
 use Rattle.dnp_decode.specs.FrameLines.{data_of}
 
--- the port is of this direction
-abbrev pub is_of : ℕ → ℕ → Port → Bool
-is_of source dest port = (port.source == source) && (port.dest == dest)
+-- the number of a direction: the address of the station that sends, then that of the one that it sends to
+abbrev pub direction_of : ℕ → ℕ → ℕ
+direction_of source dest = source * 0x1_0000 + dest
 
--- the assembler of a direction: that of its first port, or a new one
-abbrev pub assembly_in : List Port → ℕ → ℕ → Assembly
-assembly_in [] source dest = Idle
-assembly_in (port ∷ ports) source dest = if is_of source dest port then port.assembler else assembly_in ports source dest
+abbrev pub Ports : Type 0
+Ports = BTreeMap ℕ (Box Assembly)
 
--- the first port of the direction stands at this place
-abbrev pub IsPlace : List Port → ℕ → ℕ → ℕ → Type 0
-IsPlace [] source dest place = ⊥
-IsPlace (port ∷ ports) source dest zero = is_of source dest port ≡ true
-IsPlace (port ∷ ports) source dest (suc place) = (is_of source dest port ≡ false) × IsPlace ports source dest place
+-- what was found for a direction, or a new assembler
+abbrev pub found : Option (Box Assembly) → Assembly
+found None = Idle
+found (Some box) = box.value
+
+-- the assembler of a direction
+abbrev pub assembly_at : Ports → ℕ → Assembly
+assembly_at ports direction = found (get nat_cmp ports direction)
 
 -- the assemblers are as the user data of these frames, newest first, made them
-pub record Remembers (heard : List Frame) (ports : List Port) : Type 0 where
-  pub each : (source dest : ℕ) → Stands (data_of source dest heard) (assembly_in ports source dest)
+pub record Remembers (heard : List Frame) (ports : Ports) : Type 0 where
+  pub each : (source dest : ℕ) → dest < 0x1_0000 → Stands (data_of source dest heard) (assembly_at ports (direction_of source dest))
