@@ -9,13 +9,14 @@ use Rattle.dnp_objects.specs.declared.command.Command.{Command}
 use Rattle.dnp_objects.specs.declared.command.Command.TheVariants.{Block, Set16, Set32}
 use Rattle.dnp_appfragment.specs.Control.{IsControl}
 use Rattle.dnp_appfragment.specs.Fragments.{Asked, request_octets}
-use Rattle.dnp_appfragment.specs.Headers.{Head, AreHeaders, IsHeader, begin, header_octets, spelled}
+use Rattle.dnp_appfragment.specs.Headers.{Head, AreHeaders, IsHeaderAt, begin, header_octets, spelled}
 use Rattle.dnp_appfragment.specs.Items.{Item, Holds, command_item}
 use Rattle.dnp_appfragment.specs.Meaning.{request_at, command_in}
 use Rattle.dnp_appfragment.specs.Objects.{IsCommand}
 use Rattle.dnp_appfragment.specs.Table.{form_of, is_response, rules, takes_of}
 use Rattle.dnp_appfragment.specs.Written.{order}
 use Rattle.dnp_appfragment.specs.declared.table.Form.TheVariants as form
+use Rattle.dnp_appfragment.proofs.Places.{any_place}
 use Rattle.dnp_master.specs.Requests.{request_for}
 use Rattle.dnp_master.specs.declared.task.Task.TheVariants.{Select, Operate}
 use Rattle.dnp_world.specs.CommandWidths.{HasWidths}
@@ -96,11 +97,14 @@ operate_octets seq command low h = asked_low seq 4 (order command 0 ∷ []) low 
 
 -- ---- what is read of them
 
-pub order_fits : (command : Command) → IsHeader form.Command (order command 0)
+pub order_fits : (command : Command) → IsHeaderAt form.Command begin (order command 0)
 unfolding takes_of rules content_of objects
-order_fits (Block index code count on off) = record { object = refl; fits = omega arith; forward = tt; objects = refl }
-order_fits (Set16 index value) = record { object = refl; fits = omega arith; forward = tt; objects = refl }
-order_fits (Set32 index value) = record { object = refl; fits = omega arith; forward = tt; objects = refl }
+order_fits (Block index code count on off) =
+    any_place form.Command begin _ (record { object = refl; fits = omega arith; forward = tt; objects = refl }) refl refl
+order_fits (Set16 index value) =
+    any_place form.Command begin _ (record { object = refl; fits = omega arith; forward = tt; objects = refl }) refl refl
+order_fits (Set32 index value) =
+    any_place form.Command begin _ (record { object = refl; fits = omega arith; forward = tt; objects = refl }) refl refl
 
 pub the_command : ReadLaws → (command : Command) → HasWidths command → command_in (order command 0) 0 ≡ Some (command, 0)
 the_command laws command h =

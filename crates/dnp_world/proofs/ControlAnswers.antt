@@ -9,7 +9,7 @@ use Rattle.dnp_objects.specs.declared.command.Command.TheVariants.{Block, Set16,
 use Rattle.dnp_objects.specs.declared.limits.TheConstants.{MAX_FRAGMENT}
 use Rattle.dnp_appfragment.specs.Control.{ControlBits, IsControl}
 use Rattle.dnp_appfragment.specs.Fragments.{Answered, request_octets, response_octets}
-use Rattle.dnp_appfragment.specs.Headers.{Head, AreHeaders, IsHeader, begin}
+use Rattle.dnp_appfragment.specs.Headers.{Head, AreHeaders, IsHeaderAt, begin}
 use Rattle.dnp_appfragment.specs.Meaning.{response_at}
 use Rattle.dnp_appfragment.specs.Table.{is_response, rules, takes_of}
 use Rattle.dnp_appfragment.specs.Written.{order}
@@ -18,6 +18,7 @@ use Rattle.dnp_appfragment.specs.declared.function.Function.TheVariants as funct
 use Rattle.dnp_appfragment.specs.declared.iin.Iin.{Iin}
 use Rattle.dnp_appfragment.specs.declared.table.Form.TheVariants as form
 use Rattle.dnp_appfragment.proofs.Controls.{octet_of_control}
+use Rattle.dnp_appfragment.proofs.Places.{any_place}
 use Rattle.dnp_outstation.specs.Connection.{at_end, case_of, control_in, function_in, has_enabled_rows, is_last_request, is_looked_at, starts, unsolicited_of}
 use Rattle.dnp_outstation.specs.Content.{Content, content_from}
 use Rattle.dnp_outstation.specs.Controls.{commands_in, headers_with, object_in, with_status}
@@ -76,11 +77,14 @@ asks_case c octets looked no_confirm other no_read = rw (looked, no_confirm, oth
 
 -- ---- the headers of a command
 
-pub order_stands : (command : Command) (code : ℕ) → IsHeader form.Response (order command code)
+pub order_stands : (command : Command) (code : ℕ) → IsHeaderAt form.Response begin (order command code)
 unfolding takes_of rules content_of objects
-order_stands (Block index code count on off) status = record { object = refl; fits = omega arith; forward = tt; objects = refl }
-order_stands (Set16 index value) status = record { object = refl; fits = omega arith; forward = tt; objects = refl }
-order_stands (Set32 index value) status = record { object = refl; fits = omega arith; forward = tt; objects = refl }
+order_stands (Block index code count on off) status =
+    any_place form.Response begin _ (record { object = refl; fits = omega arith; forward = tt; objects = refl }) refl refl
+order_stands (Set16 index value) status =
+    any_place form.Response begin _ (record { object = refl; fits = omega arith; forward = tt; objects = refl }) refl refl
+order_stands (Set32 index value) status =
+    any_place form.Response begin _ (record { object = refl; fits = omega arith; forward = tt; objects = refl }) refl refl
 
 pub the_commands : ReadLaws → (command : Command) → HasWidths command → commands_in (order command 0 ∷ []) ≡ command ∷ []
 the_commands laws command h =

@@ -139,3 +139,5 @@ mod ControlsRefused
 mod ControlsStarting
 mod ControlsClean
 mod ControlsMoved
+mod Reopening
+mod Restarted

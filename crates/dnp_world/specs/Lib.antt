@@ -27,6 +27,7 @@ pub mod SystemEvents
 pub mod SystemRuns
 pub mod SystemParts
 pub mod FreshSystems
+pub mod Reopened
 pub mod NewSystems
 pub mod ReportShown
 pub mod Rounds

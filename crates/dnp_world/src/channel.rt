@@ -16,7 +16,7 @@ use crate::event::Damaged;
 use crate::link_event::{End, Way};
 use crate::listing::count_events;
 use crate::sending::{FRAGMENT_UNITS, hear, send, send_all, send_confirm, shows};
-use crate::stopped::cause_of;
+use crate::stopped::stops_for;
 use dnp_concentrator::Cause;
 use dnp_line::{Line, Port};
 use dnp_linkframe::MAX_UNIT;
@@ -345,10 +345,7 @@ impl Channel {
                 let _ = dropped.extend_from_slice(actions.dropped.as_slice());
                 Ok(())
             }
-            Err(fault) => match cause_of(fault) {
-                Some(cause) => Err(cause),
-                None => Ok(()),
-            },
+            Err(fault) => stops_for(fault),
         }
     }
 

@@ -35,6 +35,7 @@ pub mod settled_laws;
 pub mod standing_laws;
 mod station_list;
 mod stopped;
+pub mod stopped_laws;
 mod stored;
 mod substation;
 pub mod system_laws;

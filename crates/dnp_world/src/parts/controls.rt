@@ -1,8 +1,9 @@
 //! A control on its way from the centre to its substation, over quiet links.
 
-ghost use Rattle.std.specs.Prelude.{◌≡◌, ◌≢◌, ◌⊎◌, ◌-◌, [], true, false, Err, IfErr, IfOk, IfSome, IsTrue, OnOk, ℕ};
+ghost use Rattle.std.specs.Prelude.{◌≡◌, ◌≢◌, ◌⊎◌, ◌-◌, [], true, false, Err, IfErr, IfOk, IfSome, IsTrue, OnOk, Some, ℕ};
 ghost use Rattle.std.specs.Option.{option_and_then, option_map};
 ghost use Rattle.dnp_controls.specs.Book.{next_of, rows_of};
+ghost use Rattle.dnp_objects.specs.Status.{success};
 ghost use Rattle.dnp_world.specs.Carriers.{TellsDeviceOver};
 ghost use Rattle.dnp_world.specs.Causes.{TellsDevice};
 ghost use Rattle.dnp_world.specs.Rounds.{is_quiet_on};
@@ -90,6 +91,17 @@ fn status_of(entry: Option<Entry>) -> Option<Status>
     match entry {
         Some(entry) => finished_with(entry.state),
         None => None,
+    }
+}
+
+/// A status other than SUCCESS refuses a control, and is told.
+fn refused_by(status: Option<Status>) -> Result<(), ControlFault>
+    ensures passed { OnOk result ((told : ℕ) → status ≡ Some told → told ≡ success) }
+    ensures told { IfErr result (λ fault. (told : ℕ) × (status ≡ Some told) × (told ≢ success) × (fault ≡ ControlFault.Refused told)) }
+{
+    match status {
+        Some(status) if status != Status::SUCCESS => Err(ControlFault::Refused(status)),
+        _ => Ok(()),
     }
 }
 
@@ -230,10 +242,9 @@ impl<Q: Lanes, J: JournalStore, A: Book, B: Book> Parts<Q, J, A, B> {
         ensures device { TellsDevice (⟦<Self as Stored>⟧.is_stopped self.old) (⟦<Self as Stored>⟧.is_stopped self.new) (result ≡ Err (ControlFault.Fault Cause.Device)) }
     {
         self.happen(alloc, &Event::Relay(on))?;
-        match self.status_on(alloc, on, id)? {
-            Some(status) if status != Status::SUCCESS => Err(ControlFault::Refused(status)),
-            _ => Ok(()),
-        }
+        let status = self.status_on(alloc, on, id)?;
+        refused_by(status)?;
+        Ok(())
     }
 
     /// A step of relaying over the link, and what comes of it there and back.

@@ -1,9 +1,11 @@
 -- What was taken is listed and confirmed, and what the master refused for itself does nothing.
-use Rattle.std.proofs.Common.{◌≡◌, ◌≤◌, ◌++◌, ◌∙◌, ℕ, List, length, ap, arith}
+use Rattle.std.proofs.Common.{◌≡◌, ◌≤◌, ◌++◌, ◌∙◌, ℕ, Err, List, length, ap, arith}
 use Rattle.std.specs.Prelude.{is_ok}
+use Rattle.std.proofs.lemmas.Result.{on_ok_weaker}
 use Rattle.dnp_objects.specs.declared.row.Row.{Row}
 use Rattle.dnp_line.specs.Lines.{HeldLine}
 use Rattle.dnp_master.specs.Calls.{receive_of}
+use Rattle.dnp_master.specs.declared.fault.MasterFault.TheVariants.{Device}
 use Rattle.dnp_world.specs.Channels.{state_of}
 use Rattle.dnp_world.specs.Octets.{rows_in}
 use Rattle.dnp_world.proofs.MasterTakes.{few_dropped, refused_up, taken_up}
@@ -34,14 +36,23 @@ returns-in-Ok-clause-took g c = λ well.
           (ap (λ (line : HeldLine). record old { down = line.state }) c.in_ok-reserve-2.ensures.ok) c.confirm.ensures listed,
     )
 
-pub returns-in-None-clause-took : goal.returns-in-None-clause-took
-returns-in-None-clause-took g c = λ well.
+pub returns-in-Err-clause-took : goal.returns-in-Err-clause-took
+returns-in-Err-clause-took g c = λ well. on_ok_weaker c.stops_for.result
+    (λ none.
     let old = state_of c.args.self.now in
     let fragment : List ℕ = c.fragment-fragment.result.now in
     let made = receive_of (g.E.MasterEnd.master c.args.end.now c.args.link) c.args.now fragment in (
       fragment,
       c.fragment-fragment.ensures.shown,
       refused_up _ _ _ _ _ made _ _ c.take_in.result c.in-Err.fault old _ c.args.dropped.now.items c.reserve.new.self.items
-          c.take_in.ensures.takes c.in-Err.is c.in-None.ensures.none well
+          c.take_in.ensures.takes c.in-Err.is none well
           (ap (λ (line : HeldLine). record old { down = line.state }) c.in_ok-reserve-2.ensures.ok) c.in_ok-reserve.ensures.items,
-    )
+    )) c.stops_for.ensures.passed
+
+pub returns-in-Err-clause-device : goal.returns-in-Err-clause-device
+returns-in-Err-clause-device g c = record {
+  stopped = λ says. c.take_in.ensures.device.stopped (c.in-Err.is ∙ ap Err (c.stops_for.ensures.device.0 says));
+  runs_on = λ other. c.take_in.ensures.device.runs_on (λ is.
+      let same : c.in-Err.fault ≡ Device = let e = c.in-Err.is in cc in
+      other (c.stops_for.ensures.device.1 same));
+}
