@@ -1,7 +1,8 @@
 -- Definition: a script that is run to its end, and the report there.
-use Rattle.std.specs.Prelude.{◌≡◌, ℕ, ◌⊎◌, List, ◌++◌, Option, Result, Ok, Err, ⊤}
+use Rattle.std.specs.Prelude.{◌≡◌, ℕ, ◌⊎◌, Bool, IsTrue, List, ◌++◌, Option, Result, Ok, Err, ⊤}
 use Rattle.std.specs.Io.KnownBytes.{Appends}
 use Rattle.dnp_concentrator.specs.declared.cause.Cause.{Cause}
+use Rattle.dnp_concentrator.specs.declared.cause.Cause.TheVariants as causes
 use Rattle.dnp_world.specs.declared.report.Report.{Report}
 use Rattle.dnp_daemons.specs.declared.script.ScriptLine.{ScriptLine}
 use Rattle.dnp_daemons.specs.declared.run.ScriptStop.{ScriptStop}
@@ -39,3 +40,14 @@ ReportEnds law old script (Err (stop.Stopped done)) new held held' =
 ReportEnds law old script (Err stop.WriteFailed) new held held' =
     IsCut law old script new held held' ⊎ IsReportCut law old script new held held'
 ReportEnds law old script (Err (stop.Fault cause)) new held held' = IsKeptBack law old script cause new held held'
+
+-- What the end of a script with its report says of the system's stores, by whether one of them has answered Device, before and after:
+-- Device is told of a report only where one has, memory only where all run on that did, and the end of the numbers never. A script that is
+-- done has stopped none.
+abbrev pub TellsCause : Bool → Bool → Result ⊤ ScriptStop → Type 0
+TellsCause before after (Ok done) = after ≡ before
+TellsCause before after (Err (stop.Stopped done)) = ⊤
+TellsCause before after (Err stop.WriteFailed) = ⊤
+TellsCause before after (Err (stop.Fault causes.Device)) = IsTrue after
+TellsCause before after (Err (stop.Fault causes.Memory)) = after ≡ before
+TellsCause before after (Err (stop.Fault causes.Exhausted)) = ⊥

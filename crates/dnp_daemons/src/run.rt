@@ -1,5 +1,6 @@
 //! A script, run line by line.
 
+ghost use Rattle.std.specs.Prelude.{◌≡◌, OnOk};
 ghost use Rattle.dnp_daemons.specs.ScriptRuns.{EndsBy};
 ghost use Rattle.dnp_daemons.specs.steps.Lines.{SaysStopped};
 
@@ -61,6 +62,7 @@ pub fn run_script<S: Scripted, W: Write>(
 ) -> Result<(), ScriptStop>
     ensures held { S.honest system.new → S.honest system.old }
     ensures ends { S.honest system.new → EndsBy S.law (S.state system.old) script.now result (S.state system.new) (W.contents out.old) (W.contents out.new) }
+    ensures runs_on { OnOk result (S.is_stopped system.new ≡ S.is_stopped system.old) }
 {
     for (done, line) in script.iter().enumerate() {
         match run_line(alloc, system, line, out) {

@@ -1,6 +1,6 @@
 //! A plan and a script, judged and then run.
 
-ghost use Rattle.std.specs.Prelude.{List};
+ghost use Rattle.std.specs.Prelude.{◌≡◌, ◌≢◌, Err, List};
 ghost use Rattle.dnp_concentrator.specs.Plan.{KeepsLimits};
 ghost use Rattle.dnp_daemons.specs.declared.script.ScriptLine.{ScriptLine};
 ghost use Rattle.dnp_daemons.specs.ScriptLines.{lossless_reading_of, reading_of};
@@ -52,7 +52,9 @@ fn simulate_plain<C: Carrier + Drop, W: Write>(
 ) -> Result<(), ScriptStop>
     requires limits { KeepsLimits plan.now }
     requires fits { (lines : List ScriptLine) × Says script.now lines }
-    ensures { (lines : List ScriptLine) → Says script.now lines → PlanEnds plan.now lines result (W.contents out.old) (W.contents out.new) }
+    ensures ends { (lines : List ScriptLine) → Says script.now lines → PlanEnds plan.now lines result (W.contents out.old) (W.contents out.new) }
+    ensures named { result ≢ Err (ScriptStop.Fault Cause.Exhausted) }
+    ensures device { result ≢ Err (ScriptStop.Fault Cause.Device) }
 {
     plans_have_all_lanes(plan);
     lanes_stay_sound();
@@ -87,7 +89,9 @@ fn simulate<C: Carrier + Drop, W: Write>(
 ) -> Result<(), ScriptStop>
     requires limits { KeepsLimits plan.now }
     requires fits { (lines : List ScriptLine) × Says script.now lines }
-    ensures { IsSpokenFor stores result → (lines : List ScriptLine) → Says script.now lines → PlanEnds plan.now lines result (W.contents out.old) (W.contents out.new) }
+    ensures ends { IsSpokenFor stores result → (lines : List ScriptLine) → Says script.now lines → PlanEnds plan.now lines result (W.contents out.old) (W.contents out.new) }
+    ensures named { result ≢ Err (ScriptStop.Fault Cause.Exhausted) }
+    ensures device { stores ≡ Stores.Plain → result ≢ Err (ScriptStop.Fault Cause.Device) }
 {
     match stores {
         Stores::Sql => simulate_sql(alloc, plan, script, carrier, out),
@@ -105,7 +109,9 @@ fn texts_by<C: Carrier + Drop, W: Write>(
     carrier: C,
     out: &mut W,
 ) -> Result<u8, ScriptStop>
-    ensures { IsSpokenFor stores result → TextsEnd (reading_by carried) plan.now script.now result (W.contents out.old) (W.contents out.new) }
+    ensures ends { IsSpokenFor stores result → TextsEnd (reading_by carried) plan.now script.now result (W.contents out.old) (W.contents out.new) }
+    ensures named { result ≢ Err (ScriptStop.Fault Cause.Exhausted) }
+    ensures device { stores ≡ Stores.Plain → result ≢ Err (ScriptStop.Fault Cause.Device) }
 {
     let judged = match judge(alloc, plan, script, carried) {
         Ok(judged) => judged,
@@ -142,7 +148,7 @@ fn texts_by<C: Carrier + Drop, W: Write>(
 /// printed, and the answer is 1.
 ///
 /// SQL databases are asked at the end whether one of them has answered Device: then that is the fault, and what was printed
-/// is not spoken for.
+/// is not spoken for. Lists never answer it, and a fault is never that numbers have run out.
 pub fn sim_text<W: Write>(
     alloc: Global,
     plan: &str,
@@ -150,7 +156,9 @@ pub fn sim_text<W: Write>(
     stores: Stores,
     out: &mut W,
 ) -> Result<u8, ScriptStop>
-    ensures { IsSpokenFor stores result → TextsEnd reading_of plan.now script.now result (W.contents out.old) (W.contents out.new) }
+    ensures ends { IsSpokenFor stores result → TextsEnd reading_of plan.now script.now result (W.contents out.old) (W.contents out.new) }
+    ensures named { result ≢ Err (ScriptStop.Fault Cause.Exhausted) }
+    ensures device { stores ≡ Stores.Plain → result ≢ Err (ScriptStop.Fault Cause.Device) }
 {
     texts_by(alloc, plan, script, false, stores, InMemory, out)
 }
@@ -167,7 +175,9 @@ pub fn loop_text<C: Carrier + Drop, W: Write>(
     carrier: C,
     out: &mut W,
 ) -> Result<u8, ScriptStop>
-    ensures { IsSpokenFor stores result → TextsEnd lossless_reading_of plan.now script.now result (W.contents out.old) (W.contents out.new) }
+    ensures ends { IsSpokenFor stores result → TextsEnd lossless_reading_of plan.now script.now result (W.contents out.old) (W.contents out.new) }
+    ensures named { result ≢ Err (ScriptStop.Fault Cause.Exhausted) }
+    ensures device { stores ≡ Stores.Plain → result ≢ Err (ScriptStop.Fault Cause.Device) }
 {
     texts_by(alloc, plan, script, true, stores, carrier, out)
 }

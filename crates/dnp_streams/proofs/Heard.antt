@@ -1,7 +1,7 @@
 -- The port is new, so its link layer answers as one that has heard nothing, and what it joins is the frame's user data
 -- alone.
-use Rattle.std.proofs.Common.{◌≡◌, ℕ, Bool, true, false, inl, inr, List, [], ◌∷◌, ◌++◌, Option, sym, ap, ◌∙◌, subst, refl}
-use Rattle.std.specs.Prelude.{option_to_list}
+use Rattle.std.proofs.Common.{◌≡◌, ◌≢◌, ℕ, Bool, true, false, inl, inr, List, [], ◌∷◌, ◌++◌, Option, Result, Ok, Err, sym, ap, ◌∙◌, subst, refl}
+use Rattle.std.specs.Prelude.{OnErr, option_to_list}
 use Rattle.std.proofs.lemmas.Bool.{cases_Bool, both_ways, and_from, and_parts}
 use Rattle.dnp_linkframe.specs.declared.frame.Frame.{Frame}
 use Rattle.dnp_linkstation.specs.Station.{Ends, ends, answer, Stands as Answers}
@@ -9,7 +9,7 @@ use Rattle.dnp_transport.specs.Assembly.{Stands}
 use Rattle.dnp_transport.specs.Series.{is_left_out, kept, IsWhole}
 use Rattle.dnp_line.specs.Ports.{PortState, new_port, has_data, is_joined, Joins, TakesAfter, Takes, IsShown}
 use Rattle.dnp_line.specs.declared.port.Taken.{Taken}
-use Rattle.dnp_streams.specs.Station.{HandsUp, station_ends, replies, responses, AreSentBack, Answered, Unheard}
+use Rattle.dnp_streams.specs.Station.{HandsUp, station_ends, replies, responses, AreSentBack, Answered, Heeds, Unheard}
 use Rattle.dnp_streams.specs.Units.{frames_of, AreLinesOf}
 use Rattle.dnp_streams.specs.steps.Appended.{AreAppended}
 use Rattle.dnp_streams.proofs.Lines.{appended_more}
@@ -99,3 +99,19 @@ reply_and_answer own peer frame new taken fragment none begun lines send h whole
           (sym (all.whole ∙ ap (λ (t : List ℕ). t ++ all.lines) empty))
           (subst (λ (fs : List Frame). AreLinesOf fs all.lines) frames all.are),
     )
+
+-- ---- a frame that is heeded
+
+-- what holds anyway holds of a refusal
+pub on_err : {A E P : Type 0} (r : Result A E) → P → OnErr r P
+on_err (Ok x) p = tt
+on_err (Err e) p = p
+
+-- its link layer replied
+pub replied : (own peer : ℕ) (frame : Frame) (new : PortState) (taken : Taken) → HasTaken own peer frame new taken → option_to_list taken.reply ≢ [] → Heeds own peer frame
+replied own peer frame new taken h some = inl (λ none. some (h.reply ∙ none))
+
+-- it was handed up
+pub heeded : (own peer : ℕ) (frame : Frame) (new : PortState) (taken : Taken) (fragment : List ℕ) → HasTaken own peer frame new taken → taken.whole ≡ true
+    → IsShown new fragment → Heeds own peer frame
+heeded own peer frame new taken fragment h whole shown = inr (fragment, h.heard whole fragment shown)

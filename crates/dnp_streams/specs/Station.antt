@@ -1,6 +1,6 @@
 -- Definition: the station behind `dnp answer`: an outstation without points and outputs, opened at the moment 0, that
 -- has heard nothing before.
-use Rattle.std.specs.Prelude.{◌≡◌, ℕ, true, false, List, [], ◌∷◌, ◌++◌, replicate, option_to_list}
+use Rattle.std.specs.Prelude.{◌≡◌, ◌≢◌, ◌⊎◌, ℕ, true, false, List, [], ◌∷◌, ◌++◌, replicate, option_to_list}
 use Rattle.dnp_linkframe.specs.declared.frame.Frame.{Frame}
 use Rattle.dnp_linkstation.specs.Station.{Ends, answer}
 use Rattle.dnp_transport.specs.Series.{IsWhole}
@@ -39,6 +39,10 @@ pub record HandsUp (own peer : ℕ) (frame : Frame) (fragment : List ℕ) : Type
 -- its link layer's reply to the frame, if there is one
 abbrev pub replies : ℕ → ℕ → Frame → List Frame
 replies own peer frame = option_to_list (answer (station_ends own peer) [] frame).reply
+
+-- it heeds the frame: its link layer replies to it, or hands a fragment up
+abbrev pub Heeds : ℕ → ℕ → Frame → Type 0
+Heeds own peer frame = (replies own peer frame ≢ []) ⊎ ((fragment : List ℕ) × HandsUp own peer frame fragment)
 
 -- The frames that it sends back, in order, for the frame: its link layer's reply, and then the frames of its responses
 -- to the fragment that the link layer hands up, if it does.

@@ -2,7 +2,9 @@
 
 ghost use Rattle.std.specs.Prelude.{◌≡◌, ℕ, ◌≤◌, Bool, List, [], ◌∷◌, ◌++◌, length, codes, IfOk, OnOk, OnErr, Err};
 ghost use Rattle.std.specs.Io.KnownBytes.{Appends};
-ghost use Rattle.dnp_streams.specs.AnswerLine.{IsAnswer, IsPrinted, answer_text, fault_text, is_frame};
+ghost use Rattle.dnp_linkframe.specs.declared.frame.Frame.{Frame as FrameValue};
+ghost use Rattle.dnp_streams.specs.AnswerLine.{IsAnswer, IsFrameLine, IsPrinted, answer_text, fault_text, is_frame};
+ghost use Rattle.dnp_streams.specs.Station.{Heeds};
 
 use crate::octets::{MAX_LINE, read_octets};
 use crate::station::respond;
@@ -75,7 +77,8 @@ fn refusal(fault: FrameFault) -> ArrayVec<u8, MAX_LINE>
 impl Answer {
     /// The answer to a line of text that comes to station `own`, whose master is `peer`.
     fn to(alloc: Global, text: &[u8], own: u16, peer: u16) -> Result<Self, AllocError>
-        ensures { IfOk result (IsAnswer text.now own peer) }
+        ensures answer { IfOk result (IsAnswer text.now own peer) }
+        ensures memory { OnErr result ((frame : FrameValue) × IsFrameLine text.now frame × Heeds own peer frame) }
     {
         let Some(octets) = read_octets(text) else {
             return Ok(Answer::Unreadable);
@@ -123,7 +126,7 @@ impl Answer {
 /// heard nothing before (IEEE Std 1815-2012, data link layer and application layer).
 ///
 /// A fault is WriteFailed where the writer failed, and what was written then is a beginning of the
-/// right text; or Memory, and then nothing was written.
+/// right text; or Memory, which is asked for only where the station heeds a frame, and then nothing was written.
 pub fn answer_line<W: Write>(
     alloc: Global,
     text: &[u8],
@@ -134,6 +137,7 @@ pub fn answer_line<W: Write>(
     ensures answered { IfOk result (λ accepted. (lines : List ℕ) × IsPrinted text.now own peer lines accepted × Appends (W.contents out.old) (W.contents out.new) lines) }
     ensures part { result ≡ Err AnswerFault.WriteFailed → (part : List ℕ) × (rest : List ℕ) × (accepted : Bool) × IsPrinted text.now own peer (part ++ rest) accepted × Appends (W.contents out.old) (W.contents out.new) part }
     ensures unwritten { result ≡ Err AnswerFault.Memory → out.new ≡ out.old }
+    ensures memory { result ≡ Err AnswerFault.Memory → (frame : FrameValue) × IsFrameLine text.now frame × Heeds own peer frame }
 {
     let Ok(answer) = Answer::to(alloc, text, own, peer) else {
         return Err(AnswerFault::Memory);

@@ -1,9 +1,9 @@
 //! The station behind `dnp answer`: an outstation without points and outputs, opened at the moment 0,
 //! for one frame.
-ghost use Rattle.std.specs.Prelude.{◌≡◌, List, IfOk, OnOk, option_to_list};
+ghost use Rattle.std.specs.Prelude.{◌≡◌, ◌≢◌, [], List, IfOk, OnErr, OnOk, option_to_list};
 ghost use Rattle.dnp_linkframe.specs.declared.frame.Frame.{Frame as FrameValue};
 ghost use Rattle.dnp_outstation.specs.Station.{actions_of};
-ghost use Rattle.dnp_streams.specs.Station.{responses, AreSentBack};
+ghost use Rattle.dnp_streams.specs.Station.{responses, AreSentBack, Heeds};
 ghost use Rattle.dnp_streams.specs.Units.{AreLinesOf};
 ghost use Rattle.dnp_streams.specs.steps.Appended.{AreAppended};
 
@@ -45,7 +45,8 @@ fn answered(alloc: Global, fragment: &[u8]) -> Result<Actions, AllocError>
 
 /// Appends the line of the link layer's reply, if there is one.
 fn push_reply(text: &mut Vec<u8>, taken: &Taken) -> Result<(), AllocError>
-    ensures { OnOk result (AreAppended text.old.items (option_to_list taken.now.reply) text.new.items) }
+    ensures appended { OnOk result (AreAppended text.old.items (option_to_list taken.now.reply) text.new.items) }
+    ensures memory { OnErr result (option_to_list taken.now.reply ≢ []) }
 {
     match taken.reply_unit() {
         Some(unit) => push_line(text, &unit),
@@ -54,14 +55,15 @@ fn push_reply(text: &mut Vec<u8>, taken: &Taken) -> Result<(), AllocError>
 }
 
 /// The lines of the frames that the station sends back for a frame, the first that it hears: no text
-/// where it sends none.
+/// where it sends none. Memory is asked for only where it heeds the frame.
 pub(crate) fn respond(
     alloc: Global,
     frame: &Frame,
     own: u16,
     peer: u16,
 ) -> Result<Vec<u8>, AllocError>
-    ensures { IfOk result (λ lines. (back : List FrameValue) × AreSentBack own peer frame.now back × AreLinesOf back lines.items) }
+    ensures sent { IfOk result (λ lines. (back : List FrameValue) × AreSentBack own peer frame.now back × AreLinesOf back lines.items) }
+    ensures memory { OnErr result (Heeds own peer frame.now) }
 {
     let mut port = Port::new(own, peer, false);
     let taken = port.take(frame);

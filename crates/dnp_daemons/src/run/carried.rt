@@ -1,5 +1,9 @@
 //! A script over a system whose units are carried.
 
+ghost use Rattle.std.specs.Prelude.{◌≡◌, ◌≢◌, Err, OnErr, OnOk};
+ghost use Rattle.dnp_daemons.specs.ScriptWorlds.{law_of_worlds};
+ghost use Rattle.dnp_world.specs.Carriers.{Crosses};
+
 use crate::run::scripted::Scripted;
 use dnp_controls::Book;
 use dnp_eventbuf::{JournalStore, Lanes};
@@ -19,7 +23,6 @@ pub(crate) struct Carried<Q: Lanes, J: JournalStore, A: Book, B: Book, C> {
 }
 
 impl<Q: Lanes, J: JournalStore, A: Book, B: Book, C: Carrier> Scripted for Carried<Q, J, A, B, C> {
-    ghost use Rattle.dnp_daemons.specs.ScriptWorlds.{law_of_worlds};
     ghost use Rattle.dnp_world.specs.Systems.{System};
 
     ghost State = { System };
@@ -28,9 +31,17 @@ impl<Q: Lanes, J: JournalStore, A: Book, B: Book, C: Carrier> Scripted for Carri
 
     ghost honest = { λ s. ⟦<World<Q, J, A, B> as Stored>⟧.well s.world };
 
+    ghost is_stopped = { λ s. ⟦<World<Q, J, A, B> as Stored>⟧.is_stopped s.world };
+
     ghost law = { law_of_worlds };
 
-    fn happen(&mut self, alloc: Global, event: &Event) -> Result<(), Cause> {
+    fn happen(&mut self, alloc: Global, event: &Event) -> Result<(), Cause>
+        ensures held { ⟦<Self as Scripted>⟧.honest self.new → ⟦<Self as Scripted>⟧.honest self.old }
+        ensures done { ⟦<Self as Scripted>⟧.honest self.new → OnOk result (law_of_worlds.happens self.old.world.system event.now self.new.world.system) }
+        ensures stopped { ⟦<Self as Scripted>⟧.honest self.new → OnErr result (law_of_worlds.stops self.old.world.system event.now self.new.world.system) }
+        ensures runs_on { result ≢ Err Cause.Device → ⟦<Self as Scripted>⟧.is_stopped self.new ≡ ⟦<Self as Scripted>⟧.is_stopped self.old }
+        ensures carried { ⟦<Self as Scripted>⟧.honest self.new → OnOk result (Crosses C.carries self.old.world.system event.now self.old.carrier self.new.carrier) }
+    {
         match self
             .world
             .run_by(alloc, slice::from_ref(event), &mut self.carrier)

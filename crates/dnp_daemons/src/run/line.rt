@@ -1,6 +1,6 @@
 //! One line of a script.
 
-ghost use Rattle.std.specs.Prelude.{◌≡◌, OnOk, OnErr};
+ghost use Rattle.std.specs.Prelude.{◌≡◌, ◌≢◌, Err, OnOk, OnErr};
 ghost use Rattle.dnp_daemons.specs.Scripted.{HappensTimes};
 ghost use Rattle.dnp_daemons.specs.ScriptRuns.{StopsFlushing};
 ghost use Rattle.dnp_daemons.specs.steps.Lines.{LineEnds, line_result};
@@ -27,6 +27,7 @@ fn flush<S: Scripted>(alloc: Global, system: &mut S, link: Link, way: Way) -> Re
     ensures held { S.honest system.new → S.honest system.old }
     ensures done { S.honest system.new → OnOk result (HappensTimes S.law (S.law.units (S.state system.old) link way) (Event.Deliver link way) (S.state system.old) (S.state system.new)) }
     ensures stopped { S.honest system.new → OnErr result (StopsFlushing S.law (S.state system.old) link way (S.state system.new)) }
+    ensures runs_on { result ≢ Err Cause.Device → S.is_stopped system.new ≡ S.is_stopped system.old }
 {
     for done in 0..system.standing(link, way) {
         match system.happen(alloc, &Event::Deliver(link, way)) {
@@ -56,6 +57,7 @@ fn round<S: Scripted, W: Write>(
 ) -> Result<(), LineStop>
     ensures held { S.honest system.new → S.honest system.old }
     ensures ends { S.honest system.new → LineEnds S.law (S.state system.old) (ScriptLine.Round link) result (S.state system.new) (W.contents out.old) (W.contents out.new) }
+    ensures runs_on { result ≢ Err LineStop.Stopped → S.is_stopped system.new ≡ S.is_stopped system.old }
 {
     match system.clean_round(alloc, link) {
         Ok(()) => printed(print_round(link, None, out)),
@@ -73,6 +75,7 @@ fn control<S: Scripted, W: Write>(
 ) -> Result<(), LineStop>
     ensures held { S.honest system.new → S.honest system.old }
     ensures ends { S.honest system.new → LineEnds S.law (S.state system.old) (ScriptLine.Control id) result (S.state system.new) (W.contents out.old) (W.contents out.new) }
+    ensures runs_on { result ≢ Err LineStop.Stopped → S.is_stopped system.new ≡ S.is_stopped system.old }
 {
     match system.clean_control(alloc, id) {
         Ok(()) => printed(print_control(id, None, out)),
@@ -92,6 +95,7 @@ pub(crate) fn run_line<S: Scripted, W: Write>(
 ) -> Result<(), LineStop>
     ensures held { S.honest system.new → S.honest system.old }
     ensures ends { S.honest system.new → LineEnds S.law (S.state system.old) line.now result (S.state system.new) (W.contents out.old) (W.contents out.new) }
+    ensures runs_on { result ≢ Err LineStop.Stopped → S.is_stopped system.new ≡ S.is_stopped system.old }
 {
     match line {
         ScriptLine::One(event) => match system.happen(alloc, event) {

@@ -2,7 +2,7 @@
 
 ghost use Rattle.std.specs.Prelude.{List};
 ghost use Rattle.dnp_daemons.specs.declared.script.ScriptLine.{ScriptLine};
-ghost use Rattle.dnp_daemons.specs.ScriptReports.{ReportEnds};
+ghost use Rattle.dnp_daemons.specs.ScriptReports.{ReportEnds, TellsCause};
 ghost use Rattle.dnp_daemons.specs.steps.Readings.{Says};
 
 use crate::report_text::{PrintFault, print_report};
@@ -25,6 +25,7 @@ pub(crate) fn run_to_report<S: Scripted, W: Write>(
     ensures held { S.honest system.new → S.honest system.old }
     ensures ends { S.honest system.new → (lines : List ScriptLine) → Says script.now lines
         → ReportEnds S.law (S.state system.old) lines result (S.state system.new) (W.contents out.old) (W.contents out.new) }
+    ensures cause { TellsCause (S.is_stopped system.old) (S.is_stopped system.new) result }
 {
     match run_text(alloc, system, script, out) {
         Ok(()) => {}

@@ -2,6 +2,7 @@
 
 ghost use Rattle.std.specs.Prelude.{List};
 ghost use Rattle.dnp_daemons.specs.declared.script.ScriptLine.{ScriptLine};
+ghost use Rattle.dnp_daemons.specs.ScriptReports.{TellsCause};
 ghost use Rattle.dnp_daemons.specs.steps.Readings.{Says, TextEndsBy};
 
 use crate::run::line::{LineStop, run_line};
@@ -25,6 +26,7 @@ pub(crate) fn run_text<S: Scripted, W: Write>(
     ensures held { S.honest system.new → S.honest system.old }
     ensures ends { S.honest system.new → (lines : List ScriptLine) → Says script.now lines
         → TextEndsBy S.law (S.state system.old) lines result (S.state system.new) (W.contents out.old) (W.contents out.new) }
+    ensures cause { TellsCause (S.is_stopped system.old) (S.is_stopped system.new) result }
 {
     let mut done = 0;
     let mut rest = script.text;

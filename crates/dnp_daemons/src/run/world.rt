@@ -17,6 +17,8 @@ impl<Q: Lanes, J: JournalStore, A: Book, B: Book> Scripted for World<Q, J, A, B>
 
     ghost honest = { λ world. ⟦<World<Q, J, A, B> as Stored>⟧.well world };
 
+    ghost is_stopped = { ⟦<World<Q, J, A, B> as Stored>⟧.is_stopped };
+
     ghost law = { law_of_worlds };
 
     fn happen(&mut self, alloc: Global, event: &Event) -> Result<(), Cause> {

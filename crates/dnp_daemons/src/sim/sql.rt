@@ -2,11 +2,11 @@
 
 ghost use Rattle.std.specs.Prelude.{◌≡◌, ◌≢◌, ◌≤◌, All, Err, IfOk, IsTrue, List};
 ghost use Rattle.dnp_concentrator.specs.Plan.{KeepsLimits};
-ghost use Rattle.dnp_concentrator.specs.declared.cause.Cause.TheVariants.{Device, Memory};
+ghost use Rattle.dnp_concentrator.specs.declared.cause.Cause.TheVariants.{Device, Exhausted};
 ghost use Rattle.dnp_daemons.specs.declared.script.ScriptLine.{ScriptLine};
 ghost use Rattle.dnp_daemons.specs.Simulations.{PlanEnds};
 ghost use Rattle.dnp_daemons.specs.steps.Readings.{Says};
-ghost use Rattle.dnp_daemons.specs.steps.SqlStores.{AreNew, AreWell};
+ghost use Rattle.dnp_daemons.specs.steps.SqlStores.{AreNew, AreWell, unmade_for};
 
 use crate::run::ScriptStop;
 use crate::run::carried::Carried;
@@ -38,7 +38,7 @@ struct SqlStores {
 
 /// Why no system was made, where a store was not.
 fn unmade(fault: OpenFault) -> ScriptStop
-    ensures { result ≢ ScriptStop.Fault Device → result ≡ ScriptStop.Fault Memory }
+    ensures { result ≡ unmade_for fault }
 {
     match fault {
         OpenFault::Memory => ScriptStop::Fault(Cause::Memory),
@@ -82,7 +82,8 @@ pub(super) fn simulate_sql<C: Carrier + Drop, W: Write>(
 ) -> Result<(), ScriptStop>
     requires limits { KeepsLimits plan.now }
     requires fits { (lines : List ScriptLine) × Says script.now lines }
-    ensures { result ≢ Err (ScriptStop.Fault Device) → (lines : List ScriptLine) → Says script.now lines → PlanEnds plan.now lines result (W.contents out.old) (W.contents out.new) }
+    ensures ends { result ≢ Err (ScriptStop.Fault Device) → (lines : List ScriptLine) → Says script.now lines → PlanEnds plan.now lines result (W.contents out.old) (W.contents out.new) }
+    ensures named { result ≢ Err (ScriptStop.Fault Exhausted) }
 {
     match SqlStores::new(alloc, plan.queue) {
         Ok(stores) => simulate_over(alloc, plan, script, stores, carrier, out),
@@ -102,7 +103,8 @@ fn simulate_over<C: Carrier + Drop, W: Write>(
     requires limits { KeepsLimits plan.now }
     requires fits { (lines : List ScriptLine) × Says script.now lines }
     requires new { AreNew plan.now.queue stores }
-    ensures { result ≢ Err (ScriptStop.Fault Device) → (lines : List ScriptLine) → Says script.now lines → PlanEnds plan.now lines result (W.contents out.old) (W.contents out.new) }
+    ensures ends { result ≢ Err (ScriptStop.Fault Device) → (lines : List ScriptLine) → Says script.now lines → PlanEnds plan.now lines result (W.contents out.old) (W.contents out.new) }
+    ensures named { result ≢ Err (ScriptStop.Fault Exhausted) }
 {
     plans_have_all_lanes(plan);
     lanes_stay_sound();

@@ -1,6 +1,6 @@
 //! Tasks that are asked on a stream.
 
-ghost use Rattle.std.specs.Prelude.{◌≡◌, [], ◌∷◌, true, false, Ok};
+ghost use Rattle.std.specs.Prelude.{◌≡◌, ◌≢◌, ◌<◌, ◌+◌, [], ◌∷◌, true, false, Err, Ok, vec_capacity, vec_len};
 ghost use Rattle.dnp_linkframe.specs.declared.frame.Frame.{Frame as FrameValue};
 ghost use Rattle.dnp_streams.specs.streams.Dialogues.{Dialogue, Makes, Step, heard_in};
 ghost use Rattle.dnp_streams.specs.streams.Logs.{new_log};
@@ -22,7 +22,8 @@ use dnp_master::Task;
 use std::alloc::Global;
 use std::io::{Read, Write};
 
-/// While the station is idle, asks and relays, and writes what each step sends. Whether the dialogue stops.
+/// While the station is idle, asks and relays, and writes what each step sends. Whether the dialogue stops. It asks for no memory
+/// but the station's.
 fn go_on<S: Asker, W: Write>(
     alloc: Global,
     station: &mut S,
@@ -39,6 +40,7 @@ fn go_on<S: Asker, W: Write>(
         result (W.contents out.old) (W.contents out.new) (dialogue_of (S.state station.new) port.new progress.new) }
     ensures listens { result ≡ Ok false → Listens S.asking.is_idle (S.state station.new) progress.new }
     ensures noted { AreNoted result log.old log.new }
+    ensures named { result ≢ Err ServeFault.Memory }
 {
     let mut octets = Outgoing::new();
     for _ in 0..u64::MAX {
@@ -77,6 +79,7 @@ fn finish<S: Asker, W: Write>(
         result (W.contents out.old) (W.contents out.new) (dialogue_of (S.state station.new) port.new progress.new) }
     ensures listens { result ≡ Ok false → Listens S.asking.is_idle (S.state station.new) progress.new }
     ensures noted { AreNoted result log.old log.new }
+    ensures named { result ≢ Err ServeFault.Memory }
 {
     match write_noted(octets, out, log) {
         Ok(()) => {}
@@ -103,6 +106,7 @@ fn begin<S: Asker, W: Write>(
         result (W.contents out.old) (W.contents out.new) (dialogue_of (S.state station.new) port.new progress.new) }
     ensures listens { result ≡ Ok false → Listens S.asking.is_idle (S.state station.new) progress.new }
     ensures noted { AreNoted result log.old log.new }
+    ensures memory { result ≡ Err ServeFault.Memory → vec_capacity progress.old.asked.outcomes < vec_len progress.old.asked.outcomes + 1 }
 {
     match progress.asked.make_room() {
         Ok(()) => {}
@@ -113,7 +117,8 @@ fn begin<S: Asker, W: Write>(
     finish(alloc, station, port, now, &octets, out, progress, log)
 }
 
-/// Hears a frame, writes what that sends, and goes on. Whether the dialogue stops.
+/// Hears a frame, writes what that sends, and goes on. Whether the dialogue stops. Memory is asked for only where no outcome more
+/// has room.
 fn hear_one<S: Asker, W: Write>(
     alloc: Global,
     station: &mut S,
@@ -131,6 +136,7 @@ fn hear_one<S: Asker, W: Write>(
         result (W.contents out.old) (W.contents out.new) (dialogue_of (S.state station.new) port.new progress.new) }
     ensures listens { result ≡ Ok false → Listens S.asking.is_idle (S.state station.new) progress.new }
     ensures noted { AreNoted result log.old log.new }
+    ensures memory { result ≡ Err ServeFault.Memory → vec_capacity progress.old.asked.outcomes < vec_len progress.old.asked.outcomes + 1 }
 {
     match progress.asked.make_room() {
         Ok(()) => {}

@@ -1,4 +1,4 @@
-use Rattle.std.proofs.Common.{◌++◌}
+use Rattle.std.proofs.Common.{◌++◌, ◌∙◌}
 use Rattle.std.proofs.KnownBytes.{Appends-trans}
 use Rattle.dnp_daemons.proofs.ScriptRunning.{does_next, cut_line, said_stopped}
 use Rattle.dnp_daemons.proofs.run.run_script.Goals as goal
@@ -11,6 +11,7 @@ loop-done-preserved g c =
           let (text, did, wrote) = before.1 (c.in-Ok.ensures.held honest) in
           let (more, does, wrote_more) = c.in-Ok.ensures.ends honest in
           (text ++ more, does_next g.S.Scripted.law _ _ _ _ _ _ _ _ c.loop-done-test.true c.index-script-done.is did does, Appends-trans _ _ _ _ _ wrote wrote_more),
+      c.in-Ok.ensures.runs_on (λ e. cc) ∙ before.2,
     )
 
 pub returns-in-Err-Stopped-clause-ends : goal.returns-in-Err-Stopped-clause-ends

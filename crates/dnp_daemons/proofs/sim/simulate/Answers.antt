@@ -1,5 +1,5 @@
 use Rattle.dnp_daemons.proofs.sim.simulate.Goals as goal
 
-pub returns-in-Sql : goal.returns-in-Sql
-returns-in-Sql g c = λ spoken.
-    c.simulate_sql.ensures (rw c.in-Sql.is at spoken)
+pub returns-in-Sql-clause-ends : goal.returns-in-Sql-clause-ends
+returns-in-Sql-clause-ends g c = λ spoken.
+    c.simulate_sql.ensures.ends (rw c.in-Sql.is at spoken)

@@ -10,7 +10,7 @@ returns-clause-part g c _ =
       is_frame c.in-Ok.answer,
       record {
         answer = c.in-Ok.answer;
-        given = c.in-Ok.ensures;
+        given = c.in-Ok.ensures.answer;
         text_is = sym split;
         accepted_is = refl;
       },

@@ -16,7 +16,7 @@ unreachable-requires g c =
     let r = reading_by c.args.script.now.carried c.args.script.now.substations in
     let line = c.first_line.result.0.now in
     let more = lines_of c.first_line.result.1.now in
-    let (utf8, few, said, held, did) = c.loop-rest.invariant in
+    let (utf8, few, said, held, did, on) = c.loop-rest.invariant in
     let (lines, says) = c.requires.fits in
     let from = c.in-Ok-None.ensures in
     let none : r line ≡ None = sym from ∙ c.in-Ok-None.field-0-is in
@@ -27,7 +27,7 @@ returns-in-Err-Stopped-clause-ends g c = λ honest lines says.
     let r = reading_by c.args.script.now.carried c.args.script.now.substations in
     let line = c.first_line.result.0.now in
     let more = lines_of c.first_line.result.1.now in
-    let (utf8, few, said, held, did) = c.loop-rest.invariant in
+    let (utf8, few, said, held, did, on) = c.loop-rest.invariant in
     let from = c.in-Ok-Some.ensures in
     let some = c.in-Ok-Some.field-0-is in
     let is : r line ≡ Some c.in-Ok-Some.read = cc in
@@ -43,7 +43,7 @@ returns-in-Err-Unwritten-clause-ends g c = λ honest lines says.
     let r = reading_by c.args.script.now.carried c.args.script.now.substations in
     let line = c.first_line.result.0.now in
     let more = lines_of c.first_line.result.1.now in
-    let (utf8, few, said, held, did) = c.loop-rest.invariant in
+    let (utf8, few, said, held, did, on) = c.loop-rest.invariant in
     let from = c.in-Ok-Some.ensures in
     let some = c.in-Ok-Some.field-0-is in
     let is : r line ≡ Some c.in-Ok-Some.read = cc in
@@ -52,7 +52,8 @@ returns-in-Err-Unwritten-clause-ends g c = λ honest lines says.
     let (part, rest, does, wrote_part) = rw c.in-Err-Unwritten.field-0-is at (c.in-Err-Unwritten.ensures.ends honest) in
     cut_line g.S.Scripted.law _ _ _ _ _ _ _ _ _ _ _ _ next.low next.is did wrote does wrote_part
 
--- a line more is done: what the rest of the text says, the honesty of the stores, and what was done and printed by then
+-- a line more is done: what the rest of the text says, the honesty of the stores, what was done and printed by then, and that no store
+-- was stopped
 line_done : (g : Over) (c : In-Ok g) →
     ((lines : List ScriptLine) → Says c.args.script.now lines →
     map (reading_by c.args.script.now.carried c.args.script.now.substations) (lines_of c.first_line.result.1.now)
@@ -62,11 +63,12 @@ line_done : (g : Over) (c : In-Ok g) →
     × DoesAll g.S.Scripted.law (g.S.Scripted.state c.args.system.now) (take (c.loop-rest.done + 1) lines)
     (g.S.Scripted.state c.run_line.new.system) text
     × Appends (g.W.Write.contents c.args.out.now) (g.W.Write.contents c.run_line.new.out) text)
+    × (g.S.Scripted.is_stopped c.run_line.new.system ≡ g.S.Scripted.is_stopped c.args.system.now)
 line_done g c =
     let r = reading_by c.args.script.now.carried c.args.script.now.substations in
     let line = c.first_line.result.0.now in
     let more = lines_of c.first_line.result.1.now in
-    let (utf8, few, said, held, did) = c.loop-rest.invariant in
+    let (utf8, few, said, held, did, on) = c.loop-rest.invariant in
     let from = c.in-Ok-Some.ensures in
     let some = c.in-Ok-Some.field-0-is in
     let is : r line ≡ Some c.in-Ok-Some.read = cc in (
@@ -77,24 +79,25 @@ line_done g c =
           let (part, does, wrote_part) = c.in-Ok.ensures.ends honest in
           goes_on g.S.Scripted.law r lines c.loop-rest.done line more c.in-Ok-Some.read _ _ _ _ _ _ text part
           (ap (map r) (sym c.first_line.ensures.lines) ∙ said lines says) is done wrote does wrote_part,
+      c.in-Ok.ensures.runs_on (λ e. cc) ∙ on,
     )
 
 pub loop-rest-preserved-in-Ok : goal.loop-rest-preserved-in-Ok
 loop-rest-preserved-in-Ok g c =
-    let (left, held, did) = line_done g (goal.at.loop-rest-preserved-in-Ok g c).In-Ok in (search rules, omega arith, left, held, did)
+    let (left, held, did, on) = line_done g (goal.at.loop-rest-preserved-in-Ok g c).In-Ok in (search rules, omega arith, left, held, did, on)
 
 pub loop-rest-preserved-in-Ok-2 : goal.loop-rest-preserved-in-Ok-2
 loop-rest-preserved-in-Ok-2 g c =
-    let (left, held, did) = line_done g (goal.at.loop-rest-preserved-in-Ok-2 g c).In-Ok in (search rules, omega arith, left, held, did)
+    let (left, held, did, on) = line_done g (goal.at.loop-rest-preserved-in-Ok-2 g c).In-Ok in (search rules, omega arith, left, held, did, on)
 
 pub loop-rest-preserved : goal.loop-rest-preserved
 loop-rest-preserved g c =
-    let (left, held, did) = line_done g (goal.at.loop-rest-preserved g c).In-Ok in (search rules, omega arith, left, held, did)
+    let (left, held, did, on) = line_done g (goal.at.loop-rest-preserved g c).In-Ok in (search rules, omega arith, left, held, did, on)
 
 pub returns-clause-ends : goal.returns-clause-ends
 returns-clause-ends g c = λ honest lines says.
     let r = reading_by c.args.script.now.carried c.args.script.now.substations in
-    let (utf8, few, said, held, did) = c.loop-rest.invariant in
+    let (utf8, few, said, held, did, on) = c.loop-rest.invariant in
     let (text, done, wrote) = did honest lines says in
     let empty : length c.loop-rest.rest.now ≡ 0 = search rules in
     let none : c.loop-rest.rest.now ≡ [] = no_text c.loop-rest.rest.now empty in
