@@ -205,3 +205,21 @@ def tried(r, size, room, bounded):
     if r.random() < 0.1:
         hold_json(ran("decode", "--json", *words, given=given, room=room).ends(REFUSED), told)
     return size
+
+
+def paired(r, size, room, bounded):
+    """So many first segments, each between two other stations: the work for a frame may hardly grow with the pairs before it."""
+    ways = r.sample(range(1 << 32), size)
+    units = [wire.frame(0x44, way >> 16, way & 0xFFFF, b"\x40\xC0") for way in ways]
+    seconds = []
+    for count in (size // 8, size):
+        given = b"".join(units[:count])
+        run = ran("decode", "--raw", given=given, room=room).ends(DONE)
+        seconds.append(run.seconds)
+        if run.out.count("\n") != 2 * count or run.out.count(" words good\n") != count or run.out.count("  transport FIR 0\n") != count:
+            raise run.broken(f"other lines than two for each of {count} segments")
+        if bounded and run.kilobytes > OWN + 4 * count:
+            raise run.broken(f"{run.kilobytes} kilobytes of memory for {count} pairs")
+    if seconds[1] > 1 + 20 * seconds[0]:
+        raise run.broken(f"{seconds[1]:.1f} seconds for {size} pairs, and {seconds[0]:.1f} for an eighth of them")
+    return size

@@ -22,7 +22,8 @@ class Broken(Exception):
 
 
 class Run:
-    """A run of a program to its end: `status`, `out` and `err`, and `kilobytes`, the most memory that it had."""
+    """A run of a program to its end: `status`, `out` and `err`, `kilobytes`, the most memory that it had, and `seconds`, those of its
+    processor."""
 
     def __init__(self, words, given, room):
         with tempfile.TemporaryFile(dir=room) as stdin, tempfile.TemporaryFile(dir=room) as out, tempfile.TemporaryFile(dir=room) as err:
@@ -34,7 +35,7 @@ class Run:
             _, status, used = os.wait4(program.pid, 0)
             timer.cancel()
             self.status = program.returncode = os.waitstatus_to_exitcode(status)
-            self.kilobytes = used.ru_maxrss
+            self.kilobytes, self.seconds = used.ru_maxrss, used.ru_utime + used.ru_stime
             out.seek(0)
             err.seek(0)
             self.out, self.err = out.read().decode("utf-8", "surrogateescape"), err.read().decode("utf-8", "surrogateescape")

@@ -4,6 +4,8 @@ and shows the rows: these have to be what Python's sqlite3 reads in the same fil
 import re
 import shutil
 import sqlite3
+import tempfile
+from pathlib import Path
 
 from program import DNP, DONE, FAULT, REFUSED, STORES, TOP, Broken, Run
 
@@ -105,11 +107,30 @@ def tried(r, size, room, bounded):
     whole = made(room)
     for _ in range(size):
         name = r.choice(list(ROWS))
-        octets = bytearray(whole[name])
-        place = r.randrange(len(octets))
-        octets[place] = r.choice([it for it in (octets[place] ^ 1 << r.randrange(8), r.randrange(256), 0, 0xFF) if it != octets[place]])
-        try_one(room, whole, name, bytes(octets), place, bounded)
+        spoil(r, room, whole, name, r.randrange(len(whole[name])), bounded)
     return size
+
+
+def parts(size):
+    """How many parts of so many octets all files have."""
+    with tempfile.TemporaryDirectory() as room:
+        return -(-sum(len(octets) for octets in made(Path(room)).values()) // size)
+
+
+def walked(r, size, room, bounded, number):
+    """Tries each octet of one of these parts."""
+    whole = made(room)
+    places = [(name, place) for name, octets in whole.items() for place in range(len(octets))][number * size:(number + 1) * size]
+    for name, place in places:
+        spoil(r, room, whole, name, place, bounded)
+    return len(places)
+
+
+def spoil(r, room, whole, name, place, bounded):
+    """Tries a store's file with another octet at this place."""
+    octets = bytearray(whole[name])
+    octets[place] = r.choice([it for it in (octets[place] ^ 1 << r.randrange(8), r.randrange(256), 0, 0xFF) if it != octets[place]])
+    try_one(room, whole, name, bytes(octets), place, bounded)
 
 
 def try_one(room, whole, name, octets, place, bounded):

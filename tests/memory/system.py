@@ -13,7 +13,7 @@ TOP = Path(__file__).resolve().parents[2]
 sys.path.insert(0, str(TOP / "tests/headline"))
 import holds
 
-PROGRAM = TOP / "crates/dnp_memory/out/dnp_memory"
+PROGRAM = os.environ.get("MEMORY", str(TOP / "crates/dnp_memory/out/dnp_memory"))
 # what is printed where nothing is refused: the event, its control, and the event whose confirm was lost, which came again
 WANTED = """journal 1
  0 binary 0 1 01 1000
