@@ -18,7 +18,7 @@ HEADER = r"\d+\.\d+ (?:all|\d+\.\.\d+|x\d+)"
 MOMENT = r"[-+\d]+T[\d:.]+Z"
 OBJECT = (rf"-?\d+ = -?\d+ flags [\dA-F]{{2}}(?: at {MOMENT})?|\d+ = [01]|{MOMENT}|\d+ ms|"
           r"\d+ code [\dA-F]{2} count \d+ on \d+ off \d+ status \d+|\d+ set -?\d+ status \d+")
-FAULT = "Short|FunctionUnknown|HeaderCut|QualifierUnknown|ObjectUnknown|RangeBackward|ObjectsCut"
+FAULT = "Short|FunctionUnknown|HeaderCut|QualifierUnknown|ObjectUnknown|RangeBackward|ObjectsCut|CommonTime"
 NAMES = ("CONFIRM|READ|WRITE|SELECT|OPERATE|DIRECT_OPERATE|DIRECT_OPERATE_NR|ENABLE_UNSOLICITED|DISABLE_UNSOLICITED|"
          "DELAY_MEASURE")
 BITS = r"seq \d+(?: fir)?(?: fin)?(?: con)?(?: uns)?"

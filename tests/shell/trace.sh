@@ -86,9 +86,16 @@ traces all-that-can-happen "$plan" "open 0${lf}poll 0 1${lf}pass 7${lf}damage 0 
     "12 link 0 down damaged CONFIRM seq 1 fir fin" \
     "12 link 0 down sent WRITE seq 2 fir fin, 50.1 x1" \
     "12 link 0 down stands WRITE seq 2 fir fin, 50.1 x1"
-# A fragment of five segments, of which one is lost and three are cleared before they come to the front: 100 events of
-# 9 octets and their index, behind a header of 4, and a control octet, a function and two of indications, 1,008 in all
-{ echo 'open 0' && seq 1 100 | awk '{ print "change 0 binary 0 " $1 % 2 " 01 " $1 }' && printf '%s\n' 'poll 0 123' 'flush 0 down' 'deliver 0 up' 'lose 0 up' 'open 0'; } >script
+# Three events of one class that lie close together go after the time of the first
+traces events-after-a-common-time "$plan" "open 0${lf}change 0 binary 0 1 01 1000${lf}change 0 binary 0 0 01 1005${lf}change 0 binary 0 1 01 66535${lf}poll 0 1${lf}flush 0 down$lf" \
+    "0 link 0 down sent READ seq 0 fir fin, 60.2 all" \
+    "0 link 0 down arrives READ seq 0 fir fin, 60.2 all" \
+    "0 link 0 up sent RESPONSE seq 0 fir fin con $restarted, 51.1 x1, 2.3 x3" \
+    "0 link 0 up stands RESPONSE seq 0 fir fin con $restarted, 51.1 x1, 2.3 x3"
+# A fragment of four segments, of which one is lost and two are cleared before they come to the front: 100 events of 7
+# octets after an index of 2, too far apart for a common time, behind a header of 5, and a control octet, a function and
+# two of indications, 909 in all
+{ echo 'open 0' && seq 1 100 | awk '{ print "change 0 binary 0 " $1 % 2 " 01 " $1 * 100000 }' && printf '%s\n' 'poll 0 123' 'flush 0 down' 'deliver 0 up' 'lose 0 up' 'open 0'; } >script
 traces a-long-fragment "$plan" "$(<script)" \
     "0 link 0 down sent READ seq 0 fir fin, $events" \
     "0 link 0 down arrives READ seq 0 fir fin, $events" \
