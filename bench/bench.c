@@ -23,6 +23,7 @@ uint64_t dnp_bench_take(const uint8_t *response, size_t size, uint64_t count);
 uint64_t dnp_bench_poll_events(uint64_t count, uint16_t events);
 uint64_t dnp_bench_poll_values(uint64_t count);
 uint64_t dnp_bench_change(uint64_t count, bool is_unsolicited);
+uint64_t dnp_bench_read_lanes(uint8_t shape, bool is_read);
 uint64_t dnp_bench_operate(uint64_t count);
 
 // The same in plain Rust: plain_rust/.
@@ -34,6 +35,8 @@ uint64_t plain_take(const uint8_t *response, size_t size, uint64_t count);
 uint64_t plain_poll_events(uint64_t count, uint16_t events);
 uint64_t plain_poll_values(uint64_t count);
 uint64_t plain_change(uint64_t count, bool is_unsolicited);
+uint64_t plain_read_lanes(uint8_t shape, bool is_read);
+uint64_t plain_lane_fragments(uint8_t shape);
 uint64_t plain_operate(uint64_t count);
 
 enum { WAYS = 4, UNITS = 64, MOST_OCTETS = 4096 };
@@ -263,6 +266,27 @@ static uint64_t reported(int way, uint64_t count) { return (way ? plain_change :
 
 static uint64_t operated(int way, uint64_t count) { return (way ? plain_operate : dnp_bench_operate)(count); }
 
+// Full lanes that are read to their end. To fill them takes as long as to read them and is no part of it: it is timed
+// alone too, and what is left of the best of both is the reading.
+static void lane_row(const char *what, uint8_t shape) {
+    static uint64_t (*const readers_of_lanes[2])(uint8_t, bool) = {dnp_bench_read_lanes, plain_read_lanes};
+    double *best = bests[row_number++], *filling = bests[row_number++];
+    uint64_t sums[2];
+    for (int round = 0; round < rounds; round++)
+        for (int way = 0; way < 2; way++) {
+            double start = seconds();
+            readers_of_lanes[way](shape, false);
+            double filled = seconds();
+            sums[way] = readers_of_lanes[way](shape, true);
+            keep_best(&filling[way], filled - start);
+            keep_best(&best[way], seconds() - filled);
+        }
+    double count = plain_lane_fragments(shape), proved = best[0] - filling[0], plain = best[1] - filling[1];
+    TELL("%-33s %11.1f K%s/s %7.2f%s\n", what, count / proved / 1e3, "fragment", plain / proved, sums[0] == sums[1] ? "" : "  THE SUMS DIFFER");
+    if (sums[0] != sums[1]) failed = 1;
+    all_sums = all_sums * 31 + sums[0];
+}
+
 // A row of `count` works of a kind, as fragments or polls, a round.
 static void work_row(const char *what, const char *unit, uint64_t (*work)(int, uint64_t), uint64_t count) {
     double *best = bests[row_number++];
@@ -319,6 +343,14 @@ static void poll_rows(void) {
     work_row("a SELECT and its OPERATE", "pair", operated, 10000);
 }
 
+// Each lane of 4,096 rows is full: all nine, or the three of a kind.
+static void lane_rows(void) {
+    static const char *const shapes[] = {"rows of all kinds", "analogs", "binaries in groups", "binaries too far apart"};
+    TELL("\n%-33s %23s   beside plain Rust\n", "a READ of full lanes", "proved");
+    for (uint8_t shape = 0; shape < 4; shape++)
+        lane_row(shapes[shape], shape);
+}
+
 static void master_rows(void) {
     static const uint8_t events[] = {0xE0, 0x81, 0x00, 0x00, 0x20, 0x03, 0x28, 0x9C, 0x00};
     static const uint8_t values[] = {0xC0, 0x81, 0x00, 0x00, 0x1E, 0x01, 0x01, 0x00, 0x00, 0x8F, 0x01};
@@ -361,6 +393,7 @@ static void all_rows(void) {
     fragment_rows();
     master_rows();
     poll_rows();
+    lane_rows();
 }
 
 int main(int argc, char **argv) {

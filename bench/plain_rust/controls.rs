@@ -1,13 +1,77 @@
-//! Outputs that are selected and operated.
+//! Outputs that are selected and operated, and what performs their commands.
 
 use crate::fragments::{headers, Fault, Header, Range};
 
 /// A command, of which an output makes what it will.
-#[derive(Clone, Copy)]
+#[derive(Clone, Copy, PartialEq)]
 #[allow(dead_code)]
 pub enum Command {
     Block { index: u16, code: u8, count: u8, on_ms: u32, off_ms: u32 },
-    Set { index: u16, value: i32 },
+    Set16 { index: u16, value: i16 },
+    Set32 { index: u16, value: i32 },
+}
+
+/// Whether outputs perform a block of this code and count.
+pub fn is_performed(code: u8, count: u8) -> bool {
+    matches!(code & 0x3F, 1..=4) && code & 0xC0 != 0xC0 && count != 0
+}
+
+/// What performs commands.
+pub trait Panel {
+    /// How many commands of a request it performs at most.
+    const MOST: usize;
+
+    /// How many binary outputs show a status.
+    fn outputs(&self) -> u16;
+
+    fn status(&self, index: u16) -> u8;
+
+    fn can_perform(&self, command: &Command) -> bool;
+
+    fn perform(&mut self, command: Command);
+}
+
+/// Outputs that latch, and keep the commands that they performed.
+pub struct Switches {
+    latched: Vec<bool>,
+    setpoints: u16,
+    pub operated: Vec<Command>,
+}
+
+impl Switches {
+    pub fn new(outputs: u16, setpoints: u16) -> Switches {
+        Switches { latched: vec![false; usize::from(outputs)], setpoints, operated: Vec::new() }
+    }
+}
+
+impl Panel for Switches {
+    const MOST: usize = 8;
+
+    fn outputs(&self) -> u16 {
+        self.latched.len() as u16
+    }
+
+    fn status(&self, index: u16) -> u8 {
+        1 | u8::from(self.latched[usize::from(index)]) << 7
+    }
+
+    fn can_perform(&self, command: &Command) -> bool {
+        match *command {
+            Command::Block { index, code, count, .. } => usize::from(index) < self.latched.len() && is_performed(code, count),
+            Command::Set16 { index, .. } | Command::Set32 { index, .. } => index < self.setpoints,
+        }
+    }
+
+    fn perform(&mut self, command: Command) {
+        if let Command::Block { index, code, .. } = command {
+            match code & 15 {
+                3 => self.latched[usize::from(index)] = true,
+                4 => self.latched[usize::from(index)] = false,
+                _ => {}
+            }
+        }
+        self.operated.push(command);
+    }
 }
 
 struct Select {
@@ -16,15 +80,12 @@ struct Select {
     objects: Vec<u8>,
 }
 
-pub struct Outputs {
-    latched: Vec<bool>,
-    setpoints: u16,
+/// The outputs of an outstation.
+pub struct Outputs<P> {
+    pub panel: P,
     select: Option<Select>,
     select_ms: u64,
-    pub operated: Vec<Command>,
 }
-
-const MOST: usize = 8;
 
 fn four(octets: &[u8]) -> u32 {
     u32::from_le_bytes([octets[0], octets[1], octets[2], octets[3]])
@@ -33,8 +94,8 @@ fn four(octets: &[u8]) -> u32 {
 fn command(header: &Header<'_>, index: u16, object: &[u8]) -> Command {
     match (header.group, header.variation) {
         (12, _) => Command::Block { index, code: object[0], count: object[1], on_ms: four(&object[2..]), off_ms: four(&object[6..]) },
-        (_, 1) => Command::Set { index, value: four(object) as i32 },
-        _ => Command::Set { index, value: i32::from(i16::from_le_bytes([object[0], object[1]])) },
+        (_, 1) => Command::Set32 { index, value: four(object) as i32 },
+        _ => Command::Set16 { index, value: i16::from_le_bytes([object[0], object[1]]) },
     }
 }
 
@@ -57,34 +118,13 @@ fn commands(octets: &[u8]) -> Result<Vec<(Command, usize)>, Fault> {
     Ok(commands)
 }
 
-impl Outputs {
-    pub fn new(outputs: usize, setpoints: u16, select_ms: u64) -> Outputs {
-        Outputs { latched: vec![false; outputs], setpoints, select: None, select_ms, operated: Vec::new() }
+impl<P: Panel> Outputs<P> {
+    pub fn new(panel: P, select_ms: u64) -> Outputs<P> {
+        Outputs { panel, select: None, select_ms }
     }
 
     pub fn forget(&mut self) {
         self.select = None;
-    }
-
-    fn check(&self, command: &Command) -> u8 {
-        let is_good = match *command {
-            Command::Block { index, code, count, .. } => {
-                usize::from(index) < self.latched.len() && matches!(code & 0x3F, 1..=4) && code & 0xC0 != 0xC0 && count != 0
-            }
-            Command::Set { index, .. } => index < self.setpoints,
-        };
-        if is_good { 0 } else { 4 }
-    }
-
-    fn perform(&mut self, command: Command) {
-        if let Command::Block { index, code, .. } = command {
-            match code & 15 {
-                3 => self.latched[usize::from(index)] = true,
-                4 => self.latched[usize::from(index)] = false,
-                _ => {}
-            }
-        }
-        self.operated.push(command);
     }
 
     /// What each command of an OPERATE is answered because of its select; none, where it is carried out.
@@ -105,7 +145,7 @@ impl Outputs {
         }
         let commands = commands(octets)?;
         let mut refused = if function == 4 { self.refused(now, octets) } else { None };
-        if commands.len() > MOST {
+        if commands.len() > P::MOST {
             refused = Some(8);
         }
         let mut answer = Vec::with_capacity(octets.len() + 2);
@@ -113,11 +153,11 @@ impl Outputs {
         answer.extend_from_slice(&octets[2..]);
         let mut is_selected = function == 3;
         for (command, at) in commands {
-            let code = refused.unwrap_or_else(|| self.check(&command));
+            let code = refused.unwrap_or_else(|| if self.panel.can_perform(&command) { 0 } else { 4 });
             answer[at + 2] = code;
             is_selected &= code == 0;
             if function != 3 && code == 0 {
-                self.perform(command);
+                self.panel.perform(command);
             }
         }
         if is_selected {

@@ -9,6 +9,7 @@ pub enum Fault {
     Qualifier,
     Backward,
     ObjectsCut,
+    CommonTime,
 }
 
 #[derive(Clone, Copy)]
@@ -25,6 +26,8 @@ pub struct Header<'a> {
     pub variation: u8,
     pub range: Range,
     pub octets: &'a [u8],
+    /// The common time that stands before it, if its objects give their times after one.
+    pub common: Option<u64>,
 }
 
 #[derive(Clone, Copy, PartialEq)]
@@ -53,13 +56,14 @@ fn takes(form: Form, group: u8, variation: u8) -> Option<(usize, &'static [u8])>
         (Form::Control | Form::Response, 41, 2) => (3, INDEXED),
         (Form::Response, 1 | 10, 2) | (Form::Response, 2, 1) => (1, ANY),
         (Form::Response, 2, 2) => (7, ANY),
+        (Form::Response, 2, 3) => (3, INDEXED),
         (Form::Response, 20 | 22 | 30 | 32 | 40, 1) => (5, ANY),
         (Form::Response, 20 | 22 | 30 | 32 | 40, 2) => (3, ANY),
         (Form::Response, 20, 5) | (Form::Response, 30, 3) => (4, ANY),
         (Form::Response, 20, 6) | (Form::Response, 30, 4) => (2, ANY),
         (Form::Response, 22, 5) | (Form::Response, 32, 3) => (11, ANY),
         (Form::Response, 22, 6) | (Form::Response, 32, 4) => (9, ANY),
-        (Form::Response, 50, 1) => (6, COUNT),
+        (Form::Response, 50, 1) | (Form::Response, 51, 1 | 2) => (6, COUNT),
         (Form::Response, 52, 2) => (2, COUNT),
         (Form::Response, 1, 1) | (Form::Response, 80, 1) => (0, SPAN),
         _ => return None,
@@ -111,7 +115,7 @@ fn header(form: Form, octets: &[u8]) -> Result<(Header<'_>, &[u8]), Fault> {
         return Err(Fault::ObjectsCut);
     }
     let (octets, rest) = rest.split_at(wanted);
-    Ok((Header { group: *group, variation: *variation, range, octets }, rest))
+    Ok((Header { group: *group, variation: *variation, range, octets, common: None }, rest))
 }
 
 pub fn count(range: Range) -> usize {
@@ -123,19 +127,48 @@ pub fn count(range: Range) -> usize {
 }
 
 /// The headers of a fragment that was read.
+#[derive(Clone, Copy)]
 pub struct Headers<'a> {
     form: Form,
     rest: &'a [u8],
+    common: Option<u64>,
+}
+
+impl<'a> Headers<'a> {
+    /// The next header, with the common time after which its objects give their times.
+    fn step(&mut self) -> Result<Header<'a>, Fault> {
+        let (mut header, rest) = header(self.form, self.rest)?;
+        self.rest = rest;
+        match (header.group, header.variation) {
+            (51, _) => self.common = header.octets.chunks_exact(6).last().map(time).or(self.common),
+            (2, 3) => header.common = self.common,
+            _ => {}
+        }
+        Ok(header)
+    }
 }
 
 impl<'a> Iterator for Headers<'a> {
     type Item = Header<'a>;
 
     fn next(&mut self) -> Option<Header<'a>> {
-        let (header, rest) = header(self.form, self.rest).ok()?;
-        self.rest = rest;
-        Some(header)
+        self.step().ok()
     }
+}
+
+/// Whether each time is there that the header's objects give after a common one, and is under 2^48.
+fn is_timed(header: &Header<'_>) -> bool {
+    if (header.group, header.variation) != (2, 3) {
+        return true;
+    }
+    let size = header.octets.len() / count(header.range).max(1);
+    let mut objects = header.octets.chunks_exact(size.max(1));
+    header.common.is_some_and(|common| objects.all(|object| common + after(&object[size - 2..]) < 1 << 48))
+}
+
+/// A time after a common one, in ms.
+fn after(octets: &[u8]) -> u64 {
+    u64::from(u16::from_le_bytes([octets[0], octets[1]]))
 }
 
 /// The headers of a READ, of a control request or of a response, or the first fault.
@@ -147,15 +180,20 @@ pub fn headers(octets: &[u8]) -> Result<Headers<'_>, Fault> {
         [_, 129 | 130, ..] | [] | [_] => return Err(Fault::Short),
         _ => return Err(Fault::Function),
     };
-    let mut left = rest;
-    while !left.is_empty() {
-        left = header(form, left)?.1;
+    let all = Headers { form, rest, common: None };
+    let mut left = all;
+    while !left.rest.is_empty() {
+        if !is_timed(&left.step()?) {
+            return Err(Fault::CommonTime);
+        }
     }
-    Ok(Headers { form, rest })
+    Ok(all)
 }
 
-#[derive(Clone, Copy)]
+/// The binaries are of kind 0, the counters of 1, the analogs of 2.
+#[derive(Clone, Copy, PartialEq)]
 pub struct Row {
+    pub kind: u8,
     pub index: u16,
     pub flags: u8,
     pub value: i64,
@@ -169,20 +207,21 @@ fn time(octets: &[u8]) -> u64 {
 /// The rows of a header whose objects are rows.
 pub fn rows<'a>(header: Header<'a>) -> Option<impl Iterator<Item = Row> + 'a> {
     let (kind, flags, width, timed) = match (header.group, header.variation) {
-        (1, 2) | (2, 1) => (1, 1, 0, 0),
-        (2, 2) => (1, 1, 0, 6),
-        (20 | 22, 1) => (20, 1, 4, 0),
-        (20 | 22, 2) => (20, 1, 2, 0),
-        (20, 5) => (20, 0, 4, 0),
-        (20, 6) => (20, 0, 2, 0),
-        (22, 5) => (20, 1, 4, 6),
-        (22, 6) => (20, 1, 2, 6),
-        (30 | 32, 1) => (30, 1, 4, 0),
-        (30 | 32, 2) => (30, 1, 2, 0),
-        (30, 3) => (30, 0, 4, 0),
-        (30, 4) => (30, 0, 2, 0),
-        (32, 3) => (30, 1, 4, 6),
-        (32, 4) => (30, 1, 2, 6),
+        (1, 2) | (2, 1) => (0, 1, 0, 0),
+        (2, 2) => (0, 1, 0, 6),
+        (2, 3) => (0, 1, 0, 2),
+        (20 | 22, 1) => (1, 1, 4, 0),
+        (20 | 22, 2) => (1, 1, 2, 0),
+        (20, 5) => (1, 0, 4, 0),
+        (20, 6) => (1, 0, 2, 0),
+        (22, 5) => (1, 1, 4, 6),
+        (22, 6) => (1, 1, 2, 6),
+        (30 | 32, 1) => (2, 1, 4, 0),
+        (30 | 32, 2) => (2, 1, 2, 0),
+        (30, 3) => (2, 0, 4, 0),
+        (30, 4) => (2, 0, 2, 0),
+        (32, 3) => (2, 1, 4, 6),
+        (32, 4) => (2, 1, 2, 6),
         _ => return None,
     };
     let (first, prefix) = match header.range {
@@ -191,6 +230,7 @@ pub fn rows<'a>(header: Header<'a>) -> Option<impl Iterator<Item = Row> + 'a> {
         _ => return None,
     };
     let size = prefix + flags + width + timed;
+    let common = header.common.unwrap_or(0);
     Some(header.octets.chunks_exact(size).enumerate().map(move |(k, octets)| {
         let index = match prefix {
             0 => first + k as u16,
@@ -200,18 +240,18 @@ pub fn rows<'a>(header: Header<'a>) -> Option<impl Iterator<Item = Row> + 'a> {
         let octets = &octets[prefix..];
         let (own, octets) = if flags == 1 { (octets[0], &octets[1..]) } else { (1, octets) };
         let value = match (kind, width) {
-            (1, _) => i64::from(own >> 7),
-            (20, 4) => i64::from(u32::from_le_bytes([octets[0], octets[1], octets[2], octets[3]])),
-            (20, _) => i64::from(u16::from_le_bytes([octets[0], octets[1]])),
+            (0, _) => i64::from(own >> 7),
+            (1, 4) => i64::from(u32::from_le_bytes([octets[0], octets[1], octets[2], octets[3]])),
+            (1, _) => i64::from(u16::from_le_bytes([octets[0], octets[1]])),
             (_, 4) => i64::from(i32::from_le_bytes([octets[0], octets[1], octets[2], octets[3]])),
             _ => i64::from(i16::from_le_bytes([octets[0], octets[1]])),
         };
-        Row {
-            index,
-            flags: if kind == 1 { own & 0x7F } else { own },
-            value,
-            time: (timed == 6).then(|| time(&octets[width..])),
-        }
+        let time = match timed {
+            6 => Some(time(&octets[width..])),
+            2 => Some(common + after(octets)),
+            _ => None,
+        };
+        Row { kind, index, flags: if kind == 0 { own & 0x7F } else { own }, value, time }
     }))
 }
 

@@ -5,4 +5,5 @@ mod controls;
 mod fragments;
 mod master;
 mod outstation;
+mod stations;
 mod streams;

@@ -4,16 +4,7 @@
 // The yardstick asks polls alone.
 #![allow(dead_code)]
 
-use crate::fragments::{count, headers, rows, Header, Headers, Range};
-
-#[derive(Clone, Copy, PartialEq)]
-pub struct Row {
-    kind: u8,
-    index: u16,
-    flags: u8,
-    value: i64,
-    time: Option<u64>,
-}
+use crate::fragments::{count, headers, rows, Header, Headers, Range, Row};
 
 #[derive(Clone, Copy, PartialEq)]
 pub enum Fault {
@@ -39,6 +30,16 @@ pub struct Plan {
 }
 
 impl Plan {
+    /// The points of each kind: the index of the first of a block, and their classes.
+    pub fn new(kinds: [Vec<(u16, Vec<u8>)>; 3]) -> Plan {
+        let blocks = kinds.map(|mut blocks| {
+            blocks.retain(|(_, classes)| !classes.is_empty());
+            blocks.sort_by_key(|(base, _)| *base);
+            blocks.into_iter().map(|(base, classes)| Block { base, classes }).collect()
+        });
+        Plan { blocks }
+    }
+
     fn class_of(&self, row: &Row) -> Option<u8> {
         let blocks = &self.blocks[usize::from(row.kind)];
         let place = blocks.partition_point(|block| block.base <= row.index).checked_sub(1)?;
@@ -57,6 +58,13 @@ pub struct Command {
 }
 
 impl Command {
+    /// The object of this group and variation, whose octets are these, without the status.
+    pub fn new(group: u8, variation: u8, index: u16, object: &[u8]) -> Command {
+        let mut octets = [0; 10];
+        octets[..object.len()].copy_from_slice(object);
+        Command { group, variation, index, octets }
+    }
+
     /// How many octets it has before its status.
     fn size(&self) -> usize {
         match (self.group, self.variation) {
@@ -217,21 +225,15 @@ pub struct Master {
 
 /// The rows of a header: packed binaries have the flags 01.
 fn each_row(header: Header<'_>, mut put: impl FnMut(Row) -> Result<(), Fault>) -> Result<(), Fault> {
-    let kind = match header.group {
-        1 | 2 => 0,
-        20 | 22 => 1,
-        30 | 32 => 2,
-        _ => return Ok(()),
-    };
     if let (1, 1, Range::Span { first, .. }) = (header.group, header.variation, header.range) {
         for k in 0..count(header.range) {
             let value = i64::from(header.octets[k / 8] >> (k % 8) & 1);
-            put(Row { kind, index: first + k as u16, flags: 1, value, time: None })?;
+            put(Row { kind: 0, index: first + k as u16, flags: 1, value, time: None })?;
         }
     }
     if let Some(rows) = rows(header) {
         for row in rows {
-            put(Row { kind, index: row.index, flags: row.flags, value: row.value, time: row.time })?;
+            put(row)?;
         }
     }
     Ok(())
@@ -249,6 +251,16 @@ impl Master {
 
     pub fn hung_up(&mut self) {
         (self.is_open, self.seq, self.request, self.selected) = (false, 0, None, None);
+    }
+
+    /// Whether it is open and awaits no response.
+    pub fn is_idle(&self) -> bool {
+        self.is_open && self.request.is_none()
+    }
+
+    /// The command whose select stands.
+    pub fn selected(&self) -> Option<Command> {
+        self.selected
     }
 
     /// The request, or nothing where the task can't be asked now.

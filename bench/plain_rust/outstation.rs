@@ -1,37 +1,84 @@
-//! An outstation: READs of classes, events and present values, responses of several fragments, confirms by
-//! sequence number, the repeated request, the WRITE that clears the restart, unsolicited responses with the
-//! READs that wait for their confirms, and controls.
+//! An outstation: READs of classes, events and present values, responses of several fragments, events after a
+//! common time, confirms by sequence number, the repeated request, the WRITE that clears the restart, unsolicited
+//! responses with the READs that wait for their confirms, and controls.
 
-use crate::controls::Outputs;
+// Each program that has it uses a part of it.
+#![allow(dead_code)]
+
+use crate::controls::{Outputs, Panel, Switches};
 use crate::fragments::{headers, Fault, Header, Range, Row};
 use std::collections::VecDeque;
 
 const MOST: usize = 2_048;
 
+/// A point, with what was read of it last, and what was reported.
 #[derive(Clone, Copy)]
-struct Point {
+pub struct Point {
     class: u8,
     deadband: u32,
     now: Row,
     reported: (i64, u8),
 }
 
-struct Block {
+/// Points of one kind with indices from `base` on.
+pub struct Block {
     base: u16,
     points: Vec<Point>,
 }
 
+impl Block {
+    /// Points of these classes and deadbands, of which nothing was read.
+    pub fn new(kind: u8, base: u16, points: impl Iterator<Item = (u8, u32)>) -> Block {
+        let points = points.enumerate().map(|(k, (class, deadband))| Point {
+            class,
+            deadband,
+            now: Row { kind, index: base + k as u16, flags: 2, value: 0, time: None },
+            reported: (0, 2),
+        });
+        Block { base, points: points.collect() }
+    }
+}
+
 #[derive(Clone, Copy)]
-struct Numbered {
-    id: u64,
-    row: Row,
+pub struct Numbered {
+    pub id: u64,
+    pub row: Row,
 }
 
 #[derive(Default)]
-struct Lane {
-    rows: VecDeque<Numbered>,
+pub struct Lane {
+    pub rows: VecDeque<Numbered>,
     capacity: usize,
-    lost: u64,
+    pub lost: u64,
+}
+
+/// The longest time after a common one, in ms.
+const MOST_AFTER: u64 = 65_535;
+
+/// Whether the time can be told after the first one of a group.
+fn is_in_reach(first: Option<u64>, time: Option<u64>) -> bool {
+    matches!((first, time), (Some(first), Some(time)) if first <= time && time - first <= MOST_AFTER)
+}
+
+impl Lane {
+    fn new(capacity: usize) -> Lane {
+        Lane { capacity, ..Lane::default() }
+    }
+
+    /// Whether three rows or more from this place on, up to another, go in a group after the time of the first.
+    fn has_group(&self, at: usize, to: usize) -> bool {
+        let first = self.rows[at].row.time;
+        to - at >= 3 && self.rows.range(at + 1..at + 3).all(|x| is_in_reach(first, x.row.time))
+    }
+}
+
+/// What an outstation of a plan goes by, in ms.
+#[derive(Clone, Copy)]
+pub struct Times {
+    pub confirm_ms: u64,
+    pub select_ms: u64,
+    pub retries: u8,
+    pub is_unsolicited: bool,
 }
 
 type Upto = [u64; 9];
@@ -76,12 +123,17 @@ struct Reported {
     repeats: u8,
 }
 
-/// What the open header stands for.
+/// What the open header stands for: events of a lane as one variation, events of a lane after a common time, or
+/// present values of a header of the READ, a kind and a block.
 #[derive(Clone, Copy, PartialEq)]
 enum Run {
     Lane(usize, u8),
+    Group(usize, u64),
     Block(usize, usize, usize),
 }
+
+/// The outputs stand behind the kinds of points.
+const OUTPUTS: usize = 3;
 
 /// A fragment that is being written: its open header, where the header's count stands, what it holds.
 struct Writer {
@@ -107,37 +159,67 @@ impl Writer {
         self.place.count = before + 1;
     }
 
+    fn pass_event(&mut self, header: usize, lane: usize, id: u64) {
+        self.pass(header);
+        self.place.given[lane] = id;
+        self.upto[lane] = id;
+    }
+
+    /// Where the number stands in which the run's header ends: the open one, or a new one with these octets. There is
+    /// room for an object of so many octets behind it.
+    #[inline(always)]
+    fn header(&mut self, run: Run, octets: &[u8], size: usize) -> Result<usize, Full> {
+        let at = match self.open {
+            Some((open, at)) if open == run && self.octets.len() + size <= MOST => at,
+            Some((open, _)) if open == run => return Err(Full),
+            _ if self.octets.len() + octets.len() + size > MOST => return Err(Full),
+            _ => {
+                self.octets.extend_from_slice(octets);
+                self.octets.len() - 2
+            }
+        };
+        self.open = Some((run, at));
+        Ok(at)
+    }
+
+    /// One event more stands under the header whose count is there.
+    fn counted(&mut self, at: usize) {
+        let n = u16::from_le_bytes([self.octets[at], self.octets[at + 1]]) + 1;
+        self.octets[at..at + 2].copy_from_slice(&n.to_le_bytes());
+    }
+
     /// An event goes with its index under the open header of its lane and variation, or a new one.
     fn event(&mut self, header: usize, lane: usize, x: &Numbered) -> Result<(), Full> {
         let (group, plain, timed, width) = [(2, 1, 2, 0), (22, 1, 5, 4), (32, 1, 3, 4)][lane % 3];
         let variation = if x.row.time.is_some() { timed } else { plain };
         let size = 3 + width + if x.row.time.is_some() { 6 } else { 0 };
-        let run = Run::Lane(lane, variation);
-        let at = match self.open {
-            Some((open, at)) if open == run && self.octets.len() + size <= MOST => at,
-            Some((open, _)) if open == run => return Err(Full),
-            _ if self.octets.len() + 5 + size > MOST => return Err(Full),
-            _ => {
-                self.octets.extend_from_slice(&[group, variation, 0x28, 0, 0]);
-                self.octets.len() - 2
-            }
-        };
-        self.open = Some((run, at));
-        let n = u16::from_le_bytes([self.octets[at], self.octets[at + 1]]) + 1;
-        self.octets[at..at + 2].copy_from_slice(&n.to_le_bytes());
+        let at = self.header(Run::Lane(lane, variation), &[group, variation, 0x28, 0, 0], size)?;
+        self.counted(at);
         self.octets.extend_from_slice(&x.row.index.to_le_bytes());
         self.value(lane % 3, &x.row);
         if let Some(time) = x.row.time {
             self.octets.extend_from_slice(&time.to_le_bytes()[..6]);
         }
-        self.pass(header);
-        self.place.given[lane] = x.id;
-        self.upto[lane] = x.id;
+        self.pass_event(header, lane, x.id);
+        Ok(())
+    }
+
+    /// A binary event goes after the common time of its group.
+    fn event_after(&mut self, common: u64, header: usize, lane: usize, x: &Numbered) -> Result<(), Full> {
+        let [a, b, c, d, e, f, ..] = common.to_le_bytes();
+        let front = [51, 1, 7, 1, a, b, c, d, e, f, 2, 3, 0x28, 0, 0];
+        let at = self.header(Run::Group(lane, common), &front, 5)?;
+        self.counted(at);
+        let after = (x.row.time.unwrap_or(common) - common) as u16;
+        self.octets.extend_from_slice(&x.row.index.to_le_bytes());
+        self.value(0, &x.row);
+        self.octets.extend_from_slice(&after.to_le_bytes());
+        self.pass_event(header, lane, x.id);
         Ok(())
     }
 
     fn value(&mut self, kind: usize, row: &Row) {
-        if kind == 0 {
+        if kind == 0 || kind == OUTPUTS {
             self.octets.push(row.flags | (row.value as u8) << 7);
         } else {
             self.octets.push(row.flags);
@@ -146,30 +228,40 @@ impl Writer {
     }
 
     /// A present value goes under the open header of its block, or a new one of a range.
+    #[inline(always)]
     fn present(&mut self, header: usize, kind: usize, block: usize, row: &Row) -> Result<(), Full> {
-        let (group, variation) = [(1, 2), (20, 1), (30, 1)][kind];
-        let size = if kind == 0 { 1 } else { 5 };
-        let run = Run::Block(header, kind, block);
-        let at = match self.open {
-            Some((open, at)) if open == run && self.octets.len() + size <= MOST => at,
-            Some((open, _)) if open == run => return Err(Full),
-            _ if self.octets.len() + 7 + size > MOST => return Err(Full),
-            _ => {
-                let [low, high] = row.index.to_le_bytes();
-                self.octets.extend_from_slice(&[group, variation, 0x01, low, high, low, high]);
-                self.octets.len() - 2
-            }
-        };
-        self.open = Some((run, at));
+        let (group, variation) = [(1, 2), (20, 1), (30, 1), (10, 2)][kind];
+        let size = if kind == 0 || kind == OUTPUTS { 1 } else { 5 };
+        let [low, high] = row.index.to_le_bytes();
+        let at = self.header(Run::Block(header, kind, block), &[group, variation, 0x01, low, high, low, high], size)?;
         self.octets[at..at + 2].copy_from_slice(&row.index.to_le_bytes());
         self.value(kind, row);
         self.pass(header);
         Ok(())
     }
+
+    /// Rows of a lane go one after the other, from one place up to another: binaries in groups, where the header
+    /// leaves it open as which object they go.
+    fn rows(&mut self, header: usize, number: usize, lane: &Lane, from: usize, to: usize, is_open: bool) -> Result<(), Full> {
+        if !(is_open && number % 3 == 0) {
+            return lane.rows.range(from..to).try_for_each(|x| self.event(header, number, x));
+        }
+        let (mut first, mut common) = (None, None);
+        for (at, x) in (from..to).zip(lane.rows.range(from..to)) {
+            if !is_in_reach(first, x.row.time) {
+                first = x.row.time;
+                common = first.filter(|_| lane.has_group(at, to));
+            }
+            match common {
+                Some(common) => self.event_after(common, header, number, x)?,
+                None => self.event(header, number, x)?,
+            }
+        }
+        Ok(())
+    }
 }
 
 /// What a call did: a response, and an unsolicited one behind it.
-#[allow(dead_code)]
 pub struct Actions {
     pub send: Option<Vec<u8>>,
     pub report: Option<Vec<u8>>,
@@ -180,19 +272,17 @@ pub struct Actions {
 
 const NOTHING: Actions = Actions { send: None, report: None, discarded: Vec::new(), overwritten: None, close: false };
 
-pub struct Outstation {
+pub struct Outstation<P = Switches> {
     kinds: [Vec<Block>; 3],
     lanes: [Lane; 9],
     last_id: u64,
     overflow: bool,
     restart: bool,
-    confirm_ms: u64,
-    retries: u8,
-    is_unsolicited: bool,
+    times: Times,
     is_open: bool,
     announced: bool,
     enabled: [bool; 3],
-    outputs: Outputs,
+    outputs: Outputs<P>,
     last: Option<Asked>,
     awaited: Option<Awaited>,
     reported: Option<Reported>,
@@ -200,35 +290,46 @@ pub struct Outstation {
 }
 
 impl Outstation {
-    /// One block of so many points of each kind, all of class 1.
-    pub fn new(counts: [usize; 3], capacity: usize, is_unsolicited: bool) -> Outstation {
-        let block = |count: usize| {
-            let points = (0..count).map(|index| Point {
-                class: 1,
-                deadband: 0,
-                now: Row { index: index as u16, flags: 2, value: 0, time: None },
-                reported: (0, 2),
-            });
-            vec![Block { base: 0, points: points.collect() }]
-        };
+    /// One block of so many points of each kind, all of class 1, lanes that take so many rows each, and so many outputs
+    /// and setpoints.
+    pub fn of_class_1(counts: [usize; 3], capacity: usize, outputs: [u16; 2], is_unsolicited: bool) -> Outstation {
+        let block = |kind: usize| vec![Block::new(kind as u8, 0, std::iter::repeat_n((1, 0), counts[kind]))];
+        let times = Times { confirm_ms: 5_000, select_ms: 5_000, retries: 0, is_unsolicited };
+        Outstation::new([0, 1, 2].map(block), [capacity; 9], Switches::new(outputs[0], outputs[1]), times)
+    }
+}
+
+impl<P: Panel> Outstation<P> {
+    pub fn new(kinds: [Vec<Block>; 3], capacities: [usize; 9], panel: P, times: Times) -> Outstation<P> {
         Outstation {
-            kinds: counts.map(block),
-            lanes: std::array::from_fn(|_| Lane { capacity, ..Lane::default() }),
+            kinds,
+            lanes: capacities.map(Lane::new),
             last_id: 0,
             overflow: false,
             restart: true,
-            confirm_ms: 5_000,
-            retries: 0,
-            is_unsolicited,
+            times,
             is_open: false,
             announced: false,
             enabled: [false; 3],
-            outputs: Outputs::new(6, 3, 5_000),
+            outputs: Outputs::new(panel, times.select_ms),
             last: None,
             awaited: None,
             reported: None,
             next: 0,
         }
+    }
+
+    pub fn lanes(&self) -> &[Lane; 9] {
+        &self.lanes
+    }
+
+    pub fn panel(&mut self) -> &mut P {
+        &mut self.outputs.panel
+    }
+
+    /// Whether it is open, awaits no confirm and holds no READ.
+    pub fn is_quiet(&self) -> bool {
+        self.is_open && self.awaited.is_none() && self.reported.is_none() && !self.holds_read()
     }
 
     pub fn hung_up(&mut self) {
@@ -243,7 +344,7 @@ impl Outstation {
     pub fn opened(&mut self, now: u64) -> Actions {
         self.hung_up();
         self.is_open = true;
-        if self.is_unsolicited && !self.announced {
+        if self.times.is_unsolicited && !self.announced {
             let report = Some(self.reports(now, Writer::new(Place::default())));
             return Actions { report, ..NOTHING };
         }
@@ -259,14 +360,21 @@ impl Outstation {
     fn set(&mut self, kind: usize, index: u16, value: i64, flags: u8, time: Option<u64>) -> Option<Row> {
         let block = self.kinds[kind].iter_mut().find(|b| usize::from(index.wrapping_sub(b.base)) < b.points.len())?;
         let point = &mut block.points[usize::from(index - block.base)];
-        let row = Row { index, flags, value, time };
+        let row = Row { kind: kind as u8, index, flags, value, time };
         point.now = row;
         let moved = (value - point.reported.0).unsigned_abs() > u64::from(point.deadband);
         if point.class == 0 || !(moved || flags != point.reported.1) {
             return None;
         }
         point.reported = (value, flags);
-        let lane = &mut self.lanes[usize::from(point.class - 1) * 3 + kind];
+        let lane = usize::from(point.class - 1) * 3 + kind;
+        self.append(lane, row)
+    }
+
+    /// An event comes into a lane, and the row that a full one dropped for it.
+    #[inline(always)]
+    pub fn append(&mut self, lane: usize, row: Row) -> Option<Row> {
+        let lane = &mut self.lanes[lane];
         let dropped = if lane.rows.len() == lane.capacity {
             lane.lost += 1;
             self.overflow = true;
@@ -277,6 +385,14 @@ impl Outstation {
         self.last_id += 1;
         lane.rows.push_back(Numbered { id: self.last_id, row });
         dropped.map(|x| x.row)
+    }
+
+    /// A point of a block reads this, which is no event. Answers the point's class, if there is such a point.
+    pub fn show(&mut self, block: usize, row: Row) -> Option<u8> {
+        let block = self.kinds[usize::from(row.kind)].get_mut(block)?;
+        let point = block.points.get_mut(usize::from(row.index.wrapping_sub(block.base)))?;
+        point.now = row;
+        Some(point.class)
     }
 
     fn release(&mut self, upto: &Upto) -> Vec<Row> {
@@ -291,8 +407,9 @@ impl Outstation {
         rows
     }
 
-    fn put_lanes(&self, w: &mut Writer, header: usize, lanes: [usize; 3], range: Range, stood: u64) -> Result<(), Full> {
-        let mut most = match range {
+    fn put_lanes(&self, w: &mut Writer, header: usize, lanes: [usize; 3], asked: &Header<'_>, stood: u64) -> Result<(), Full> {
+        let is_open = asked.group == 60 || asked.variation == 0;
+        let mut most = match asked.range {
             Range::Count { n } => usize::from(n),
             _ => usize::MAX,
         };
@@ -300,15 +417,30 @@ impl Outstation {
             most = most.saturating_sub(w.place.count);
         }
         for number in lanes {
-            let rows = &self.lanes[number].rows;
-            let from = rows.partition_point(|x| x.id <= w.place.given[number]);
-            for x in rows.range(from..).take_while(|x| x.id <= stood) {
-                if most == 0 {
-                    return Ok(());
-                }
-                most -= 1;
-                w.event(header, number, x)?;
+            let lane = &self.lanes[number];
+            if lane.rows.is_empty() {
+                continue;
             }
+            let from = lane.rows.partition_point(|x| x.id <= w.place.given[number]);
+            let to = lane.rows.partition_point(|x| x.id <= stood).min(from.saturating_add(most)).max(from);
+            w.rows(header, number, lane, from, to, is_open)?;
+            most -= to - from;
+        }
+        Ok(())
+    }
+
+    fn put_outputs(&self, w: &mut Writer, header: usize, range: Range, skip: &mut usize) -> Result<(), Full> {
+        let panel = &self.outputs.panel;
+        let indices = match range {
+            Range::Span { first, last } => first..last.saturating_add(1).min(panel.outputs()),
+            _ => 0..panel.outputs(),
+        };
+        let passed = (*skip).min(indices.len());
+        *skip -= passed;
+        for index in indices.skip(passed) {
+            let status = panel.status(index);
+            let row = Row { kind: 0, index, flags: status & 0x7F, value: i64::from(status >> 7), time: None };
+            w.present(header, OUTPUTS, 0, &row)?;
         }
         Ok(())
     }
@@ -338,13 +470,18 @@ impl Outstation {
         match (header.group, header.variation) {
             (60, v @ 2..=4) => {
                 let class = usize::from(v - 2) * 3;
-                self.put_lanes(w, k, [class, class + 1, class + 2], header.range, stood)
+                self.put_lanes(w, k, [class, class + 1, class + 2], header, stood)
             }
-            (2, _) => self.put_lanes(w, k, [0, 3, 6], header.range, stood),
-            (22, _) => self.put_lanes(w, k, [1, 4, 7], header.range, stood),
-            (32, _) => self.put_lanes(w, k, [2, 5, 8], header.range, stood),
-            (60, _) => (0..3).try_for_each(|kind| self.put_points(w, k, kind, Range::All, &mut skip)),
+            (2, _) => self.put_lanes(w, k, [0, 3, 6], header, stood),
+            (22, _) => self.put_lanes(w, k, [1, 4, 7], header, stood),
+            (32, _) => self.put_lanes(w, k, [2, 5, 8], header, stood),
+            (60, _) => {
+                self.put_points(w, k, 0, Range::All, &mut skip)?;
+                self.put_outputs(w, k, Range::All, &mut skip)?;
+                (1..3).try_for_each(|kind| self.put_points(w, k, kind, Range::All, &mut skip))
+            }
             (1, _) => self.put_points(w, k, 0, header.range, &mut skip),
+            (10, _) => self.put_outputs(w, k, header.range, &mut skip),
             (20, _) => self.put_points(w, k, 1, header.range, &mut skip),
             (30, _) => self.put_points(w, k, 2, header.range, &mut skip),
             _ => Ok(()),
@@ -363,7 +500,7 @@ impl Outstation {
             1 => self.has_all(0, header.range),
             20 => self.has_all(1, header.range),
             30 => self.has_all(2, header.range),
-            10 => !matches!(header.range, Range::Span { .. }),
+            10 => !matches!(header.range, Range::Span { last, .. } if last >= self.outputs.panel.outputs()),
             _ => true,
         }
     }
@@ -388,7 +525,7 @@ impl Outstation {
             asked.left = (!is_last).then_some(w.place);
             asked.first = is_first.then(|| First { octets: w.octets.clone(), upto: w.upto, is_awaited: con });
         }
-        self.awaited = con.then(|| Awaited { seq, upto: w.upto, ends: now.saturating_add(self.confirm_ms) });
+        self.awaited = con.then(|| Awaited { seq, upto: w.upto, ends: now.saturating_add(self.times.confirm_ms) });
         w.octets
     }
 
@@ -411,7 +548,7 @@ impl Outstation {
     fn reports(&mut self, now: u64, mut w: Writer) -> Vec<u8> {
         let [one, two] = self.indications(&w.upto, 0);
         w.octets[..4].copy_from_slice(&[0xF0 | self.next, 130, one, two]);
-        let ends = now.saturating_add(self.confirm_ms);
+        let ends = now.saturating_add(self.times.confirm_ms);
         self.reported = Some(Reported { seq: self.next, octets: w.octets.clone(), upto: w.upto, ends, repeats: 0 });
         self.next = (self.next + 1) % 16;
         w.octets
@@ -425,13 +562,13 @@ impl Outstation {
     fn end(&mut self, now: u64, actions: Actions) -> Actions {
         let is_free = self.awaited.is_none() && self.reported.is_none() && !self.holds_read();
         let has_rows = |number: usize| self.enabled[number / 3] && !self.lanes[number].rows.is_empty();
-        if !(self.is_unsolicited && self.announced && self.is_open && is_free && (0..9).any(has_rows)) {
+        if !(self.times.is_unsolicited && self.announced && self.is_open && is_free && (0..9).any(has_rows)) {
             return actions;
         }
         let mut w = Writer::new(Place::default());
-        let rows = (0..9).filter(|number| has_rows(*number)).flat_map(|number| self.lanes[number].rows.iter().map(move |x| (number, x)));
-        for (number, x) in rows {
-            if w.event(0, number, x).is_err() {
+        for number in (0..9).filter(|number| has_rows(*number)) {
+            let lane = &self.lanes[number];
+            if w.rows(0, number, lane, 0, lane.rows.len(), true).is_err() {
                 break;
             }
         }
@@ -513,7 +650,7 @@ impl Outstation {
             return NOTHING;
         };
         if first.is_awaited && self.reported.is_none() {
-            self.awaited = Some(Awaited { seq: octets[0] & 15, upto: first.upto, ends: now.saturating_add(self.confirm_ms) });
+            self.awaited = Some(Awaited { seq: octets[0] & 15, upto: first.upto, ends: now.saturating_add(self.times.confirm_ms) });
         }
         Actions { send: Some(first.octets.clone()), ..NOTHING }
     }
@@ -522,12 +659,12 @@ impl Outstation {
         self.awaited.take_if(|w| now >= w.ends);
         let holds_read = self.holds_read();
         if let Some(reported) = self.reported.as_mut().filter(|w| now >= w.ends) {
-            if holds_read || reported.repeats >= self.retries {
+            if holds_read || reported.repeats >= self.times.retries {
                 self.hung_up();
                 return Actions { close: true, ..NOTHING };
             }
             reported.repeats += 1;
-            reported.ends = now.saturating_add(self.confirm_ms);
+            reported.ends = now.saturating_add(self.times.confirm_ms);
             return Actions { report: Some(reported.octets.clone()), ..NOTHING };
         }
         self.end(now, NOTHING)
@@ -542,7 +679,7 @@ impl Outstation {
             return NOTHING;
         }
         let actions = if *function == 0 {
-            let confirm = if control & 0x10 == 0 { Outstation::confirm } else { Outstation::confirm_report };
+            let confirm = if control & 0x10 == 0 { Outstation::<P>::confirm } else { Outstation::<P>::confirm_report };
             confirm(self, now, control & 15)
         } else if self.last.as_ref().is_some_and(|asked| asked.octets == octets) {
             self.again(now, octets)
@@ -563,101 +700,4 @@ impl Outstation {
         }
         Actions { send: self.request(now, octets), ..NOTHING }
     }
-}
-
-/// The octets of a fragment in one number.
-fn number_of(fragment: &[u8]) -> u64 {
-    fragment.iter().step_by(97).fold(fragment.len() as u64, |sum, octet| sum.wrapping_mul(31).wrapping_add(u64::from(*octet)))
-}
-
-/// An open outstation, which was announced, whose restart was cleared and class 1 enabled.
-fn station_of(counts: [usize; 3], is_unsolicited: bool) -> Outstation {
-    let mut station = Outstation::new(counts, 200, is_unsolicited);
-    station.opened(0);
-    station.receive(0, &[0xD0, 0x00]);
-    station.receive(0, &[0xC0, 0x02, 0x50, 0x01, 0x00, 0x07, 0x07, 0x00]);
-    station.receive(0, &[0xC0, 0x14, 0x3C, 0x02, 0x06]);
-    station
-}
-
-/// Sends a READ and each confirm that is asked for, looks at the timers, and makes a number of what comes.
-fn poll(station: &mut Outstation, read: &[u8]) -> u64 {
-    let mut sum = 0u64;
-    let mut came = station.receive(0, read).send;
-    while let Some(fragment) = came {
-        sum = sum.wrapping_mul(31).wrapping_add(number_of(&fragment));
-        if fragment[0] & 0x20 == 0 {
-            break;
-        }
-        let actions = station.receive(0, &[0xC0 | fragment[0] & 15, 0]);
-        sum = sum.wrapping_mul(31).wrapping_add(actions.discarded.len() as u64);
-        came = actions.send;
-    }
-    station.tick(0);
-    sum
-}
-
-fn change(station: &mut Outstation, turn: u64, event: u16) -> Actions {
-    let value = (turn % 65_536) as i64 * 256 + i64::from(event) + 1;
-    station.change(0, 2, 0, value, 1, Some(1_000 + turn % 65_536))
-}
-
-/// `count` changes of an analog, each of which is reported and confirmed, or none.
-#[no_mangle]
-pub extern "C" fn plain_change(count: u64, is_unsolicited: bool) -> u64 {
-    let mut station = station_of([0, 0, 1], is_unsolicited);
-    let mut sum = 0u64;
-    for turn in 0..count {
-        let actions = change(&mut station, turn, 0);
-        sum = sum.wrapping_mul(31).wrapping_add(u64::from(actions.overwritten.is_some()));
-        if let Some(fragment) = actions.report {
-            sum = sum.wrapping_mul(31).wrapping_add(number_of(&fragment));
-            let actions = station.receive(0, &[0xD0 | fragment[0] & 15, 0]);
-            sum = sum.wrapping_mul(31).wrapping_add(actions.discarded.len() as u64);
-        }
-    }
-    sum
-}
-
-/// `count` pairs of a SELECT and its OPERATE.
-#[no_mangle]
-pub extern "C" fn plain_operate(count: u64) -> u64 {
-    let mut station = station_of([0, 0, 1], false);
-    let mut sum = 0u64;
-    for turn in 0..count {
-        let seq = (2 * turn % 16) as u8;
-        for [control, function] in [[0xC0 | seq, 3], [0xC1 | seq, 4]] {
-            let answer = station.receive(0, &[control, function, 0x0C, 1, 0x28, 1, 0, 5, 0, 3, 1, 0, 0, 0, 0, 0, 0, 0, 0, 0]).send;
-            sum = sum.wrapping_mul(31).wrapping_add(number_of(&answer.unwrap_or_default()));
-        }
-    }
-    sum ^ station.outputs.operated.len() as u64
-}
-
-/// `count` polls of classes 1, 2 and 3, before each of which an analog of class 1 changed `events` times.
-#[no_mangle]
-pub extern "C" fn plain_poll_events(count: u64, events: u16) -> u64 {
-    let mut station = station_of([0, 0, 1], false);
-    let mut sum = 0u64;
-    for turn in 0..count {
-        for event in 0..events {
-            change(&mut station, turn, event);
-        }
-        let control = 0xC0 | (turn % 16) as u8;
-        let read = [control, 0x01, 0x3C, 0x02, 0x06, 0x3C, 0x03, 0x06, 0x3C, 0x04, 0x06];
-        sum = sum.wrapping_mul(31).wrapping_add(poll(&mut station, &read));
-    }
-    sum
-}
-
-/// `count` READs of class 0 over 400 binaries, 300 counters and 300 analogs.
-#[no_mangle]
-pub extern "C" fn plain_poll_values(count: u64) -> u64 {
-    let mut station = station_of([400, 300, 300], false);
-    let mut sum = 0u64;
-    for turn in 0..count {
-        let control = 0xC0 | (2 * turn % 16) as u8;
-        sum = sum.wrapping_mul(31).wrapping_add(poll(&mut station, &[control, 0x01, 0x3C, 0x01, 0x06]));
-    }
-    sum
 }

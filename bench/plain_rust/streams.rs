@@ -45,6 +45,21 @@ impl Frame {
     }
 }
 
+/// The frame that a unit of octets is, if it is one.
+#[allow(dead_code)]
+pub fn frame_of(unit: &[u8]) -> Option<Frame> {
+    let is_header = unit.len() >= CHECKED_HEADER && unit[..2] == [0x05, 0x64] && unit[2] >= 5 && is_checked(&unit[..8], &unit[8..10]);
+    if !is_header || unit.len() != size_of(usize::from(unit[2] - 5)) {
+        return None;
+    }
+    read_frame(unit)
+}
+
+/// How many octets a frame with so many of user data has.
+fn size_of(user: usize) -> usize {
+    CHECKED_HEADER + user + 2 * user.div_ceil(BLOCK)
+}
+
 /// The frame of a header that was checked, with its blocks.
 fn read_frame(unit: &[u8]) -> Option<Frame> {
     let mut frame = Frame {
@@ -84,8 +99,7 @@ impl FrameReader {
                 done += CHECKED_HEADER;
                 continue;
             }
-            let user = usize::from(rest[2] - 5);
-            let size = CHECKED_HEADER + user + 2 * ((user + BLOCK - 1) / BLOCK);
+            let size = size_of(usize::from(rest[2] - 5));
             if rest.len() < size {
                 break;
             }
