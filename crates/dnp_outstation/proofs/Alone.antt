@@ -1,7 +1,6 @@
 -- A row that begins no group is given as it comes, and one of a group that goes on: none waits for what follows it.
 use Rattle.std.proofs.Common.{◌≡◌, ℕ, ◌==◌, Bool, true, false, ◌&&◌, if◌then◌else◌, refl, sym, ◌∙◌, ap, List, [], ◌∷◌, Option, Some, None, is_some}
 use Rattle.std.specs.List.{fold}
-use Rattle.std.specs.Prelude.{not}
 use Rattle.std.proofs.lemmas.Bool.{and_parts}
 use Rattle.dnp_eventbuf.specs.declared.numbered.Numbered.{Numbered}
 use Rattle.std.specs.Option.{unwrap_or}
@@ -63,22 +62,6 @@ timeless_alone x is = unjoined (marked_in x) (λ z. go z.is_open z.item.thing)
     go b (Event lane y) =
         no_and (x.is_open && b) _ (no_and (x.lane == lane) _
         (no_and (kind_eq x.row.row.kind Binary && kind_eq y.row.kind Binary) _ (unreached x.row.row.time y.row.time is)))
-    go b (Present y) = refl
-
--- none of the three
-pub goes_alone : (is_open : Bool) (header lane : ℕ) (x : Numbered) → not (is_open && (kind_eq x.row.kind Binary && is_some x.row.time)) ≡ true
-    → (more : List Marked) → laid_from Shut (marked is_open (event_of header lane x) ∷ more) ≡ lay (event_of header lane x) ∷ laid_from Shut more
-goes_alone is_open header lane x is = unjoined (marked is_open (event_of header lane x)) (λ z. go z.is_open z.item.thing)
-  where
-    by : (o k : Bool) (time : Option ℕ) → not (o && (k && is_some time)) ≡ true → (b e k' : Bool) (time' : Option ℕ)
-        → ((o && b) && (e && ((k && k') && is_in_reach time time'))) ≡ false
-    by false k time is b e k' time' = refl
-    by true false time is b e k' time' = no_and b (e && false) (no_and e false refl)
-    by true true None is b e k' time' = no_and b (e && (k' && false)) (no_and e (k' && false) (no_and k' false refl))
-    by true true (Some t) is b e k' time' = cc
-
-    go : (b : Bool) (t : Thing) → reaches_by is_open b (Event lane x) t ≡ false
-    go b (Event lane' y) = by is_open (kind_eq x.row.kind Binary) x.row.time is b (lane == lane') (kind_eq y.row.kind Binary) y.row.time
     go b (Present y) = refl
 
 -- ---- a row of a group of which the first three were given

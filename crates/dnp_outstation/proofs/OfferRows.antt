@@ -1,11 +1,12 @@
 -- Rows of lanes that a READ gives.
 use Rattle.std.proofs.Common.{◌≡◌, ℕ, ◌<◌, suc, zero, Bool, true, false, cond, List, [], ◌∷◌, ◌++◌, length, take, filter, map, max, get_or, nat_lt, nat_le}
-use Rattle.std.proofs.Common.{refl, ap, sym, ◌∙◌, arith, Option, None, Some, IfSome, ◌+◌, drop}
+use Rattle.std.proofs.Common.{refl, ap, sym, ◌∙◌, arith, Option, None, Some, IfSome, ◌+◌, ◌-◌, ◌≤◌, drop, subst}
 use Rattle.std.specs.List.{All, AllPairs}
+use Rattle.std.proofs.lemmas.Bool.{le-leb, ltb-true, ltb-false}
 use Rattle.std.proofs.lemmas.Bool.Decides.{nat_tests}
 use Rattle.std.proofs.lemmas.List.Elements.{All-filter, All-take, All-weaker}
 use Rattle.std.proofs.lemmas.List.Kept.{AllPairs-filter}
-use Rattle.std.proofs.lemmas.List.{take_all, take-append-drop, map-append}
+use Rattle.std.proofs.lemmas.List.{length-take, get_or-take, take_all, take-append-drop, map-append}
 use Rattle.dnp_eventbuf.specs.declared.numbered.Numbered.{Numbered}
 use Rattle.dnp_eventbuf.specs.Stock.{Stock, lane_at, offered, without}
 use Rattle.dnp_eventbuf.specs.Carried.{IsCarried}
@@ -29,7 +30,7 @@ take_none (suc n) = refl
 abbrev pub stood_at : ℕ → Numbered → Bool
 stood_at stood x = nat_le x.id stood
 
-abbrev Rises : List Numbered → Type 0
+abbrev pub Rises : List Numbered → Type 0
 Rises rows = AllPairs (λ (x y : Numbered). x.id < y.id) rows
 
 came_after : (id stood : ℕ) → stood < id → nat_le id stood ≡ false
@@ -58,6 +59,26 @@ cut_stood stood (suc n) (x ∷ xs) rising =
         let none : filter (stood_at stood) xs ≡ [] = none_stood stood xs
         (λ k d less. let higher = rising 0 (suc k) d (omega arith) (omega arith) in grind (arith, nat_tests)) in
         rest ∙ ap (take n) none ∙ take_none n ∙ sym (ap (take (suc n)) none)
+
+-- all of them did, where all ids are up to it
+all_stood : (stood : ℕ) (rows : List Numbered) → ((k : ℕ) (d : Numbered) → k < length rows → (get_or rows k d).id ≤ stood) → filter (stood_at stood) rows ≡ rows
+all_stood stood [] each = refl
+all_stood stood (x ∷ xs) each =
+    ap (λ (b : Bool). cond b (x ∷ filter (stood_at stood) xs) (filter (stood_at stood) xs)) (le-leb x.id stood (each 0 x (omega arith)))
+    ∙ ap (λ (l : List Numbered). x ∷ l) (all_stood stood xs (λ k d less. each (suc k) d (omega arith)))
+
+-- so where ids rise, and the last one did
+pub last_stood : (stood : ℕ) (rows : List Numbered) → ((d : Numbered) → 0 < length rows → (get_or rows (length rows - 1) d).id ≤ stood) → Rises rows
+    → filter (stood_at stood) rows ≡ rows
+last_stood stood rows last rising = all_stood stood rows (λ k d less. by k d less (nat_lt k (length rows - 1)) refl)
+  where
+    by : (k : ℕ) (d : Numbered) → k < length rows → (b : Bool) → nat_lt k (length rows - 1) ≡ b → (get_or rows k d).id ≤ stood
+    by k d less true before =
+        let under = ltb-true k (length rows - 1) before in
+        let end = last d (omega arith) in let low = rising k (length rows - 1) d (omega arith) (omega arith) in omega arith
+    by k d less false before =
+        let same : k ≡ length rows - 1 = omega (arith, less, ltb-false k (length rows - 1) before) in
+        let end = last d (omega arith) in subst (λ (n : ℕ). (get_or rows n d).id ≤ stood) (sym same) end
 
 -- ---- rows that are left after a release
 
@@ -107,6 +128,18 @@ lane_kinds s lane after most sound low =
     (All-filter (λ (x : Numbered). nat_lt after x.id) P rows
     (All-weaker (λ (x : Numbered). IsCarried (record { lane = lane; row = x.row })) P (λ x h. h.of_its_kind) rows
     ((sound.each (lane_number lane) low).carried lane refl)))
+
+-- their ids rise
+pub rises_offered : (s : Stock) (number after most : ℕ) → IsSound s → number < LANES → Rises (offered s number after most)
+rises_offered s number after most sound low =
+    let rows : List Numbered = filter (λ x. nat_lt after x.id) (lane_at s number).rows in
+    let whole : Rises rows = AllPairs-filter (λ (x y : Numbered). x.id < y.id) (λ x. nat_lt after x.id) (lane_at s number).rows (sound.each number low).rising in
+    λ i j d before within.
+    let long = length-take most rows in
+    let first = get_or-take most rows i d (omega arith) in
+    let second = get_or-take most rows j d (omega arith) in
+    let risen = whole i j d before (omega arith) in
+    subst (λ (x : Numbered). x.id < (get_or (take most rows) j d).id) (sym first) (subst (λ (y : Numbered). (get_or rows i d).id < y.id) (sym second) risen)
 
 -- where the first of them don't all fit, neither do they
 pub lane_full : (w w' : Writer) (fit is_open : Bool) (header lane lane' few : ℕ) (all rows : List Numbered) (more : List Marked)

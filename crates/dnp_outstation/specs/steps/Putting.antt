@@ -1,5 +1,5 @@
 -- Private steps: how a writer comes of another by items that are put into it.
-use Rattle.std.specs.Prelude.{[], ◌∷◌, ◌≡◌, ℕ, ◌+◌, ◌-◌, ◌^◌, ◌==◌, min, Bool, false, ◌++◌, if◌then◌else◌, List, map, drop, ⊤}
+use Rattle.std.specs.Prelude.{[], ◌∷◌, ◌≡◌, ℕ, ◌+◌, ◌-◌, ◌^◌, ◌==◌, ◌≤◌, min, Bool, false, ◌++◌, if◌then◌else◌, List, map, fold, drop, ⊤}
 use Rattle.dnp_objects.specs.declared.row.Kind.{Kind}
 use Rattle.dnp_objects.specs.declared.row.Row.{Row}
 use Rattle.dnp_eventbuf.specs.declared.numbered.Numbered.{Numbered}
@@ -14,11 +14,12 @@ use Rattle.dnp_outstation.specs.declared.offer.grouping.Given.{Given}
 use Rattle.dnp_outstation.specs.declared.offer.grouping.Given.TheVariants as given
 use Rattle.dnp_outstation.specs.declared.offer.grouping.Waiting.{Waiting}
 use Rattle.dnp_outstation.specs.declared.offer.grouping.Waiting.TheVariants as waiting
-use Rattle.dnp_outstation.specs.Items.{Static, present_of}
+use Rattle.dnp_objects.specs.declared.limits.TheConstants.{MAX_FRAGMENT}
+use Rattle.dnp_outstation.specs.Items.{Static, present_of, event_of, given_after}
 use Rattle.dnp_appfragment.specs.Headers.{Head}
 use Rattle.dnp_outstation.specs.Forms.{leaves_open}
 use Rattle.dnp_outstation.specs.steps.Grouping.{Marked, mark}
-use Rattle.dnp_outstation.specs.steps.Filling.{fill_laid, fill, ended}
+use Rattle.dnp_outstation.specs.steps.Filling.{fill_laid, fill, ended, reached}
 use Rattle.dnp_outstation.specs.Layout.{Laid}
 
 -- the items were put, all of them or, where they don't fit, as many as do: whatever comes after
@@ -58,6 +59,18 @@ least_given (given.Third a b c) = least_octets a.row.row.row.kind + least_octets
 abbrev pub least_of : List Numbered → ℕ
 least_of [] = 0
 least_of (x ∷ xs) = least_octets x.row.kind + least_of xs
+
+-- of these rows of a lane, which come for one header, the first were put or wait: what was put and those that are left are
+-- the whole, whatever comes after
+pub record PutsFirst (w : Writer) (header : ℕ) (is_open : Bool) (lane : ℕ) (rows left : List Numbered) (w' : Writer) : Type 0 where
+  pub given : fold given_after (reached w') (map (event_of header lane) left) ≡ fold given_after (reached w) (map (event_of header lane) rows)
+  pub written : (more : List Marked) → fill w' (mark is_open (map (event_of header lane) left) ++ more)
+      ≡ fill w (mark is_open (map (event_of header lane) rows) ++ more)
+  pub room : size w.builder ≤ MAX_FRAGMENT → (weight w + least_of rows ≤ weight w' + least_of left) × (size w'.builder ≤ MAX_FRAGMENT)
+
+-- one of them doesn't fit: the fragment ends before it, whatever comes after
+abbrev pub StopsIn : Writer → ℕ → Bool → ℕ → List Numbered → Writer → Type 0
+StopsIn w header is_open lane rows w' = (more : List Marked) → fill w (mark is_open (map (event_of header lane) rows) ++ more) ≡ ended false w'
 
 -- present values, whose objects are never left open
 abbrev pub shown : ℕ → List Static → List Marked

@@ -1,7 +1,7 @@
 //! Rows of lanes that are put: each as its own object, or in a group after the time of its first. Which of the two it
 //! is is known for none of the last two before what follows them has come, so at most two wait.
 
-ghost use Rattle.std.specs.Prelude.{◌≡◌, ◌<◌, ◌≤◌, ◌+◌, ◌||◌, [], ◌∷◌, false, true, nat_le, fold, map, slice_set, IsTrue, Some};
+ghost use Rattle.std.specs.Prelude.{◌≡◌, ◌<◌, ◌≤◌, ◌+◌, ◌||◌, [], ◌∷◌, ◌++◌, false, true, nat_le, fold, map, slice_set, IsTrue, Some};
 ghost use Rattle.dnp_objects.specs.Events.{IsEvent};
 ghost use Rattle.dnp_objects.specs.Relative.{FitsRelative};
 ghost use Rattle.dnp_objects.specs.declared.limits.TheConstants.{LANES, MAX_FRAGMENT, MAX_TIME};
@@ -11,12 +11,13 @@ ghost use Rattle.dnp_appfragment.specs.Written.{common_head, relative};
 ghost use Rattle.dnp_outstation.specs.declared.offer.grouping.Waiting.TheVariants as waiting;
 ghost use Rattle.dnp_outstation.specs.Forms.{told_after};
 ghost use Rattle.dnp_outstation.specs.Items.{event_of, given_after, place_after};
-ghost use Rattle.dnp_outstation.specs.Layout.{item_of};
+ghost use Rattle.dnp_outstation.specs.Layout.{item_of, lay};
 ghost use Rattle.dnp_outstation.specs.steps.Filling.{built_for, continues, put, put_laid, fits, ended, reached};
 ghost use Rattle.dnp_outstation.specs.steps.Grouping.{marked, item_in, marked_in, told_in, given_in, open_in, laid_from};
 ghost use Rattle.dnp_outstation.specs.steps.Putting.{Puts, PutsLaid, least_octets, least_given, weight};
 
 use crate::offer::grouping::{Coming, Given, Known, Told, Waiting, reaches};
+use crate::offer::next::put_timed;
 use crate::offer::writer::{Run, Writer};
 use dnp_appfragment::laws::a_common_time_stays;
 use dnp_eventbuf::{Numbered, Upto};
@@ -125,7 +126,7 @@ impl Writer {
         ensures none { result ≡ false → self.new ≡ self.old }
         ensures response { self.new.builder.function ≡ self.old.builder.function }
     {
-        if self.builder.relative(&x.row.row).is_err() {
+        if put_timed(&mut self.builder, &x.row.row).is_err() {
             return false;
         }
         self.pass_row(Some(common), x);
@@ -302,6 +303,23 @@ impl Writer {
         }
     }
 
+    /// Puts the rows that wait, and after them this one as its own object, as far as they fit; answers whether all do.
+    /// None waits then.
+    pub(crate) fn put_apart(&mut self, z: &Coming) -> bool
+        requires response { IsTrue (is_response self.old.builder.function) }
+        ensures written { PutsLaid self.old (laid_from (open_in self.old.waiting) [] ++ lay (item_in z.now) ∷ []) result self.new }
+        ensures given { IsTrue result → reached self.new ≡ given_after (reached self.old) (item_in z.now) }
+        ensures longer { IsTrue result → weight self.old + least_octets z.now.row.row.kind ≤ weight self.new }
+        ensures short { IsTrue result → size self.old.builder ≤ MAX_FRAGMENT → size self.new.builder ≤ MAX_FRAGMENT }
+        ensures response { self.new.builder.function ≡ self.old.builder.function }
+        ensures none { self.new.waiting ≡ waiting.Nothing }
+    {
+        if !self.settle() {
+            return false;
+        }
+        self.put_own(z)
+    }
+
     /// Puts the rows that wait, as far as they fit; answers whether all do. None waits then.
     #[inline]
     #[tactic(auto, using(crate::proofs::Fed::none_settled, crate::proofs::Fed::group_settled))]
@@ -309,6 +327,7 @@ impl Writer {
         requires response { IsTrue (is_response self.old.builder.function) }
         ensures written { PutsLaid self.old (laid_from (open_in self.old.waiting) []) result self.new }
         ensures given { IsTrue result → self.new.place.given ≡ reached self.old }
+        ensures longer { IsTrue result → weight self.old ≤ weight self.new }
         ensures short { IsTrue result → size self.old.builder ≤ MAX_FRAGMENT → size self.new.builder ≤ MAX_FRAGMENT }
         ensures response { self.new.builder.function ≡ self.old.builder.function }
         ensures none { self.new.waiting ≡ waiting.Nothing }
@@ -329,6 +348,7 @@ impl Writer {
         requires response { IsTrue (is_response self.old.builder.function) }
         ensures written { PutsLaid self.old (laid_from (open_in self.old.waiting) []) result self.new }
         ensures given { IsTrue result → self.new.place.given ≡ reached self.old }
+        ensures longer { IsTrue result → weight self.old ≤ weight self.new }
         ensures short { IsTrue result → size self.old.builder ≤ MAX_FRAGMENT → size self.new.builder ≤ MAX_FRAGMENT }
         ensures response { self.new.builder.function ≡ self.old.builder.function }
         ensures none { self.new.waiting ≡ waiting.Nothing }

@@ -147,7 +147,7 @@ impl Told {
 }
 
 impl Waiting {
-    ghost use Rattle.std.specs.Prelude.{◌==◌, ◌≤◌, ◌+◌, ◌∷◌, ◌++◌, [], ℕ, Bool, List, length, map};
+    ghost use Rattle.std.specs.Prelude.{◌==◌, ◌≤◌, ◌+◌, ◌∷◌, ◌++◌, [], ℕ, Bool, false, List, length, map};
     ghost use Rattle.dnp_outstation.specs.declared.offer.grouping.Known.TheVariants as Known;
     ghost use Rattle.dnp_outstation.specs.declared.offer.place.Place.{Place as PlaceValue};
     ghost use Rattle.dnp_outstation.specs.Items.{Item};
@@ -155,7 +155,7 @@ impl Waiting {
     ghost use Rattle.dnp_outstation.specs.Offer.{filled_with, longest};
     ghost use Rattle.dnp_outstation.specs.steps.Filling.{empty_from, fill_laid};
     ghost use Rattle.dnp_outstation.specs.steps.Grouping.{Marked, opened, laid_from, item_in, marked_in, open_in, given_in, waiting_items};
-    ghost use Rattle.dnp_outstation.specs.steps.Grouping.Open.{One};
+    ghost use Rattle.dnp_outstation.specs.steps.Grouping.Open.{Shut, One};
     ghost use Rattle.dnp_outstation.specs.steps.Putting.{least_octets, least_given, least_waiting};
 
     /// No row yet: what is laid of rows as they come is what is laid of them all in groups, and a fragment that is
@@ -167,6 +167,21 @@ impl Waiting {
         ensures groups { (may : ℕ → Bool) (items : List Item) → forms.in_groups may items ≡ laid_from (open_in result) (map (opened may) items) }
     {
         Waiting::Nothing
+    }
+
+    /// Whether a row may stand in a group with those that wait, or in the one that goes on. Where it can't, those that
+    /// wait go as their own objects, and what comes is laid as after none.
+    #[tactic(auto, using(crate::proofs::Runs::apart_nothing, crate::proofs::Runs::apart_one, crate::proofs::Runs::apart_two, crate::proofs::Runs::apart_within))]
+    pub(crate) fn takes(&self, z: &Coming) -> bool
+        ensures apart { result ≡ false → (more : List Marked)
+            → laid_from (open_in self.now) (marked_in z.now ∷ more) ≡ laid_from (open_in self.now) [] ++ laid_from Shut (marked_in z.now ∷ more) }
+    {
+        match self {
+            Waiting::Nothing => false,
+            Waiting::One(first) => reaches(first, z),
+            Waiting::Two(pair) => reaches(&pair.first, z),
+            Waiting::Within(first) => reaches(first, z),
+        }
     }
 
     /// As which object a row goes that comes while none waits, where nothing is to be remembered of it.
@@ -235,37 +250,30 @@ impl Waiting {
         ensures items { map item_of (given_in result) ++ waiting_items self.new ≡ waiting_items self.old ++ item_in z ∷ [] }
         ensures least { least_waiting self.old + least_octets z.row.row.kind ≤ least_given result + least_waiting self.new }
     {
-        match *self {
-            Waiting::Nothing => {}
-            Waiting::One(x) => {
-                if reaches(&x, &z) {
-                    *self = Waiting::Two(Pair {
-                        first: x,
-                        second: z,
-                    });
-                    return Given::Nothing;
-                }
+        let waiting = *self;
+        match waiting {
+            Waiting::One(x) if reaches(&x, &z) => {
+                *self = Waiting::Two(Pair {
+                    first: x,
+                    second: z,
+                });
+                Given::Nothing
             }
-            Waiting::Two(pair) => {
+            Waiting::Two(pair) if reaches(&pair.first, &z) => {
                 let (x, y) = (pair.first, pair.second);
-                if reaches(&x, &z) {
-                    *self = Waiting::Within(x);
-                    return Given::Third(Told::begun(pair), Told::after(x, y), Told::after(x, z));
-                }
+                *self = Waiting::Within(x);
+                Given::Third(Told::begun(pair), Told::after(x, y), Told::after(x, z))
             }
-            Waiting::Within(first) => {
-                if reaches(&first, &z) {
-                    return Given::First(Told::after(first, z));
-                }
-            }
+            Waiting::Within(first) if reaches(&first, &z) => Given::First(Told::after(first, z)),
+            _ => self.pass(z),
         }
-        self.pass(z)
     }
 
     /// No row comes any more: those that waited are given.
     pub(crate) fn end(&mut self) -> Given
         ensures given { laid_from (open_in self.old) [] ≡ given_in result }
         ensures items { map item_of (given_in result) ≡ waiting_items self.old }
+        ensures least { least_waiting self.old ≤ least_given result }
         ensures none { self.new ≡ Waiting.Nothing }
     {
         let waiting = *self;

@@ -1,63 +1,93 @@
-//! Rows of a lane that go on as the one before them did: as their own objects, or in the group that goes on. What follows
-//! from that one is looked up once, so that each row costs little more than its octets.
+//! Rows of a lane that are put one after another. What follows from the one before them is looked up once, so that each that
+//! goes on as that one did, as its own object or in the group, costs little more than its octets; and a row is put at once
+//! where the one after it stands there and is out of its reach.
 
-ghost use Rattle.std.specs.Prelude.{◌≡◌, ◌<◌, ◌≤◌, ◌+◌, ◌&&◌, [], ◌∷◌, ℕ, List, false, true, not, is_some, slice_set, IfSome, IsTrue, Some, None};
-ghost use Rattle.std.specs.Option.{option_map_or};
+ghost use Rattle.std.specs.Prelude.{◌≡◌, ◌<◌, ◌≤◌, ◌+◌, ◌↔◌, ◌&&◌, [], ◌∷◌, ◌++◌, ℕ, List, All, length, map, false, true, slice_set, IfSome, IsErr, IsTrue, OnErr, OnOk, Some, None};
+ghost use Rattle.std.specs.Option.{IsSomeAnd, unwrap_or};
 ghost use Rattle.dnp_objects.specs.Equality.{kind_eq};
 ghost use Rattle.dnp_objects.specs.Events.{IsEvent};
 ghost use Rattle.dnp_objects.specs.Relative.{FitsRelative};
 ghost use Rattle.dnp_objects.specs.declared.limits.TheConstants.{LANES, MAX_FRAGMENT};
 ghost use Rattle.dnp_objects.specs.declared.row.Kind.TheVariants.{Binary};
 ghost use Rattle.dnp_eventbuf.specs.declared.numbered.Numbered.{Numbered as NumberedRow};
-ghost use Rattle.dnp_appfragment.specs.Built.{size, context_of};
+ghost use Rattle.dnp_appfragment.specs.Built.{size, context_of, with_object};
 ghost use Rattle.dnp_appfragment.specs.Table.{is_response};
-ghost use Rattle.dnp_outstation.specs.Forms.{is_in_reach, told_after, told_by};
-ghost use Rattle.dnp_outstation.specs.Items.{event_of, given_after, place_after};
-ghost use Rattle.dnp_outstation.specs.steps.Filling.{continues, put, put_laid, fits, ended, reached};
-ghost use Rattle.dnp_outstation.specs.steps.Grouping.{Marked, marked, open_in, laid_from, waiting_items};
-ghost use Rattle.dnp_outstation.specs.steps.Putting.{Puts, least_octets, weight};
+ghost use Rattle.dnp_appfragment.specs.Written.{relative};
+ghost use Rattle.dnp_outstation.specs.declared.offer.grouping.Waiting.TheVariants as waiting;
+ghost use Rattle.dnp_outstation.specs.Forms.{is_in_reach, told_after};
+ghost use Rattle.dnp_outstation.specs.Items.{event_of, place_after};
+ghost use Rattle.dnp_outstation.specs.Layout.{lay};
+ghost use Rattle.dnp_outstation.specs.steps.Filling.{continues, put, put_laid, fits, ended};
+ghost use Rattle.dnp_outstation.specs.steps.Grouping.{Marked, mark, marked, open_in, laid_from, waiting_items};
+ghost use Rattle.dnp_outstation.specs.steps.Grouping.Open.{Shut};
+ghost use Rattle.dnp_outstation.specs.steps.Putting.{PutsFirst, StopsIn, least_octets};
 
-use crate::offer::grouping::{Waiting, is_in_reach};
+use crate::offer::grouping::{Coming, Waiting, is_in_reach};
 use crate::offer::writer::{Run, Writer};
 use dnp_appfragment::laws::a_common_time_stays;
+use dnp_appfragment::{Builder, Full};
 use dnp_eventbuf::Numbered;
 use dnp_objects::{Kind, Row};
 
-/// Whether a row goes on as the one before it: in the group of this common time, or where there is none as its own
-/// object, since it begins no group.
+/// Whether a row may go after this common time.
 #[inline(always)]
 #[tactic(auto, using(crate::proofs::Grouped::near_tells))]
-pub(crate) fn goes_on(common: Option<u64>, is_open: bool, x: &Row) -> bool
-    ensures goes_on { result ≡ option_map_or (λ common. kind_eq x.now.kind Binary && is_in_reach (Some common) x.now.time) common
-        (not (is_open && (kind_eq x.now.kind Binary && is_some x.now.time))) }
-    ensures tells { IsTrue result → IsEvent x.now → IfSome common (λ common. FitsRelative common x.now) }
+fn goes_on(common: u64, x: &Row) -> bool
+    ensures goes_on { result ≡ (kind_eq x.now.kind Binary && is_in_reach (Some common) x.now.time) }
+    ensures tells { IsTrue result → IsEvent x.now → FitsRelative common x.now }
 {
-    match common {
-        Some(common) => x.kind == Kind::Binary && is_in_reach(Some(common), x.time),
-        None => !(is_open && (x.kind == Kind::Binary && x.time.is_some())),
+    x.kind == Kind::Binary && is_in_reach(Some(common), x.time)
+}
+
+/// Whether a row goes as its own object where none waits and these follow it: it may begin no group, or the next one
+/// stands there and is out of its reach.
+#[inline(always)]
+pub(crate) fn is_alone(is_open: bool, x: &Numbered, after: &[Numbered]) -> bool
+    ensures { IsTrue result → (header lane : ℕ) (more : List Marked)
+        → laid_from Shut (mark is_open (map (event_of header lane) (x.now ∷ after.now)) ++ more)
+        ≡ lay (event_of header lane x.now) ∷ laid_from Shut (mark is_open (map (event_of header lane) after.now) ++ more) }
+{
+    if !(is_open && (x.row.kind == Kind::Binary && x.row.time.is_some())) {
+        return true;
     }
+    match after.split_first() {
+        Some((next, _)) => {
+            !(next.row.kind == Kind::Binary && is_in_reach(x.row.time, next.row.time))
+        }
+        None => false,
+    }
+}
+
+/// Puts a row into a response after the common time that is there, as `Builder::relative` does. That one is called from
+/// here alone, so that it stands in each loop that puts such rows.
+#[inline(always)]
+pub(crate) fn put_timed(builder: &mut Builder, row: &Row) -> Result<(), Full>
+    requires response { IsTrue (is_response builder.old.function) }
+    requires fits { IsSomeAnd (context_of builder.old) (λ common. FitsRelative common row.now) }
+    ensures ok { OnOk result (builder.new ≡ with_object builder.old (relative (unwrap_or (context_of builder.old) 0) row.now)) }
+    ensures full { IsErr result
+        ↔ (MAX_FRAGMENT < size (with_object builder.old (relative (unwrap_or (context_of builder.old) 0) row.now))) }
+    ensures err { OnErr result (builder.new ≡ builder.old) }
+    ensures function { builder.new.function ≡ builder.old.function }
+{
+    builder.relative(row)
 }
 
 impl Writer {
     /// The common time of the rows that stand last, or none where they go as their own objects: if those of this lane
     /// that come for this header can go on so.
-    #[tactic(auto, using(crate::proofs::GroupTimes::low_event, crate::proofs::Alone::goes_alone, crate::proofs::Alone::goes_on_after))]
-    pub(crate) fn last_common(
-        &self,
-        header: usize,
-        is_open: bool,
-        lane: usize,
-    ) -> Option<Option<u64>>
+    #[tactic(auto, using(crate::proofs::GroupTimes::low_event, crate::proofs::Alone::goes_on_after))]
+    fn last_common(&self, header: usize, is_open: bool, lane: usize) -> Option<Option<u64>>
         ensures run { IfSome result (λ common. self.now.run ≡ Run.OfLane lane common) }
         ensures continues { IfSome result (λ common. continues self.now (Run.OfLane lane common) ≡ true) }
-        ensures there { IfSome result (λ common. IfSome common (λ common. context_of self.now.builder ≡ Some common)) }
         ensures header { IfSome result (λ common. self.now.place.header ≡ header) }
+        ensures nothing { result ≡ Some None → self.now.waiting ≡ waiting.Nothing }
         ensures none { IfSome result (λ common. waiting_items self.now.waiting ≡ []) }
-        ensures laid { IfSome result (λ common. (x : NumberedRow)
-            → option_map_or (λ common. kind_eq x.row.kind Binary && is_in_reach (Some common) x.row.time) common
-            (not (is_open && (kind_eq x.row.kind Binary && is_some x.row.time))) ≡ true
+        ensures there { (common : ℕ) → result ≡ Some (Some common) → context_of self.now.builder ≡ Some common }
+        ensures laid { (common : ℕ) → result ≡ Some (Some common) → (x : NumberedRow)
+            → (kind_eq x.row.kind Binary && is_in_reach (Some common) x.row.time) ≡ true
             → (more : List Marked) → laid_from (open_in self.now.waiting) (marked is_open (event_of header lane x) ∷ more)
-            ≡ told_by common (event_of header lane x) ∷ laid_from (open_in self.now.waiting) more) }
+            ≡ told_after common (event_of header lane x) ∷ laid_from (open_in self.now.waiting) more }
     {
         if self.place.header != header {
             return None;
@@ -151,48 +181,140 @@ impl Writer {
     {
         // (a law, for the proof: it does nothing)
         a_common_time_stays();
-        if self.builder.relative(&x.row).is_err() {
+        if put_timed(&mut self.builder, &x.row).is_err() {
             return false;
         }
         self.pass_next(header, lane, x);
         true
     }
 
-    /// Puts a row of a lane that goes on as the one before it, if it fits; answers whether it does.
-    #[inline(always)]
-    pub(crate) fn put_next(
+    /// Puts the first row of a slice, of which these follow it, or has it wait; answers whether all that was put fits.
+    /// It is put at once where the one after it, which stands there, is out of its reach.
+    #[inline(never)]
+    pub(crate) fn put_first(
         &mut self,
-        common: Option<u64>,
         header: usize,
         is_open: bool,
         lane: usize,
         x: &Numbered,
+        after: &[Numbered],
     ) -> bool
         requires lane { lane < LANES }
         requires response { IsTrue (is_response self.old.builder.function) }
         requires event { IsEvent x.now.row }
-        requires tells { IfSome common (λ common. FitsRelative common x.now.row) }
-        requires run { self.old.run ≡ Run.OfLane lane common }
-        requires continues { continues self.old (Run.OfLane lane common) ≡ true }
-        requires there { IfSome common (λ common. context_of self.old.builder ≡ Some common) }
+        ensures put { IsTrue result → PutsFirst self.old header is_open lane (x.now ∷ after.now) after.now self.new }
+        ensures stop { result ≡ false → StopsIn self.old header is_open lane (x.now ∷ after.now) self.new }
+        ensures response { self.new.builder.function ≡ self.old.builder.function }
+    {
+        let z = Coming {
+            header,
+            is_open,
+            lane,
+            row: *x,
+        };
+        if !is_alone(is_open, x, after) || self.waiting.takes(&z) {
+            return self.put_event(header, is_open, lane, x);
+        }
+        self.put_apart(&z)
+    }
+
+    /// Puts rows of a lane after the common time under the last header, as far as they are in its reach; answers those
+    /// that are left, or nothing where one doesn't fit.
+    #[inline(never)]
+    fn put_in_group<'a>(
+        &mut self,
+        common: u64,
+        header: usize,
+        is_open: bool,
+        lane: usize,
+        rows: &'a [Numbered],
+    ) -> Option<&'a [Numbered]>
+        requires lane { lane < LANES }
+        requires response { IsTrue (is_response self.old.builder.function) }
+        requires events { All (λ x. IsEvent x.row) rows.now }
+        requires run { self.old.run ≡ Run.OfLane lane (Some common) }
+        requires continues { continues self.old (Run.OfLane lane (Some common)) ≡ true }
+        requires there { context_of self.old.builder ≡ Some common }
         requires header { self.old.place.header ≡ header }
         requires none { waiting_items self.old.waiting ≡ [] }
-        requires laid { (more : List Marked) → laid_from (open_in self.old.waiting) (marked is_open (event_of header lane x.now) ∷ more)
-            ≡ told_by common (event_of header lane x.now) ∷ laid_from (open_in self.old.waiting) more }
-        ensures written { Puts self.old (marked is_open (event_of header lane x.now) ∷ []) result self.new }
-        ensures given { IsTrue result → reached self.new ≡ given_after (reached self.old) (event_of header lane x.now) }
-        ensures longer { IsTrue result → weight self.old + least_octets x.now.row.kind ≤ weight self.new }
-        ensures short { IsTrue result → size self.old.builder ≤ MAX_FRAGMENT → size self.new.builder ≤ MAX_FRAGMENT }
+        requires laid { (x : NumberedRow) → (kind_eq x.row.kind Binary && is_in_reach (Some common) x.row.time) ≡ true
+            → (more : List Marked) → laid_from (open_in self.old.waiting) (marked is_open (event_of header lane x) ∷ more)
+            ≡ told_after common (event_of header lane x) ∷ laid_from (open_in self.old.waiting) more }
+        ensures put { IfSome result (λ left. PutsFirst self.old header is_open lane rows.now left.now self.new) }
+        ensures left { IfSome result (λ left. (length left.now ≤ length rows.now) × All (λ x. IsEvent x.row) left.now) }
+        ensures stop { result ≡ None → StopsIn self.old header is_open lane rows.now self.new }
         ensures response { self.new.builder.function ≡ self.old.builder.function }
-        ensures run { IsTrue result → self.new.run ≡ Run.OfLane lane common }
-        ensures continues { IsTrue result → continues self.new (Run.OfLane lane common) ≡ true }
-        ensures there { IsTrue result → IfSome common (λ common. context_of self.new.builder ≡ Some common) }
-        ensures header { IsTrue result → self.new.place.header ≡ header }
-        ensures waiting { self.new.waiting ≡ self.old.waiting }
     {
-        match common {
-            Some(common) => self.put_next_after(common, header, lane, x),
-            None => self.put_next_own(header, lane, x),
+        let mut rest = rows;
+        while let Some((x, after)) = rest.split_first() {
+            if !goes_on(common, &x.row) {
+                break;
+            }
+            if !self.put_next_after(common, header, lane, x) {
+                return None;
+            }
+            rest = after;
+        }
+        Some(rest)
+    }
+
+    /// Puts rows of a lane as their own objects under the last header, up to the first that may begin a group or of which
+    /// that isn't known; answers those that are left, or nothing where one doesn't fit.
+    #[inline(never)]
+    fn put_lone<'a>(
+        &mut self,
+        header: usize,
+        is_open: bool,
+        lane: usize,
+        rows: &'a [Numbered],
+    ) -> Option<&'a [Numbered]>
+        requires lane { lane < LANES }
+        requires response { IsTrue (is_response self.old.builder.function) }
+        requires events { All (λ x. IsEvent x.row) rows.now }
+        requires run { self.old.run ≡ Run.OfLane lane None }
+        requires continues { continues self.old (Run.OfLane lane None) ≡ true }
+        requires header { self.old.place.header ≡ header }
+        requires nothing { self.old.waiting ≡ waiting.Nothing }
+        ensures put { IfSome result (λ left. PutsFirst self.old header is_open lane rows.now left.now self.new) }
+        ensures left { IfSome result (λ left. (length left.now ≤ length rows.now) × All (λ x. IsEvent x.row) left.now) }
+        ensures stop { result ≡ None → StopsIn self.old header is_open lane rows.now self.new }
+        ensures response { self.new.builder.function ≡ self.old.builder.function }
+    {
+        let mut rest = rows;
+        while let Some((x, after)) = rest.split_first() {
+            if !is_alone(is_open, x, after) {
+                break;
+            }
+            if !self.put_next_own(header, lane, x) {
+                return None;
+            }
+            rest = after;
+        }
+        Some(rest)
+    }
+
+    /// Puts rows of a lane that go on as the one before them did; answers those that are left, or nothing where one
+    /// doesn't fit.
+    #[inline(always)]
+    pub(crate) fn put_on<'a>(
+        &mut self,
+        header: usize,
+        is_open: bool,
+        lane: usize,
+        rows: &'a [Numbered],
+    ) -> Option<&'a [Numbered]>
+        requires lane { lane < LANES }
+        requires response { IsTrue (is_response self.old.builder.function) }
+        requires events { All (λ x. IsEvent x.row) rows.now }
+        ensures put { IfSome result (λ left. PutsFirst self.old header is_open lane rows.now left.now self.new) }
+        ensures left { IfSome result (λ left. (length left.now ≤ length rows.now) × All (λ x. IsEvent x.row) left.now) }
+        ensures stop { result ≡ None → StopsIn self.old header is_open lane rows.now self.new }
+        ensures response { self.new.builder.function ≡ self.old.builder.function }
+    {
+        match self.last_common(header, is_open, lane) {
+            Some(Some(common)) => self.put_in_group(common, header, is_open, lane, rows),
+            Some(None) => self.put_lone(header, is_open, lane, rows),
+            None => Some(rows),
         }
     }
 }

@@ -1,6 +1,7 @@
 //! Rows of lanes that a READ gives.
 
 ghost use Rattle.std.specs.Prelude.{◌≡◌, ◌≤◌, ◌<◌, ◌+◌, ◌*◌, map, fold, filter, take, nat_le, IsTrue, IsSome, is_some, IfOk, IfSome, length, All, List, ℕ};
+ghost use Rattle.std.specs.List.{AllPairs};
 ghost use Rattle.dnp_objects.specs.Events.{IsEvent};
 ghost use Rattle.dnp_objects.specs.Lanes.{lane_number};
 ghost use Rattle.dnp_eventbuf.specs.declared.numbered.Numbered.{Numbered as NumberedRow};
@@ -13,7 +14,6 @@ ghost use Rattle.dnp_outstation.specs.steps.Grouping.{mark};
 ghost use Rattle.dnp_outstation.specs.steps.Putting.{Puts, least_octets, least_of};
 ghost use Rattle.dnp_outstation.specs.Stores.{IsLook};
 
-use crate::offer::next::goes_on;
 use crate::offer::place::RowPart;
 use crate::offer::writer::Writer;
 use dnp_eventbuf::laws::an_offer_after_a_release;
@@ -72,12 +72,15 @@ fn asked(most: Option<usize>, few: usize) -> usize
     }
 }
 
-/// Keeps the rows that stood in the lanes when the READ was first answered.
+/// Keeps the rows that stood in the lanes when the READ was first answered. Ids rise: where the last one stood, all did.
 fn keep_stood(rows: &mut Vec<Numbered>, stood: u64)
-    ensures kept { rows.new.items ≡ filter (λ x. nat_le x.id stood) rows.old.items }
+    ensures kept { AllPairs (λ (x y : NumberedRow). x.id < y.id) rows.old.items → rows.new.items ≡ filter (λ x. nat_le x.id stood) rows.old.items }
     ensures events { All (λ x. IsEvent x.row) rows.old.items → All (λ x. IsEvent x.row) rows.new.items }
 {
-    rows.retain(|x| x.id <= stood);
+    match rows.last() {
+        Some(last) if last.id > stood => rows.retain(|x| x.id <= stood),
+        _ => {}
+    }
 }
 
 /// The first rows of a lane that a header of a READ may still give, within its limit, but no more than
@@ -145,21 +148,15 @@ impl Writer {
         ensures room { IsTrue result → size self.old.builder ≤ MAX_FRAGMENT → size self.old.builder + least_of rows.now ≤ MAX_FRAGMENT + 7 }
         ensures response { self.new.builder.function ≡ self.old.builder.function }
     {
-        let mut last: Option<Option<u64>> = None;
-        for x in rows {
-            match last {
-                Some(common) if goes_on(common, is_open, &x.row) => {
-                    if !self.put_next(common, header, is_open, lane, x) {
-                        return false;
-                    }
-                }
-                _ => {
-                    if !self.put_event(header, is_open, lane, x) {
-                        return false;
-                    }
-                    last = self.last_common(header, is_open, lane);
-                }
+        let mut rest = rows;
+        while let Some((x, after)) = rest.split_first() {
+            if !self.put_first(header, is_open, lane, x, after) {
+                return false;
             }
+            let Some(left) = self.put_on(header, is_open, lane, after) else {
+                return false;
+            };
+            rest = left;
         }
         true
     }

@@ -10,7 +10,7 @@ use Rattle.dnp_eventbuf.specs.Stock.{Stock, offered, rows_in}
 use Rattle.dnp_outstation.specs.Items.{rows_left}
 use Rattle.dnp_outstation.specs.steps.Filling.{after_release, over_of}
 use Rattle.dnp_outstation.proofs.NoRows.{none_offered}
-use Rattle.dnp_outstation.proofs.OfferRows.{lane_kinds, rows_given, stood_at}
+use Rattle.dnp_outstation.proofs.OfferRows.{Rises, lane_kinds, rises_offered, rows_given, stood_at}
 use Rattle.dnp_outstation.proofs.offer.rows.rows_to_give.Goals as goal
 
 pub returns-in_err-rows-clause-look : goal.returns-in_err-rows-clause-look
@@ -42,6 +42,9 @@ returns-clause-rows g c = λ honest.
     c.over-over.ensures.over ∙ ap (over_of bounds.given.now bounds.released.now) c.number.ensures.value in
     let ask = c.asked.result in
     c.keep_stood.ensures.kept
+    (subst Rises (sym (c.in_ok-rows.ensures.rows honest))
+    (rises_offered (g.L.Lanes.contents c.args.lanes.now) number c.over-over.result ask
+    (subst IsSound (c.in_ok-rows.ensures.same honest) (c.in_ok-rows.ensures.call.sound honest)) low))
     ∙ ap (filter stood) (c.in_ok-rows.ensures.rows honest)
     ∙ ap (λ (t : Stock). filter stood (offered t number c.over-over.result ask)) (sym (c.in_ok-rows.ensures.same honest))
     ∙ ap (λ (n : ℕ). filter stood (offered s number n ask)) over
@@ -58,5 +61,8 @@ returns-clause-kinds g c = λ honest.
     let asked : All P (offered (g.L.Lanes.contents c.args.lanes.now) (lane_number c.args.lane) c.over-over.result c.asked.result) =
     lane_kinds (g.L.Lanes.contents c.args.lanes.now) c.args.lane c.over-over.result c.asked.result
     (subst IsSound same (c.in_ok-rows.ensures.call.sound honest)) low in
-    subst (All P) (sym c.keep_stood.ensures.kept)
+    let sound = subst IsSound same (c.in_ok-rows.ensures.call.sound honest) in
+    let rises = subst Rises (sym (c.in_ok-rows.ensures.rows honest))
+    (rises_offered (g.L.Lanes.contents c.args.lanes.now) (lane_number c.args.lane) c.over-over.result c.asked.result sound low) in
+    subst (All P) (sym (c.keep_stood.ensures.kept rises))
     (All-filter (stood_at c.args.bounds.now.stood) P _ (subst (All P) (sym (c.in_ok-rows.ensures.rows honest)) asked))
