@@ -2,7 +2,7 @@
 
 use dnp_concentrator::Relayed;
 use dnp_controls::BookFault;
-use dnp_daemons::{Answer, Asker, Station, StationFault};
+use dnp_daemons::{Answer, Asker, KeptAnswer, Station, StationFault};
 use dnp_master::{AskFault, Fragment, Task};
 use dnp_world::Cause;
 use std::alloc::Global;
@@ -51,6 +51,13 @@ impl<'a, C: Clock> Patience<'a, C> {
     /// Waits from now on.
     pub(crate) fn begin_again(&self) {
         self.since.set(self.now());
+    }
+
+    /// Waits from now on where something of an answer came.
+    fn heed(&self, came: bool) {
+        if came {
+            self.begin_again();
+        }
     }
 
     /// How long is still waited, in milliseconds.
@@ -161,10 +168,27 @@ impl<'s, 'p, 'c, S: Station, C: Clock> Station for Minded<'s, 'p, 'c, S, C> {
         let now = self.patience.now();
         let answered = self.station.receive(alloc, now, octets);
         match &answered {
-            Ok(answer) if answer.send[0].is_some() || answer.outcome.is_some() => {
-                self.patience.begin_again();
-            }
-            Ok(_) => {}
+            Ok(answer) => self
+                .patience
+                .heed(answer.send[0].is_some() || answer.outcome.is_some()),
+            Err(fault) => self.note_fault(*fault),
+        }
+        answered
+    }
+
+    fn receive_into(
+        &mut self,
+        answer: &mut KeptAnswer,
+        alloc: Global,
+        _now: u64,
+        octets: &[u8],
+    ) -> Result<(), StationFault> {
+        let now = self.patience.now();
+        let answered = self.station.receive_into(answer, alloc, now, octets);
+        match &answered {
+            Ok(()) => self.patience.heed(
+                answer.actions.send[0].is_some() || answer.outcome.is_some(),
+            ),
             Err(fault) => self.note_fault(*fault),
         }
         answered

@@ -1,5 +1,5 @@
 -- A step at one moment is a step at some moment.
-use Rattle.std.specs.Prelude.{ℕ, Result, IfErr, IfOk}
+use Rattle.std.specs.Prelude.{ℕ, ⊤, Result, Ok, Err, IfErr, IfOk, OnOk}
 use Rattle.std.proofs.lemmas.Result.{IfErr-weaker, IfOk-weaker}
 
 pub at_some : {T E : Type 0} (result : Result T E) (Steps : ℕ → T → Type 0) (moment : ℕ) → IfOk result (λ answer. Steps moment answer)
@@ -12,3 +12,9 @@ pub refused_some : {T E : Type 0} (result : Result T E) (Refuses : ℕ → E →
     → IfErr result (λ fault. (now : ℕ) × Refuses now fault)
 refused_some result Refuses moment refuses =
     IfErr-weaker result (λ fault. Refuses moment fault) (λ fault. (now : ℕ) × Refuses now fault) (λ fault refused. (moment, refused)) refuses
+
+-- so is a step whose answer stands elsewhere
+pub done_at_some : {E : Type 0} (result : Result ⊤ E) (Steps : ℕ → Type 0) (moment : ℕ) → OnOk result (Steps moment)
+    → OnOk result ((now : ℕ) × Steps now)
+done_at_some (Ok done) Steps moment steps = (moment, steps)
+done_at_some (Err fault) Steps moment steps = steps

@@ -77,22 +77,20 @@ ends_before steps new unheard others sent u v (Err TurnsSpent) stops ends = ends
 
 -- ---- what steps put
 
-pub begin_puts : {S : Type 0} (opens : Opening S) (receives : Receiving S) (asking : Asking S) (now : ℕ) (old new : Dialogue S) (octets given : List ℕ)
-    → old.is_begun ≡ false → Puts (λ sent. Begins opens now old sent new) octets → given ≡ octets
-    → Puts (λ sent. Makes opens receives asking now old Beginning sent new) given
-begin_puts opens receives asking now old new octets given begun puts same =
-    record { sent = puts.sent; sends = (begun, puts.sends); spelled = subst (λ (t : List ℕ). AreSpelled puts.sent t) (sym same) puts.spelled }
+pub begin_puts : {S : Type 0} (opens : Opening S) (receives : Receiving S) (asking : Asking S) (now : ℕ) (old new : Dialogue S) (octets : List ℕ)
+    → old.is_begun ≡ false → Puts (λ sent. Begins opens now old sent new) octets
+    → Puts (λ sent. Makes opens receives asking now old Beginning sent new) octets
+begin_puts opens receives asking now old new octets begun puts = record { sent = puts.sent; sends = (begun, puts.sends); spelled = puts.spelled }
 
 pub go_puts : {S : Type 0} (opens : Opening S) (receives : Receiving S) (asking : Asking S) (now : ℕ) (old new : Dialogue S) (octets : List ℕ)
     → old.is_begun ≡ true → asking.is_idle old.station ≡ true → Puts (λ sent. Goes asking now old sent new) octets
     → Puts (λ sent. Makes opens receives asking now old Going sent new) octets
 go_puts opens receives asking now old new octets begun idle puts = record { sent = puts.sent; sends = (begun, idle, puts.sends); spelled = puts.spelled }
 
-pub hear_puts : {S : Type 0} (opens : Opening S) (receives : Receiving S) (asking : Asking S) (now : ℕ) (old new : Dialogue S) (frame : Frame) (octets given : List ℕ)
-    → old.is_begun ≡ true → asking.is_idle old.station ≡ false → Puts (λ sent. Hears receives now old frame sent new) octets → given ≡ octets
-    → Puts (λ sent. Makes opens receives asking now old (Hearing frame) sent new) given
-hear_puts opens receives asking now old new frame octets given begun busy puts same =
-    record { sent = puts.sent; sends = (begun, busy, puts.sends); spelled = subst (λ (t : List ℕ). AreSpelled puts.sent t) (sym same) puts.spelled }
+pub hear_puts : {S : Type 0} (opens : Opening S) (receives : Receiving S) (asking : Asking S) (now : ℕ) (old new : Dialogue S) (frame : Frame) (octets : List ℕ)
+    → old.is_begun ≡ true → asking.is_idle old.station ≡ false → Puts (λ sent. Hears receives now old frame sent new) octets
+    → Puts (λ sent. Makes opens receives asking now old (Hearing frame) sent new) octets
+hear_puts opens receives asking now old new frame octets begun busy puts = record { sent = puts.sent; sends = (begun, busy, puts.sends); spelled = puts.spelled }
 
 -- one frame more
 pub next_is : (frames : List Frame) (n : ℕ) (frame : Frame) → n < length frames → frame ≡ get_or frames n frame → take (n + 1) frames ≡ take n frames ++ frame ∷ []

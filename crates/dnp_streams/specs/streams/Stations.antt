@@ -3,6 +3,7 @@ use Rattle.std.specs.Prelude.{ℕ, Bool, List, Option}
 use Rattle.dnp_line.specs.Ports.{PortState}
 use Rattle.dnp_master.specs.declared.outcome.Outcome.{Outcome}
 use Rattle.dnp_outstation.specs.Station.{sent_of}
+use Rattle.dnp_streams.specs.declared.stream.kept.KeptAnswer.{KeptAnswer}
 use Rattle.dnp_streams.specs.declared.stream.station.Answer as code
 use Rattle.dnp_streams.specs.declared.stream.station.StationFault.{StationFault}
 
@@ -16,6 +17,10 @@ pub record Answer : Type 0 where
 
 abbrev pub answer_of : code.Answer → Answer
 answer_of a = record { send = sent_of a.send; close = a.close; taken = a.taken; outcome = a.outcome }
+
+-- the same, in an answer that the caller keeps
+abbrev pub answer_in : KeptAnswer → Answer
+answer_in a = record { send = sent_of a.actions.send; close = a.actions.close; taken = a.taken; outcome = a.outcome }
 
 -- how stations open: at this moment an opening is answered so, and makes the second state of the first; and why it is refused
 pub record Opening (S : Type 0) : Type 1 where

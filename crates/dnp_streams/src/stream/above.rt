@@ -9,6 +9,7 @@ ghost use Rattle.dnp_streams.specs.streams.Outstations.{IsOpened, RefusesOpening
 ghost use Rattle.dnp_streams.specs.streams.Stations.{answer_of};
 ghost use Rattle.dnp_streams.specs.streams.Lent.{kept_above, lent_above};
 
+use crate::stream::kept::KeptAnswer;
 use crate::stream::outstation::{answer_with, cause_of};
 use crate::stream::station::{Answer, Station, StationFault};
 use dnp_concentrator::Concentrator;
@@ -84,12 +85,26 @@ impl<'a, Q: Lanes, B: Book> Station for Above<'a, Q, B> {
     }
 
     fn receive(&mut self, alloc: Global, now: u64, octets: &[u8]) -> Result<Answer, StationFault> {
-        let mut actions = Actions::none(alloc);
+        let mut answer = KeptAnswer::new(alloc);
+        self.receive_into(&mut answer, alloc, now, octets)?;
+        Ok(answer.into_answer())
+    }
+
+    fn receive_into(
+        &mut self,
+        answer: &mut KeptAnswer,
+        alloc: Global,
+        now: u64,
+        octets: &[u8],
+    ) -> Result<(), StationFault> {
         match self
             .concentrator
-            .receive_above(&mut actions, alloc, now, octets)
+            .receive_above(&mut answer.actions, alloc, now, octets)
         {
-            Ok(()) => Ok(answer_with(actions)),
+            Ok(()) => {
+                answer.done();
+                Ok(())
+            }
             Err(fault) => Err(cause_of(Fault::from(fault))),
         }
     }

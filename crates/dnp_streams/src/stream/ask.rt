@@ -12,8 +12,8 @@ ghost use Rattle.dnp_streams.specs.steps.Talking.{AreNoted, IsFresh, Listens, Pu
 use crate::stream::asked::Asked;
 use crate::stream::asker::Asker;
 use crate::stream::asking::{go_to, hear_to, open_to};
+use crate::stream::kept::Kept;
 use crate::stream::log::{Log, read_noted, write_noted};
-use crate::stream::outgoing::Outgoing;
 use crate::stream::progress::Progress;
 use crate::stream::serve::ServeFault;
 use dnp_line::Port;
@@ -29,6 +29,7 @@ fn go_on<S: Asker, W: Write>(
     station: &mut S,
     port: &mut Port,
     now: u64,
+    kept: &mut Kept,
     out: &mut W,
     progress: &mut Progress<'_>,
     log: &mut Log,
@@ -42,7 +43,6 @@ fn go_on<S: Asker, W: Write>(
     ensures noted { AreNoted result log.old log.new }
     ensures named { result ≢ Err ServeFault.Memory }
 {
-    let mut octets = Outgoing::new();
     for _ in 0..u64::MAX {
         if progress.is_over {
             return Ok(true);
@@ -50,8 +50,8 @@ fn go_on<S: Asker, W: Write>(
         if !station.idle() {
             return Ok(false);
         }
-        go_to(alloc, station, port, now, &mut octets, progress);
-        match write_noted(&octets, out, log) {
+        go_to(alloc, station, port, now, &mut kept.octets, progress);
+        match write_noted(&kept.octets, out, log) {
             Ok(()) => {}
             Err(_) => return Err(ServeFault::WriteFailed),
         }
@@ -65,7 +65,7 @@ fn finish<S: Asker, W: Write>(
     station: &mut S,
     port: &mut Port,
     now: u64,
-    octets: &[u8],
+    kept: &mut Kept,
     out: &mut W,
     progress: &mut Progress<'_>,
     log: &mut Log,
@@ -74,18 +74,18 @@ fn finish<S: Asker, W: Write>(
     ensures kept { S.kept station.new ≡ S.kept station.old }
     ensures held { S.honest station.new → S.honest station.old }
     ensures turns { S.honest station.new → (before : Dialogue S.State) (step : Step) → before.is_over ≡ false
-        → Puts (λ sent. Makes S.opens S.receives S.asking now before step sent (dialogue_of (S.state station.old) port.old progress.old)) octets.now
+        → Puts (λ sent. Makes S.opens S.receives S.asking now before step sent (dialogue_of (S.state station.old) port.old progress.old)) kept.old.octets.items
         → Turns S.opens S.receives S.asking now before (heard_in (step ∷ []))
         result (W.contents out.old) (W.contents out.new) (dialogue_of (S.state station.new) port.new progress.new) }
     ensures listens { result ≡ Ok false → Listens S.asking.is_idle (S.state station.new) progress.new }
     ensures noted { AreNoted result log.old log.new }
     ensures named { result ≢ Err ServeFault.Memory }
 {
-    match write_noted(octets, out, log) {
+    match write_noted(&kept.octets, out, log) {
         Ok(()) => {}
         Err(_) => return Err(ServeFault::WriteFailed),
     }
-    go_on(alloc, station, port, now, out, progress, log)
+    go_on(alloc, station, port, now, kept, out, progress, log)
 }
 
 /// Opens the station, writes what that sends, and goes on. Whether the dialogue stops.
@@ -94,6 +94,7 @@ fn begin<S: Asker, W: Write>(
     station: &mut S,
     port: &mut Port,
     now: u64,
+    kept: &mut Kept,
     out: &mut W,
     progress: &mut Progress<'_>,
     log: &mut Log,
@@ -112,9 +113,8 @@ fn begin<S: Asker, W: Write>(
         Ok(()) => {}
         Err(_) => return Err(ServeFault::Memory),
     }
-    let mut octets = Outgoing::new();
-    open_to(alloc, station, port, now, &mut octets, progress);
-    finish(alloc, station, port, now, &octets, out, progress, log)
+    open_to(alloc, station, port, now, &mut kept.octets, progress);
+    finish(alloc, station, port, now, kept, out, progress, log)
 }
 
 /// Hears a frame, writes what that sends, and goes on. Whether the dialogue stops. Memory is asked for only where no outcome more
@@ -125,6 +125,7 @@ fn hear_one<S: Asker, W: Write>(
     port: &mut Port,
     now: u64,
     frame: &Frame,
+    kept: &mut Kept,
     out: &mut W,
     progress: &mut Progress<'_>,
     log: &mut Log,
@@ -142,9 +143,8 @@ fn hear_one<S: Asker, W: Write>(
         Ok(()) => {}
         Err(_) => return Err(ServeFault::Memory),
     }
-    let mut octets = Outgoing::new();
-    hear_to(alloc, station, port, now, frame, &mut octets, progress);
-    finish(alloc, station, port, now, &octets, out, progress, log)
+    hear_to(alloc, station, port, now, frame, kept, progress);
+    finish(alloc, station, port, now, kept, out, progress, log)
 }
 
 /// Hears frames, one after the other. Whether the dialogue stops.
@@ -154,6 +154,7 @@ fn hear_each<S: Asker, W: Write>(
     port: &mut Port,
     now: u64,
     frames: &[Frame],
+    kept: &mut Kept,
     out: &mut W,
     progress: &mut Progress<'_>,
     log: &mut Log,
@@ -167,7 +168,7 @@ fn hear_each<S: Asker, W: Write>(
     ensures noted { AreNoted result log.old log.new }
 {
     for frame in frames {
-        match hear_one(alloc, station, port, now, frame, out, progress, log) {
+        match hear_one(alloc, station, port, now, frame, kept, out, progress, log) {
             Ok(false) => {}
             Ok(true) => return Ok(true),
             Err(fault) => return Err(fault),
@@ -197,7 +198,8 @@ fn ask_on<S: Asker, R: Read, W: Write>(
         (told_by result progress.new.asked) (endpoint (S.state station.new) port.new) }
     ensures noted { IsNoted turns result log.new }
 {
-    match begin(alloc, station, port, now, out, progress, log) {
+    let mut kept = Kept::new(alloc);
+    match begin(alloc, station, port, now, &mut kept, out, progress, log) {
         Ok(false) => {}
         Ok(true) => return Ok(()),
         Err(fault) => return Err(fault),
@@ -218,7 +220,9 @@ fn ask_on<S: Asker, R: Read, W: Write>(
             Ok(()) => {}
             Err(_) => return Err(ServeFault::Memory),
         }
-        match hear_each(alloc, station, port, now, &frames, out, progress, log) {
+        match hear_each(
+            alloc, station, port, now, &frames, &mut kept, out, progress, log,
+        ) {
             Ok(false) => {}
             Ok(true) => return Ok(()),
             Err(fault) => return Err(fault),

@@ -2,10 +2,8 @@
 
 ghost use Rattle.std.specs.Prelude.{◌≡◌, ◌<◌, ◌+◌, [], ◌++◌, min, OnErr, OnOk, option_to_list, vec_capacity, vec_len};
 ghost use Rattle.dnp_streams.specs.streams.Counts.{most};
-ghost use Rattle.dnp_streams.specs.streams.Stations.{answer_of};
 ghost use Rattle.dnp_streams.specs.steps.Talking.{HasRoom};
 
-use crate::stream::station::Answer;
 use dnp_master::Outcome;
 use std::alloc::{AllocError, Global};
 
@@ -46,17 +44,17 @@ impl Asked {
         self.outcomes.try_reserve(1)
     }
 
-    /// Counts the rows of an answer, and keeps the outcome that it may have.
-    pub(super) fn count(&mut self, answer: &Answer)
+    /// Counts the rows that were stored of an answer, and keeps the outcome that it may have.
+    pub(super) fn count(&mut self, taken: usize, outcome: Option<Outcome>)
         requires { HasRoom self.old }
-        ensures rows { self.new.rows ≡ min (self.old.rows + (answer_of answer.now).taken) most }
-        ensures outcomes { self.new.outcomes.items ≡ self.old.outcomes.items ++ option_to_list (answer_of answer.now).outcome }
+        ensures rows { self.new.rows ≡ min (self.old.rows + taken) most }
+        ensures outcomes { self.new.outcomes.items ≡ self.old.outcomes.items ++ option_to_list outcome }
         ensures faults { self.new.faults ≡ self.old.faults }
     {
-        if let Some(outcome) = answer.outcome {
+        if let Some(outcome) = outcome {
             let _kept = self.outcomes.push(outcome);
         }
-        let taken = u64::try_from(answer.taken).unwrap_or(u64::MAX);
+        let taken = u64::try_from(taken).unwrap_or(u64::MAX);
         self.rows = self.rows.saturating_add(taken);
     }
 

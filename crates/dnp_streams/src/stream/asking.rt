@@ -5,6 +5,7 @@ ghost use Rattle.dnp_streams.specs.streams.Dialogues.{Begins, Hears, Goes};
 ghost use Rattle.dnp_streams.specs.steps.Talking.{HasRoom, Puts, dialogue_of};
 
 use crate::stream::asker::Asker;
+use crate::stream::kept::Kept;
 use crate::stream::outgoing::{Outgoing, put_fragments, put_reply, put_request};
 use crate::stream::progress::Progress;
 use crate::stream::station::Station;
@@ -13,7 +14,9 @@ use dnp_line::Port;
 use dnp_linkframe::Frame;
 use std::alloc::Global;
 
-/// Opens the station. The octets to be sent take the place of what was there.
+/// Opens the station. The octets to be sent take the place of what was there. It stands apart with the answer, which comes
+/// by value.
+#[inline(never)]
 pub(super) fn open_to<S: Station>(
     alloc: Global,
     station: &mut S,
@@ -34,7 +37,7 @@ pub(super) fn open_to<S: Station>(
     match station.opened(alloc, now) {
         Ok(answer) => {
             put_fragments(port, &answer.send, out);
-            progress.asked.count(&answer);
+            progress.asked.count(answer.taken, answer.outcome);
             progress.is_over = answer.close;
         }
         Err(_) => progress.asked.refuse(),
@@ -42,33 +45,34 @@ pub(super) fn open_to<S: Station>(
 }
 
 /// Hands a frame to the port, and the fragment that it completes to the station. The octets to be sent, those of the
-/// link layer's reply first, take the place of what was there.
+/// link layer's reply first, take the place of those that were kept.
 pub(super) fn hear_to<S: Station>(
     alloc: Global,
     station: &mut S,
     port: &mut Port,
     now: u64,
     frame: &Frame,
-    out: &mut Outgoing,
+    kept: &mut Kept,
     progress: &mut Progress<'_>,
 )
     requires { HasRoom progress.old.asked }
     ensures kept { S.kept station.new ≡ S.kept station.old }
     ensures held { S.honest station.new → S.honest station.old }
     ensures hears { S.honest station.new → Puts (λ sent. Hears S.receives now (dialogue_of (S.state station.old) port.old progress.old) frame.now sent
-        (dialogue_of (S.state station.new) port.new progress.new)) out.new.items }
+        (dialogue_of (S.state station.new) port.new progress.new)) kept.new.octets.items }
     ensures begun { progress.new.is_begun ≡ progress.old.is_begun }
 {
     let taken = port.take(frame);
-    put_reply(&taken, out);
+    put_reply(&taken, &mut kept.octets);
     if !taken.whole {
         return;
     }
-    match station.receive(alloc, now, port.fragment()) {
-        Ok(answer) => {
-            put_fragments(port, &answer.send, out);
-            progress.asked.count(&answer);
-            progress.is_over = answer.close;
+    match station.receive_into(&mut kept.answer, alloc, now, port.fragment()) {
+        Ok(()) => {
+            let answer = &kept.answer;
+            put_fragments(port, &answer.actions.send, &mut kept.octets);
+            progress.asked.count(answer.taken, answer.outcome);
+            progress.is_over = answer.actions.close;
         }
         Err(_) => progress.asked.refuse(),
     }

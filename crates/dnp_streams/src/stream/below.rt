@@ -1,16 +1,17 @@
 //! One link of a concentrator to a substation, on a stream.
 
-ghost use Rattle.std.specs.Prelude.{◌≡◌, ◌≢◌, ◌<◌, ◌⊎◌, All, Err, IfErr, IfOk, IsTrue, OnErr, false, nat_lt, length};
+ghost use Rattle.std.specs.Prelude.{◌≡◌, ◌≢◌, ◌<◌, ◌⊎◌, All, Err, IfErr, IfOk, IsTrue, OnErr, OnOk, false, nat_lt, length};
 ghost use Rattle.dnp_eventbuf.specs.Stock.{exhausts};
 ghost use Rattle.dnp_concentrator.specs.Concentrator.{book_of, links_of, queue_of, queued_at, taking_at};
 ghost use Rattle.dnp_concentrator.specs.declared.cause.Cause.TheVariants as cause;
 ghost use Rattle.dnp_streams.specs.declared.stream.station.StationFault.TheVariants as told;
 ghost use Rattle.dnp_streams.specs.streams.Concentrators.{BelowReceives, BelowRefuses, below_seen};
 ghost use Rattle.dnp_streams.specs.streams.Lent.{kept_below, lent_below, substation_of};
-ghost use Rattle.dnp_streams.specs.streams.Stations.{answer_of};
+ghost use Rattle.dnp_streams.specs.streams.Stations.{answer_in, answer_of};
 
 use crate::stream::asker::Asker;
-use crate::stream::master::{answer_taking, fault_of, nothing};
+use crate::stream::kept::KeptAnswer;
+use crate::stream::master::{fault_of, nothing};
 use crate::stream::station::{Answer, Station, StationFault};
 use dnp_concentrator::{Concentrator, Relayed};
 use dnp_controls::{Book, BookFault};
@@ -102,14 +103,52 @@ impl<'a, Q: Lanes, B: Book> Station for Below<'a, Q, B> {
             ⊎ IfOk (taking_at (lent_below self.old).now (substation_of self.old) now octets.now) (λ t.
             exhausts (Q.contents (queue_of (lent_below self.old).now)) (queued_at (lent_below self.old).now (substation_of self.old) t.events) ≡ false) }
     {
+        let mut answer = KeptAnswer::new(alloc);
+        self.receive_into(&mut answer, alloc, now, octets)?;
+        Ok(answer.into_answer())
+    }
+
+    fn receive_into(
+        &mut self,
+        answer: &mut KeptAnswer,
+        alloc: Global,
+        now: u64,
+        octets: &[u8],
+    ) -> Result<(), StationFault>
+        ensures kept { kept_below self.new ≡ kept_below self.old }
+        ensures held { (Q.honest (queue_of (lent_below self.new).now) × B.honest (book_of (lent_below self.new).now))
+            → (Q.honest (queue_of (lent_below self.old).now) × B.honest (book_of (lent_below self.old).now)) }
+        ensures answered { (Q.honest (queue_of (lent_below self.new).now) × B.honest (book_of (lent_below self.new).now))
+            → OnOk result (BelowReceives (below_seen Q.contents B.contents (lent_below self.old).now (substation_of self.old)) now octets.now (answer_in answer.new)
+            (below_seen Q.contents B.contents (lent_below self.new).now (substation_of self.new))) }
+        ensures refused { (Q.honest (queue_of (lent_below self.new).now) × B.honest (book_of (lent_below self.new).now))
+            → IfErr result (λ fault. BelowRefuses (below_seen Q.contents B.contents (lent_below self.old).now (substation_of self.old)) now octets.now fault) }
+        ensures unchanged { (Q.honest (queue_of (lent_below self.new).now) × B.honest (book_of (lent_below self.new).now))
+            → OnErr result (below_seen Q.contents B.contents (lent_below self.new).now (substation_of self.new)
+            ≡ below_seen Q.contents B.contents (lent_below self.old).now (substation_of self.old)) }
+        ensures left { OnErr result (answer.new ≡ answer.old) }
+        ensures some { OnOk result (All (λ fragment. 0 < length fragment) (answer_in answer.new).send) }
+        // It says Device exactly where the queue has answered it, and Memory before the queue is asked, or where the numbers are there.
+        ensures stopped { result ≡ Err (told.Cause cause.Device) → IsTrue (Q.is_stopped (queue_of (lent_below self.new).now)) }
+        ensures runs_on { result ≢ Err (told.Cause cause.Device)
+            → Q.is_stopped (queue_of (lent_below self.new).now) ≡ Q.is_stopped (queue_of (lent_below self.old).now) }
+        ensures exhausted_first { Q.honest (queue_of (lent_below self.new).now) → result ≡ Err (told.Cause cause.Memory)
+            → (queue_of (lent_below self.new).now ≡ queue_of (lent_below self.old).now)
+            ⊎ IfOk (taking_at (lent_below self.old).now (substation_of self.old) now octets.now) (λ t.
+            exhausts (Q.contents (queue_of (lent_below self.old).now)) (queued_at (lent_below self.old).now (substation_of self.old) t.events) ≡ false) }
+    {
         if !self.is_there() {
-            return Ok(nothing());
+            answer.put(nothing());
+            return Ok(());
         }
         match self
             .concentrator
             .receive_below(alloc, self.substation, now, octets)
         {
-            Ok(actions) => Ok(answer_taking(actions)),
+            Ok(actions) => {
+                answer.take(&actions);
+                Ok(())
+            }
             Err(fault) => Err(fault_of(fault)),
         }
     }

@@ -1,6 +1,6 @@
 //! A centre on a stream.
 
-ghost use Rattle.std.specs.Prelude.{◌≡◌, ◌≢◌, ◌<◌, ◌⊎◌, All, Err, IfErr, IfOk, IsTrue, OnErr, false, length};
+ghost use Rattle.std.specs.Prelude.{◌≡◌, ◌≢◌, ◌<◌, ◌⊎◌, All, Err, IfErr, IfOk, IsTrue, OnErr, OnOk, false, length};
 ghost use Rattle.dnp_eventbuf.specs.Archive.{passes_limit};
 ghost use Rattle.dnp_master.specs.Calls.{receive_of};
 ghost use Rattle.dnp_concentrator.specs.Centre.{book_of, indices_of, journal_of, link_of};
@@ -8,10 +8,11 @@ ghost use Rattle.dnp_concentrator.specs.declared.cause.Cause.TheVariants as caus
 ghost use Rattle.dnp_streams.specs.declared.stream.station.StationFault.TheVariants as told;
 ghost use Rattle.dnp_streams.specs.streams.Centres.{CentreReceives, centre_seen};
 ghost use Rattle.dnp_streams.specs.streams.Masters.{RefusesRows};
-ghost use Rattle.dnp_streams.specs.streams.Stations.{answer_of};
+ghost use Rattle.dnp_streams.specs.streams.Stations.{answer_in, answer_of};
 
 use crate::stream::asker::Asker;
-use crate::stream::master::{answer_taking, fault_of, nothing};
+use crate::stream::kept::KeptAnswer;
+use crate::stream::master::{fault_of, nothing};
 use crate::stream::station::{Answer, Station, StationFault};
 use dnp_concentrator::{Centre, Relayed};
 use dnp_controls::{Book, BookFault};
@@ -66,8 +67,40 @@ impl<J: JournalStore, B: Book> Station for Centre<J, B> {
         ensures exhausted_first { J.honest (journal_of self.new) → result ≡ Err (told.Cause cause.Memory) → (journal_of self.new ≡ journal_of self.old)
             ⊎ IfOk (receive_of (link_of self.old).master now octets.now) (λ t. passes_limit (J.archive (journal_of self.old)) t.events ≡ false) }
     {
+        let mut answer = KeptAnswer::new(alloc);
+        Station::receive_into(&mut *self, &mut answer, alloc, now, octets)?;
+        Ok(answer.into_answer())
+    }
+
+    fn receive_into(
+        &mut self,
+        answer: &mut KeptAnswer,
+        alloc: Global,
+        now: u64,
+        octets: &[u8],
+    ) -> Result<(), StationFault>
+        ensures kept { indices_of self.new ≡ indices_of self.old }
+        ensures held { (J.honest (journal_of self.new) × B.honest (book_of self.new)) → (J.honest (journal_of self.old) × B.honest (book_of self.old)) }
+        ensures answered { (J.honest (journal_of self.new) × B.honest (book_of self.new))
+            → OnOk result (CentreReceives (centre_seen J.archive B.contents self.old) now octets.now (answer_in answer.new) (centre_seen J.archive B.contents self.new)) }
+        ensures refused { (J.honest (journal_of self.new) × B.honest (book_of self.new))
+            → IfErr result (λ fault. RefusesRows (receive_of (link_of self.old).master now octets.now)
+            (λ t. passes_limit (J.archive (journal_of self.old)) t.events) fault) }
+        ensures unchanged { (J.honest (journal_of self.new) × B.honest (book_of self.new))
+            → OnErr result (centre_seen J.archive B.contents self.new ≡ centre_seen J.archive B.contents self.old) }
+        ensures left { OnErr result (answer.new ≡ answer.old) }
+        ensures some { OnOk result (All (λ fragment. 0 < length fragment) (answer_in answer.new).send) }
+        // It says Device exactly where the journal has answered it, and Memory before that is asked, or where the numbers are there.
+        ensures stopped { result ≡ Err (told.Cause cause.Device) → IsTrue (J.is_stopped (journal_of self.new)) }
+        ensures runs_on { result ≢ Err (told.Cause cause.Device) → J.is_stopped (journal_of self.new) ≡ J.is_stopped (journal_of self.old) }
+        ensures exhausted_first { J.honest (journal_of self.new) → result ≡ Err (told.Cause cause.Memory) → (journal_of self.new ≡ journal_of self.old)
+            ⊎ IfOk (receive_of (link_of self.old).master now octets.now) (λ t. passes_limit (J.archive (journal_of self.old)) t.events ≡ false) }
+    {
         match self.receive(alloc, now, octets) {
-            Ok(actions) => Ok(answer_taking(actions)),
+            Ok(actions) => {
+                answer.take(&actions);
+                Ok(())
+            }
             Err(fault) => Err(fault_of(fault)),
         }
     }

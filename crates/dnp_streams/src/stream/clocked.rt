@@ -1,11 +1,12 @@
 //! A station whose steps are at the moments of a clock.
 
-ghost use Rattle.std.specs.Prelude.{◌≡◌, ◌+◌, ◌<◌, ◌≤◌, min, length, All, IfErr, IfOk, OnErr};
+ghost use Rattle.std.specs.Prelude.{◌≡◌, ◌+◌, ◌<◌, ◌≤◌, min, length, All, IfErr, IfOk, OnErr, OnOk};
 ghost use Rattle.dnp_streams.specs.streams.Clocks.{OpensSometime, ReceivesSometime};
 ghost use Rattle.dnp_streams.specs.streams.Counts.{most};
 ghost use Rattle.dnp_streams.specs.streams.Lent.{clock_of, fragments_given, kept_clocked, lent_station, moment_of};
-ghost use Rattle.dnp_streams.specs.streams.Stations.{answer_of};
+ghost use Rattle.dnp_streams.specs.streams.Stations.{answer_in, answer_of};
 
+use crate::stream::kept::KeptAnswer;
 use crate::stream::station::{Answer, Station, StationFault};
 use std::alloc::Global;
 use std::rt::Clock;
@@ -116,9 +117,35 @@ impl<'a, S: Station, C: Clock> Station for Clocked<'a, S, C> {
         ensures forward { moment_of self.old ≤ moment_of self.new }
         ensures given { fragments_given self.new ≡ min (fragments_given self.old + 1) most }
     {
+        let mut answer = KeptAnswer::new(alloc);
+        self.receive_into(&mut answer, alloc, _now, octets)?;
+        Ok(answer.into_answer())
+    }
+
+    fn receive_into(
+        &mut self,
+        answer: &mut KeptAnswer,
+        alloc: Global,
+        _now: u64,
+        octets: &[u8],
+    ) -> Result<(), StationFault>
+        ensures kept { kept_clocked S.kept self.new ≡ kept_clocked S.kept self.old }
+        ensures held { S.honest (lent_station self.new).now → S.honest (lent_station self.old).now }
+        ensures answered { S.honest (lent_station self.new).now → OnOk result ((ReceivesSometime S.receives).answers (S.state (lent_station self.old).now)
+            _now octets.now (answer_in answer.new) (S.state (lent_station self.new).now)) }
+        ensures refused { S.honest (lent_station self.new).now → IfErr result (λ fault. (ReceivesSometime S.receives).refuses (S.state (lent_station self.old).now)
+            _now octets.now fault) }
+        ensures unchanged { S.honest (lent_station self.new).now → OnErr result (S.state (lent_station self.new).now ≡ S.state (lent_station self.old).now) }
+        ensures left { OnErr result (answer.new ≡ answer.old) }
+        ensures some { OnOk result (All (λ fragment. 0 < length fragment) (answer_in answer.new).send) }
+        ensures at_moment { S.honest (lent_station self.new).now → OnOk result (S.receives.answers (S.state (lent_station self.old).now)
+            (moment_of self.new) octets.now (answer_in answer.new) (S.state (lent_station self.new).now)) }
+        ensures forward { moment_of self.old ≤ moment_of self.new }
+        ensures given { fragments_given self.new ≡ min (fragments_given self.old + 1) most }
+    {
         let now = self.moment();
         self.fragments = self.fragments.saturating_add(1);
-        self.station.receive(alloc, now, octets)
+        self.station.receive_into(answer, alloc, now, octets)
     }
 
     fn hung_up(&mut self)

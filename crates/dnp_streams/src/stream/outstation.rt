@@ -5,6 +5,7 @@ ghost use Rattle.dnp_outstation.specs.Station.{actions_of};
 ghost use Rattle.dnp_streams.specs.streams.Stations.{answer_of};
 ghost use Rattle.dnp_streams.specs.streams.Outstations.{answer_by, cause_told};
 
+use crate::stream::kept::KeptAnswer;
 use crate::stream::station::{Answer, Station, StationFault};
 use dnp_concentrator::Cause;
 use dnp_controls::Outputs;
@@ -67,8 +68,23 @@ impl<L: Lanes, O: Outputs> Station for Outstation<L, O> {
     }
 
     fn receive(&mut self, alloc: Global, now: u64, octets: &[u8]) -> Result<Answer, StationFault> {
-        match self.receive(alloc, now, octets) {
-            Ok(actions) => Ok(answer_with(actions)),
+        let mut answer = KeptAnswer::new(alloc);
+        Station::receive_into(&mut *self, &mut answer, alloc, now, octets)?;
+        Ok(answer.into_answer())
+    }
+
+    fn receive_into(
+        &mut self,
+        answer: &mut KeptAnswer,
+        alloc: Global,
+        now: u64,
+        octets: &[u8],
+    ) -> Result<(), StationFault> {
+        match self.receive_into(&mut answer.actions, alloc, now, octets) {
+            Ok(()) => {
+                answer.done();
+                Ok(())
+            }
             Err(fault) => Err(cause_of(fault)),
         }
     }

@@ -6,6 +6,7 @@ ghost use Rattle.dnp_streams.specs.streams.Stations.{endpoint};
 ghost use Rattle.dnp_streams.specs.streams.Serving.{Serves, IsLeft, IsNoted};
 ghost use Rattle.dnp_streams.specs.steps.Hearing.{Greets, HearsSome, AreWritten, ArePartlyWritten};
 
+use crate::stream::kept::Kept;
 use crate::stream::log::{Log, read_noted, write_noted};
 use crate::stream::outgoing::Outgoing;
 use crate::stream::served::Served;
@@ -35,7 +36,8 @@ pub enum ServeFault {
     Memory,
 }
 
-/// Opens the station, and writes what that brings.
+/// Opens the station, and writes what that brings. It stands apart with its room, which a stream needs once.
+#[inline(never)]
 fn greet<S: Station, W: Write>(
     alloc: Global,
     station: &mut S,
@@ -58,13 +60,14 @@ fn greet<S: Station, W: Write>(
     write_noted(&octets, out, log)
 }
 
-/// Hears frames, up to one that closes the connection, and writes what each of them brings.
+/// Hears frames, up to one that closes the connection, and writes what each of them brings, in the room that is kept.
 fn hear_all<S: Station, W: Write>(
     alloc: Global,
     station: &mut S,
     port: &mut Port,
     now: u64,
     frames: &[Frame],
+    kept: &mut Kept,
     out: &mut W,
     served: &mut Served,
     log: &mut Log,
@@ -78,10 +81,9 @@ fn hear_all<S: Station, W: Write>(
         (λ _. ArePartlyWritten (W.contents out.old) (W.contents out.new) some.output.frames) }
     ensures noted { MatchResult result (λ _. log.new ≡ log.old) (λ _. log.new ≡ record log.old { write_failed = true }) }
 {
-    let mut octets = Outgoing::new();
     for frame in frames {
-        served.add(hear(alloc, station, port, now, frame, &mut octets));
-        match write_noted(&octets, out, log) {
+        served.add(hear(alloc, station, port, now, frame, kept));
+        match write_noted(&kept.octets, out, log) {
             Ok(()) => {}
             Err(fault) => return Err(fault),
         }
@@ -122,6 +124,7 @@ fn serve<S: Station, R: Read, W: Write>(
     let mut stream = FrameReader::new();
     let mut frames = Vec::new(alloc);
     let mut piece = [0; MAX_UNIT];
+    let mut kept = Kept::new(alloc);
     for _ in 0..turns {
         let count = match read_noted(reader, &mut piece, log) {
             Ok(count) => count,
@@ -135,7 +138,17 @@ fn serve<S: Station, R: Read, W: Write>(
             Ok(()) => {}
             Err(_) => return Err(ServeFault::Memory),
         }
-        match hear_all(alloc, station, port, now, &frames, out, &mut served, log) {
+        match hear_all(
+            alloc,
+            station,
+            port,
+            now,
+            &frames,
+            &mut kept,
+            out,
+            &mut served,
+            log,
+        ) {
             Ok(()) => {}
             Err(_) => return Err(ServeFault::WriteFailed),
         }

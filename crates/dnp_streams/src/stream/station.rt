@@ -1,9 +1,10 @@
 //! What a stream needs of a station.
 
-ghost use Rattle.std.specs.Prelude.{◌≡◌, ◌<◌, length, All, IfErr, IfOk, OnErr};
+ghost use Rattle.std.specs.Prelude.{◌≡◌, ◌<◌, length, All, IfErr, IfOk, OnErr, OnOk};
 ghost use Rattle.dnp_streams.specs.streams.Dialogues.{Asking};
-ghost use Rattle.dnp_streams.specs.streams.Stations.{Opening, Receiving, answer_of};
+ghost use Rattle.dnp_streams.specs.streams.Stations.{Opening, Receiving, answer_in, answer_of};
 
+use crate::stream::kept::KeptAnswer;
 use dnp_concentrator::Cause;
 use dnp_master::Outcome;
 use dnp_outstation::Fragment;
@@ -83,6 +84,28 @@ pub trait Station {
         ensures refused { honest self.new → IfErr result (λ fault. receives.refuses (state self.old) now octets.now fault) }
         ensures unchanged { honest self.new → OnErr result (state self.new ≡ state self.old) }
         ensures some { IfOk result (λ answer. All (λ fragment. 0 < length fragment) (answer_of answer).send) };
+
+    /// As `receive`, but what it answers comes into the caller's answer, in place of what was there; a refusal leaves
+    /// that as it was. A station that answers fragment after fragment fills the answer itself: by the body here it is
+    /// moved there, two fragments by value.
+    fn receive_into(
+        &mut self,
+        answer: &mut KeptAnswer,
+        alloc: Global,
+        now: u64,
+        octets: &[u8],
+    ) -> Result<(), StationFault>
+        ensures kept { kept self.new ≡ kept self.old }
+        ensures held { honest self.new → honest self.old }
+        ensures answered { honest self.new → OnOk result (receives.answers (state self.old) now octets.now (answer_in answer.new) (state self.new)) }
+        ensures refused { honest self.new → IfErr result (λ fault. receives.refuses (state self.old) now octets.now fault) }
+        ensures unchanged { honest self.new → OnErr result (state self.new ≡ state self.old) }
+        ensures left { OnErr result (answer.new ≡ answer.old) }
+        ensures some { OnOk result (All (λ fragment. 0 < length fragment) (answer_in answer.new).send) }
+    {
+        answer.put(self.receive(alloc, now, octets)?);
+        Ok(())
+    }
 
     /// The connection ends.
     fn hung_up(&mut self)

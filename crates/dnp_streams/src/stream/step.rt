@@ -4,6 +4,7 @@ ghost use Rattle.std.specs.Prelude.{◌≡◌};
 ghost use Rattle.dnp_streams.specs.streams.Stations.{endpoint};
 ghost use Rattle.dnp_streams.specs.steps.Outgoing.{OpensTo, HearsTo};
 
+use crate::stream::kept::Kept;
 use crate::stream::outgoing::{Outgoing, put_fragments, put_reply};
 use crate::stream::served::Served;
 use crate::stream::station::Station;
@@ -35,29 +36,30 @@ pub(super) fn open<S: Station>(
 }
 
 /// Hands a frame to the port, and the fragment that it completes to the station, and counts what that brings. The octets
-/// to be sent, those of the link layer's reply first, take the place of what was there.
+/// to be sent, those of the link layer's reply first, take the place of those that were kept.
 pub(super) fn hear<S: Station>(
     alloc: Global,
     station: &mut S,
     port: &mut Port,
     now: u64,
     frame: &Frame,
-    out: &mut Outgoing,
+    kept: &mut Kept,
 ) -> Served
     ensures kept { S.kept station.new ≡ S.kept station.old }
     ensures held { S.honest station.new → S.honest station.old }
     ensures heard { S.honest station.new → HearsTo S.receives now (endpoint (S.state station.old) port.old) frame.now
-        (endpoint (S.state station.new) port.new) result out.new.items }
+        (endpoint (S.state station.new) port.new) result kept.new.octets.items }
 {
     let taken = port.take(frame);
-    put_reply(&taken, out);
+    put_reply(&taken, &mut kept.octets);
     if !taken.whole {
         return Served::of(0, 0, false);
     }
-    match station.receive(alloc, now, port.fragment()) {
-        Ok(answer) => {
-            put_fragments(port, &answer.send, out);
-            Served::of(1, 0, answer.close)
+    match station.receive_into(&mut kept.answer, alloc, now, port.fragment()) {
+        Ok(()) => {
+            let actions = &kept.answer.actions;
+            put_fragments(port, &actions.send, &mut kept.octets);
+            Served::of(1, 0, actions.close)
         }
         Err(_) => Served::of(1, 1, false),
     }

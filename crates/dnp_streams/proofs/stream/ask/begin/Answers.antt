@@ -17,4 +17,4 @@ returns-clause-turns g c honest =
     subst (λ (d : Dialogue S.State). Turns S.opens S.receives S.asking c.args.now d [] c.finish.result (W.contents c.args.out.now) (W.contents c.finish.new.out) new)
     (dialogue_is station station port port old.left.now old.left.now _ _ _ _ _ _ _ _ _ _ refl refl refl told.rows told.outcomes told.faults refl refl)
     (c.finish.ensures.turns honest roomy Beginning c.requires.goes_on
-    (begin_puts S.opens S.receives S.asking c.args.now roomy _ c.open_to.new.out.items c.deref.result.now c.requires.begun (c.open_to.ensures.begins (c.finish.ensures.held honest)) c.deref.ensures.0))
+    (begin_puts S.opens S.receives S.asking c.args.now roomy _ c.open_to.new.out.items c.requires.begun (c.open_to.ensures.begins (c.finish.ensures.held honest))))

@@ -18,5 +18,5 @@ returns-clause-turns g c honest =
     subst (λ (d : Dialogue S.State). Turns S.opens S.receives S.asking c.args.now d (frame ∷ []) c.finish.result (W.contents c.args.out.now) (W.contents c.finish.new.out) new)
     (dialogue_is station station port port old.left.now old.left.now _ _ _ _ _ _ _ _ _ _ refl refl refl told.rows told.outcomes told.faults refl refl)
     (c.finish.ensures.turns honest roomy (Hearing frame) c.requires.goes_on
-    (hear_puts S.opens S.receives S.asking c.args.now roomy _ frame c.hear_to.new.out.items c.deref.result.now c.requires.begun c.requires.busy
-    (c.hear_to.ensures.hears (c.finish.ensures.held honest)) c.deref.ensures.0))
+    (hear_puts S.opens S.receives S.asking c.args.now roomy _ frame c.hear_to.new.kept.octets.items c.requires.begun c.requires.busy
+    (c.hear_to.ensures.hears (c.finish.ensures.held honest))))

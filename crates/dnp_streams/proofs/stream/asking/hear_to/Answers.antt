@@ -1,6 +1,6 @@
 use Rattle.std.proofs.Common.{◌++◌, [], refl}
 use Rattle.std.specs.Prelude.{option_to_list}
-use Rattle.dnp_streams.specs.streams.Stations.{answer_of}
+use Rattle.dnp_streams.specs.streams.Stations.{answer_in}
 use Rattle.dnp_streams.specs.streams.Spelled.{sent_frames}
 use Rattle.dnp_streams.specs.streams.Dialogues.{Unfinished, Answered, Unanswered}
 use Rattle.dnp_streams.proofs.streams.Dialogues.{dialogue_is}
@@ -20,7 +20,7 @@ pub returns-in-Ok-clause-hears : goal.returns-in-Ok-clause-hears
 returns-in-Ok-clause-hears g c honest =
     let taken = c.take-taken.result in
     let heard = c.take-taken.new.self in
-    let answer = answer_of c.in-Ok.answer in
+    let answer = answer_in c.receive_into.new.answer in
     let replied = option_to_list taken.reply in
     let frames = sent_frames heard answer.send in
     let octets = c.put_fragments.new.out.items in
@@ -28,7 +28,7 @@ returns-in-Ok-clause-hears g c honest =
       sent = replied ++ frames;
       sends =
           Answered taken heard c.fragment.result.now c.take-taken.ensures.takes c.if-not-taken.false c.fragment.ensures.shown
-          answer (g.S.Station.state c.receive.new.self) (c.in-Ok.ensures.answered honest) refl
+          answer (g.S.Station.state c.receive_into.new.self) (c.in-Ok.ensures.answered honest) refl
           (dialogue_is _ _ _ _ _ _ _ _ _ _ _ _ _ _ _ _ refl c.put_fragments.ensures.moved refl c.count.ensures.rows c.count.ensures.outcomes c.count.ensures.faults refl refl);
       spelled =
           put_alone (replied ++ frames) octets

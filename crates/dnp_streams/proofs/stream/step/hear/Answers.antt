@@ -1,6 +1,6 @@
 use Rattle.std.proofs.Common.{◌++◌, false, [], refl}
 use Rattle.std.specs.Prelude.{option_to_list}
-use Rattle.dnp_streams.specs.streams.Stations.{answer_of}
+use Rattle.dnp_streams.specs.streams.Stations.{answer_in}
 use Rattle.dnp_streams.specs.streams.Spelled.{sent_frames}
 use Rattle.dnp_streams.specs.streams.Exchanges.{no_output, Unfinished, Answered, Refused}
 use Rattle.dnp_streams.proofs.streams.Spelling.{put_alone, put_more}
@@ -20,7 +20,7 @@ pub returns-in-Ok-clause-heard : goal.returns-in-Ok-clause-heard
 returns-in-Ok-clause-heard g c honest =
     let taken = c.take-taken.result in
     let heard = c.take-taken.new.self in
-    let answer = answer_of c.in-Ok.answer in
+    let answer = answer_in c.receive_into.new.answer in
     let replied = option_to_list taken.reply in
     let frames = sent_frames heard answer.send in
     let octets = c.put_fragments.new.out.items in

@@ -1,49 +1,14 @@
-use Rattle.std.proofs.Common.{rules, ◌<◌, length, ap}
-use Rattle.std.proofs.lemmas.Result.{MatchResult-at_ok}
-use Rattle.dnp_concentrator.specs.Concentrator.{links_of, taking_at}
-use Rattle.dnp_concentrator.specs.BookOutputs.{book_in, map_in}
-use Rattle.dnp_streams.specs.streams.Concentrators.BelowReceives.{Taken}
-use Rattle.dnp_streams.proofs.streams.Taken.{taken, answered, seen}
-use Rattle.dnp_concentrator.specs.Concentrator.{link_at, queue_of, queued_at}
-use Rattle.dnp_eventbuf.specs.Stock.{exhausts}
-use Rattle.dnp_streams.proofs.streams.Refused.{refused_rows}
-use Rattle.dnp_streams.proofs.streams.Told.{tells_device, was_device, was_memory}
+use Rattle.std.proofs.Common.{subst, sym}
+use Rattle.dnp_streams.specs.streams.Concentrators.{BelowReceives, below_seen}
+use Rattle.dnp_streams.specs.streams.Lent.{lent_below, substation_of}
+use Rattle.dnp_streams.specs.streams.Stations.{Answer}
 use Rattle.dnp_streams.proofs.stream.below.BelowStation.receive.Goals as goal
 
-pub returns-in-Ok-clause-answered : goal.returns-in-Ok-clause-answered
-returns-in-Ok-clause-answered g c honest =
-    let old = c.args.self.now.concentrator.now in
-    let at = c.args.self.now.substation in
-    let told = c.in-Ok.ensures in
-    let there : at < length (links_of old) = search rules in
-    let found = taken (taking_at old at c.args.now c.args.octets.now) c.in-Ok.actions told.refused in
-    let links = MatchResult-at_ok _ _ found.0 found.1 told.link in
-    let core = MatchResult-at_ok _ _ found.0 found.1 told.readings in
-    let queue = MatchResult-at_ok _ _ found.0 found.1 (told.queued honest.0) in
-    let by = MatchResult-at_ok _ _ found.0 found.1 told.actions in
-    Taken there found.0 found.1 (answered _ _ found.0 _ c.answer_taking.ensures.answer by)
-    (seen at _ _ _ _ _ _ _ _ _ _ _ _ links core (ap (λ outputs. map_in outputs) told.outputs) told.plan queue
-    (ap (λ outputs. g.B.Book.contents (book_in outputs)) told.outputs))
-
-pub returns-in-Err-clause-refused : goal.returns-in-Err-clause-refused
-returns-in-Err-clause-refused g c honest =
-    let old = c.args.self.now.concentrator.now in
-    let at = c.args.self.now.substation in
-    let there : at < length (links_of old) = search rules in
-    record {
-      there = there;
-      by_rows =
-          refused_rows (link_at old at).master c.args.now c.args.octets.now
-          (λ t. exhausts (g.Q.Lanes.contents (queue_of old)) (queued_at old at t.events)) c.in-Err.fault c.fault_of.result c.fault_of.ensures
-          c.in-Err.ensures.named (c.in-Err.ensures.exhausted honest.0);
-    }
-
-pub returns-in-Err-clause-stopped : goal.returns-in-Err-clause-stopped
-returns-in-Err-clause-stopped g c = λ is. c.in-Err.ensures.queue.device_stops (was_device c.in-Err.fault c.fault_of.result c.fault_of.ensures is)
-
-pub returns-in-Err-clause-runs_on : goal.returns-in-Err-clause-runs_on
-returns-in-Err-clause-runs_on g c = λ other. c.in-Err.ensures.queue.runs_on (λ is. other (tells_device c.in-Err.fault c.fault_of.result c.fault_of.ensures is))
-
-pub returns-in-Err-clause-exhausted_first : goal.returns-in-Err-clause-exhausted_first
-returns-in-Err-clause-exhausted_first g c = λ honest is.
-    c.in-Err.ensures.exhausted_first honest (was_memory c.in-Err.fault c.fault_of.result c.fault_of.ensures is)
+pub returns-clause-answered : goal.returns-clause-answered
+returns-clause-answered g c honest =
+    let old = c.args.self.now in
+    let new = c.receive_into.new.self in
+    subst
+    (λ (answer : Answer). BelowReceives (below_seen g.Q.Lanes.contents g.B.Book.contents (lent_below old).now (substation_of old)) c.args.now c.args.octets.now answer
+    (below_seen g.Q.Lanes.contents g.B.Book.contents (lent_below new).now (substation_of new)))
+    (sym c.into_answer.ensures) (c.in_ok-receive_into.ensures.answered honest)

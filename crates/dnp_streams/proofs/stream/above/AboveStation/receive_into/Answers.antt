@@ -3,14 +3,14 @@ use Rattle.dnp_outstation.specs.Station.{actions_of}
 use Rattle.dnp_concentrator.specs.BookOutputs.{panel_of}
 use Rattle.dnp_concentrator.specs.Concentrator.{outputs_of}
 use Rattle.dnp_streams.proofs.streams.Refused.{no_message_above}
-use Rattle.dnp_streams.proofs.stream.above.AboveStation.receive.Goals as goal
+use Rattle.dnp_streams.proofs.stream.above.AboveStation.receive_into.Goals as goal
 
 pub returns-in-Ok-clause-answered : goal.returns-in-Ok-clause-answered
 returns-in-Ok-clause-answered g c honest =
     record {
       does = actions_of c.receive_above.new.actions;
       step = c.in-Ok.ensures.received honest.0 honest.1;
-      answered = c.answer_with.ensures;
+      answered = c.done.ensures;
       idle = λ none. ap (λ outputs. panel_of g.B.Book.contents outputs) (c.in-Ok.ensures.outputs.idle none);
       performed = λ some. record {
         before = outputs_of c.args.self.now.concentrator.now;

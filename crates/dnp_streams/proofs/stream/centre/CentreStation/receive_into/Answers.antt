@@ -2,7 +2,7 @@ use Rattle.dnp_concentrator.specs.Centre.{journal_of, link_of}
 use Rattle.dnp_eventbuf.specs.Archive.{passes_limit}
 use Rattle.dnp_streams.proofs.streams.Refused.{refused_rows}
 use Rattle.dnp_streams.proofs.streams.Told.{tells_device, was_device, was_memory}
-use Rattle.dnp_streams.proofs.stream.centre.CentreStation.receive.Goals as goal
+use Rattle.dnp_streams.proofs.stream.centre.CentreStation.receive_into.Goals as goal
 
 pub returns-in-Err-clause-refused : goal.returns-in-Err-clause-refused
 returns-in-Err-clause-refused g c honest =

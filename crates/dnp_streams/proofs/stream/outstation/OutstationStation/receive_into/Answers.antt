@@ -1,6 +1,6 @@
 use Rattle.std.proofs.Common.{refl}
 use Rattle.dnp_streams.proofs.streams.Refused.{no_message_above}
-use Rattle.dnp_streams.proofs.stream.outstation.OutstationStation.receive.Goals as goal
+use Rattle.dnp_streams.proofs.stream.outstation.OutstationStation.receive_into.Goals as goal
 
 pub returns-in-Err-clause-refused : goal.returns-in-Err-clause-refused
 returns-in-Err-clause-refused g c honest =
