@@ -135,6 +135,7 @@ impl<'s, 'p, 'c, S, C> Minded<'s, 'p, 'c, S, C> {
 
 impl<'s, 'p, 'c, S: Station, C: Clock> Station for Minded<'s, 'p, 'c, S, C> {
     ghost use Rattle.std.specs.Prelude.{Bool, ⊤};
+    ghost use Rattle.dnp_streams.specs.streams.Lives.{lifeless};
 
     // It is only shown to be safe: of its state no more is promised than whether it is idle.
     ghost State = { Bool };
@@ -152,6 +153,8 @@ impl<'s, 'p, 'c, S: Station, C: Clock> Station for Minded<'s, 'p, 'c, S, C> {
     ghost receives = { record { answers = λ _ _ _ _ _. ⊤; refuses = λ _ _ _ _. ⊤ } };
 
     ghost asking = { record { asks = λ _ _ _ _ _. ⊤; refuses = λ _ _ _. ⊤; relays = λ _ _ _ _. ⊤; refuses_relay = λ _ _. ⊤; is_idle = λ idle. idle } };
+
+    ghost life = { lifeless };
 
     ghost hung_up_of = { λ s. s };
 

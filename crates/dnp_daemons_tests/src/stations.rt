@@ -17,6 +17,7 @@ pub struct Echo {
 impl Station for Echo {
     ghost use Rattle.std.specs.Prelude.{⊤};
     ghost use Rattle.dnp_streams.specs.streams.Dialogues.{asks_nothing};
+    ghost use Rattle.dnp_streams.specs.streams.Lives.{lifeless};
 
     ghost State = { ⊤ };
 
@@ -33,6 +34,8 @@ impl Station for Echo {
     ghost receives = { record { answers = λ _ _ _ _ _. ⊤; refuses = λ _ _ _ _. ⊤ } };
 
     ghost asking = { asks_nothing };
+
+    ghost life = { lifeless };
 
     ghost hung_up_of = { λ s. s };
 

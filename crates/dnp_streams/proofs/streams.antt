@@ -12,3 +12,7 @@ pub mod Refused
 pub mod Told
 pub mod MastersOneWay
 pub mod BookOneWay
+pub mod Changing
+pub mod Living
+pub mod Alive
+pub mod Order

@@ -4,3 +4,4 @@ pub mod Hearing
 pub mod Outgoing
 pub mod Pieces
 pub mod Talking
+pub mod Living

@@ -8,6 +8,7 @@ pub mod Counts
 pub mod Serving
 pub mod OneWay
 pub mod Outstations
+pub mod Lives
 pub mod Masters
 pub mod Centres
 pub mod Concentrators
@@ -15,3 +16,4 @@ pub mod Lent
 pub mod Dialogues
 pub mod Asking
 pub mod Talking
+pub mod Living

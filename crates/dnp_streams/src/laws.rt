@@ -1,10 +1,11 @@
 //! Laws of the words of `specs/`: each function does nothing, and its contract is a law.
-ghost use Rattle.std.specs.Prelude.{◌≡◌, ℕ, Bool, List, []};
+ghost use Rattle.std.specs.Prelude.{◌≡◌, ◌++◌, ℕ, Bool, List, []};
 ghost use Rattle.dnp_linkframe.specs.declared.frame.Frame.{Frame as FrameValue};
 ghost use Rattle.dnp_linkframe.specs.Stream.{Gives};
 ghost use Rattle.dnp_streams.specs.AnswerLine.{IsPrinted};
 ghost use Rattle.dnp_streams.specs.streams.Spelled.{AreSpelled};
 ghost use Rattle.dnp_streams.specs.streams.OneWay.{OpensOneWay, ReceivesOneWay, OneOutput};
+ghost use Rattle.dnp_streams.specs.streams.Living.{FollowsAll, NeverFalls, Standing, Step, changes_in};
 ghost use Rattle.dnp_streams.specs.streams.Outstations.{ShowOneWay, outstation_opens, outstation_receives};
 ghost use Rattle.dnp_streams.specs.streams.Centres.{centre_opens, centre_receives};
 ghost use Rattle.dnp_streams.specs.streams.Concentrators.{below_opens, below_receives};
@@ -41,6 +42,13 @@ pub fn one_output<S: Station>()
     frames::a_stream_gives_one_answer();
     frames::a_frame_has_one_spelling();
 }
+
+/// The moments of a live session's steps don't fall, and the changes that they make and those that are left are the changes
+/// that were to come: each is made once at most, and in order.
+pub fn a_session_keeps_its_order()
+    ensures moments { (old new : Standing) (steps : List Step) → FollowsAll old steps new → NeverFalls old.now steps }
+    ensures changes { (old new : Standing) (steps : List Step) → FollowsAll old steps new → old.changes ≡ changes_in steps ++ new.changes }
+{}
 
 /// The octets in which frames are written to a stream give its peer these frames, and nothing waits.
 pub fn what_is_written_is_read()

@@ -18,7 +18,7 @@ use Rattle.dnp_streams.proofs.streams.Spelling.{spelled_none, spelled_joined}
 
 -- ---- outputs, one after the other
 
-or_none : (b : Bool) → (b || false) ≡ b
+pub or_none : (b : Bool) → (b || false) ≡ b
 or_none true = refl
 or_none false = refl
 

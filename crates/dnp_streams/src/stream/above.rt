@@ -42,6 +42,7 @@ impl<'a, Q: Lanes, B: Book> Station for Above<'a, Q, B> {
     ghost use Rattle.dnp_streams.specs.streams.Outstations.{Seen, hung_up_of, outstation_opens, outstation_receives};
     ghost use Rattle.dnp_streams.specs.streams.Concentrators.{above_seen};
     ghost use Rattle.dnp_streams.specs.streams.Lent.{KeptAbove, kept_above, lent_above};
+    ghost use Rattle.dnp_streams.specs.streams.Lives.{lifeless};
 
     ghost State = { Seen };
 
@@ -58,6 +59,8 @@ impl<'a, Q: Lanes, B: Book> Station for Above<'a, Q, B> {
     ghost receives = { outstation_receives (panel_of B.contents) (Performs B.contents) };
 
     ghost asking = { asks_nothing };
+
+    ghost life = { lifeless };
 
     ghost hung_up_of = { hung_up_of };
 

@@ -55,6 +55,7 @@ impl<'a, Q: Lanes, B: Book> Station for Below<'a, Q, B> {
     ghost use Rattle.dnp_streams.specs.streams.Asking.{below_asking};
     ghost use Rattle.dnp_streams.specs.streams.Concentrators.{BelowSeen, below_hung_up, below_opens, below_receives, below_seen};
     ghost use Rattle.dnp_streams.specs.streams.Lent.{KeptBelow, kept_below, lent_below, substation_of};
+    ghost use Rattle.dnp_streams.specs.streams.Lives.{lifeless};
 
     ghost State = { BelowSeen };
 
@@ -71,6 +72,8 @@ impl<'a, Q: Lanes, B: Book> Station for Below<'a, Q, B> {
     ghost receives = { below_receives };
 
     ghost asking = { below_asking };
+
+    ghost life = { lifeless };
 
     ghost hung_up_of = { below_hung_up };
 

@@ -67,6 +67,7 @@ impl<'a, S: Station, C: Clock> Station for Clocked<'a, S, C> {
     ghost use Rattle.dnp_streams.specs.streams.Dialogues.{asks_nothing};
     ghost use Rattle.dnp_streams.specs.streams.Clocks.{OpensSometime, ReceivesSometime};
     ghost use Rattle.dnp_streams.specs.streams.Lent.{KeptClocked, lent_station};
+    ghost use Rattle.dnp_streams.specs.streams.Lives.{lifeless};
 
     ghost State = { S.State };
 
@@ -83,6 +84,8 @@ impl<'a, S: Station, C: Clock> Station for Clocked<'a, S, C> {
     ghost receives = { ReceivesSometime S.receives };
 
     ghost asking = { asks_nothing };
+
+    ghost life = { lifeless };
 
     ghost hung_up_of = { S.hung_up_of };
 

@@ -40,6 +40,7 @@ impl<L: Lanes, O: Outputs> Station for Outstation<L, O> {
     ghost use Rattle.std.specs.Prelude.{⊤};
     ghost use Rattle.dnp_outstation.specs.Parts.{lanes_of, outputs_of};
     ghost use Rattle.dnp_streams.specs.streams.Dialogues.{asks_nothing};
+    ghost use Rattle.dnp_streams.specs.streams.Lives.{outstation_lives};
     ghost use Rattle.dnp_streams.specs.streams.Outstations.{Seen, hung_up_of, outstation_opens, outstation_receives, seen_of};
 
     ghost State = { Seen };
@@ -57,6 +58,8 @@ impl<L: Lanes, O: Outputs> Station for Outstation<L, O> {
     ghost receives = { outstation_receives O.panel O.performs };
 
     ghost asking = { asks_nothing };
+
+    ghost life = { outstation_lives };
 
     ghost hung_up_of = { hung_up_of };
 

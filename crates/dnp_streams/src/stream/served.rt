@@ -1,7 +1,7 @@
 //! What became of a stream, in numbers.
 
 ghost use Rattle.std.specs.Prelude.{◌≡◌};
-ghost use Rattle.dnp_streams.specs.streams.Exchanges.{Output};
+ghost use Rattle.dnp_streams.specs.streams.Exchanges.{Output, no_output};
 ghost use Rattle.dnp_streams.specs.streams.Counts.{Counts, served_of};
 
 /// What became of a stream.
@@ -34,5 +34,12 @@ impl Served {
         self.fragments = self.fragments.saturating_add(step.fragments);
         self.faults = self.faults.saturating_add(step.faults);
         self.closed = self.closed || step.closed;
+    }
+
+    /// Counts what brings nothing.
+    pub(super) fn count_nothing(&mut self)
+        ensures { Counts self.old no_output self.new }
+    {
+        self.add(Served::of(0, 0, false));
     }
 }

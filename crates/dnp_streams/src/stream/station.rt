@@ -2,6 +2,7 @@
 
 ghost use Rattle.std.specs.Prelude.{◌≡◌, ◌<◌, length, All, IfErr, IfOk, OnErr, OnOk};
 ghost use Rattle.dnp_streams.specs.streams.Dialogues.{Asking};
+ghost use Rattle.dnp_streams.specs.streams.Lives.{Life};
 ghost use Rattle.dnp_streams.specs.streams.Stations.{Opening, Receiving, answer_in, answer_of};
 
 use crate::stream::kept::KeptAnswer;
@@ -66,6 +67,9 @@ pub trait Station {
 
     /// How it asks and relays, and when it is idle, where it is an `Asker`.
     ghost asking: { Asking State };
+
+    /// How it lives between what comes, where it is `Living`.
+    ghost life: { Life State };
 
     /// A connection begins.
     fn opened(&mut self, alloc: Global, now: u64) -> Result<Answer, StationFault>

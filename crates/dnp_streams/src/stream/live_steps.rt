@@ -1,0 +1,189 @@
+//! The steps of a live session at which no frame comes: the opening, time that passes, and changes that are due.
+
+ghost use Rattle.std.specs.Prelude.{◌≡◌, [], true, false, MatchResult, OnOk};
+ghost use Rattle.dnp_streams.specs.streams.Stations.{endpoint};
+ghost use Rattle.dnp_streams.specs.streams.Living.{NoneIsDue, Idle, Owing, Unopened, standing_of};
+ghost use Rattle.dnp_streams.specs.steps.Living.{Brings};
+ghost use Rattle.dnp_streams.specs.steps.Outgoing.{OpensTo};
+
+use crate::stream::change::Change;
+use crate::stream::living::Living;
+use crate::stream::log::{Log, write_noted};
+use crate::stream::outgoing::{Outgoing, put_fragments};
+use crate::stream::served::Served;
+use crate::stream::session::Session;
+use crate::stream::step::open;
+use crate::stream::waiting::moment;
+use crate::writing::NotWritten;
+use dnp_line::Port;
+use std::alloc::Global;
+use std::io::Write;
+use std::rt::Clock;
+
+/// Lets time pass at the station, and counts what that brings. The octets to be sent take the place of what was there.
+fn tick<S: Living>(
+    alloc: Global,
+    station: &mut S,
+    port: &mut Port,
+    now: u64,
+    out: &mut Outgoing,
+) -> Served
+    ensures kept { S.kept station.new ≡ S.kept station.old }
+    ensures held { S.honest station.new → S.honest station.old }
+    ensures ticked { S.honest station.new → OpensTo S.life.ticks now (endpoint (S.state station.old) port.old)
+        (endpoint (S.state station.new) port.new) result out.new.items }
+{
+    out.clear();
+    match station.tick(alloc, now) {
+        Ok(answer) => {
+            put_fragments(port, &answer.send, out);
+            Served::of(0, 0, answer.close)
+        }
+        Err(_) => Served::of(0, 1, false),
+    }
+}
+
+/// Makes a change at the station, and counts what that brings. The octets to be sent take the place of what was there.
+fn make<S: Living>(
+    alloc: Global,
+    station: &mut S,
+    port: &mut Port,
+    now: u64,
+    change: &Change,
+    out: &mut Outgoing,
+) -> Served
+    ensures kept { S.kept station.new ≡ S.kept station.old }
+    ensures held { S.honest station.new → S.honest station.old }
+    ensures made { S.honest station.new → OpensTo (S.life.changes change.now) now (endpoint (S.state station.old) port.old)
+        (endpoint (S.state station.new) port.new) result out.new.items }
+{
+    out.clear();
+    match station.change(alloc, now, change) {
+        Ok(answer) => {
+            put_fragments(port, &answer.send, out);
+            Served::of(0, 0, answer.close)
+        }
+        Err(_) => Served::of(0, 1, false),
+    }
+}
+
+/// Lets time pass at the moment of the last step, and writes what that brings.
+fn pass_time<S: Living, W: Write>(
+    alloc: Global,
+    station: &mut S,
+    port: &mut Port,
+    session: &Session<'_>,
+    out: &mut W,
+    served: &mut Served,
+    log: &mut Log,
+) -> Result<(), NotWritten>
+    ensures kept { S.kept station.new ≡ S.kept station.old }
+    ensures held { S.honest station.new → S.honest station.old }
+    ensures passed { S.honest station.new → Brings S.opens S.receives S.life [] 0
+        (endpoint (S.state station.old) port.old) (standing_of Owing session.entry.now) served.old (W.contents out.old) result
+        (endpoint (S.state station.new) port.new) (standing_of Idle session.entry.now) served.new (W.contents out.new) }
+    ensures noted { MatchResult result (λ _. log.new ≡ log.old) (λ _. log.new ≡ record log.old { write_failed = true }) }
+{
+    let mut octets = Outgoing::new();
+    served.add(tick(alloc, station, port, session.now, &mut octets));
+    write_noted(&octets, out, log)
+}
+
+/// Makes the changes that are due, in order, up to one that closes the connection, and writes what each of them brings.
+fn make_due<S: Living, W: Write>(
+    alloc: Global,
+    station: &mut S,
+    port: &mut Port,
+    session: &mut Session<'_>,
+    out: &mut W,
+    served: &mut Served,
+    log: &mut Log,
+) -> Result<(), NotWritten>
+    requires { served.old.closed ≡ false }
+    ensures kept { S.kept station.new ≡ S.kept station.old }
+    ensures held { S.honest station.new → S.honest station.old }
+    ensures made { S.honest station.new → Brings S.opens S.receives S.life [] 0
+        (endpoint (S.state station.old) port.old) (standing_of Idle session.old) served.old (W.contents out.old) result
+        (endpoint (S.state station.new) port.new) (standing_of Idle session.new) served.new (W.contents out.new) }
+    ensures none_due { OnOk result (served.new.closed ≡ false → NoneIsDue session.new.now session.new.changes.now) }
+    ensures noted { MatchResult result (λ _. log.new ≡ log.old) (λ _. log.new ≡ record log.old { write_failed = true }) }
+{
+    let mut octets = Outgoing::new();
+    served.count_nothing();
+    while let Some((change, later)) = session.changes.split_first() {
+        if session.now < change.at {
+            return Ok(());
+        }
+        session.changes = later;
+        served.add(make(alloc, station, port, session.now, change, &mut octets));
+        match write_noted(&octets, out, log) {
+            Ok(()) => {}
+            Err(fault) => return Err(fault),
+        }
+        if served.closed {
+            return Ok(());
+        }
+    }
+    Ok(())
+}
+
+/// Lets time pass at the moment of the last step, and makes the changes that are due then.
+pub(super) fn settle<S: Living, W: Write>(
+    alloc: Global,
+    station: &mut S,
+    port: &mut Port,
+    session: &mut Session<'_>,
+    out: &mut W,
+    served: &mut Served,
+    log: &mut Log,
+) -> Result<(), NotWritten>
+    requires { served.old.closed ≡ false }
+    ensures kept { S.kept station.new ≡ S.kept station.old }
+    ensures held { S.honest station.new → S.honest station.old }
+    ensures settled { S.honest station.new → Brings S.opens S.receives S.life [] 0
+        (endpoint (S.state station.old) port.old) (standing_of Owing session.old) served.old (W.contents out.old) result
+        (endpoint (S.state station.new) port.new) (standing_of Idle session.new) served.new (W.contents out.new) }
+    ensures none_due { OnOk result (served.new.closed ≡ false → NoneIsDue session.new.now session.new.changes.now) }
+    ensures noted { MatchResult result (λ _. log.new ≡ log.old) (λ _. log.new ≡ record log.old { write_failed = true }) }
+{
+    match pass_time(alloc, station, port, session, out, served, log) {
+        Ok(()) => {}
+        Err(fault) => return Err(fault),
+    }
+    if served.closed {
+        return Ok(());
+    }
+    make_due(alloc, station, port, session, out, served, log)
+}
+
+/// Opens the station, makes the changes that are due by then, and writes what that brings.
+pub(super) fn begin<S: Living, W: Write, C: Clock>(
+    alloc: Global,
+    station: &mut S,
+    port: &mut Port,
+    clock: &C,
+    session: &mut Session<'_>,
+    out: &mut W,
+    served: &mut Served,
+    log: &mut Log,
+) -> Result<(), NotWritten>
+    ensures kept { S.kept station.new ≡ S.kept station.old }
+    ensures held { S.honest station.new → S.honest station.old }
+    ensures begun { S.honest station.new → Brings S.opens S.receives S.life [] 0
+        (endpoint (S.state station.old) port.old) (standing_of Unopened session.old) served.old (W.contents out.old) result
+        (endpoint (S.state station.new) port.new) (standing_of Idle session.new) served.new (W.contents out.new) }
+    ensures none_due { OnOk result (served.new.closed ≡ false → NoneIsDue session.new.now session.new.changes.now) }
+    ensures noted { MatchResult result (λ _. log.new ≡ log.old) (λ _. log.new ≡ record log.old { write_failed = true }) }
+{
+    let mut octets = Outgoing::new();
+    session.now = moment(clock, session.now);
+    served.add(open(alloc, station, port, session.now, &mut octets));
+    match write_noted(&octets, out, log) {
+        Ok(()) => {}
+        Err(fault) => return Err(fault),
+    }
+    if served.closed {
+        return Ok(());
+    }
+    make_due(alloc, station, port, session, out, served, log)
+}

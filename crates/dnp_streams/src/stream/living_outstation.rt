@@ -1,0 +1,39 @@
+//! An outstation that lives.
+
+ghost use Rattle.std.specs.Prelude.{◌≡◌};
+ghost use Rattle.dnp_streams.specs.streams.Lives.{told_of};
+
+use crate::stream::change::Change;
+use crate::stream::living::Living;
+use crate::stream::outstation::{answer_with, cause_of};
+use crate::stream::station::{Answer, StationFault};
+use dnp_controls::Outputs;
+use dnp_eventbuf::Lanes;
+use dnp_outstation::{Fault, Outstation};
+use std::alloc::Global;
+
+/// The fault of a change, as a station's: a reading that its points refuse is a message that it can't take.
+fn change_fault(fault: Fault) -> StationFault
+    ensures { result ≡ told_of fault }
+{
+    match fault {
+        Fault::NoPoint | Fault::ValueRange | Fault::TimeRange => StationFault::Message,
+        Fault::Exhausted | Fault::Memory | Fault::Device => cause_of(fault),
+    }
+}
+
+impl<L: Lanes, O: Outputs> Living for Outstation<L, O> {
+    fn tick(&mut self, alloc: Global, now: u64) -> Result<Answer, StationFault> {
+        match self.tick(alloc, now) {
+            Ok(actions) => Ok(answer_with(actions)),
+            Err(fault) => Err(cause_of(fault)),
+        }
+    }
+
+    fn change(&mut self, alloc: Global, now: u64, change: &Change) -> Result<Answer, StationFault> {
+        match self.change(alloc, now, change.kind, change.index, change.reading) {
+            Ok(actions) => Ok(answer_with(actions)),
+            Err(fault) => Err(change_fault(fault)),
+        }
+    }
+}
