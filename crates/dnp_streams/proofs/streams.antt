@@ -12,3 +12,4 @@ pub mod Refused
 pub mod Told
 pub mod MastersOneWay
 pub mod BookOneWay
+pub mod Answering
