@@ -12,7 +12,8 @@ pub mod Refused
 pub mod Told
 pub mod MastersOneWay
 pub mod BookOneWay
+pub mod Alive
+pub mod Answering
 pub mod Changing
 pub mod Living
-pub mod Alive
 pub mod Order

@@ -131,7 +131,10 @@ impl KeptAnswer {
 
 /// What a stream keeps for its steps, so that none of them makes room anew.
 pub(super) struct Kept {
-    /// What the station answers.
+    /// What the station answers to confirms: mostly nothing. It stands apart, since a place in which there was a fragment
+    /// is written over whole where it is emptied, and where it is filled after that.
+    pub confirmed: KeptAnswer,
+    /// What it answers to all else.
     pub answer: KeptAnswer,
     /// The octets that are sent.
     pub octets: Outgoing,
@@ -141,6 +144,7 @@ impl Drop for Kept {
     /// One call for whoever lets it go: its parts are looked at here alone.
     fn drop(self) {
         let Kept {
+            confirmed: _,
             answer: _,
             octets: _,
         } = self;
@@ -150,10 +154,12 @@ impl Drop for Kept {
 impl Kept {
     /// Nothing is answered and sent.
     pub fn new(alloc: Global) -> Kept
+        ensures confirmed { answer_in result.confirmed ≡ nothing_answered }
         ensures answer { answer_in result.answer ≡ nothing_answered }
         ensures octets { result.octets.items ≡ [] }
     {
         Kept {
+            confirmed: KeptAnswer::new(alloc),
             answer: KeptAnswer::new(alloc),
             octets: Outgoing::new(),
         }
