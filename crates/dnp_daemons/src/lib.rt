@@ -18,9 +18,10 @@ pub use dnp_plantext::{
     PlanFault, PlanTextFault, PlannedOutstation, plan_fault, planned_outstation, read_plan,
 };
 pub use dnp_streams::{
-    Above, Answer, AnswerFault, Asked, Asker, Below, Clocked, KeptAnswer, Log, MAX_ADDRESS,
-    MAX_CHARACTERS, MAX_INPUT, ServeFault, Served, Station, StationFault, TextFault, answer_line,
-    ask_noted, ask_stream, laws, read_address, read_text, serve_noted, serve_stream, text_fault,
+    Above, Answer, AnswerFault, Asked, Asker, Below, Change, Clocked, KeptAnswer, Limits, Lived,
+    Living, Log, MAX_ADDRESS, MAX_CHARACTERS, MAX_INPUT, ServeFault, Served, Session, Station,
+    StationFault, TextFault, Waiting, answer_line, ask_noted, ask_stream, laws, live_stream,
+    octet_of, read_address, read_text, serve_noted, serve_stream, text_fault,
 };
 pub use report_text::{PrintFault, print_report};
 pub use run::{ScriptStop, Scripted, run_script};
