@@ -1,4 +1,5 @@
-//! The three stores over files. Without a word it walks each of them through its calls, in memory and in the files
+//! The three stores over databases. Without a word it tries which databases they open on, and whether they take rows at the
+//! ends of their ranges, walks each of them through its calls, in memory and in the files
 //! `queue.db`, `journal.db` and `book.db`, which it makes here, and stops each writing call at each call of its files;
 //! with the word `walk` it walks them in memory alone, and makes a call once more where it ran out of memory, as it does
 //! everywhere; with the word `show` it opens these files, which others may have written, puts a row into each and prints what they
@@ -7,19 +8,24 @@
 #![tactic(auto)]
 
 mod books;
+mod edges;
+mod forms;
 mod journals;
+mod others;
 mod place;
 mod queues;
+mod spoilt;
 mod stops;
 mod stored;
 mod timing;
 
 use crate::place::{InFile, InMemory, Place};
+use crate::spoilt::Form;
 use crate::stops::files::Failing;
 use crate::stored::Stored;
 use dnp_controls::BookFault;
 use dnp_eventbuf::StoreFault;
-use dnp_store::{ControlBook, Journal, Queue};
+use dnp_store::{ControlBook, Journal, OpenFault, Queue};
 use sqlite::{Alter, Connection, Error, FileStore};
 use sqlite_disk::{Fuse, Memory};
 use std::alloc::AllocError;
@@ -77,61 +83,178 @@ fn main(rt: HostRuntime) -> io::Result<()> {
     }
 }
 
+/// What is done with the stores of a place.
+#[derive(Clone, Copy)]
+enum Task<'a> {
+    /// Each is tried over databases that others made.
+    Try,
+    /// Each is given rows at the ends of their ranges.
+    Fill,
+    /// Each is walked through its calls.
+    Walk,
+    /// Each is opened, given a row and shown.
+    Show,
+    /// A queue in this file is timed with so many rows, so many times.
+    Time(&'a str, u16, u64),
+}
+
+/// One of the stores.
+struct Subject {
+    /// Its name.
+    name: &'static str,
+    /// Its file.
+    path: &'static str,
+    /// What it finds in its database.
+    form: Form,
+}
+
+/// A queue.
+const QUEUE: Subject = Subject {
+    name: "queue",
+    path: "queue.db",
+    form: forms::OF_QUEUE,
+};
+
+/// A journal.
+const JOURNAL: Subject = Subject {
+    name: "journal",
+    path: "journal.db",
+    form: forms::OF_JOURNAL,
+};
+
+/// A book of controls.
+const BOOK: Subject = Subject {
+    name: "book",
+    path: "book.db",
+    form: forms::OF_BOOK,
+};
+
 /// Does what the words ask.
 fn run(rt: &HostRuntime) -> Result<(), Fault> {
     let words: Vec<String> = env::args(rt)?.collect(rt.alloc())?;
     match words.len() {
-        1 => {
-            walk_all(rt, &InMemory)?;
-            walk_all(rt, &InFile)?;
-            stops::stop_all::<FileStore<Fuse<Memory>>, Failing>(rt)?;
-            Ok(())
-        }
-        2 if words[1].as_str() == "walk" => walk_all(rt, &InMemory),
-        2 => show_all(rt, &InFile),
-        5 => time(rt, &words),
+        1 => do_all(rt),
+        2 if words[1].as_str() == "walk" => in_memory(rt, Task::Walk),
+        2 => in_files(rt, Task::Show),
+        5 => match (words[3].parse::<u16>(), words[4].parse::<u64>()) {
+            (Ok(rows), Ok(turns)) => in_files(rt, Task::Time(&words[2], rows, turns)),
+            _ => Err(Fault::Store),
+        },
         _ => Ok(()),
     }
 }
 
-/// Times a queue, as the words ask.
-fn time(rt: &HostRuntime, words: &[String]) -> Result<(), Fault> {
-    if words.len() < 5 {
-        return Err(Fault::Store);
+/// Does all that the gate runs.
+fn do_all(rt: &HostRuntime) -> Result<(), Fault> {
+    in_memory(rt, Task::Try)?;
+    in_memory(rt, Task::Fill)?;
+    in_memory(rt, Task::Walk)?;
+    in_files(rt, Task::Walk)?;
+    stops::stop_all::<FileStore<Fuse<Memory>>, Failing>(rt)?;
+    Ok(())
+}
+
+/// Does a task with stores in memory.
+fn in_memory(rt: &HostRuntime, task: Task) -> Result<(), Fault> {
+    with_all(rt, &InMemory, task)
+}
+
+/// Does a task with stores in files.
+fn in_files(rt: &HostRuntime, task: Task) -> Result<(), Fault> {
+    with_all(rt, &InFile, task)
+}
+
+/// Does a task with the stores of a place. That a connection fits a store is proved where a task is done with it: so this
+/// is the one function for all tasks.
+fn with_all<S: Alter, P: Place<Connection<S>>>(
+    rt: &HostRuntime,
+    place: &P,
+    task: Task,
+) -> Result<(), Fault> {
+    match task {
+        Task::Time(path, rows, turns) => timing::time(rt, place, path, rows, turns),
+        Task::Fill => fill(rt, place),
+        Task::Try | Task::Walk | Task::Show => {
+            with_one::<S, P, Queue<S>>(rt, place, task, &QUEUE)?;
+            with_one::<S, P, Journal<S>>(rt, place, task, &JOURNAL)?;
+            with_one::<S, P, ControlBook<S>>(rt, place, task, &BOOK)
+        }
     }
-    match (words[3].parse::<u16>(), words[4].parse::<u64>()) {
-        (Ok(count), Ok(turns)) => timing::time(rt, &InFile, &words[2], count, turns),
-        _ => Err(Fault::Store),
+}
+
+/// Does a task with one store.
+fn with_one<S: Alter, P: Place<Connection<S>>, T: Stored<Connection<S>>>(
+    rt: &HostRuntime,
+    place: &P,
+    task: Task,
+    subject: &Subject,
+) -> Result<(), Fault> {
+    match task {
+        Task::Try => try_form::<S, P, T>(rt, place, subject),
+        Task::Walk => walk::<Connection<S>, P, T>(rt, place, subject),
+        Task::Show => show::<Connection<S>, P, T>(rt, place, subject.path),
+        Task::Fill | Task::Time(_, _, _) => Ok(()),
     }
+}
+
+/// Prints what came of a trial.
+pub(crate) fn say(rt: &HostRuntime, what: &str, place: &str, came: &str) -> io::Result<()> {
+    println!(rt; "{what} {place}: {came}")
+}
+
+/// What is printed of a trial.
+pub(crate) fn verdict(is_good: bool) -> &'static str {
+    if is_good { "as it has to be" } else { "WRONG" }
+}
+
+/// Tries a store over databases that others made, and prints whether it took them as it has to, or the first that it did
+/// not.
+fn try_form<S: Alter, P: Place<Connection<S>>, T: Stored<Connection<S>>>(
+    rt: &HostRuntime,
+    place: &P,
+    subject: &Subject,
+) -> Result<(), Fault> {
+    match spoilt::mistaken::<S, P, T>(rt, place, &subject.form)? {
+        Some(change) => say(rt, subject.name, "over its tables", change.as_str())?,
+        None => say(rt, subject.name, "over its tables", verdict(true))?,
+    }
+    Ok(())
+}
+
+/// Gives the stores rows at the ends of their ranges, and prints whether they took them, and refused one after the last id.
+fn fill<S: Alter, P: Place<Connection<S>>>(rt: &HostRuntime, place: &P) -> Result<(), Fault> {
+    let are_taken = edges::are_taken(rt, place)?;
+    say(
+        rt,
+        "rows",
+        "at the ends of their ranges",
+        verdict(are_taken),
+    )?;
+    let are_full = others::are_full(rt, place)?;
+    say(rt, "no id", "after the last", verdict(are_full))?;
+    println!(rt;
+        "{}, {}, {}",
+        OpenFault::WrongForm,
+        OpenFault::Memory,
+        OpenFault::Device
+    )?;
+    Ok(())
 }
 
 /// Walks a store and prints whether it did its steps.
 fn walk<C, P: Place<C>, T: Stored<C>>(
     rt: &HostRuntime,
     place: &P,
-    name: &str,
-    path: &str,
+    subject: &Subject,
 ) -> Result<(), Fault> {
-    let conn = match place.open(rt, path) {
+    let conn = match place.open(rt, subject.path) {
         Ok(conn) => conn,
-        Err(_) => place.open(rt, path)?,
+        Err(_) => place.open(rt, subject.path)?,
     };
     let (is_good, conn) = stored::walk::<C, T>(rt.alloc(), conn);
     place.close(conn)?;
-    let place = place.name();
-    if is_good {
-        println!(rt; "{name} {place}: as it has to be")?;
-    } else {
-        println!(rt; "{name} {place}: WRONG")?;
-    }
+    say(rt, subject.name, place.name(), verdict(is_good))?;
     Ok(())
-}
-
-/// Walks each store.
-fn walk_all<S: Alter, P: Place<Connection<S>>>(rt: &HostRuntime, place: &P) -> Result<(), Fault> {
-    walk::<Connection<S>, P, Queue<S>>(rt, place, "queue", "queue.db")?;
-    walk::<Connection<S>, P, Journal<S>>(rt, place, "journal", "journal.db")?;
-    walk::<Connection<S>, P, ControlBook<S>>(rt, place, "book", "book.db")
 }
 
 /// Puts a row into a store and prints all rows.
@@ -144,11 +267,4 @@ fn show<C, P: Place<C>, T: Stored<C>>(
     let (shown, conn) = stored::show::<C, T>(rt, conn);
     place.close(conn)?;
     shown
-}
-
-/// Puts a row into each store and prints all rows.
-fn show_all<S: Alter, P: Place<Connection<S>>>(rt: &HostRuntime, place: &P) -> Result<(), Fault> {
-    show::<Connection<S>, P, Queue<S>>(rt, place, "queue.db")?;
-    show::<Connection<S>, P, Journal<S>>(rt, place, "journal.db")?;
-    show::<Connection<S>, P, ControlBook<S>>(rt, place, "book.db")
 }

@@ -8,6 +8,7 @@ pub(crate) mod files;
 mod journals;
 mod queues;
 
+use crate::say;
 use crate::stops::books::BookCall;
 use crate::stops::files::{Device, Image, Left};
 use crate::stops::journals::JournalCall;
@@ -206,12 +207,12 @@ fn tell<C, D: Device<C>, T: Stored<C>, W: WritingCall<T>>(
     rt: &HostRuntime,
     call: W,
 ) -> io::Result<()> {
-    let name = call.name();
-    if outlives_stops::<C, D, T, W>(rt.alloc(), call) {
-        println!(rt; "{name}: before or after")
+    let came = if outlives_stops::<C, D, T, W>(rt.alloc(), call) {
+        "before or after"
     } else {
-        println!(rt; "{name}: WRONG")
-    }
+        "WRONG"
+    };
+    say(rt, call.name(), "stopped", came)
 }
 
 /// Stops each writing call.

@@ -1,11 +1,13 @@
 //! Rows at the ends of their ranges, which the CHECKs of a store's own tables let through.
 
+use crate::Fault;
+use crate::place::Place;
 use dnp_controls::{Book, BookFault};
 use dnp_eventbuf::{JournalStore, Lane, LaneRow, Lanes, Sink, is_carried};
 use dnp_objects::{Command, Kind, Row, Status, is_event};
 use dnp_store::{ControlBook, Journal, Queue};
+use sqlite::{Alter, Connection};
 use std::alloc::Global;
-use std::test::Fail;
 
 /// An event with the greatest index, flags, value and time of its kind.
 fn greatest(kind: Kind) -> Row {
@@ -72,10 +74,9 @@ fn is_held<B: Book>(book: &mut B, alloc: Global) -> Result<bool, BookFault> {
 }
 
 /// Whether each lane of a queue takes its event.
-fn are_queued(alloc: Global) -> Option<bool> {
-    let mut queue = Queue::in_memory(alloc, [4_096; 9]).ok()?;
+fn are_queued<L: Lanes>(queue: &mut L, alloc: Global) -> Option<bool> {
     for number in 0..9usize {
-        if !is_queued(&mut queue, alloc, Lane::numbered(number)?)? {
+        if !is_queued(queue, alloc, Lane::numbered(number)?)? {
             return Some(false);
         }
     }
@@ -83,26 +84,62 @@ fn are_queued(alloc: Global) -> Option<bool> {
 }
 
 /// Whether a journal takes an event of each kind.
-fn are_logged(alloc: Global) -> Option<bool> {
-    let mut journal = Journal::in_memory(alloc).ok()?;
+fn are_logged<J: JournalStore>(journal: &mut J, alloc: Global) -> Option<bool> {
     for number in 0..3usize {
-        if !is_logged(&mut journal, alloc, Kind::numbered(number)?)? {
+        if !is_logged(journal, alloc, Kind::numbered(number)?)? {
             return Some(false);
         }
     }
     Some(true)
 }
 
-/// Whether a book takes its commands.
-fn are_held(alloc: Global) -> Option<bool> {
-    let mut book = ControlBook::in_memory(alloc).ok()?;
-    is_held(&mut book, alloc).ok()
+/// Whether a new queue of lanes of the greatest capacity takes its events.
+fn of_queue<S: Alter, P: Place<Connection<S>>>(rt: &HostRuntime, place: &P) -> Result<bool, Fault> {
+    let conn = place.open(rt, "")?;
+    let (are_queued, conn) = match Queue::create(rt.alloc(), conn, [4_096; 9]) {
+        Ok(mut queue) => {
+            let are_queued = are_queued(&mut queue, rt.alloc());
+            (are_queued, queue.into_connection())
+        }
+        Err((_, conn)) => (None, conn),
+    };
+    place.close(conn)?;
+    Ok(are_queued == Some(true))
 }
 
-#[test]
-fn rows_at_the_ends_of_their_ranges_are_taken(rt: HostRuntime) -> Result<(), Fail> {
-    assert!(rt; are_queued(rt.alloc()) == Some(true));
-    assert!(rt; are_logged(rt.alloc()) == Some(true));
-    assert!(rt; are_held(rt.alloc()) == Some(true));
-    Ok(())
+/// Whether a new journal takes its events.
+fn of_journal<S: Alter, P: Place<Connection<S>>>(
+    rt: &HostRuntime,
+    place: &P,
+) -> Result<bool, Fault> {
+    let (are_logged, conn) = match Journal::create(place.open(rt, "")?) {
+        Ok(mut journal) => {
+            let are_logged = are_logged(&mut journal, rt.alloc());
+            (are_logged, journal.into_connection())
+        }
+        Err((_, conn)) => (None, conn),
+    };
+    place.close(conn)?;
+    Ok(are_logged == Some(true))
+}
+
+/// Whether a new book takes its commands.
+fn of_book<S: Alter, P: Place<Connection<S>>>(rt: &HostRuntime, place: &P) -> Result<bool, Fault> {
+    let (is_held, conn) = match ControlBook::create(rt.alloc(), place.open(rt, "")?) {
+        Ok(mut book) => {
+            let is_held = is_held(&mut book, rt.alloc());
+            (is_held, book.into_connection())
+        }
+        Err((_, conn)) => (Ok(false), conn),
+    };
+    place.close(conn)?;
+    Ok(matches!(is_held, Ok(true)))
+}
+
+/// Whether new stores take rows at the ends of their ranges.
+pub(crate) fn are_taken<S: Alter, P: Place<Connection<S>>>(
+    rt: &HostRuntime,
+    place: &P,
+) -> Result<bool, Fault> {
+    Ok(of_queue(rt, place)? && of_journal(rt, place)? && of_book(rt, place)?)
 }

@@ -1,0 +1,137 @@
+//! Stores over tables that others wrote, without CHECKs: whose database it is, and what comes after the last id.
+
+use crate::Fault;
+use crate::place::Place;
+use dnp_eventbuf::{Lane, LaneRow, Lanes, Sink, StoreFault, is_carried};
+use dnp_objects::{Kind, Row, is_event};
+use dnp_store::{Journal, Queue};
+use sqlite::{Alter, Connection, Error};
+use std::alloc::Global;
+
+/// A queue's tables with one row in the first lane, whose id is the last, and a journal's with such a row.
+const QUEUE: &str = "CREATE TABLE form (number INTEGER NOT NULL);
+CREATE TABLE queue (id INTEGER PRIMARY KEY AUTOINCREMENT, lane INTEGER NOT NULL, point INTEGER NOT NULL, flags INTEGER NOT NULL, value INTEGER NOT NULL, time INTEGER);
+CREATE TABLE lanes (lane INTEGER PRIMARY KEY, cap INTEGER NOT NULL, lost INTEGER NOT NULL, raised INTEGER NOT NULL);
+INSERT INTO form VALUES (1);
+INSERT INTO lanes VALUES (0, 2, 0, 0), (1, 2, 0, 0), (2, 2, 0, 0), (3, 2, 0, 0), (4, 2, 0, 0), (5, 2, 0, 0), (6, 2, 0, 0), (7, 2, 0, 0), (8, 2, 0, 0);
+INSERT INTO queue VALUES (4611686018427387904, 0, 7, 1, 1, 1000);";
+
+/// The same of a journal.
+const JOURNAL: &str = "CREATE TABLE form (number INTEGER NOT NULL);
+CREATE TABLE journal (id INTEGER PRIMARY KEY AUTOINCREMENT, kind INTEGER NOT NULL, point INTEGER NOT NULL, flags INTEGER NOT NULL, value INTEGER NOT NULL, time INTEGER);
+INSERT INTO form VALUES (1);
+INSERT INTO journal VALUES (4611686018427387904, 0, 7, 1, 1, 1000);";
+
+/// One table more, which is no store's.
+const MORE: &str = "CREATE TABLE more (x)";
+
+/// A binary event.
+const EVENT: Row = Row {
+    kind: Kind::Binary,
+    index: 8,
+    flags: 1,
+    value: 1,
+    time: Some(1_000),
+};
+
+/// What lanes answer to an event of the first lane.
+fn put<L: Lanes>(lanes: &mut L, alloc: Global) -> Option<StoreFault> {
+    let event = LaneRow {
+        lane: Lane::numbered(0)?,
+        row: EVENT,
+    };
+    if !is_carried(&event) {
+        return None;
+    }
+    lanes.append(alloc, &[event]).err()
+}
+
+/// Whether the first lane has the row of the tables, and no other.
+fn has_its_row<L: Lanes>(lanes: &mut L, alloc: Global) -> Option<bool> {
+    let rows = lanes.offer(alloc, Lane::numbered(0)?, 0, 9).ok()?;
+    Some(rows.len() == 1 && rows[0].id == 4611686018427387904 && rows[0].row.index == 7)
+}
+
+/// Whether a queue owns its database where it should, before and after it has no id for an event, and has its row still.
+fn is_queue_full<S: Alter>(queue: &mut Queue<S>, alloc: Global, is_owned: bool) -> bool {
+    let was_owned = queue.owns_database();
+    let fault = put(queue, alloc);
+    matches!(fault, Some(StoreFault::Exhausted))
+        && has_its_row(queue, alloc) == Some(true)
+        && was_owned == is_owned
+        && queue.owns_database() == is_owned
+}
+
+/// Whether a journal owns its database where it should, before and after it has no id for an event.
+fn is_journal_full<S: Alter>(journal: &mut Journal<S>, alloc: Global, is_owned: bool) -> bool {
+    let was_owned = journal.owns_database();
+    let fault = if is_event(&EVENT) {
+        journal.append(alloc, &[EVENT], &[]).err()
+    } else {
+        None
+    };
+    matches!(fault, Some(StoreFault::Exhausted))
+        && was_owned == is_owned
+        && journal.owns_database() == is_owned
+}
+
+/// Makes tables, and what there is besides.
+fn make<S: Alter>(conn: &mut Connection<S>, tables: &str, more: &str) -> Result<(), Error> {
+    conn.execute_batch(tables)?;
+    conn.execute_batch(more)
+}
+
+/// Whether a queue opens on its tables, and is full.
+fn of_queue<S: Alter, P: Place<Connection<S>>>(
+    rt: &HostRuntime,
+    place: &P,
+    more: &str,
+    is_owned: bool,
+) -> Result<bool, Fault> {
+    let mut conn = place.open(rt, "")?;
+    let made = make(&mut conn, QUEUE, more);
+    let (is_full, conn) = match Queue::open(rt.alloc(), conn) {
+        Ok(mut queue) => {
+            let is_full = is_queue_full(&mut queue, rt.alloc(), is_owned);
+            (is_full, queue.into_connection())
+        }
+        Err((_, conn)) => (false, conn),
+    };
+    place.close(conn)?;
+    made?;
+    Ok(is_full)
+}
+
+/// The same of a journal.
+fn of_journal<S: Alter, P: Place<Connection<S>>>(
+    rt: &HostRuntime,
+    place: &P,
+    more: &str,
+    is_owned: bool,
+) -> Result<bool, Fault> {
+    let mut conn = place.open(rt, "")?;
+    let made = make(&mut conn, JOURNAL, more);
+    let (is_full, conn) = match Journal::open(rt.alloc(), conn) {
+        Ok(mut journal) => {
+            let is_full = is_journal_full(&mut journal, rt.alloc(), is_owned);
+            (is_full, journal.into_connection())
+        }
+        Err((_, conn)) => (false, conn),
+    };
+    place.close(conn)?;
+    made?;
+    Ok(is_full)
+}
+
+/// Whether no id comes after the last, in a queue and in a journal, over a database of its own and over another.
+pub(crate) fn are_full<S: Alter, P: Place<Connection<S>>>(
+    rt: &HostRuntime,
+    place: &P,
+) -> Result<bool, Fault> {
+    for (more, is_owned) in [("", true), (MORE, false)] {
+        if !of_queue(rt, place, more, is_owned)? || !of_journal(rt, place, more, is_owned)? {
+            return Ok(false);
+        }
+    }
+    Ok(true)
+}
