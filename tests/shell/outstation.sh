@@ -18,9 +18,9 @@ plan() {
     echo '[[substation]]' >>"$file"
     for pair in "${!own[@]}"; do echo "$pair = ${own[$pair]}"; done >>"$file"
 }
-# serve ARGS..: begins to serve station 0 of plan.toml, for a minute at most
+# serve ARGS..: begins to serve station 0 of plan.toml, for two minutes at most
 serve() {
-    timeout 60 "$dnp" outstation --plan plan.toml --station 0 --port "$port" "$@" >out 2>err </dev/null &
+    timeout 120 "$dnp" outstation --plan plan.toml --station 0 --port "$port" "$@" >out 2>err </dev/null &
     served=$!
 }
 # talks NAME: the master does what standard input says, and all comes out so
@@ -98,6 +98,70 @@ nothing
 < C1 81 80 00
 LINES
 ended counts-confirms-too "served 3"
+
+# One that no master confirms is repeated as often as the plan says, and then the station hangs up
+plan plan.toml unsolicited=true confirm_ms=1000 retries=2
+serve --connections 2
+talks repeats-what-is-not-confirmed <<'LINES'
+< F0 82 80 00
+< F0 82 80 00
+< F0 82 80 00
+wait 3
+end
+LINES
+# A READ that waits for the confirm isn't left unanswered: the link ends
+talks ends-where-a-read-waits <<'LINES'
+< F0 82 80 00
+> C1 01 3C 02 06
+wait 3
+end
+LINES
+ended counts-what-was-held $'served 0\nserved 1'
+
+# A change that is replayed is sent unasked at its moment
+echo '9000 change binary 0 1 01 1000' >day.txt
+plan plan.toml unsolicited=true confirm_ms=9000 retries=2 binary='[1]'
+serve --replay day.txt
+talks sends-a-change-unasked <<'LINES'
+< F0 82 80 00
+> D0 00
+> C1 14 3C 02 06
+< C1 81 80 00
+nothing
+< F1 82 80 00 02 02 28 01 00 00 00 81 E8 03 00 00 00 00
+> D1 00
+nothing
+LINES
+ended counts-confirms-of-changes 'served 3'
+# What became due before a master connected is changed when it does, in order, and once
+printf '0 change binary 0 1 01 1000\n1 change binary 0 0 01 2000\n' >day.txt
+plan plan.toml binary='[1]'
+serve --connections 2 --replay day.txt --bind 127.0.0.1
+talks changes-what-was-due <<'LINES'
+> C0 01 3C 02 06
+< E0 81 80 00 02 02 28 02 00 00 00 81 E8 03 00 00 00 00 00 00 01 D0 07 00 00 00 00
+> C0 00
+nothing
+LINES
+talks changes-nothing-twice <<'LINES'
+> C0 01 3C 02 06
+< C0 81 80 00
+LINES
+ended counts-both-masters $'served 2\nserved 1'
+rules="--plan plan.toml --station 0 --port $port"
+for line in '5 change binary 0 1 01' '5 chance binary 0 1 01 -' '5 change binary 0 1 1 -' '-5 change binary 0 1 01 -'; do
+    printf '7 change binary 0 1 01 -\n%s\n' "$line" >wrong.txt
+    expect "takes-no-replay-with:$line" 1 'refused line 2' '' outstation $rules --replay wrong.txt
+done
+says says-what-belongs-in-a-line 'dnp: wrong.txt: line 2: word 1: a whole number of milliseconds from the start belongs there'
+printf '7 change binary 0 1 01 -\n6 change binary 0 0 01 -\n' >wrong.txt
+expect takes-no-replay-that-falls 1 'refused line 2' '' outstation $rules --replay wrong.txt
+expect has-no-replay 3 '' '' outstation $rules --replay none.txt
+says tells-that-it-has-no-replay 'dnp: none.txt: No such file or directory (os error 2)'
+for address in here 127.0.0.1:1 256.0.0.1 ''; do
+    expect "listens-at-no:$address" 2 '' '' outstation $rules --bind "$address"
+done
+rm -f wrong.txt day.txt
 
 # Noise, single octets, and masters that leave within a frame
 plan plan.toml

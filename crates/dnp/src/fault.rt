@@ -1,6 +1,7 @@
 //! What is said, and which exit status there is, where the program's own input or output fails.
 
 use crate::exit;
+use dnp_daemons::Waiting;
 use std::io;
 use std::io::{Read, Write};
 use std::process::ExitCode;
@@ -52,6 +53,15 @@ impl<R: Read> Read for Noted<R> {
     fn read(&mut self, buf: &mut [u8]) -> io::Result<usize> {
         match self.inner.read(buf) {
             Ok(count) => Ok(count),
+            Err(error) => Err(self.note(error)),
+        }
+    }
+}
+
+impl<R: Waiting> Waiting for Noted<R> {
+    fn wait_at_most(&mut self, ms: u64) -> io::Result<()> {
+        match self.inner.wait_at_most(ms) {
+            Ok(()) => Ok(()),
             Err(error) => Err(self.note(error)),
         }
     }

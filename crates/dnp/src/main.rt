@@ -3,6 +3,7 @@
 //! Where standard error is lost, the exit status alone tells what was wrong.
 #![tactic(auto)]
 
+mod alive;
 mod answer;
 mod asking;
 mod centre;
@@ -19,6 +20,7 @@ mod outstation;
 mod patience;
 mod plan_file;
 mod planned;
+mod replay;
 mod serving;
 mod sim;
 mod texts;

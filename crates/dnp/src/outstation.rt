@@ -1,15 +1,17 @@
 //! `dnp outstation`: an outstation of a plan, for masters that connect by TCP.
 
+use crate::alive::live_on_connections;
 use crate::exit;
 use crate::numbers::number_given;
-use crate::options::{HINT, defaulted, plan, required};
+use crate::options::{HINT, defaulted, plan, required, valued};
 use crate::plan_file::{plan_text, refused};
-use crate::serving::{Listening, serve_connections};
+use crate::replay::replay_given;
+use crate::serving::Listening;
 use clap::{ArgMatches, Command};
 use dnp_concentrator::MAX_SUBSTATIONS;
-use dnp_daemons::{PlanTextFault, outstation_address, planned_outstation};
+use dnp_daemons::{Living, PlanTextFault, outstation_address, planned_outstation};
 use std::alloc::{AllocError, Global};
-use std::net::{Net, TcpListener, TcpStream};
+use std::net::{IpAddr, Net, TcpListener, TcpStream};
 use std::process::ExitCode;
 use std::rt::{Clock, Files};
 use std::str;
@@ -26,18 +28,30 @@ THE STATION
   Substation S of the plan, as after a restart: its points, its outputs and its events stand in
   memory, and last as long as the program runs, over all its connections. Its link address is
   10 + S, and it answers the master with the link address 2 alone. Points read 0 with the flags 02
-  (RESTART) and nothing changes them, so that it has no event; outputs take commands.
+  (RESTART) until a replay changes them; outputs take commands.
+
+REPLAY
+  Each line of the file is a change of a point, MS change KIND I VALUE FLAGS TIME, as in
+  '1500 change binary 3 1 01 now': MS milliseconds after the program began the binary input 3
+  becomes 1 with the flags 01. No MS is below that of the line before. Single spaces separate the
+  words, and a file has 16 MiB at most. KIND is binary, counter or analog; FLAGS are two
+  hexadecimal digits; TIME is in milliseconds since 1970-01-01 00:00 UTC, or '-' for none, or
+  'now' for the time at which the change is due. A change that the plan has no point for, or whose
+  value doesn't fit, does nothing. What becomes due while no master is connected is changed when
+  the next one connects, in the order of the file.
 
 CONNECTIONS
-  It listens on the port at all addresses of the machine, and serves one connection after the
-  other; who connects meanwhile waits. A connection ends when the master ends it, when the
-  station closes it, or after 300 seconds in which nothing came, or in which nothing could be
-  sent. Why a connection failed is said on standard error, and the next one is served; it has its
-  'served N' too, and the status stays 0. What the station ignores, such as a frame for another
-  address, is not told.
-  Timers are looked at when octets come: a select ends in time, and nothing is sent unasked
-  but an unsolicited response when the master connects or has confirmed one. While one awaits its
-  confirm no READ is answered, and it isn't repeated: the READ waits for that confirm.
+  It listens on the port at the address of --bind: at 127.0.0.1, for masters on the same machine,
+  unless another is given, as 0.0.0.0 for all addresses of the machine, or one of IPv6 as ::1. Who
+  reaches it may operate its outputs. It serves one connection after the other; who connects
+  meanwhile waits. A connection ends when the master ends it, when the station closes it, or after
+  300 seconds in which nothing came, or in which nothing could be sent. Why a connection failed is
+  said on standard error, and the next one is served; it has its 'served N' too, and the status
+  stays 0. What the station ignores, such as a frame for another address, is not told.
+  Timers run while nothing comes: a read waits 50 ms at most. With unsolicited responses on, one
+  is sent when the master connects, and when an event of an enabled class comes; one that isn't
+  confirmed in time is repeated as often as the plan says, and then the station closes the
+  connection. It closes it at the first of these times where a READ waits for that confirm.
 
 OUTPUT
   On standard output a line for each connection when it has ended, 'served N': N is how many
@@ -45,16 +59,17 @@ OUTPUT
   no TOML, 2 a key is missing, unknown or of another type, or two lists have not as many items as
   they must, 3 a number is outside its range, or a list has too few or too many items, 4 a class is
   4 to 255, 5 an index above would be over 65,535, 6 two substations would share an index above;
-  then a line on standard error names the key, what stands there, and what belongs there. That it
-  listens is not told.
+  then a line on standard error names the key, what stands there, and what belongs there. Or
+  'refused line N', where line N of the replay is the first that doesn't fit, and why on standard
+  error; both come before it listens. That it listens is not told.
 
 EXIT STATUS
   0  all connections were served
-  1  the plan was refused
+  1  the plan or the replay was refused
   2  the command line is wrong, or the plan has no such substation
-  3  the program failed: the plan can't be read, the port can't be had, as when it is in use,
-     out of memory, or the output was lost; a line on standard error says which, and why, but for
-     an output whose reader has gone";
+  3  the program failed: the plan or the replay can't be read or is too long, the port can't be
+     had, as when it is in use, out of memory, or the output was lost; a line on standard error
+     says which, and why, but for an output whose reader has gone";
 
 /// The highest number that a substation of a plan can have.
 const MAX_STATION: u64 = MAX_SUBSTATIONS as u64 - 1;
@@ -63,6 +78,10 @@ const MAX_STATION: u64 = MAX_SUBSTATIONS as u64 - 1;
 const STATION: &str = "The number of the substation in the plan, from 0";
 
 const PORT: &str = "The TCP port to listen on, 1 to 65535; DNP3's own is 20000";
+
+const BIND: &str = "The address to listen at, as 127.0.0.1 or 0.0.0.0";
+
+const REPLAY: &str = "Changes of points, a line each, to be made while it runs";
 
 const CONNECTIONS: &str = "How many connections to serve, 1 to 1000000";
 
@@ -74,7 +93,9 @@ pub(crate) fn command<'a>(alloc: Global) -> Result<Command<'a>, AllocError> {
         .arg(plan(alloc))?
         .arg(required(alloc, "station", "S", STATION))?
         .arg(required(alloc, "port", "P", PORT))?
-        .arg(defaulted(alloc, "connections", "N", "1", CONNECTIONS))
+        .arg(defaulted(alloc, "bind", "ADDRESS", "127.0.0.1", BIND))?
+        .arg(defaulted(alloc, "connections", "N", "1", CONNECTIONS))?
+        .arg(valued(alloc, "replay", "FILE", REPLAY))
 }
 
 /// What the words of the command line say.
@@ -86,8 +107,12 @@ struct Words<'a> {
     number: u8,
     /// The TCP port.
     port: u16,
+    /// The address at which it listens.
+    bind: IpAddr,
     /// How many connections are served.
     connections: u64,
+    /// The path of the replay's file, if there is one.
+    replay: Option<&'a str>,
 }
 
 /// What the words say. Where one is wrong, that is printed.
@@ -95,12 +120,29 @@ fn words_given<'a, R: Eprint>(rt: &R, given: &ArgMatches<'a>) -> Option<Words<'a
     let number = number_given(rt, given, "station", "S", 0, MAX_STATION)?;
     let port = number_given(rt, given, "port", "P", 1, 65_535)?;
     let connections = number_given(rt, given, "connections", "N", 1, 1_000_000)?;
+    let bind = address_given(rt, given.get_str("bind").unwrap_or(""))?;
     Some(Words {
         plan: given.get_str("plan").unwrap_or(""),
         number: u8::try_from(number).ok()?,
         port: u16::try_from(port).ok()?,
+        bind,
         connections,
+        replay: given.get_str("replay"),
     })
+}
+
+/// The address that a word says. Where it says none, that is printed.
+fn address_given<R: Eprint>(rt: &R, text: &str) -> Option<IpAddr> {
+    match IpAddr::parse_ascii(text.as_bytes()) {
+        Ok(address) => Some(address),
+        Err(_) => {
+            let _ = eprintln!(rt;
+                "error: invalid value '{}' for '--bind <ADDRESS>': not an IP address{HINT}",
+                text.escape_debug()
+            );
+            None
+        }
+    }
 }
 
 /// Serves the outstation that the given words name, and tells the exit status.
@@ -121,17 +163,32 @@ where
     };
     let found = planned_outstation(rt.alloc(), text, words.number);
     match found {
-        Ok(Some(mut station)) => {
-            let listening = Listening {
-                own: outstation_address(words.number),
-                port: words.port,
-                connections: words.connections,
-            };
-            serve_connections(rt, &mut station, &listening)
-        }
+        Ok(Some(mut station)) => serve(rt, &words, &mut station),
         Ok(None) => Ok(no_station(rt, given.get_str("station").unwrap_or(""))),
         Err(fault) => Ok(refused(rt, words.plan, Some(text), fault)),
     }
+}
+
+/// Reads the replay, where there is one, and serves the station; tells the exit status.
+fn serve<S, R>(rt: &R, words: &Words<'_>, station: &mut S) -> anyhow::Result<ExitCode>
+where
+    S: Living,
+    R: AllocGlobal + Print + Eprint + Files + Clock,
+    R: Net<Listener = TcpListener, Stream = TcpStream>,
+{
+    let mut changes = Vec::new(rt.alloc());
+    if let Some(path) = words.replay
+        && let Err(status) = replay_given(rt, path, &mut changes)?
+    {
+        return Ok(status);
+    }
+    let listening = Listening {
+        own: outstation_address(words.number),
+        address: words.bind,
+        port: words.port,
+        connections: words.connections,
+    };
+    live_on_connections(rt, station, &listening, &changes)
 }
 
 /// Says on standard error that the plan has no such substation, and gives the exit status of a wrong command line.

@@ -1,11 +1,11 @@
 //! A station that serves connections over TCP.
 
 use crate::exit;
-use crate::fault::{Noted, unwritten};
-use dnp_daemons::{Clocked, MASTER_BELOW, ServeFault, Station, serve_stream};
+use crate::fault::Noted;
+use dnp_daemons::{Clocked, ServeFault, Station, serve_stream};
 use dnp_line::Port;
 use std::io;
-use std::net::{IpAddr, Ipv4Addr, Net, SocketAddr, TcpListener, TcpStream};
+use std::net::{IpAddr, TcpStream};
 use std::process::ExitCode;
 use std::rt::Clock;
 use std::time::Duration;
@@ -21,41 +21,12 @@ pub(crate) const SILENCE_MS: u64 = SILENCE * 1_000;
 pub(crate) struct Listening {
     /// The station's link address.
     pub own: u16,
+    /// The address at which it listens.
+    pub address: IpAddr,
     /// The TCP port.
     pub port: u16,
     /// How many connections it serves.
     pub connections: u64,
-}
-
-/// Serves connections one by one, and prints of each how many fragments came whole.
-pub(crate) fn serve_connections<S, R>(
-    rt: &R,
-    station: &mut S,
-    listening: &Listening,
-) -> anyhow::Result<ExitCode>
-where
-    S: Station,
-    R: AllocGlobal + Print + Eprint + Clock + Net<Listener = TcpListener, Stream = TcpStream>,
-{
-    let place = SocketAddr::new(IpAddr::V4(Ipv4Addr::UNSPECIFIED), listening.port);
-    let listener = match TcpListener::bind(rt, place) {
-        Ok(listener) => listener,
-        Err(cause) => return Ok(no_port(rt, listening.port, &cause)),
-    };
-    for _ in 0..listening.connections {
-        let stream = match listener.accept() {
-            Ok((stream, _)) => stream,
-            Err(cause) => return Ok(no_port(rt, listening.port, &cause)),
-        };
-        let served = serve_connection(rt, station, listening.own, MASTER_BELOW, &stream);
-        let Some(fragments) = served else {
-            return Ok(ExitCode::from(exit::FAULT));
-        };
-        if let Err(cause) = println!(rt; "served {fragments}") {
-            return Ok(unwritten(rt, &cause));
-        }
-    }
-    Ok(ExitCode::from(exit::DONE))
 }
 
 /// Says on standard error why no connection can be had on the port, and gives the exit status of a fault.
@@ -109,7 +80,7 @@ where
 }
 
 /// Sends what is written at once, and ends reads and writes that stand still.
-fn prepare(stream: &TcpStream) -> io::Result<()> {
+pub(crate) fn prepare(stream: &TcpStream) -> io::Result<()> {
     let silence = Some(Duration::from_secs(SILENCE));
     stream.set_nodelay(true)?;
     stream.set_read_timeout(silence)?;
@@ -117,17 +88,25 @@ fn prepare(stream: &TcpStream) -> io::Result<()> {
 }
 
 /// Says on standard error why a connection was not served to its end.
-fn say<R: Eprint>(
+pub(crate) fn say<R: Eprint>(
     rt: &R,
     fault: ServeFault,
     read: Option<&io::Error>,
     written: Option<&io::Error>,
 ) {
     let _ = match read.or(written) {
-        Some(cause) if cause.kind() == io::ErrorKind::WouldBlock => {
+        Some(cause) if is_silence(cause) => {
             eprintln!(rt; "dnp: a connection: {fault}: nothing for {SILENCE} seconds")
         }
         Some(cause) => eprintln!(rt; "dnp: a connection: {fault}: {cause}"),
         None => eprintln!(rt; "dnp: a connection: {fault}"),
     };
+}
+
+/// Whether nothing came, or nothing could be sent, for so long that the connection ends.
+fn is_silence(cause: &io::Error) -> bool {
+    matches!(
+        cause.kind(),
+        io::ErrorKind::WouldBlock | io::ErrorKind::NotConnected
+    )
 }
