@@ -3,6 +3,7 @@
 ghost use Rattle.std.specs.Prelude.{◌≡◌, ◌<◌, List, map, length, Option, true, IfOk, IfErr, IfSome, OnErr, Some, Ok, Err, slice_index_or, slice_set};
 ghost use Rattle.std.specs.List.{HoldsAt};
 ghost use Rattle.dnp_pointdb.specs.declared.state.BlockState.{BlockState as BlockValue};
+ghost use Rattle.dnp_pointdb.specs.declared.state.PointState.{PointState as StateValue};
 ghost use Rattle.dnp_pointdb.specs.Database as spec;
 
 use crate::fault::ChangeFault;
@@ -40,22 +41,18 @@ impl Model for Bank {
     ghost invariant = { λ bank. IsOrder (extents bank.blocks.items) bank.order.items };
 }
 
-/// The point, if it is there and can have the reading, or the first cause to refuse it.
-fn checked(
-    found: Option<PointState>,
-    kind: Kind,
-    reading: Reading,
-) -> Result<PointState, ChangeFault>
-    ensures { result ≡ spec.checked found kind reading }
+/// Whether a point that is there can have the reading, or the first cause to refuse it.
+#[inline]
+fn check_reading(kind: Kind, reading: Reading) -> Result<(), ChangeFault>
+    ensures { (state : StateValue) → result ≡ spec.set_from (spec.checked (Some state) kind reading) }
 {
-    let state = found.ok_or(ChangeFault::NoPoint)?;
     if !reading.is_carried(kind) {
         return Err(ChangeFault::ValueRange);
     }
     if !reading.is_in_time() {
         return Err(ChangeFault::TimeRange);
     }
-    Ok(state)
+    Ok(())
 }
 
 impl Bank {
@@ -138,7 +135,7 @@ impl Bank {
         let Some((block, place)) = found else {
             return Err(ChangeFault::NoPoint);
         };
-        let _ = checked(Some(self.blocks[block].state(place)), kind, reading)?;
+        check_reading(kind, reading)?;
         Ok(PointPlace { block, place })
     }
 
