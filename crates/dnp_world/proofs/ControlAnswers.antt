@@ -1,5 +1,5 @@
 -- What an outstation answers to the requests of a command, and what the end of its call adds.
-use Rattle.std.proofs.Common.{◌≡◌, ℕ, ◌-◌, ◌<◌, Bool, true, false, not, ◌&&◌, ◌||◌, ◌==◌, if◌then◌else◌, List, [], ◌∷◌, ◌++◌, length, option_to_list, Option, Some, Ok, refl, sym, ap, ◌∙◌, subst, append-nil, arith}
+use Rattle.std.proofs.Common.{◌≡◌, ℕ, ◌+◌, ◌/◌, ◌%◌, ◌-◌, ◌<◌, Bool, true, false, not, ◌&&◌, ◌||◌, ◌==◌, if◌then◌else◌, List, [], ◌∷◌, ◌++◌, length, option_to_list, Option, Some, Ok, refl, sym, ap, ◌∙◌, subst, append-nil, arith}
 use Rattle.std.specs.Prelude.{nat_le, nat_lt}
 use Rattle.std.specs.Option.{option_map}
 use Rattle.std.proofs.lemmas.List.Elements.{All-nil, All-cons}
@@ -7,10 +7,10 @@ use Rattle.dnp_objects.specs.Objects.{objects, content_of}
 use Rattle.dnp_objects.specs.declared.command.Command.{Command}
 use Rattle.dnp_objects.specs.declared.command.Command.TheVariants.{Block, Set16, Set32}
 use Rattle.dnp_objects.specs.declared.limits.TheConstants.{MAX_FRAGMENT}
-use Rattle.dnp_appfragment.specs.Control.{ControlBits, IsControl}
+use Rattle.dnp_appfragment.specs.Control.{ControlBits, IsControl, control_octet}
 use Rattle.dnp_appfragment.specs.Fragments.{Answered, request_octets, response_octets}
 use Rattle.dnp_appfragment.specs.Headers.{Head, AreHeaders, IsHeaderAt, begin}
-use Rattle.dnp_appfragment.specs.Meaning.{response_at}
+use Rattle.dnp_appfragment.specs.Meaning.{control_of, response_at}
 use Rattle.dnp_appfragment.specs.Table.{is_response, rules, takes_of}
 use Rattle.dnp_appfragment.specs.Written.{order}
 use Rattle.dnp_appfragment.specs.declared.function.Function.{Function}

@@ -29,7 +29,7 @@ use Rattle.dnp_world.specs.ControlAnswers.{AreReports, Awaits, ConfirmsReport, H
 use Rattle.dnp_world.specs.ControlExchanges.{AnswersAll, ChecksAs, Hears, HearsAll}
 use Rattle.dnp_world.specs.Octets.{after, uns_in}
 use Rattle.dnp_world.proofs.CommandRequests.{ReadLaws}
-use Rattle.dnp_world.proofs.ControlAnswers.{ResponseLaw, asking}
+use Rattle.dnp_world.proofs.ControlAnswers.{ControlLaw, ResponseLaw, asking}
 use Rattle.dnp_world.proofs.ControlAnswering.{ConfirmFacts, OperateFacts, SelectFacts, confirm_leaves, operate_answers, select_answers}
 use Rattle.dnp_world.proofs.ControlHearing.{Heard, SameLaw, answer_heard, report_heard}
 

@@ -6,7 +6,7 @@ use Rattle.dnp_pointdb.specs.Database.{answer_of}
 use Rattle.dnp_world.specs.SystemParts.{substation_of}
 use Rattle.dnp_world.specs.Systems.{at_station, station_of}
 use Rattle.dnp_world.proofs.SystemReadings.{few_made, listed}
-use Rattle.dnp_world.proofs.substation.Substation.change_taken.Goals as goal
+use Rattle.dnp_world.proofs.substation.Substation.change.Goals as goal
 
 pub put_all-requires : goal.put_all-requires
 put_all-requires c =
