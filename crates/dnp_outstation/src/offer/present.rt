@@ -12,7 +12,7 @@ ghost use Rattle.dnp_outstation.specs.steps.Putting.{Puts, shown, presents, rows
 
 use crate::offer::place::Place;
 use crate::offer::writer::{Run, Writer};
-use dnp_appfragment::{RowSource, Range};
+use dnp_appfragment::{Range, RowSource};
 use dnp_controls::Outputs;
 use dnp_objects::{Kind, Row};
 use dnp_pointdb::laws::readings_fit_their_static_objects;
