@@ -22,9 +22,10 @@ use Rattle.dnp_world.specs.declared.event.Event.{Event}
 use Rattle.dnp_world.specs.declared.event.Event.TheVariants as event
 use Rattle.dnp_world.specs.declared.event.Place.TheVariants as place
 use Rattle.dnp_world.specs.declared.link_event.LinkEvent.TheVariants as link_event
+use Rattle.dnp_world.specs.steps.MoveLaws.{PointLaws}
 use Rattle.dnp_world.proofs.EventTouches.{Does, does}
 use Rattle.dnp_world.proofs.JoinedHappenings.{moved_all, refused_change, rows_behind}
-use Rattle.dnp_world.proofs.JoinedPoints.{PointLaws, end_points, opened_leaves, received_leaves, ticked_leaves}
+use Rattle.dnp_world.proofs.JoinedPoints.{end_points, opened_leaves, received_leaves, ticked_leaves}
 use Rattle.dnp_world.proofs.ListedAt.{set_here, set_there}
 use Rattle.dnp_world.proofs.SystemCounts.{of_station-at, of_station-other}
 use Rattle.dnp_world.proofs.Touches.{AllHangUp, Call, Called, Ends, HangsUp, Hears, LinkRelays, LinkUsed, Nobody, Opens, Outstation, Reads, Refused, Restarts, Ticks, Touched, Used, Waits, after_call, after_called, after_used, at_only, ends_of, moves_in, moves_of}

@@ -28,7 +28,8 @@ use Rattle.dnp_world.specs.declared.link_event.LinkEvent.{LinkEvent}
 use Rattle.dnp_world.specs.declared.link_event.LinkEvent.TheVariants as event
 use Rattle.dnp_world.specs.Joined.{point_moves, rows_made_by}
 use Rattle.dnp_world.specs.OneLinkEvents.{LinkState, Steps, ComeDown, ComeUp, Receives, Changes, AsksBy, AsksIfOwn, is_own, HappensOn, opening}
-use Rattle.dnp_world.proofs.JoinedPoints.{PointLaws, Leaves, end_points, received_leaves, ticked_leaves, opened_leaves}
+use Rattle.dnp_world.specs.steps.MoveLaws.{PointLaws}
+use Rattle.dnp_world.proofs.JoinedPoints.{Leaves, end_points, received_leaves, ticked_leaves, opened_leaves}
 
 -- ---- lists of moves of points
 

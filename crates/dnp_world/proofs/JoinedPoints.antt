@@ -3,17 +3,10 @@ use Rattle.std.proofs.Common.{◌≡◌, ◌∙◌, ℕ, List, []}
 use Rattle.dnp_controls.specs.Panel.{Panel}
 use Rattle.dnp_pointdb.specs.Database.{Database}
 use Rattle.dnp_outstation.specs.State.{State, Step}
-use Rattle.dnp_outstation.specs.Content.{content_of}
-use Rattle.dnp_outstation.specs.Controls.{content_at}
 use Rattle.dnp_outstation.specs.Connection.{at_end}
 use Rattle.dnp_outstation.specs.Calls.{connection_after, tick_of, opened_of}
-use Rattle.dnp_outstation.specs.Links.{KeepsConnection}
+use Rattle.dnp_world.specs.steps.MoveLaws.{PointLaws}
 use Rattle.dnp_outstation.proofs.KeptPoints.{end_points as ends, opened_keeps, received_keeps, ticked_keeps}
-
--- what `dnp_outstation` promises of content
-pub record PointLaws : Type 0 where
-  pub keeps : (s : State) (o : Panel) (now : ℕ) (octets : List ℕ) → KeepsConnection s (content_at s o now octets).state
-  pub keeps_held : (s : State) (o : Panel) (octets : List ℕ) → KeepsConnection s (content_of s o octets).state
 
 -- the points are still these, and no row is dropped
 pub record Leaves (points : Database) (step : Step) : Type 0 where

@@ -18,7 +18,8 @@ use Rattle.dnp_pointdb.specs.declared.state.BlockState.{BlockState}
 use Rattle.dnp_pointdb.specs.declared.state.PointState.{PointState}
 use Rattle.dnp_world.specs.Planned.{HasClassesBelow, HavePlannedPoints, class_of}
 use Rattle.dnp_world.specs.Systems.{System}
-use Rattle.dnp_world.proofs.JoinedPoints.{PointLaws, end_points, opened_leaves, received_leaves, ticked_leaves}
+use Rattle.dnp_world.specs.steps.MoveLaws.{PointLaws}
+use Rattle.dnp_world.proofs.JoinedPoints.{end_points, opened_leaves, received_leaves, ticked_leaves}
 use Rattle.dnp_world.proofs.Touches.{Call, Waits, Opens, Hears, Reads, Ticks, HangsUp, Restarts, Touched, after_call, each_keeps}
 
 -- what the crates of points and of an outstation promise

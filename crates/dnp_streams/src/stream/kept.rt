@@ -129,7 +129,7 @@ impl KeptAnswer {
     }
 }
 
-/// What a stream keeps for its steps, so that none of them makes room anew.
+/// What a stream keeps for its steps, so that none of them asks for room again.
 pub(super) struct Kept {
     /// What the station answers to confirms, and where time passes: mostly nothing. It stands apart, since a place in which there was a fragment
     /// is written over whole where it is emptied, and where it is filled after that.

@@ -1,7 +1,6 @@
--- What the laws below promise of stations and ways, as far as the events of a link need it.
-use Rattle.std.proofs.Common.{◌≡◌, ◌⊎◌, ℕ, ◌<◌, ◌^◌, Bool, false, List, [], ◌∷◌, map, Option, Some, Ok, IfOk, option_to_list}
+-- Private steps: what the moves of a link rest on, of its lines, its points, its outstation and its master.
+use Rattle.std.specs.Prelude.{◌≡◌, ◌⊎◌, ℕ, ◌<◌, ◌^◌, Bool, false, List, [], ◌∷◌, map, Option, Some, Ok, IfOk, IfSome, option_to_list, slice_get}
 use Rattle.std.specs.List.{All}
-use Rattle.std.specs.Prelude.{slice_get, IfSome}
 use Rattle.dnp_objects.specs.declared.lane.LaneRow.{LaneRow}
 use Rattle.dnp_objects.specs.declared.row.Kind.{Kind}
 use Rattle.dnp_controls.specs.Panel.{Panel}
@@ -10,7 +9,7 @@ use Rattle.dnp_pointdb.specs.Database.{answer_of}
 use Rattle.dnp_pointdb.specs.declared.reading.Reading.{Reading}
 use Rattle.dnp_outstation.specs.Calls.{connection_after, tick_of, change_of, opened_of, restart_of, emptied_of}
 use Rattle.dnp_outstation.specs.Connection.{closed}
-use Rattle.dnp_outstation.specs.Links.{EndsAs}
+use Rattle.dnp_outstation.specs.Links.{EndsAs, KeepsConnection}
 use Rattle.dnp_outstation.specs.State.{State, Step, nothing, still}
 use Rattle.dnp_master.specs.declared.task.Task.{Task}
 use Rattle.dnp_master.specs.Calls.{ask_answer, asked, receive_of, unheeded}
@@ -21,8 +20,21 @@ use Rattle.dnp_world.specs.MasterSeen.{master_of, MasterTakes, master_hung_up, w
 use Rattle.dnp_world.specs.Moves.{Move, Moves, asking, lost_up, opened}
 use Rattle.dnp_world.specs.OutstationSeen.{down_of, octets_of, ShowOctets, Shows, Simulates}
 use Rattle.dnp_world.specs.Standing.{Stands}
-use Rattle.dnp_world.proofs.JoinedPoints.{PointLaws}
-use Rattle.dnp_world.proofs.JoinedWays.{LineLaws}
+use Rattle.dnp_line.specs.Flows.{AreFacing, Flows, RestMoves}
+use Rattle.dnp_line.specs.Ways.{Way, WayEvent, Happens, opened_on}
+use Rattle.dnp_outstation.specs.Content.{content_of}
+use Rattle.dnp_outstation.specs.Controls.{content_at}
+
+-- what `dnp_line` promises
+pub record LineLaws : Type 0 where
+  pub reopened : (old : Way) → AreFacing old.sender old.receiver → Flows (opened_on old) []
+  pub kept : (old new : Way) (event : WayEvent) (rest : List (List ℕ)) → Flows old rest → Happens old event new →
+      (left : List (List ℕ)) × RestMoves old event new rest left × Flows new left
+
+-- what `dnp_outstation` promises of content
+pub record PointLaws : Type 0 where
+  pub keeps : (s : State) (o : Panel) (now : ℕ) (octets : List ℕ) → KeepsConnection s (content_at s o now octets).state
+  pub keeps_held : (s : State) (o : Panel) (octets : List ℕ) → KeepsConnection s (content_of s o octets).state
 
 -- of an outstation
 pub record OutstationLaws : Type 0 where
@@ -57,7 +69,8 @@ pub record MasterLaws : Type 0 where
       PassesOver s t ⊎ (TakesResponse s octets t ⊎ TakesReport s octets t))
   pub silent_receives : (s : master.State) (now : ℕ) (octets : List ℕ) → s.is_open ≡ false → receive_of s now octets ≡ Ok (unheeded s)
 
-pub record Laws : Type 0 where
+-- all of it
+pub record MoveLaws : Type 0 where
   pub line : LineLaws
   pub points : PointLaws
   pub outstation : OutstationLaws
