@@ -144,7 +144,7 @@ impl Assembler {
         }
         let pushed = join(&mut self.octets, segment);
         self.stage = Stage::after(pushed);
-        self.last = copied(segment);
+        refill(&mut self.last, segment);
         pushed
     }
 

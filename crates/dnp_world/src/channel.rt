@@ -20,6 +20,7 @@ use crate::stopped::stops_for;
 use dnp_concentrator::Cause;
 use dnp_line::{Line, Port};
 use dnp_linkframe::MAX_UNIT;
+use dnp_master::Fragment;
 use dnp_master::laws::what_comes_is_taken_or_passed_over;
 use dnp_objects::Row;
 use dnp_outstation::Actions;
@@ -38,6 +39,9 @@ pub(crate) struct Channel {
     /// The port to which a unit comes, as it was before: where what the unit completes is refused, the port is that again.
     /// It is kept, so that no unit makes room for it; between two calls it says nothing.
     pub before: Port,
+    /// The request that was asked last. It is kept, so that no request makes room for a fragment; once it was sent it says
+    /// nothing.
+    pub request: Fragment,
 }
 
 impl Channel {
@@ -51,6 +55,7 @@ impl Channel {
             outstation_port: Port::new(outstation, master, false),
             master_port: Port::new(master, outstation, true),
             before: Port::new(outstation, master, false),
+            request: Fragment::new(),
         }
     }
 
@@ -69,6 +74,7 @@ impl Channel {
             outstation_port,
             master_port,
             before: _,
+            request: _,
         } = self;
         down.clear();
         up.clear();

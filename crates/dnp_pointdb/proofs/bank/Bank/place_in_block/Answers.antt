@@ -1,6 +1,6 @@
 use Rattle.std.proofs.Common.{◌≡◌, ◌<◌, ◌-◌, ℕ, List, length, get_or, Some, sym, ◌∙◌, ap, subst, arith}
 use Rattle.dnp_pointdb.specs.declared.state.BlockState.{BlockState}
-use Rattle.dnp_pointdb.specs.steps.Order.{AreApart, extents, place_in}
+use Rattle.dnp_pointdb.specs.steps.Order.{AreApart, extents}
 use Rattle.dnp_pointdb.proofs.Lookups.{lookup_block}
 use Rattle.dnp_pointdb.proofs.bank.Bank.place_in_block.Goals as goal
 
