@@ -106,7 +106,8 @@ calls_keep laws s (Reads now kind index reading made) =
       state = record s { core = record s.core { points = changed_of s.core.points kind index reading }; lanes = with_rows s.lanes (option_to_list made) };
       does = record nothing { overwritten = dropped_by s.lanes (option_to_list made) };
     } in
-    λ k i. same_points (changed_of s.core.points kind index reading) _ (end_points laws.content (changed_of s.core.points kind index reading) now first refl) k i
+    λ k i. same_points (changed_of s.core.points kind index reading) _
+    (end_points laws.content (changed_of s.core.points kind index reading) now first refl) k i
     ∙ changed_classes laws s.core.points kind index reading k i
 calls_keep laws s (Ticks now) = same_points s.core.points _ (ticked_leaves laws.content s now).points_are
 calls_keep laws s HangsUp = λ kind index. refl
