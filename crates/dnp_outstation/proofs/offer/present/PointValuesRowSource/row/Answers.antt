@@ -1,7 +1,7 @@
 use Rattle.std.proofs.Common.{◌∙◌, ◌<◌, ◌+◌, refl, length, arith}
 use Rattle.dnp_outstation.proofs.PointValues.{length_rows, row_at}
-use Rattle.dnp_outstation.proofs.offer.present.PointValuesPointRows.row.Goals.{Start}
-use Rattle.dnp_outstation.proofs.offer.present.PointValuesPointRows.row.Goals as goal
+use Rattle.dnp_outstation.proofs.offer.present.PointValuesRowSource.row.Goals.{Start}
+use Rattle.dnp_outstation.proofs.offer.present.PointValuesRowSource.row.Goals as goal
 
 there : (c : Start) → c.args.place < length c.args.self.now.points.now
 there c = omega (arith, length_rows c.args.self.now.kind c.args.self.now.first c.args.self.now.points.now, c.requires)
