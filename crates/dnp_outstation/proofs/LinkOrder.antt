@@ -230,7 +230,8 @@ unsolicited_order s o now (Some w) is =
     held_order (unsolicited_confirmed s w) o now s.core.session.last
     (record { number = is.number; classes = is.classes; held = is.held; several = is.several }) is.held
 
-pub received_order : FunctionLaw → (s : State) (o : Panel) (now : ℕ) (octets : List ℕ) → IsInOrder s.core → IsInOrder (connection_after s o now octets).state.core
+pub received_order : FunctionLaw → (s : State) (o : Panel) (now : ℕ) (octets : List ℕ) → IsInOrder s.core
+    → IsInOrder (connection_after s o now octets).state.core
 received_order law s o now octets is = go (case_of s.core octets) (case_says s.core octets)
   where
     again : (last : Option LastRequest) → IsInOrder (with_that s last (on_again s now octets)).state.core

@@ -224,7 +224,8 @@ module _ (laws : OfferLaws) (s : State) (o : Panel) (now seq : ℕ) (low : seq <
 
 -- ---- the last request again
 
-pub comes_again : ControlLaw → (c : Core) (seq : ℕ) → seq < 16 → c.is_open ≡ true → is_last_request c.session (poll_octets seq) ≡ true → case_of c (poll_octets seq) ≡ Again
+pub comes_again : ControlLaw → (c : Core) (seq : ℕ) → seq < 16 → c.is_open ≡ true → is_last_request c.session (poll_octets seq) ≡ true
+    → case_of c (poll_octets seq) ≡ Again
 comes_again law c seq low opens again =
     let octets : List ℕ = poll_octets seq in
     let by_wait : Bool → Case = λ b. if b then Waits else Asks in

@@ -51,7 +51,8 @@ confirms_by law c seq uns low opens =
     by true = refl
     by false = refl
 
-confirms : ControlLaw → (s : State) (seq : ℕ) (upto : List ℕ) → seq < 16 → s.core.is_open ≡ true → Awaits seq upto s → case_of s.core (confirm_octets seq) ≡ Confirms
+confirms : ControlLaw → (s : State) (seq : ℕ) (upto : List ℕ) → seq < 16 → s.core.is_open ≡ true → Awaits seq upto s
+    → case_of s.core (confirm_octets seq) ≡ Confirms
 confirms law s seq upto low opens awaits =
     confirms_by law s.core seq false low opens
     ∙ ap (λ (o : Option Awaited). if is_number (option_map (λ w. w.seq) o) seq then Confirms else Stray) awaits.is

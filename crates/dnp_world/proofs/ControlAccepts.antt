@@ -230,7 +230,8 @@ finish_goes laws target now check entry operates commands operated new op g =
     let fragments_are : operated.going ++ requests_of (next_step target operated) seq ≡ operated.going =
     ap (λ (s : Step). operated.going ++ requests_of s seq) op.next ∙ append-nil operated.going in
     let quiet : Quiet g.sent commands =
-    confirms_come laws.is_control now (ChecksAs entry.command check) (request_octets (request_for op.seq (task.Operate entry.command))) operated.going operated.station
+    confirms_come laws.is_control now (ChecksAs entry.command check)
+    (request_octets (request_for op.seq (task.Operate entry.command))) operated.going operated.station
     new.station g.sent commands op.confirms op.asked
     (subst (λ (xs : List (List ℕ)). AnswersAll now (ChecksAs entry.command check) xs operated.station new.station g.sent commands) fragments_are
     g.answered) in

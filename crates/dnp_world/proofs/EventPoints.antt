@@ -34,15 +34,15 @@ use Rattle.dnp_world.proofs.Touches.{AllHangUp, Call, Called, Ends, HangsUp, Hea
 
 call_points : PointLaws → (s : State) (call : Call) → (after_call s call).core.points ≡ moved_all s.core.points (moves_of call)
 call_points laws s Waits = refl
-call_points laws s (Opens now) = (opened_leaves s now).points_are
+call_points laws s (Opens now) = (opened_leaves laws s now).points_are
 call_points laws s (Hears outputs now fragment) = (received_leaves laws s outputs now fragment).points_are
 call_points laws s (Reads now kind index reading made) =
     let first : Step = record {
       state = record s { core = record s.core { points = changed_of s.core.points kind index reading }; lanes = with_rows s.lanes (option_to_list made) };
       does = record nothing { overwritten = dropped_by s.lanes (option_to_list made) };
     } in
-    end_points (changed_of s.core.points kind index reading) now first refl
-call_points laws s (Ticks now) = (ticked_leaves s now).points_are
+    end_points laws (changed_of s.core.points kind index reading) now first refl
+call_points laws s (Ticks now) = (ticked_leaves laws s now).points_are
 call_points laws s HangsUp = refl
 call_points laws s Restarts = refl
 

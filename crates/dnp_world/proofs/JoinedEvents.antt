@@ -136,7 +136,7 @@ opens {Sink = Sink} laws others s new l stands j h =
     } in
     moves_before others [] [] s.outstation.performed l (opened l) new (one_move l (opened l) (Open refl)) refl refl refl
     (after_step laws.line others s.left [] (opening s) new true (opened l) step
-    (sym (append-nil s.left) ∙ ap (λ (xs : List Row). s.left ++ xs) (sym (opened_leaves s.outstation s.now).none))
+    (sym (append-nil s.left) ∙ ap (λ (xs : List Row). s.left ++ xs) (sym (opened_leaves laws.points s.outstation s.now).none))
     (λ e. absurd (both_ways true e refl)) (λ e. absurd (both_ways true e refl))
     beside (laws.outstation.opens s.outstation s.now l j.outstation stands) h)
 
@@ -182,7 +182,8 @@ event_follows laws takes panel shown others s new l (event.Pass ms) stands j h =
     stays_as others l new _ h (with_lines others s l s.channel.down s.channel.up s.channel.outstation_port s.channel.master_port _ j j.down j.up)
 event_follows laws takes panel shown others s new l (event.Tick end.Master) stands j h = tick_follows laws others s new l j h
 event_follows laws takes panel shown others s new l (event.Tick end.Outstation) stands j h =
-    plain_step laws.line others s new l (tick_of s.outstation s.now) (ticked_leaves s.outstation s.now).none (laws.outstation.silent_ticked s.outstation s.now) j
+    plain_step laws.line others s new l (tick_of s.outstation s.now) (ticked_leaves laws.points s.outstation s.now).none
+    (laws.outstation.silent_ticked s.outstation s.now) j
     (laws.outstation.ticks s.outstation s.now l j.outstation stands) h
 event_follows laws takes panel shown others s new l (event.Restart end.Master) stands j h = master_goes laws others s new l j h
 event_follows laws takes panel shown others s new l (event.Restart end.Outstation) stands j h = restarts laws others s new l j h

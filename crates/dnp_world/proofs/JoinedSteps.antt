@@ -236,7 +236,8 @@ come_down laws panel shown others s new l fragment rest stands j small down_is s
     (laws.outstation.silent_received s.outstation panel s.now fragment) j
     (laws.outstation.comes s.outstation panel s.now fragment l rest shown small j.outstation stands down_is) steps
 
-pub came_down : {Sink : Type 0} → MoveLaws → (panel : Panel) → ShowOctets panel → (others : List Row) (s new : LinkState Sink) (l : Link) (line : LineState) (port : PortState)
+pub came_down : {Sink : Type 0} → MoveLaws → (panel : Panel) → ShowOctets panel
+    → (others : List Row) (s new : LinkState Sink) (l : Link) (line : LineState) (port : PortState)
     → (given : List (List ℕ))
     → Stands l → (j : Joined others s l) → IsSamePort s.channel.outstation_port port
     → Came line s.channel.master_port port s.master.is_open j.going_down given

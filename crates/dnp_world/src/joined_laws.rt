@@ -41,9 +41,9 @@ use dnp_line::laws::line_law;
 use dnp_master::laws::{
     a_closed_master_is_silent, an_idle_master_asks, what_comes_is_taken_or_passed_over,
 };
+use dnp_outstation::lane_laws::{a_connection_drops_no_row, a_connection_leaves_the_points_alone};
 use dnp_outstation::link_laws::{
     a_closed_outstation_is_silent, an_unsolicited_response_starts_where_none_is_awaited,
-    content_leaves_the_connection_alone,
 };
 
 /// What the moves of a link rest on: the laws of its outstation and of its master, of its points and of its lines.
@@ -61,7 +61,8 @@ fn moves_are_promised()
     line_law();
     a_closed_outstation_is_silent();
     an_unsolicited_response_starts_where_none_is_awaited();
-    content_leaves_the_connection_alone();
+    a_connection_leaves_the_points_alone();
+    a_connection_drops_no_row();
     a_closed_master_is_silent();
     an_idle_master_asks();
     what_comes_is_taken_or_passed_over();

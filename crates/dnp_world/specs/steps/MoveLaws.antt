@@ -8,8 +8,8 @@ use Rattle.dnp_eventbuf.specs.Stock.{arriving, exhausts}
 use Rattle.dnp_pointdb.specs.Database.{answer_of}
 use Rattle.dnp_pointdb.specs.declared.reading.Reading.{Reading}
 use Rattle.dnp_outstation.specs.Calls.{connection_after, tick_of, change_of, opened_of, restart_of, emptied_of}
-use Rattle.dnp_outstation.specs.Connection.{closed}
-use Rattle.dnp_outstation.specs.Links.{EndsAs, KeepsConnection}
+use Rattle.dnp_outstation.specs.Connection.{at_end, closed}
+use Rattle.dnp_outstation.specs.Links.{EndsAs, KeepsPoints}
 use Rattle.dnp_outstation.specs.State.{State, Step, nothing, still}
 use Rattle.dnp_master.specs.declared.task.Task.{Task}
 use Rattle.dnp_master.specs.Calls.{ask_answer, asked, receive_of, unheeded}
@@ -22,8 +22,6 @@ use Rattle.dnp_world.specs.OutstationSeen.{down_of, octets_of, ShowOctets, Shows
 use Rattle.dnp_world.specs.Standing.{Stands}
 use Rattle.dnp_line.specs.Flows.{AreFacing, Flows, RestMoves}
 use Rattle.dnp_line.specs.Ways.{Way, WayEvent, Happens, opened_on}
-use Rattle.dnp_outstation.specs.Content.{content_of}
-use Rattle.dnp_outstation.specs.Controls.{content_at}
 
 -- what `dnp_line` promises
 pub record LineLaws : Type 0 where
@@ -31,10 +29,15 @@ pub record LineLaws : Type 0 where
   pub kept : (old new : Way) (event : WayEvent) (rest : List (List ℕ)) → Flows old rest → Happens old event new →
       (left : List (List ℕ)) × RestMoves old event new rest left × Flows new left
 
--- what `dnp_outstation` promises of content
+-- what `dnp_outstation` promises of its points, and that it drops no row
 pub record PointLaws : Type 0 where
-  pub keeps : (s : State) (o : Panel) (now : ℕ) (octets : List ℕ) → KeepsConnection s (content_at s o now octets).state
-  pub keeps_held : (s : State) (o : Panel) (octets : List ℕ) → KeepsConnection s (content_of s o octets).state
+  pub keeps_opened : (s : State) (now : ℕ) → KeepsPoints s.core (opened_of s now).state.core
+  pub keeps_received : (s : State) (o : Panel) (now : ℕ) (octets : List ℕ) → KeepsPoints s.core (connection_after s o now octets).state.core
+  pub keeps_ticked : (s : State) (now : ℕ) → KeepsPoints s.core (tick_of s now).state.core
+  pub keeps_ended : (now : ℕ) (step : Step) → (at_end now step).state.core.points ≡ step.state.core.points
+  pub none_opened : (s : State) (now : ℕ) → (opened_of s now).does.overwritten ≡ []
+  pub none_received : (s : State) (o : Panel) (now : ℕ) (octets : List ℕ) → (connection_after s o now octets).does.overwritten ≡ []
+  pub none_ticked : (s : State) (now : ℕ) → (tick_of s now).does.overwritten ≡ []
 
 -- of an outstation
 pub record OutstationLaws : Type 0 where

@@ -12,4 +12,5 @@ pub put-requires-clause-fits : goal.put-requires-clause-fits
 put-requires-clause-fits c =
     let before = context_of c.args.builder.now in
     subst (λ (h : Head). IsHeaderAt (form_of c.args.builder.now.function) before h) (sym c.new-header.ensures.value)
-    (subst (λ (f : Form). IsHeaderAt f before no_restart) (sym c.requires.function) (record { header = no_restart_fits; common = refl; timed = λ relative. absurd (cc) }))
+    (subst (λ (f : Form). IsHeaderAt f before no_restart) (sym c.requires.function)
+    (record { header = no_restart_fits; common = refl; timed = λ relative. absurd (cc) }))

@@ -22,4 +22,5 @@ put-requires-clause-fits c =
     let before = context_of c.args.builder.now in
     let here : IsHeader form.Write (made octets) = subst (λ (xs : List ℕ). IsHeader form.Write (made xs)) (sym six) (time_fits c.args.time) in
     subst (λ (h : Head). IsHeaderAt (form_of c.args.builder.now.function) before h) (sym c.new-header.ensures.value)
-    (subst (λ (f : Form). IsHeaderAt f before (made octets)) (sym c.requires.function) (record { header = here; common = refl; timed = λ relative. absurd (cc) }))
+    (subst (λ (f : Form). IsHeaderAt f before (made octets)) (sym c.requires.function)
+    (record { header = here; common = refl; timed = λ relative. absurd (cc) }))

@@ -6,4 +6,5 @@ pub returns-clause-leaves : goal.returns-clause-leaves
 returns-clause-leaves c = λ s o now seq last low was. (confirm_leaves c.octets_say_their_control_and_function.ensures.control s o now seq last low was).leaves
 
 pub returns-clause-performs : goal.returns-clause-performs
-returns-clause-performs c = λ s o now seq last low was. (confirm_leaves c.octets_say_their_control_and_function.ensures.control s o now seq last low was).performs
+returns-clause-performs c =
+    λ s o now seq last low was. (confirm_leaves c.octets_say_their_control_and_function.ensures.control s o now seq last low was).performs

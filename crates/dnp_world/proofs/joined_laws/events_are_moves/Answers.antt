@@ -7,7 +7,8 @@ returns-clause-event g c =
     λ panel others s new event l shown stands j h. one_follows c.moves_are_promised.ensures g.S.Sink.takes panel shown others s new l event stands j h
 
 pub returns-clause-stopped : goal.returns-clause-stopped
-returns-clause-stopped g c = λ others s new event l stands j h. stop_follows c.moves_are_promised.ensures g.S.Sink.takes g.S.Sink.keeps others s new l event stands j h
+returns-clause-stopped g c =
+    λ others s new event l stands j h. stop_follows c.moves_are_promised.ensures g.S.Sink.takes g.S.Sink.keeps others s new l event stands j h
 
 pub returns-clause-runs : goal.returns-clause-runs
 returns-clause-runs g c = λ others s new events l stands j h. run_follows c.moves_are_promised.ensures g.S.Sink.takes others s new l events stands j h

@@ -5,8 +5,13 @@ pub returns : goal.returns
 returns c = record {
   line = record { reopened = c.line_law.ensures.reopened; kept = c.line_law.ensures.kept };
   points = record {
-    keeps = c.content_leaves_the_connection_alone.ensures.keeps;
-    keeps_held = c.content_leaves_the_connection_alone.ensures.keeps_held;
+    keeps_opened = c.a_connection_leaves_the_points_alone.ensures.opened;
+    keeps_received = c.a_connection_leaves_the_points_alone.ensures.received;
+    keeps_ticked = c.a_connection_leaves_the_points_alone.ensures.ticked;
+    keeps_ended = c.a_connection_leaves_the_points_alone.ensures.ended;
+    none_opened = c.a_connection_drops_no_row.ensures.opened;
+    none_received = c.a_connection_drops_no_row.ensures.received;
+    none_ticked = c.a_connection_drops_no_row.ensures.ticked;
   };
   outstation = record {
     opens = c.an_opening_is_moves.ensures;
