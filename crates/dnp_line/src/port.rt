@@ -166,7 +166,7 @@ impl Port {
         }
     }
 
-    /// Makes another port the same as this one. No room is made anew, and of a series or a fragment the octets in use
+    /// Makes another port the same as this one. No new room is made, and of a series or a fragment the octets in use
     /// alone are written.
     pub fn copy_into(&self, other: &mut Port)
         ensures { other.new ≡ self.now }

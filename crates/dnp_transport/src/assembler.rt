@@ -170,7 +170,7 @@ impl Assembler {
         }
     }
 
-    /// Makes another assembler the same as this one. No room is made anew, and of what each has the octets in use alone
+    /// Makes another assembler the same as this one. No new room is made, and of what each has the octets in use alone
     /// are written.
     pub fn copy_into(&self, other: &mut Assembler)
         ensures { other.new ≡ self.now }
