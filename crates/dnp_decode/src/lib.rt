@@ -16,3 +16,4 @@ mod time;
 pub use decoding::decode;
 pub use json::Members;
 pub use line::Line;
+pub use time::Moment;

@@ -14,7 +14,7 @@ const TO_1970: u64 = 719_468;
 
 /// A moment in milliseconds since 1970-01-01 00:00 UTC.
 #[derive(Clone, Copy)]
-pub(crate) struct Moment(pub u64);
+pub struct Moment(pub u64);
 
 /// A day of the calendar.
 #[derive(Clone, Copy)]
