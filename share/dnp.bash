@@ -10,7 +10,7 @@ _dnp() {
     answer:--own|answer:--peer|centre:--port|centre:--issue|concentrate:--port|concentrate:--below|concentrate:--rounds|loopback:--limit|outstation:--station|outstation:--port|outstation:--bind|outstation:--connections|sim:--limit) COMPREPLY=() ;;
     answer:*) COMPREPLY=($(compgen -W '--own --peer --help' -- "$word")) ;;
     centre:*) COMPREPLY=($(compgen -W '--plan --journal --controls --port --issue --new --help' -- "$word")) ;;
-    concentrate:*) COMPREPLY=($(compgen -W '--plan --queue --controls --port --below --rounds --new --help' -- "$word")) ;;
+    concentrate:*) COMPREPLY=($(compgen -W '--plan --queue --controls --port --below --rounds --new --migrate --help' -- "$word")) ;;
     decode:*) COMPREPLY=($(compgen -W '--raw --pcap --json --help' -- "$word")) ;;
     loopback:*) COMPREPLY=($(compgen -W '--plan --limit --plain --help' -- "$word")) ;;
     outstation:*) COMPREPLY=($(compgen -W '--plan --station --port --bind --connections --replay --help' -- "$word")) ;;
