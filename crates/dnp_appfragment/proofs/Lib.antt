@@ -4,6 +4,7 @@ pub mod Commons
 pub mod Contexts
 pub mod Controls
 pub mod Divisions
+pub mod EventLists
 pub mod EventRows
 pub mod Finished
 pub mod Functions
@@ -13,6 +14,7 @@ pub mod Held
 pub mod JoinedTimes
 pub mod Joins
 pub mod Laid
+pub mod ListedRows
 pub mod Numbers
 pub mod ObjectHeaders
 pub mod ObjectValues

@@ -32,7 +32,7 @@ relative_is : (common : ℕ) (row : Row) → IsHeader form.Response (relative co
 unfolding takes_of rules objects content_of
 relative_is common row = record { object = refl; fits = omega arith; forward = tt; objects = refl }
 
-relative_timed : RelativesLow → (common : ℕ) (row : Row) → FitsRelative common row → IsTimed (relative common row)
+pub relative_timed : RelativesLow → (common : ℕ) (row : Row) → FitsRelative common row → IsTimed (relative common row)
 relative_timed law common row fits = record {
   common = common;
   there = refl;

@@ -1,6 +1,6 @@
 -- Definition: what rows and commands are written as in a fragment, each as a header of its own (IEEE Std
 -- 1815-2012, application layer: object headers; object library).
-use Rattle.std.specs.Prelude.{◌≡◌, ℕ, ◌+◌, ⊤, Bool, true, false, IsTrue, ◌==◌, ◌&&◌, List, [], ◌∷◌, ◌++◌, Some}
+use Rattle.std.specs.Prelude.{◌≡◌, ℕ, ◌+◌, ⊤, Bool, true, false, IsTrue, ◌==◌, ◌&&◌, List, [], ◌∷◌, ◌++◌, Some, is_some}
 use Rattle.std.specs.List.{list_any}
 use Rattle.byteorder.specs.Endian.{little_bytes}
 use Rattle.dnp_objects.specs.Relative.{relative_octets}
@@ -8,6 +8,7 @@ use Rattle.dnp_objects.specs.Rows.{Fits, written}
 use Rattle.dnp_objects.specs.Events.{event_object}
 use Rattle.dnp_objects.specs.Commands.{object_of, index_of, command_octets}
 use Rattle.dnp_objects.specs.declared.command.Command.{Command}
+use Rattle.dnp_objects.specs.declared.row.Kind.{Kind}
 use Rattle.dnp_objects.specs.declared.row.Row.{Row}
 use Rattle.dnp_appfragment.specs.declared.header.Range.TheVariants as range
 use Rattle.dnp_appfragment.specs.Headers.{Head, head_of, head_after, number}
@@ -31,6 +32,11 @@ abbrev pub event : Row → Head
 event row =
     let object = event_object row.kind row.time in
     indexed object.0 object.1 row.index (written object.0 object.1 row)
+
+-- a row is of this kind, and has a time or has none
+pub record IsOf (kind : Kind) (has_time : Bool) (row : Row) : Type 0 where
+  pub kind_is : row.kind ≡ kind
+  pub time_is : is_some row.time ≡ has_time
 
 -- the objects that present values go as, by group and variation: of binary inputs and outputs, of counters, and of
 -- analog inputs

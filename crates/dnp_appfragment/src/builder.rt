@@ -5,10 +5,11 @@ use crate::control::Control;
 use crate::function::Function;
 use crate::header::Header;
 use crate::iin::Iin;
-use crate::points::{PointRows, Points};
+use crate::points::Points;
 use crate::putting::{
     header_size, push_front, push_header, push_run, range_size, write_front, write_number,
 };
+use crate::row_source::RowSource;
 use crate::run::{Run, longer};
 use crate::table::Form;
 use crate::written::{Event, Indexed, Object, Point, span_of};
@@ -18,6 +19,7 @@ use dnp_objects::{Command, Kind, MAX_FRAGMENT, Row, Status, object_size, write_c
 use std::marker::Model;
 use thiserror::Error;
 
+mod events;
 mod times;
 
 /// There is no room in the 2,048 octets of a fragment.
@@ -260,7 +262,7 @@ impl Builder {
 
     /// Puts rows as present values of this object, as many as fit; answers how many.
     #[inline(always)]
-    fn put_points<R: PointRows + Copy, const GROUP: u8, const VARIATION: u8>(
+    fn put_points<R: RowSource + Copy, const GROUP: u8, const VARIATION: u8>(
         &mut self,
         first: u16,
         rows: R,
@@ -303,7 +305,7 @@ impl Builder {
     /// Puts rows of consecutive indexes into a response as present values, as this object, one by one as
     /// `point` puts them, up to the first that does not fit; answers how many are put. `first` is the
     /// index of the first row.
-    pub fn points<R: PointRows + Copy>(
+    pub fn points<R: RowSource + Copy>(
         &mut self,
         group: u8,
         variation: u8,

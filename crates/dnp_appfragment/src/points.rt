@@ -1,29 +1,13 @@
 //! Present values of consecutive indexes, which stand under one header.
-ghost use Rattle.std.specs.Prelude.{◌≡◌, ◌<◌, ℕ, List, length, take, slice_index_or};
+ghost use Rattle.std.specs.Prelude.{take};
 ghost use Rattle.dnp_appfragment.specs.steps.Spans.{CanSpan, span, all_written};
 
+use crate::row_source::RowSource;
 use crate::run::Run;
 use crate::written::{Object, span_of};
 use arrayvec::ArrayVec;
 use dnp_objects::laws::a_written_row_fills_its_object;
 use dnp_objects::{MAX_FRAGMENT, Row, append_object, object_size};
-
-/// Rows of points, in order.
-pub trait PointRows {
-    ghost use Rattle.dnp_objects.specs.declared.row.Row.{Row};
-
-    /// The rows.
-    ghost rows: { Self → List Row };
-
-    /// How many there are.
-    fn len(&self) -> usize
-        ensures { result ≡ length (rows self.now) };
-
-    /// The row at this place.
-    fn row(&self, place: usize) -> Row
-        requires { place < length (rows self.now) }
-        ensures { result ≡ slice_index_or (rows self.now) place result };
-}
 
 /// The first so many rows as this object, in a range from an index to an index: qualifier 01. The object stands in
 /// the type, so that the compiler knows how many octets each part of a row has.
@@ -35,7 +19,7 @@ pub(crate) struct Points<'a, R, const GROUP: u8, const VARIATION: u8> {
     pub last: u16,
 }
 
-impl<'a, R: PointRows + Copy, const GROUP: u8, const VARIATION: u8> Object
+impl<'a, R: RowSource + Copy, const GROUP: u8, const VARIATION: u8> Object
     for Points<'a, R, GROUP, VARIATION> {
     ghost can_put = { λ p. CanSpan GROUP VARIATION p.count (R.rows p.rows.now) };
 

@@ -16,7 +16,7 @@ use dnp_objects::laws::a_written_row_fills_its_object;
 use dnp_objects::{MAX_FRAGMENT, Row, append_object, append_relative, fits_object, object_size};
 
 /// The range of one object after its index: qualifier 28.
-const BEHIND_INDEX: Range = Range::Indexed { wide: true, n: 1 };
+pub(crate) const BEHIND_INDEX: Range = Range::Indexed { wide: true, n: 1 };
 
 /// Whether the row can be put as a present value, as this object: of binary inputs 1.2, of binary
 /// outputs 10.2 (a binary), of counters 20.1, of analog inputs 30.1. It is of the object's kind, a binary's
@@ -115,6 +115,15 @@ pub(crate) fn span_of(first: u16, last: u16) -> Range
         first,
         last,
     }
+}
+
+/// The range of so many objects, each after its index: qualifier 28.
+#[inline]
+pub(crate) fn indexed_of(n: u16) -> Range
+    ensures value { result ≡ range.Indexed true n }
+    ensures fits { NumbersFit result }
+{
+    Range::Indexed { wide: true, n }
 }
 
 /// A row as a present value, as this object, in a range of its index: qualifier 01. It holds the row itself, so that a

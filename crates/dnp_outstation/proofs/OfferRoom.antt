@@ -115,21 +115,23 @@ at_least row = by row.kind row.time
     by Analog (Some t) = omega arith
     by Analog None = omega arith
 
--- so is a writer with a row more
+-- so is what is built with a row more
+pub own_grows : (b : Built) (row : Row) → size b + least_octets row.kind ≤ size (with_object b (event row))
+own_grows b row =
+    let more = event_grows b None (event row).group (event row).variation row.index (written (event row).group (event row).variation row) in
+    omega (arith, at_least row)
+
+-- and a writer
 put_grows : (w : Writer) (header lane : ℕ) (x : Numbered) → size w.builder + least_octets x.row.kind ≤ size (put w (event_of header lane x)).builder
 put_grows w header lane x = by (is_same_run w.run (OfLane lane None))
   where
     by : (same : Bool) → size w.builder + least_octets x.row.kind ≤ size (with_object (cond same w.builder (broken w.builder)) (event x.row))
-    by true =
-        let more = event_grows w.builder None (event x.row).group (event x.row).variation x.row.index
-        (written (event x.row).group (event x.row).variation x.row) in
-        omega (arith, at_least x.row)
+    by true = own_grows w.builder x.row
     by false =
-        let more = event_grows (broken w.builder) None (event x.row).group (event x.row).variation x.row.index
-        (written (event x.row).group (event x.row).variation x.row) in
+        let more = own_grows (broken w.builder) x.row in
         let same : size (broken w.builder) ≡ size w.builder = ap (λ (hs : List Head). front_size w.builder.function + length (spelled hs))
         (heads_broken w.builder) in
-        omega (arith, at_least x.row)
+        omega arith
 
 pub put_room : (w w' : Writer) (header lane : ℕ) (x : Numbered) → w' ≡ put w (event_of header lane x)
     → size w.builder + least_octets x.row.kind ≤ size w'.builder

@@ -20,13 +20,11 @@ use Rattle.dnp_outstation.specs.declared.offer.writer.Writer.{Writer}
 use Rattle.dnp_outstation.specs.Forms.{reaches_by, time_of, told_after}
 use Rattle.dnp_outstation.specs.Items.{event_of, given_after}
 use Rattle.dnp_outstation.specs.Items.Thing.{Event}
-use Rattle.dnp_outstation.specs.Layout.{Laid, lay}
-use Rattle.dnp_outstation.specs.steps.Filling.{put, put_laid, continues, is_same_run, fits, ended, fill_laid, fill, reached}
-use Rattle.dnp_outstation.specs.steps.Grouping.{Marked, mark, marked, item_in, marked_in, laid_from, open_in, waiting_items}
+use Rattle.dnp_outstation.specs.Layout.{lay}
+use Rattle.dnp_outstation.specs.steps.Filling.{continues, is_same_run, ended, fill_laid, fill, reached}
+use Rattle.dnp_outstation.specs.steps.Grouping.{Marked, mark, marked, item_in, marked_in, laid_from, open_in}
 use Rattle.dnp_outstation.specs.steps.Grouping.Open.{Shut, One, Two, Within}
-use Rattle.dnp_outstation.specs.steps.Putting.{Puts, PutsFirst, PutsLaid, StopsIn, least_octets, least_waiting, weight}
-use Rattle.dnp_outstation.proofs.Alone.{reached_once}
-use Rattle.dnp_outstation.proofs.Fed.{one_put}
+use Rattle.dnp_outstation.specs.steps.Putting.{Puts, PutsFirst, PutsLaid, StopsIn, least_octets, weight}
 
 -- ---- a row that stands in no group with what waits
 
@@ -61,9 +59,6 @@ apart_within w x z is apart more = ap (λ (v : Waiting). laid_from (open_in v) (
 
 -- ---- rows that are put, and those that are left
 
-pub none_first : (w : Writer) (header : ℕ) (is_open : Bool) (lane : ℕ) (rows : List Numbered) → PutsFirst w header is_open lane rows rows w
-none_first w header is_open lane rows = record { given = refl; written = λ more. refl; room = λ short. (omega arith, short) }
-
 pub then_first : (w v w' : Writer) (header : ℕ) (is_open : Bool) (lane : ℕ) (rows between left : List Numbered)
     → PutsFirst w header is_open lane rows between v → PutsFirst v header is_open lane between left w' → PutsFirst w header is_open lane rows left w'
 then_first w v w' header is_open lane rows between left first second = record {
@@ -77,18 +72,6 @@ pub then_stops : (w v w' : Writer) (header : ℕ) (is_open : Bool) (lane : ℕ) 
 then_stops w v w' header is_open lane rows between first stops more = sym (first.written more) ∙ stops more
 
 -- one that is put or waits
-pub event_first : (w w' : Writer) (header : ℕ) (is_open : Bool) (lane : ℕ) (x : Numbered) (after : List Numbered) (fit : Bool) → IsTrue fit
-    → Puts w (marked is_open (event_of header lane x) ∷ []) fit w'
-    → (IsTrue fit → reached w' ≡ given_after (reached w) (event_of header lane x))
-    → (IsTrue fit → weight w + least_octets x.row.kind ≤ weight w') → (IsTrue fit → size w.builder ≤ MAX_FRAGMENT → size w'.builder ≤ MAX_FRAGMENT)
-    → PutsFirst w header is_open lane (x ∷ after) after w'
-event_first w w' header is_open lane x after true is written given longer short = record {
-  given = ap (λ (ids : List ℕ). fold given_after ids (map (event_of header lane) after)) (given refl);
-  written = λ more. sym (written (mark is_open (map (event_of header lane) after) ++ more));
-  room = λ fits. (let grown = longer refl in omega (arith, grown), short refl fits);
-}
-event_first w w' header is_open lane x after false is written given longer short = cc
-
 pub event_stops : (w w' : Writer) (header : ℕ) (is_open : Bool) (lane : ℕ) (x : Numbered) (after : List Numbered) (fit : Bool) → fit ≡ false
     → Puts w (marked is_open (event_of header lane x) ∷ []) fit w' → StopsIn w header is_open lane (x ∷ after) w'
 event_stops w w' header is_open lane x after true miss written = cc
@@ -131,46 +114,6 @@ pub apart_stops : (w w' : Writer) (header : ℕ) (is_open : Bool) (lane : ℕ) (
 apart_stops w w' header is_open lane x after true miss laid put none = cc
 apart_stops w w' header is_open lane x after false miss laid put none = apart_filled w w' header is_open lane x after false laid put none
 
--- one that is laid as this, while none waits
-abbrev LaidNext : Writer → ℕ → Bool → ℕ → Laid → Numbered → List Numbered → Type 0
-LaidNext w header is_open lane laid x after = (more : List Marked)
-    → laid_from (open_in w.waiting) (mark is_open (map (event_of header lane) (x ∷ after)) ++ more)
-    ≡ laid ∷ laid_from (open_in w.waiting) (mark is_open (map (event_of header lane) after) ++ more)
-
-next_filled : (w w' : Writer) (header : ℕ) (is_open : Bool) (lane : ℕ) (laid : Laid) (x : Numbered) (after : List Numbered) (fit : Bool)
-    → LaidNext w header is_open lane laid x after
-    → (IsTrue fit → w' ≡ put_laid w laid) → fit ≡ fits (put_laid w laid) → (fit ≡ false → ended false w' ≡ ended false w)
-    → w'.waiting ≡ w.waiting → (more : List Marked)
-    → fill w (mark is_open (map (event_of header lane) (x ∷ after)) ++ more)
-    ≡ (if fit then fill w' (mark is_open (map (event_of header lane) after) ++ more) else ended false w')
-next_filled w w' header is_open lane laid x after fit as_laid put room full same more =
-    let rest : List Marked = mark is_open (map (event_of header lane) after) ++ more in
-    ap (fill_laid w) (as_laid more)
-    ∙ one_put w w' laid fit put room full (laid_from (open_in w.waiting) rest)
-    ∙ ap (λ (v : Waiting). if fit then fill_laid w' (laid_from (open_in v) rest) else ended false w') (sym same)
-
-pub next_first : (w w' : Writer) (header : ℕ) (is_open : Bool) (lane : ℕ) (laid : Laid) (x : Numbered) (after : List Numbered) (fit : Bool) → IsTrue fit
-    → LaidNext w header is_open lane laid x after → waiting_items w.waiting ≡ []
-    → (IsTrue fit → w' ≡ put_laid w laid) → fit ≡ fits (put_laid w laid) → (fit ≡ false → ended false w' ≡ ended false w)
-    → w'.waiting ≡ w.waiting → w'.place.given ≡ given_after w.place.given (event_of header lane x)
-    → (IsTrue fit → size w.builder + least_octets x.row.kind ≤ size w'.builder) → (IsTrue fit → size w'.builder ≤ MAX_FRAGMENT)
-    → PutsFirst w header is_open lane (x ∷ after) after w'
-next_first w w' header is_open lane laid x after true is as_laid none put room full same given longer short = record {
-  given =
-      ap (λ (ids : List ℕ). fold given_after ids (map (event_of header lane) after)) (reached_once w w' (event_of header lane x) none same given);
-  written = λ more. sym (next_filled w w' header is_open lane laid x after true as_laid put room full same more);
-  room = λ fits. (let grown = longer refl in let waits = ap least_waiting same in omega (arith, grown, waits), short refl);
-}
-next_first w w' header is_open lane laid x after false is as_laid none put room full same given longer short = cc
-
-pub next_stops : (w w' : Writer) (header : ℕ) (is_open : Bool) (lane : ℕ) (laid : Laid) (x : Numbered) (after : List Numbered) (fit : Bool) → fit ≡ false
-    → LaidNext w header is_open lane laid x after
-    → (IsTrue fit → w' ≡ put_laid w laid) → fit ≡ fits (put_laid w laid) → (fit ≡ false → ended false w' ≡ ended false w)
-    → w'.waiting ≡ w.waiting → StopsIn w header is_open lane (x ∷ after) w'
-next_stops w w' header is_open lane laid x after true miss as_laid put room full same = cc
-next_stops w w' header is_open lane laid x after false miss as_laid put room full same =
-    next_filled w w' header is_open lane laid x after false as_laid put room full same
-
 -- ---- what stands last then
 
 pub parted : (rows : List Numbered) (x : Numbered) (after : List Numbered) → rows ≡ x ∷ after → All (λ (y : Numbered). IsEvent y.row) rows
@@ -178,26 +121,6 @@ pub parted : (rows : List Numbered) (x : Numbered) (after : List Numbered) → r
 parted rows x after is all =
     let there = subst (λ (l : List Numbered). All (λ (y : Numbered). IsEvent y.row) l) is all in
     (All-head (λ (y : Numbered). IsEvent y.row) x after there, All-tail (λ (y : Numbered). IsEvent y.row) x after there)
-
-pub record StandsLast (w w' : Writer) (header lane : ℕ) (common : Option ℕ) (x : Numbered) : Type 0 where
-  pub run : w'.run ≡ OfLane lane common
-  pub under : w'.place.header ≡ header
-  pub given : w'.place.given ≡ given_after w.place.given (event_of header lane x)
-
-pub own_last : (w w' : Writer) (header lane : ℕ) (x : Numbered) → w' ≡ put w (event_of header lane x) → StandsLast w w' header lane None x
-own_last w w' header lane x is = record {
-  run = ap (λ (v : Writer). v.run) is;
-  under = ap (λ (v : Writer). v.place.header) is;
-  given = ap (λ (v : Writer). v.place.given) is;
-}
-
-pub told_last : (w w' : Writer) (header lane common : ℕ) (x : Numbered) → w' ≡ put_laid w (told_after common (event_of header lane x))
-    → StandsLast w w' header lane (Some common) x
-told_last w w' header lane common x is = record {
-  run = ap (λ (v : Writer). v.run) is;
-  under = ap (λ (v : Writer). v.place.header) is;
-  given = ap (λ (v : Writer). v.place.given) is;
-}
 
 pub own_continues : (w : Writer) (lane : ℕ) → w.run ≡ OfLane lane None → continues w (OfLane lane None) ≡ true
 own_continues w lane is = ap (λ (r : Run). is_same_run r (OfLane lane None)) is ∙ ap (λ (b : Bool). b && true) (eq-eqb lane lane refl)

@@ -3,12 +3,14 @@
 use super::{Builder, Full};
 use crate::common::{common_of, is_same, is_timed, time_octets};
 use crate::header::{Header, Range};
+use crate::listed::After;
+use crate::row_source::RowSource;
 use crate::written::Relative;
 use dnp_objects::Row;
 use dnp_objects::laws::a_relative_row_is_read;
 
 impl Builder {
-    ghost use Rattle.std.specs.Prelude.{◌≡◌, ◌<◌, ◌↔◌, IsErr, IsTrue, OnOk, OnErr};
+    ghost use Rattle.std.specs.Prelude.{◌≡◌, ◌<◌, ◌≤◌, ◌↔◌, length, map, All, IsErr, IsTrue, OnOk, OnErr};
     ghost use Rattle.std.specs.Option.{IsSomeAnd, unwrap_or};
     ghost use Rattle.dnp_objects.specs.Relative.{FitsRelative};
     ghost use Rattle.dnp_objects.specs.declared.limits.TheConstants.{MAX_FRAGMENT, MAX_TIME};
@@ -73,5 +75,21 @@ impl Builder {
         // (there is one, where such a row fits)
         let common = self.common.unwrap_or(0);
         self.put(&Relative { row, common })
+    }
+    /// Puts rows into a response as events whose times are given after the common one, one by one as `relative` puts them,
+    /// up to the first that does not fit; answers how many are put.
+    pub fn relatives<R: RowSource + Copy>(&mut self, rows: R) -> usize
+        requires response { IsTrue (table.is_response self.old.function) }
+        requires fits { IsSomeAnd (built.context_of self.old) (λ common. All (FitsRelative common) (R.rows rows)) }
+        ensures count { result ≡ built.objects_put self.old (map (written.relative (unwrap_or (built.context_of self.old) 0)) (R.rows rows)) }
+        ensures few { result ≤ length (R.rows rows) }
+        ensures put { self.new ≡ built.with_objects self.old (map (written.relative (unwrap_or (built.context_of self.old) 0)) (R.rows rows)) }
+        ensures function { self.new.function ≡ self.old.function }
+    {
+        // (a law, for the proof: it does nothing)
+        a_relative_row_is_read();
+        // (there is one, where such rows fit)
+        let common = self.common.unwrap_or(0);
+        self.put_list(&After { common }, rows)
     }
 }

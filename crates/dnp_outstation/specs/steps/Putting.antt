@@ -1,5 +1,5 @@
 -- Private steps: how a writer comes of another by items that are put into it.
-use Rattle.std.specs.Prelude.{[], ◌∷◌, ◌≡◌, ℕ, ◌+◌, ◌-◌, ◌^◌, ◌==◌, ◌≤◌, min, Bool, false, ◌++◌, if◌then◌else◌, List, map, fold, drop, ⊤}
+use Rattle.std.specs.Prelude.{[], ◌∷◌, ◌≡◌, ℕ, ◌+◌, ◌-◌, ◌^◌, ◌==◌, ◌≤◌, min, Bool, false, ◌++◌, if◌then◌else◌, List, map, fold, drop, Option, ⊤}
 use Rattle.dnp_objects.specs.declared.row.Kind.{Kind}
 use Rattle.dnp_objects.specs.declared.row.Row.{Row}
 use Rattle.dnp_eventbuf.specs.declared.numbered.Numbered.{Numbered}
@@ -15,10 +15,10 @@ use Rattle.dnp_outstation.specs.declared.offer.grouping.Given.TheVariants as giv
 use Rattle.dnp_outstation.specs.declared.offer.grouping.Waiting.{Waiting}
 use Rattle.dnp_outstation.specs.declared.offer.grouping.Waiting.TheVariants as waiting
 use Rattle.dnp_objects.specs.declared.limits.TheConstants.{MAX_FRAGMENT}
-use Rattle.dnp_outstation.specs.Items.{Static, present_of, event_of, given_after}
+use Rattle.dnp_outstation.specs.Items.{Static, present_of, event_of, given_after, place_after}
 use Rattle.dnp_appfragment.specs.Headers.{Head}
-use Rattle.dnp_outstation.specs.Forms.{leaves_open}
-use Rattle.dnp_outstation.specs.steps.Grouping.{Marked, mark}
+use Rattle.dnp_outstation.specs.Forms.{leaves_open, told_by}
+use Rattle.dnp_outstation.specs.steps.Grouping.{Marked, mark, laid_from, open_in}
 use Rattle.dnp_outstation.specs.steps.Filling.{fill_laid, fill, ended, reached}
 use Rattle.dnp_outstation.specs.Layout.{Laid}
 
@@ -60,6 +60,13 @@ abbrev pub least_of : List Numbered → ℕ
 least_of [] = 0
 least_of (x ∷ xs) = least_octets x.row.kind + least_of xs
 
+-- so many rows of a lane more stand under the last header, which is of this one of the READ
+abbrev pub passed_rows : Writer → ℕ → ℕ → List Numbered → Writer
+passed_rows w header lane rows = record w {
+  place = fold place_after w.place (map (event_of header lane) rows);
+  upto = fold given_after w.upto (map (event_of header lane) rows);
+}
+
 -- of these rows of a lane, which come for one header, the first were put or wait: what was put and those that are left are
 -- the whole, whatever comes after
 pub record PutsFirst (w : Writer) (header : ℕ) (is_open : Bool) (lane : ℕ) (rows left : List Numbered) (w' : Writer) : Type 0 where
@@ -71,6 +78,13 @@ pub record PutsFirst (w : Writer) (header : ℕ) (is_open : Bool) (lane : ℕ) (
 -- one of them doesn't fit: the fragment ends before it, whatever comes after
 abbrev pub StopsIn : Writer → ℕ → Bool → ℕ → List Numbered → Writer → Type 0
 StopsIn w header is_open lane rows w' = (more : List Marked) → fill w (mark is_open (map (event_of header lane) rows) ++ more) ≡ ended false w'
+
+-- rows go so after what stands last, whatever comes after: each as this is laid, while none waits
+abbrev pub GoOn : Waiting → ℕ → Bool → ℕ → Option ℕ → List Numbered → List Numbered → Type 0
+GoOn waiting header is_open lane common own left = (more : List Marked)
+    → laid_from (open_in waiting) (mark is_open (map (event_of header lane) (own ++ left)) ++ more)
+    ≡ map (told_by common) (map (event_of header lane) own)
+    ++ laid_from (open_in waiting) (mark is_open (map (event_of header lane) left) ++ more)
 
 -- present values, whose objects are never left open
 abbrev pub shown : ℕ → List Static → List Marked

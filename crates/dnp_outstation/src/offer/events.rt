@@ -17,7 +17,6 @@ ghost use Rattle.dnp_outstation.specs.steps.Grouping.{marked, item_in, marked_in
 ghost use Rattle.dnp_outstation.specs.steps.Putting.{Puts, PutsLaid, least_octets, least_given, weight};
 
 use crate::offer::grouping::{Coming, Given, Known, Told, Waiting, reaches};
-use crate::offer::next::put_timed;
 use crate::offer::writer::{Run, Writer};
 use dnp_appfragment::laws::a_common_time_stays;
 use dnp_eventbuf::{Numbered, Upto};
@@ -126,7 +125,7 @@ impl Writer {
         ensures none { result ≡ false → self.new ≡ self.old }
         ensures response { self.new.builder.function ≡ self.old.builder.function }
     {
-        if put_timed(&mut self.builder, &x.row.row).is_err() {
+        if self.builder.relative(&x.row.row).is_err() {
             return false;
         }
         self.pass_row(Some(common), x);

@@ -1,31 +1,30 @@
-//! Rows of a lane that are put one after another. What follows from the one before them is looked up once, so that each that
-//! goes on as that one did, as its own object or in the group, costs little more than its octets; and a row is put at once
-//! where the one after it stands there and is out of its reach.
+//! Rows of a lane that are put one after another. What follows from the one before them is looked up once, and all that go on
+//! as that one did, as its own object or in the group, are put by one call of the builder; and a row is put at once where the
+//! one after it stands there and is out of its reach.
 
-ghost use Rattle.std.specs.Prelude.{◌≡◌, ◌<◌, ◌≤◌, ◌+◌, ◌↔◌, ◌&&◌, [], ◌∷◌, ◌++◌, ℕ, List, All, length, map, false, true, slice_set, IfSome, IsErr, IsTrue, OnErr, OnOk, Some, None};
-ghost use Rattle.std.specs.Option.{IsSomeAnd, unwrap_or};
+ghost use Rattle.std.specs.Prelude.{◌≡◌, ◌<◌, ◌≤◌, ◌&&◌, [], ◌∷◌, ◌++◌, ℕ, List, All, length, map, take, drop, true, false, IfSome, IsTrue, Some, None};
 ghost use Rattle.dnp_objects.specs.Equality.{kind_eq};
 ghost use Rattle.dnp_objects.specs.Events.{IsEvent};
 ghost use Rattle.dnp_objects.specs.Relative.{FitsRelative};
-ghost use Rattle.dnp_objects.specs.declared.limits.TheConstants.{LANES, MAX_FRAGMENT};
+ghost use Rattle.dnp_objects.specs.declared.limits.TheConstants.{LANES};
 ghost use Rattle.dnp_objects.specs.declared.row.Kind.TheVariants.{Binary};
 ghost use Rattle.dnp_eventbuf.specs.declared.numbered.Numbered.{Numbered as NumberedRow};
-ghost use Rattle.dnp_appfragment.specs.Built.{size, context_of, with_object};
+ghost use Rattle.dnp_appfragment.specs.Built.{context_of};
 ghost use Rattle.dnp_appfragment.specs.Table.{is_response};
-ghost use Rattle.dnp_appfragment.specs.Written.{relative};
+ghost use Rattle.dnp_appfragment.specs.Written.{IsOf};
 ghost use Rattle.dnp_outstation.specs.declared.offer.grouping.Waiting.TheVariants as waiting;
 ghost use Rattle.dnp_outstation.specs.Forms.{is_in_reach, told_after};
-ghost use Rattle.dnp_outstation.specs.Items.{event_of, place_after};
+ghost use Rattle.dnp_outstation.specs.Items.{event_of};
 ghost use Rattle.dnp_outstation.specs.Layout.{lay};
-ghost use Rattle.dnp_outstation.specs.steps.Filling.{continues, put, put_laid, fits, ended};
+ghost use Rattle.dnp_outstation.specs.steps.Filling.{continues};
 ghost use Rattle.dnp_outstation.specs.steps.Grouping.{Marked, mark, marked, open_in, laid_from, waiting_items};
 ghost use Rattle.dnp_outstation.specs.steps.Grouping.Open.{Shut};
-ghost use Rattle.dnp_outstation.specs.steps.Putting.{PutsFirst, StopsIn, least_octets};
+ghost use Rattle.dnp_outstation.specs.steps.Putting.{PutsFirst, StopsIn, GoOn, passed_rows};
 
 use crate::offer::grouping::{Coming, Waiting, is_in_reach};
 use crate::offer::writer::{Run, Writer};
+use dnp_appfragment::RowSource;
 use dnp_appfragment::laws::a_common_time_stays;
-use dnp_appfragment::{Builder, Full};
 use dnp_eventbuf::Numbered;
 use dnp_objects::{Kind, Row};
 
@@ -37,6 +36,14 @@ fn goes_on(common: u64, x: &Row) -> bool
     ensures tells { IsTrue result → IsEvent x.now → FitsRelative common x.now }
 {
     x.kind == Kind::Binary && is_in_reach(Some(common), x.time)
+}
+
+/// Whether a row is of this kind and has a time, or has none.
+#[inline(always)]
+fn is_of(kind: Kind, has_time: bool, x: &Row) -> bool
+    ensures { IsTrue result → IsOf kind has_time x.now }
+{
+    x.kind == kind && x.time.is_some() == has_time
 }
 
 /// Whether a row goes as its own object where none waits and these follow it: it may begin no group, or the next one
@@ -58,19 +65,65 @@ pub(crate) fn is_alone(is_open: bool, x: &Numbered, after: &[Numbered]) -> bool
     }
 }
 
-/// Puts a row into a response after the common time that is there, as `Builder::relative` does. That one is called from
-/// here alone, so that it stands in each loop that puts such rows.
+/// How many rows, from the first on, may go after this common time.
 #[inline(always)]
-pub(crate) fn put_timed(builder: &mut Builder, row: &Row) -> Result<(), Full>
-    requires response { IsTrue (is_response builder.old.function) }
-    requires fits { IsSomeAnd (context_of builder.old) (λ common. FitsRelative common row.now) }
-    ensures ok { OnOk result (builder.new ≡ with_object builder.old (relative (unwrap_or (context_of builder.old) 0) row.now)) }
-    ensures full { IsErr result
-        ↔ (MAX_FRAGMENT < size (with_object builder.old (relative (unwrap_or (context_of builder.old) 0) row.now))) }
-    ensures err { OnErr result (builder.new ≡ builder.old) }
-    ensures function { builder.new.function ≡ builder.old.function }
+fn in_reach(common: u64, rows: &[Numbered]) -> usize
+    ensures few { result ≤ length rows.now }
+    ensures near { All (λ x. (kind_eq x.row.kind Binary && is_in_reach (Some common) x.row.time) ≡ true) (take result rows.now) }
+    ensures tells { All (λ x. IsEvent x.row) rows.now → All (λ x. FitsRelative common x.row) (take result rows.now) }
 {
-    builder.relative(row)
+    let mut n = 0;
+    let mut rest = rows;
+    while let Some((x, after)) = rest.split_first() {
+        if !goes_on(common, &x.row) {
+            break;
+        }
+        n += 1;
+        rest = after;
+    }
+    n
+}
+
+/// How many rows, from the first on, go as their own objects, each of this kind, with a time or without.
+#[inline(always)]
+fn alone(is_open: bool, kind: Kind, has_time: bool, rows: &[Numbered]) -> usize
+    ensures few { result ≤ length rows.now }
+    ensures alike { All (λ x. IsOf kind has_time x.row) (take result rows.now) }
+    ensures goes { (header lane : ℕ) → GoOn waiting.Nothing header is_open lane None (take result rows.now) (drop result rows.now) }
+{
+    let mut n = 0;
+    let mut rest = rows;
+    while let Some((x, after)) = rest.split_first() {
+        if !is_of(kind, has_time, &x.row) {
+            break;
+        }
+        if !is_alone(is_open, x, after) {
+            break;
+        }
+        n += 1;
+        rest = after;
+    }
+    n
+}
+
+/// Rows of a lane.
+#[derive(Clone, Copy)]
+struct LaneRows<'a> {
+    rows: &'a [Numbered],
+}
+
+impl<'a> RowSource for LaneRows<'a> {
+    ghost rows = { λ l. map (λ (x : NumberedRow). x.row) l.rows.now };
+
+    #[inline]
+    fn len(&self) -> usize {
+        self.rows.len()
+    }
+
+    #[inline]
+    fn row(&self, place: usize) -> Row {
+        self.rows[place].row
+    }
 }
 
 impl Writer {
@@ -119,73 +172,19 @@ impl Writer {
         }
     }
 
-    /// A row more stands under the last header.
+    /// These rows more stand under the last header.
     #[inline(always)]
-    fn pass_next(&mut self, header: usize, lane: usize, x: &Numbered)
+    fn pass_rows(&mut self, lane: usize, rows: &[Numbered])
         requires lane { lane < LANES }
-        requires header { self.old.place.header ≡ header }
-        ensures { self.new ≡ record self.old {
-          place = place_after self.old.place (event_of header lane x.now);
-          upto = slice_set self.old.upto lane x.now.id;
-        } }
+        ensures { self.new ≡ passed_rows self.old self.old.place.header lane rows.now }
     {
-        self.place.count = self.place.count.saturating_add(1);
-        self.place.given[lane] = x.id;
-        self.upto[lane] = x.id;
-    }
-
-    /// Puts a row as its own object under the last header, if it fits; answers whether it does.
-    #[inline(always)]
-    fn put_next_own(&mut self, header: usize, lane: usize, x: &Numbered) -> bool
-        requires lane { lane < LANES }
-        requires response { IsTrue (is_response self.old.builder.function) }
-        requires event { IsEvent x.now.row }
-        requires run { self.old.run ≡ Run.OfLane lane None }
-        requires continues { continues self.old (Run.OfLane lane None) ≡ true }
-        requires header { self.old.place.header ≡ header }
-        ensures fits { IsTrue result → self.new ≡ put self.old (event_of header lane x.now) }
-        ensures room { result ≡ fits (put self.old (event_of header lane x.now)) }
-        ensures longer { IsTrue result → size self.old.builder + least_octets x.now.row.kind ≤ size self.new.builder }
-        ensures short { IsTrue result → size self.new.builder ≤ MAX_FRAGMENT }
-        ensures full { result ≡ false → ended false self.new ≡ ended false self.old }
-        ensures response { self.new.builder.function ≡ self.old.builder.function }
-        ensures waiting { self.new.waiting ≡ self.old.waiting }
-    {
-        if self.builder.event(&x.row).is_err() {
-            return false;
-        }
-        self.pass_next(header, lane, x);
-        true
-    }
-
-    /// Puts a row after the common time under the last header, if it fits; answers whether it does.
-    #[inline(always)]
-    #[tactic(auto, using(crate::proofs::GroupTimes::tells_there, crate::proofs::GroupTimes::said_there))]
-    fn put_next_after(&mut self, common: u64, header: usize, lane: usize, x: &Numbered) -> bool
-        requires lane { lane < LANES }
-        requires response { IsTrue (is_response self.old.builder.function) }
-        requires event { IsEvent x.now.row }
-        requires tells { FitsRelative common x.now.row }
-        requires run { self.old.run ≡ Run.OfLane lane (Some common) }
-        requires continues { continues self.old (Run.OfLane lane (Some common)) ≡ true }
-        requires there { context_of self.old.builder ≡ Some common }
-        requires header { self.old.place.header ≡ header }
-        ensures fits { IsTrue result → self.new ≡ put_laid self.old (told_after common (event_of header lane x.now)) }
-        ensures room { result ≡ fits (put_laid self.old (told_after common (event_of header lane x.now))) }
-        ensures longer { IsTrue result → size self.old.builder + least_octets x.now.row.kind ≤ size self.new.builder }
-        ensures short { IsTrue result → size self.new.builder ≤ MAX_FRAGMENT }
-        ensures full { result ≡ false → ended false self.new ≡ ended false self.old }
-        ensures there { IsTrue result → context_of self.new.builder ≡ Some common }
-        ensures response { self.new.builder.function ≡ self.old.builder.function }
-        ensures waiting { self.new.waiting ≡ self.old.waiting }
-    {
-        // (a law, for the proof: it does nothing)
-        a_common_time_stays();
-        if put_timed(&mut self.builder, &x.row).is_err() {
-            return false;
-        }
-        self.pass_next(header, lane, x);
-        true
+        let Some(last) = rows.last() else {
+            return;
+        };
+        let count = rows.len().min(u32::MAX as usize) as u32;
+        self.place.count = self.place.count.saturating_add(count);
+        self.place.given[lane] = last.id;
+        self.upto[lane] = last.id;
     }
 
     /// Puts the first row of a slice, of which these follow it, or has it wait; answers whether all that was put fits.
@@ -245,21 +244,20 @@ impl Writer {
         ensures stop { result ≡ None → StopsIn self.old header is_open lane rows.now self.new }
         ensures response { self.new.builder.function ≡ self.old.builder.function }
     {
-        let mut rest = rows;
-        while let Some((x, after)) = rest.split_first() {
-            if !goes_on(common, &x.row) {
-                break;
-            }
-            if !self.put_next_after(common, header, lane, x) {
-                return None;
-            }
-            rest = after;
+        // (a law, for the proof: it does nothing)
+        a_common_time_stays();
+        let (own, left) = rows.split_at(in_reach(common, rows));
+        let put = self.builder.relatives(LaneRows { rows: own });
+        self.pass_rows(lane, &own[..put]);
+        if put < own.len() {
+            return None;
         }
-        Some(rest)
+        Some(left)
     }
 
     /// Puts rows of a lane as their own objects under the last header, up to the first that may begin a group or of which
-    /// that isn't known; answers those that are left, or nothing where one doesn't fit.
+    /// that isn't known, or that is of another object than the first of them; answers those that are left, or nothing where
+    /// one doesn't fit.
     #[inline(never)]
     fn put_lone<'a>(
         &mut self,
@@ -280,17 +278,19 @@ impl Writer {
         ensures stop { result ≡ None → StopsIn self.old header is_open lane rows.now self.new }
         ensures response { self.new.builder.function ≡ self.old.builder.function }
     {
-        let mut rest = rows;
-        while let Some((x, after)) = rest.split_first() {
-            if !is_alone(is_open, x, after) {
-                break;
-            }
-            if !self.put_next_own(header, lane, x) {
-                return None;
-            }
-            rest = after;
+        // (a law, for the proof: it does nothing)
+        a_common_time_stays();
+        let Some((first, _)) = rows.split_first() else {
+            return Some(rows);
+        };
+        let (kind, has_time) = (first.row.kind, first.row.time.is_some());
+        let (own, left) = rows.split_at(alone(is_open, kind, has_time, rows));
+        let put = self.builder.events(kind, has_time, LaneRows { rows: own });
+        self.pass_rows(lane, &own[..put]);
+        if put < own.len() {
+            return None;
         }
-        Some(rest)
+        Some(left)
     }
 
     /// Puts rows of a lane that go on as the one before them did; answers those that are left, or nothing where one

@@ -12,7 +12,7 @@ ghost use Rattle.dnp_outstation.specs.steps.Putting.{Puts, shown, presents, rows
 
 use crate::offer::place::Place;
 use crate::offer::writer::{Run, Writer};
-use dnp_appfragment::{PointRows, Range};
+use dnp_appfragment::{Range, RowSource};
 use dnp_controls::Outputs;
 use dnp_objects::{Kind, Row};
 use dnp_pointdb::laws::readings_fit_their_static_objects;
@@ -69,7 +69,7 @@ struct PointValues<'a> {
     ghost narrow: { first + length points.now ≤ 2 ^ 16 },
 }
 
-impl<'a> PointRows for PointValues<'a> {
+impl<'a> RowSource for PointValues<'a> {
     ghost rows = { λ v. rows_from v.kind v.first v.points.now };
 
     #[inline]

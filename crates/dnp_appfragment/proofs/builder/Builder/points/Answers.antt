@@ -44,9 +44,9 @@ none g c = (λ i.
 pub returns-else-group-eq30-clause-count : goal.returns-else-group-eq30-clause-count
 returns-else-group-eq30-clause-count g c =
     sym (ap (λ (rows : List Row). objects_put c.args.self.now (map (point c.args.group c.args.variation) rows))
-    (no_such_object c.args.group c.args.variation (g.R.PointRows.rows c.args.rows) (none g c) c.requires.fits))
+    (no_such_object c.args.group c.args.variation (g.R.RowSource.rows c.args.rows) (none g c) c.requires.fits))
 
 pub returns-else-group-eq30-clause-put : goal.returns-else-group-eq30-clause-put
 returns-else-group-eq30-clause-put g c =
     sym (ap (λ (rows : List Row). with_objects c.args.self.now (map (point c.args.group c.args.variation) rows))
-    (no_such_object c.args.group c.args.variation (g.R.PointRows.rows c.args.rows) (none g c) c.requires.fits))
+    (no_such_object c.args.group c.args.variation (g.R.RowSource.rows c.args.rows) (none g c) c.requires.fits))

@@ -23,9 +23,9 @@ sized g c = sym c.object_size.ensures.value ∙ c.unwrap-size.ensures
 some : (g : Over) (c : After-min-count g) → 1 ≤ c.unwrap-size.result
 some g c = subst (λ (o : Option ℕ). IsSomeAnd o (λ (n : ℕ). 1 ≤ n)) (sized g c) c.requires.sized
 
-each : (g : Over) (c : After-min-count g) → AreSized g.row.GROUP g.row.VARIATION c.unwrap-size.result (g.R.PointRows.rows c.args.rows)
+each : (g : Over) (c : After-min-count g) → AreSized g.row.GROUP g.row.VARIATION c.unwrap-size.result (g.R.RowSource.rows c.args.rows)
 each g c =
-    each_size c.a_written_row_fills_its_object.ensures g.row.GROUP g.row.VARIATION c.unwrap-size.result (g.R.PointRows.rows c.args.rows)
+    each_size c.a_written_row_fills_its_object.ensures g.row.GROUP g.row.VARIATION c.unwrap-size.result (g.R.RowSource.rows c.args.rows)
     (sized g c) c.requires.fits
 
 room : (g : Over) (c : After-min-count g) → c.room_for.result ≡ MAX_FRAGMENT - size_behind c.args.self.now g.row.GROUP g.row.VARIATION c.args.first
@@ -36,21 +36,21 @@ room g c =
     c.span_of.ensures.value
 
 fit : (g : Over) (c : After-min-count g)
-    → (c.min-count.result ≤ length (g.R.PointRows.rows c.args.rows))
+    → (c.min-count.result ≤ length (g.R.RowSource.rows c.args.rows))
     × (c.min-count.result * c.unwrap-size.result ≤ c.room_for.result)
-    × (c.min-count.result < length (g.R.PointRows.rows c.args.rows) → c.room_for.result < (c.min-count.result + 1) * c.unwrap-size.result)
+    × (c.min-count.result < length (g.R.RowSource.rows c.args.rows) → c.room_for.result < (c.min-count.result + 1) * c.unwrap-size.result)
 fit g c =
-    many_fit (length (g.R.PointRows.rows c.args.rows)) c.room_for.result c.unwrap-size.result c.min-count.result (some g c)
+    many_fit (length (g.R.RowSource.rows c.args.rows)) c.room_for.result c.unwrap-size.result c.min-count.result (some g c)
     (c.min-count.ensures ∙ ap (λ (n : ℕ). min n (c.room_for.result / c.unwrap-size.result)) c.len.ensures)
 
 -- ---- none is put
 
 none : (g : Over) (c : After-min-count g) → c.min-count.result ≡ 0
-    → ArePut c.args.self.now (map (row_head g.row.GROUP g.row.VARIATION) (g.R.PointRows.rows c.args.rows)) 0 c.args.self.now
+    → ArePut c.args.self.now (map (row_head g.row.GROUP g.row.VARIATION) (g.R.RowSource.rows c.args.rows)) 0 c.args.self.now
 none g c zero =
-    no_rows_put c.args.self.now g.row.GROUP g.row.VARIATION c.unwrap-size.result c.args.first (g.R.PointRows.rows c.args.rows) c.requires.in_order (each g c)
+    no_rows_put c.args.self.now g.row.GROUP g.row.VARIATION c.unwrap-size.result c.args.first (g.R.RowSource.rows c.args.rows) c.requires.in_order (each g c)
     (λ less.
-    let at : c.min-count.result < length (g.R.PointRows.rows c.args.rows) = omega arith in
+    let at : c.min-count.result < length (g.R.RowSource.rows c.args.rows) = omega arith in
     let full : c.room_for.result < (c.min-count.result + 1) * c.unwrap-size.result = (fit g c).2 at in
     let same = room g c in
     let one : (c.min-count.result + 1) * c.unwrap-size.result ≡ (0 + 1) * c.unwrap-size.result = ap (λ (n : ℕ). (n + 1) * c.unwrap-size.result) zero in
@@ -67,9 +67,9 @@ returns-then-count-eq0-clause-put g c =
 -- ---- the first so many are put
 
 long : (g : Over) (c : After-min-count g)
-    → length (all_written g.row.GROUP g.row.VARIATION (take c.min-count.result (g.R.PointRows.rows c.args.rows))) ≡ c.min-count.result * c.unwrap-size.result
+    → length (all_written g.row.GROUP g.row.VARIATION (take c.min-count.result (g.R.RowSource.rows c.args.rows))) ≡ c.min-count.result * c.unwrap-size.result
 long g c =
-    taken_size c.a_written_row_fills_its_object.ensures g.row.GROUP g.row.VARIATION c.unwrap-size.result c.min-count.result (g.R.PointRows.rows c.args.rows)
+    taken_size c.a_written_row_fills_its_object.ensures g.row.GROUP g.row.VARIATION c.unwrap-size.result c.min-count.result (g.R.RowSource.rows c.args.rows)
     (sized g c) c.requires.fits (fit g c).0
 
 pub put-requires-clause-can : goal.put-requires-clause-can
@@ -87,7 +87,7 @@ put-requires-clause-fits g c = λ numbers.
     let at = (goal.at.put-requires-clause-fits g c).After-min-count in
     any_place (form_of c.args.self.now.function) (context_of c.args.self.now) _
     (span_header c.args.self.now.function g.row.GROUP g.row.VARIATION c.unwrap-size.result c.args.first (c.min-count.result - 1)
-    (all_written g.row.GROUP g.row.VARIATION (take c.min-count.result (g.R.PointRows.rows c.args.rows)))
+    (all_written g.row.GROUP g.row.VARIATION (take c.min-count.result (g.R.RowSource.rows c.args.rows)))
     (response_form c.args.self.now.function c.requires.response) c.requires.object (sized g at) numbers.1
     (long g at
     ∙ ap (λ (n : ℕ). n * c.unwrap-size.result) (let one : c.min-count.result ≡ suc (c.min-count.result - 1) = omega (arith, c.if-count-eq0.false) in one)))
@@ -103,10 +103,10 @@ on_ok (Err e) P is holds = cc
 
 small : (g : Over) (c : After-min-count g) → (last : ℕ) → 0 < c.min-count.result
     → size (with_object c.args.self.now (span g.row.GROUP g.row.VARIATION c.args.first last
-    (all_written g.row.GROUP g.row.VARIATION (take c.min-count.result (g.R.PointRows.rows c.args.rows))))) ≤ MAX_FRAGMENT
+    (all_written g.row.GROUP g.row.VARIATION (take c.min-count.result (g.R.RowSource.rows c.args.rows))))) ≤ MAX_FRAGMENT
 small g c last more =
     let whole = size_with c.args.self.now g.row.GROUP g.row.VARIATION c.args.first last
-    (all_written g.row.GROUP g.row.VARIATION (take c.min-count.result (g.R.PointRows.rows c.args.rows))) in
+    (all_written g.row.GROUP g.row.VARIATION (take c.min-count.result (g.R.RowSource.rows c.args.rows))) in
     let one : 1 * c.unwrap-size.result ≤ c.min-count.result * c.unwrap-size.result =
     mul-le-mul (let n : 1 ≤ c.min-count.result = omega arith in n) (le_refl c.unwrap-size.result) in
     omega (arith, whole, one, long g c, (fit g c).1, room g c, some g c)
@@ -114,7 +114,7 @@ small g c last more =
 -- it is put, since it isn't too long
 is_put : (g : Over) (c : After-put g)
     → size (with_object c.args.self.now (span g.row.GROUP g.row.VARIATION c.args.first (c.args.first + (c.min-count.result - 1))
-    (all_written g.row.GROUP g.row.VARIATION (take c.min-count.result (g.R.PointRows.rows c.args.rows))))) ≤ MAX_FRAGMENT
+    (all_written g.row.GROUP g.row.VARIATION (take c.min-count.result (g.R.RowSource.rows c.args.rows))))) ≤ MAX_FRAGMENT
     → IsOk c.put.result
 is_put g c fits = ok_of c.put.result (λ (full : IsErr c.put.result). let big = c.put.ensures.full.0 full in absurd (omega arith))
 
@@ -124,15 +124,15 @@ unwrap-requires g c =
     is_put g at.After-put (small g at.After-min-count (c.args.first + (c.min-count.result - 1)) (omega (arith, c.if-count-eq0.false)))
 
 put : (g : Over) (c : After-min-count g) → 0 < c.min-count.result
-    → ArePut c.args.self.now (map (row_head g.row.GROUP g.row.VARIATION) (g.R.PointRows.rows c.args.rows)) c.min-count.result
+    → ArePut c.args.self.now (map (row_head g.row.GROUP g.row.VARIATION) (g.R.RowSource.rows c.args.rows)) c.min-count.result
     (with_object c.args.self.now (span g.row.GROUP g.row.VARIATION c.args.first (c.args.first + (c.min-count.result - 1))
-    (all_written g.row.GROUP g.row.VARIATION (take c.min-count.result (g.R.PointRows.rows c.args.rows)))))
+    (all_written g.row.GROUP g.row.VARIATION (take c.min-count.result (g.R.RowSource.rows c.args.rows)))))
 put g c more =
     let same : suc (c.min-count.result - 1) ≡ c.min-count.result = omega arith in
-    subst (λ (n : ℕ). ArePut c.args.self.now (map (row_head g.row.GROUP g.row.VARIATION) (g.R.PointRows.rows c.args.rows)) n
+    subst (λ (n : ℕ). ArePut c.args.self.now (map (row_head g.row.GROUP g.row.VARIATION) (g.R.RowSource.rows c.args.rows)) n
     (with_object c.args.self.now (span g.row.GROUP g.row.VARIATION c.args.first (c.args.first + (c.min-count.result - 1))
-    (all_written g.row.GROUP g.row.VARIATION (take n (g.R.PointRows.rows c.args.rows)))))) same
-    (rows_put c.args.self.now g.row.GROUP g.row.VARIATION c.unwrap-size.result c.args.first (c.min-count.result - 1) (g.R.PointRows.rows c.args.rows)
+    (all_written g.row.GROUP g.row.VARIATION (take n (g.R.RowSource.rows c.args.rows)))))) same
+    (rows_put c.args.self.now g.row.GROUP g.row.VARIATION c.unwrap-size.result c.args.first (c.min-count.result - 1) (g.R.RowSource.rows c.args.rows)
     c.requires.in_order (each g c) (omega (arith, (fit g c).0)) (some g c)
     (let all : suc (c.min-count.result - 1) * c.unwrap-size.result ≤ MAX_FRAGMENT - size_behind c.args.self.now g.row.GROUP g.row.VARIATION c.args.first =
     omega (arith, (fit g c).1, room g c, ap (λ (n : ℕ). n * c.unwrap-size.result) same) in all)

@@ -12,12 +12,12 @@ use Rattle.dnp_appfragment.proofs.points.PointsObject.append.Goals as goal
 fits : (g : Over) (c : After-row g) → Fits g.row.GROUP g.row.VARIATION c.row.result
 fits g c =
     subst (λ (r : Row). Fits g.row.GROUP g.row.VARIATION r) (sym c.row.ensures)
-    (All-get_or (Fits g.row.GROUP g.row.VARIATION) (g.R.PointRows.rows c.args.self.now.rows.now) c.loop-place.place c.row.result
+    (All-get_or (Fits g.row.GROUP g.row.VARIATION) (g.R.RowSource.rows c.args.self.now.rows.now) c.loop-place.place c.row.result
     (omega (arith, c.loop-place-test.true, c.requires.can.there)) c.requires.can.each)
 
 -- what is left to write from a place on
 abbrev left : (g : Over) → After-row g → ℕ → List ℕ
-left g c place = all_written g.row.GROUP g.row.VARIATION (take (c.args.self.now.count - place) (drop place (g.R.PointRows.rows c.args.self.now.rows.now)))
+left g c place = all_written g.row.GROUP g.row.VARIATION (take (c.args.self.now.count - place) (drop place (g.R.RowSource.rows c.args.self.now.rows.now)))
 
 -- the row that is written next, in front of what is left then
 next : (g : Over) (c : After-row g)
@@ -25,7 +25,7 @@ next : (g : Over) (c : After-row g)
     ≡ written g.row.GROUP g.row.VARIATION c.row.result
     ++ left g c (c.loop-place.place + 1)
 next g c =
-    first_written g.row.GROUP g.row.VARIATION (g.R.PointRows.rows c.args.self.now.rows.now) c.loop-place.place c.args.self.now.count c.row.result
+    first_written g.row.GROUP g.row.VARIATION (g.R.RowSource.rows c.args.self.now.rows.now) c.loop-place.place c.args.self.now.count c.row.result
     c.loop-place-test.true c.requires.can.there refl
     ∙ ap (λ (r : Row). written g.row.GROUP g.row.VARIATION r
     ++ left g c (c.loop-place.place + 1))
@@ -38,7 +38,7 @@ room g c =
     let all = ap length c.loop-place.invariant.written in
     let here = ap (λ (l : List ℕ). length (c.loop-place.octets.items ++ l)) first in
     let rest = left g c (c.loop-place.place + 1) in
-    let whole = all_written g.row.GROUP g.row.VARIATION (take c.args.self.now.count (g.R.PointRows.rows c.args.self.now.rows.now)) in
+    let whole = all_written g.row.GROUP g.row.VARIATION (take c.args.self.now.count (g.R.RowSource.rows c.args.self.now.rows.now)) in
     let row = written g.row.GROUP g.row.VARIATION c.row.result in
     omega (
       arith,

@@ -13,7 +13,7 @@ unwrap-requires g c =
 
 long : (g : Over) (c : After-unwrap g)
     → c.args.self.now.count * c.unwrap.result
-    ≡ length (all_written g.row.GROUP g.row.VARIATION (take c.args.self.now.count (g.R.PointRows.rows c.args.self.now.rows.now)))
+    ≡ length (all_written g.row.GROUP g.row.VARIATION (take c.args.self.now.count (g.R.RowSource.rows c.args.self.now.rows.now)))
 long g c =
     sym (taken_size c.a_written_row_fills_its_object.ensures g.row.GROUP g.row.VARIATION c.unwrap.result c.args.self.now.count _
     (sym c.object_size.ensures.value ∙ c.unwrap.ensures) c.requires.each c.requires.there)
