@@ -7,13 +7,13 @@ _dnp() {
     fi
     case ${COMP_WORDS[1]}:$before in
     *:--capture|*:--chart|*:--controls|*:--journal|*:--pcap|*:--plan|*:--queue|*:--replay|*:--trace) COMPREPLY=($(compgen -f -- "$word")) ;;
-    answer:--own|answer:--peer|centre:--port|centre:--issue|concentrate:--port|concentrate:--below|concentrate:--rounds|loopback:--limit|outstation:--station|outstation:--port|outstation:--bind|outstation:--connections|sim:--limit) COMPREPLY=() ;;
+    answer:--own|answer:--peer|centre:--port|centre:--issue|concentrate:--port|concentrate:--below|concentrate:--rounds|loopback:--limit|outstation:--station|outstation:--port|outstation:--bind|outstation:--connections|outstation:--idle|sim:--limit) COMPREPLY=() ;;
     answer:*) COMPREPLY=($(compgen -W '--own --peer --help' -- "$word")) ;;
     centre:*) COMPREPLY=($(compgen -W '--plan --journal --controls --port --issue --new --help' -- "$word")) ;;
     concentrate:*) COMPREPLY=($(compgen -W '--plan --queue --controls --port --below --rounds --new --migrate --help' -- "$word")) ;;
     decode:*) COMPREPLY=($(compgen -W '--raw --pcap --json --help' -- "$word")) ;;
     loopback:*) COMPREPLY=($(compgen -W '--plan --limit --plain --help' -- "$word")) ;;
-    outstation:*) COMPREPLY=($(compgen -W '--plan --station --port --bind --connections --replay --help' -- "$word")) ;;
+    outstation:*) COMPREPLY=($(compgen -W '--plan --station --port --bind --connections --forever --idle --replay --repeat --verbose --help' -- "$word")) ;;
     sim:*) COMPREPLY=($(compgen -W '--plan --limit --trace --chart --capture --json --plain --help' -- "$word")) ;;
     help:*) COMPREPLY=($(compgen -W 'answer centre concentrate decode loopback outstation sim' -- "$word")) ;;
     esac

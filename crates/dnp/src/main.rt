@@ -6,12 +6,15 @@
 mod alive;
 mod answer;
 mod asking;
+mod attended;
 mod centre;
 mod concentrate;
 mod decode;
+mod door;
 mod exit;
 mod fault;
 mod files;
+mod logged;
 mod looks;
 mod loopback;
 mod numbers;
@@ -24,6 +27,7 @@ mod replay;
 mod serving;
 mod sim;
 mod texts;
+mod visit;
 mod watched;
 mod wire;
 
