@@ -1,2 +1,3 @@
 -- Lemmas.
 mod Objects
+mod Selecting

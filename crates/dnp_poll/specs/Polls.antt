@@ -3,7 +3,6 @@
 use Rattle.std.specs.Prelude.{◌≡◌, ℕ, Bool, true, false, if◌then◌else◌, List, [], length, None, Ok, Err, option_to_list}
 use Rattle.dnp_appfragment.specs.Fragments.{Answered}
 use Rattle.dnp_appfragment.specs.Meaning.{response_at}
-use Rattle.dnp_controls.specs.declared.book.BookFault.{BookFault}
 use Rattle.dnp_concentrator.specs.declared.relayed.Relayed.{Relayed}
 use Rattle.dnp_concentrator.specs.declared.relayed.Relayed.TheVariants.{Nothing}
 use Rattle.dnp_master.specs.Calls.{Taking, ask_answer, asking, follow_of, is_awaited}

@@ -1,9 +1,9 @@
 -- Definition: what a poll keeps of select before operate (IEEE Std 1815-2012, application layer: SELECT and OPERATE).
-use Rattle.std.specs.Prelude.{◌≡◌, ◌⊎◌, ℕ, List, Some, None, IfSome}
-use Rattle.dnp_master.specs.declared.outcome.Outcome.TheVariants.{Control}
-use Rattle.dnp_master.specs.declared.task.Task.TheVariants.{Operate, Select}
+use Rattle.std.specs.Prelude.{◌≡◌, ℕ, List, Some, None}
+use Rattle.dnp_master.specs.Selecting.{Stands}
+use Rattle.dnp_master.specs.declared.task.Task.TheVariants.{Operate}
 use Rattle.dnp_objects.specs.declared.command.Command.{Command}
-use Rattle.dnp_poll.specs.Polls.{AsksPoll, OpensPoll, PollSeen, ReceivesPoll}
+use Rattle.dnp_poll.specs.Polls.{AsksPoll, PollSeen, ReceivesPoll}
 use Rattle.dnp_poll.specs.declared.rows.ShownRow.{ShownRow}
 use Rattle.dnp_streams.specs.streams.Stations.{Answer}
 
@@ -17,5 +17,4 @@ OperatesOnce S = (old new : PollSeen S) (now : ℕ) (command : Command) (request
 abbrev pub StandsBySuccess : {S : Type 0} → (S → List ShownRow → S → Type 0) → Type 0
 StandsBySuccess {S} shows = (old new : PollSeen S) (now : ℕ) (octets : List ℕ) (answer : Answer) (command : Command)
     → ReceivesPoll shows old now octets answer new → new.master.selected ≡ Some command
-    → (old.master.selected ≡ Some command)
-    ⊎ ((answer.outcome ≡ Some (Control 0)) × IfSome old.master.request (λ request. request.task ≡ Select command))
+    → Stands old.master answer.outcome command

@@ -10,4 +10,7 @@ use crate::show::Show;
 pub fn an_operate_follows_its_select<S: Show>()
     ensures operates { OperatesOnce S }
     ensures stands { StandsBySuccess S.shows }
-{}
+{
+    // (a law, for the proof: it does nothing)
+    dnp_master::laws::an_operate_follows_its_select();
+}
