@@ -33,8 +33,9 @@ WHAT IT ASKS
   all present values. --repeat asks again and again, on the same connection.
   Rows are printed as their fragment comes, and only then is the fragment confirmed; so an event is
   printed before the outstation forgets it. With --confirm no nothing is confirmed, and the events
-  stay where they are. A response that nobody asked for, as where unsolicited responses are on, is
-  printed and confirmed in the same way. What comes with another sequence number is passed over.
+  stay where they are; of those that fill more than one fragment the first alone is printed then. A
+  response that nobody asked for, as where unsolicited responses are on, is printed and confirmed in
+  the same way. What comes with another sequence number is passed over.
 
 COMMANDS
   --operate takes 'block INDEX CODE COUNT ON OFF', 'set16 INDEX VALUE' or 'set32 INDEX VALUE', as
@@ -55,7 +56,7 @@ OUTPUT
     select 5 SUCCESS
               the command's status; 'unanswered' where the answer holds something else than it
   With --json each is an object in a line: {\"kind\":\"binary\",\"index\":3,\"value\":1,\"flags\":\"01\",
-  \"time\":1764039601000,\"event\":true,\"unsolicited\":false}, where \"time\" is in milliseconds since
+  \"time\":1795575601000,\"event\":true,\"unsolicited\":false}, where \"time\" is in milliseconds since
   1970-01-01 00:00 UTC or null; {\"task\":\"poll\",\"iin\":[\"80\",\"00\"],\"restart\":true}; and
   {\"task\":\"select\",\"index\":5,\"status\":0,\"name\":\"SUCCESS\",\"iin\":[\"00\",\"00\"]}.
 

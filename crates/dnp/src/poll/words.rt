@@ -19,6 +19,9 @@ const MAX_REPEAT: u64 = 86_400_000;
 /// The longest time for which a fragment is awaited, in milliseconds: an hour.
 const MAX_TIMEOUT: u64 = 3_600_000;
 
+/// The highest TCP port.
+const MAX_PORT: u64 = 65_535;
+
 /// All classes.
 const ALL: Classes = Classes([true; 4]);
 
@@ -140,56 +143,87 @@ struct Wanted {
     command: Option<Command>,
 }
 
-/// What the words want read, set and operated. Where one is wrong, that is printed.
+/// The classes that are to be read, if the words name any. Where they are wrong, that is printed.
+fn classes_given<R: Eprint>(rt: &R, given: &ArgMatches<'_>) -> Option<Option<Classes>> {
+    let Some(text) = given.get_str("classes") else {
+        return Some(None);
+    };
+    let classes = classes_in(text);
+    if classes.is_none() {
+        let wanted = "not digits of 0 to 3, each once";
+        say_wrong(rt, "classes", "DIGITS", text, wanted);
+        return None;
+    }
+    Some(classes)
+}
+
+/// The time to set the clock to, if the words give one. Where it is wrong, that is printed.
+fn time_given<R: Eprint + Clock>(rt: &R, given: &ArgMatches<'_>) -> Option<Option<u64>> {
+    let Some(text) = given.get_str("time") else {
+        return Some(None);
+    };
+    let time = time_in(rt, text);
+    if time.is_none() {
+        let wanted = "not 'now', nor a decimal number below 2^48";
+        say_wrong(rt, "time", "MS", text, wanted);
+        return None;
+    }
+    Some(time)
+}
+
+/// The command that is to be carried out, if the words give one. Where it is wrong, that is printed. An error says that
+/// memory ran out.
+fn command_given<R: AllocGlobal + Eprint>(
+    rt: &R,
+    given: &ArgMatches<'_>,
+) -> Result<Option<Option<Command>>, AllocError> {
+    let Some(text) = given.get_str("operate") else {
+        return Ok(Some(None));
+    };
+    let command = command_in(rt.alloc(), text)?;
+    if command.is_none() {
+        say_wrong(rt, "operate", "COMMAND", text, "no command");
+        return Ok(None);
+    }
+    Ok(Some(command))
+}
+
+/// What the words want read, set and operated: all classes, where they want nothing. Where one is wrong, that is printed.
 fn wanted_given<R: AllocGlobal + Eprint + Clock>(
     rt: &R,
     given: &ArgMatches<'_>,
 ) -> Result<Option<Wanted>, AllocError> {
-    let mut wanted = Wanted {
-        classes: None,
-        time: None,
-        command: None,
+    let Some(command) = command_given(rt, given)? else {
+        return Ok(None);
     };
-    if let Some(text) = given.get_str("classes") {
-        wanted.classes = classes_in(text);
-        if wanted.classes.is_none() {
-            say_wrong(
-                rt,
-                "classes",
-                "DIGITS",
-                text,
-                "not digits of 0 to 3, each once",
-            );
-            return Ok(None);
-        }
+    let (Some(mut classes), Some(time)) = (classes_given(rt, given), time_given(rt, given)) else {
+        return Ok(None);
+    };
+    let is_anything = classes.is_some() || time.is_some() || command.is_some();
+    if !is_anything && !given.get_flag("clear-restart") {
+        classes = Some(ALL);
     }
-    if let Some(text) = given.get_str("time") {
-        wanted.time = time_in(rt, text);
-        if wanted.time.is_none() {
-            say_wrong(
-                rt,
-                "time",
-                "MS",
-                text,
-                "not 'now', nor a decimal number below 2^48",
-            );
-            return Ok(None);
-        }
+    Ok(Some(Wanted {
+        classes,
+        time,
+        command,
+    }))
+}
+
+/// The host and the port that the words name. Where there is no port, that is printed.
+fn place_given<'a, R: Eprint>(rt: &R, given: &ArgMatches<'a>) -> Option<&'a str> {
+    let text = given.get_str("outstation").unwrap_or("");
+    if let Some((host, port)) = text.rsplit_once(':')
+        && !host.is_empty()
+        && number_in(port).is_some_and(|port| 0 < port && port <= MAX_PORT)
+    {
+        return Some(text);
     }
-    if let Some(text) = given.get_str("operate") {
-        wanted.command = command_in(rt.alloc(), text)?;
-        if wanted.command.is_none() {
-            say_wrong(rt, "operate", "COMMAND", text, "no command");
-            return Ok(None);
-        }
-    }
-    let is_anything = wanted.time.is_some()
-        || wanted.command.is_some()
-        || given.get_flag("clear-restart");
-    if wanted.classes.is_none() && !is_anything {
-        wanted.classes = Some(ALL);
-    }
-    Ok(Some(wanted))
+    let _ = eprintln!(rt;
+        "error: invalid value '{}' for '<HOST:PORT>': not a host, a colon, and a port from 1 to {MAX_PORT}{HINT}",
+        text.escape_debug()
+    );
+    None
 }
 
 /// How long to wait between rounds, and how many there are. Where a word is wrong, that is printed.
@@ -236,13 +270,14 @@ pub(crate) fn words_given<'a, R: AllocGlobal + Eprint + Clock>(
 
 /// What the words say beside what is wanted.
 fn all_given<'a, R: Eprint>(rt: &R, given: &ArgMatches<'a>, wanted: &Wanted) -> Option<Words<'a>> {
+    let place = place_given(rt, given)?;
     let own = number_given(rt, given, "own", "ADDRESS", 0, MAX_STATION)?;
     let peer = number_given(rt, given, "peer", "ADDRESS", 0, MAX_STATION)?;
     let timeout_ms = number_given(rt, given, "timeout", "MS", 1, MAX_TIMEOUT)?;
     let confirms = is_yes(rt, given.get_str("confirm").unwrap_or(""))?;
     let (repeat_ms, count) = rounds_given(rt, given)?;
     Some(Words {
-        place: given.get_str("outstation").unwrap_or(""),
+        place,
         own: u16::try_from(own).ok()?,
         peer: u16::try_from(peer).ok()?,
         classes: wanted.classes,
