@@ -26,8 +26,10 @@ use Rattle.dnp_master.specs.Selecting.{OperatesSelected, SelectsBySuccess, Stand
 -- ---- asking
 
 -- what is asked as an OPERATE stood selected
-fits : IsEqualityTest command_eq → (o : Bool) (request : Option OpenRequest) (selected : Option Command) (command : Command) (rest : Result (List ℕ) AskFault) (octets : List ℕ)
-    → cond (not o) (Err AskFault.Closed) (cond (is_some request) (Err AskFault.Busy) (cond (not (calls.is_selected selected command)) (Err AskFault.NotSelected) rest)) ≡ Ok octets
+fits : IsEqualityTest command_eq → (o : Bool) (request : Option OpenRequest) (selected : Option Command) (command : Command)
+    (rest : Result (List ℕ) AskFault) (octets : List ℕ)
+    → cond (not o) (Err AskFault.Closed) (cond (is_some request) (Err AskFault.Busy)
+    (cond (not (calls.is_selected selected command)) (Err AskFault.NotSelected) rest)) ≡ Ok octets
     → selected ≡ Some command
 fits tests false request selected command rest octets e = absurd (cc)
 fits tests true (Some r) selected command rest octets e = absurd (cc)

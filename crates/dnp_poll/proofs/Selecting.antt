@@ -16,7 +16,8 @@ operates_once {S} selected old new now command request asks =
     (selected old.master command request asks.asked, ap (λ (p : PollSeen S). p.master.selected) asks.after)
 
 -- what an equal answer, and an equal master, stand for
-moved : {S : Type 0} → SelectsBySuccess → (shows : S → List ShownRow → S → Type 0) (old new : PollSeen S) (now : ℕ) (octets : List ℕ) (answer : Answer) (command : Command)
+moved : {S : Type 0} → SelectsBySuccess → (shows : S → List ShownRow → S → Type 0) (old new : PollSeen S) (now : ℕ) (octets : List ℕ)
+    (answer : Answer) (command : Command)
     → HearsPoll shows old now octets answer new → new.master.selected ≡ Some command → Stands old.master answer.outcome command
 moved {S} law shows old new now octets answer command (Taken a read heeded shown after said) is =
     let master : new.master ≡ (calls.follow_of old.master now a).state = ap (λ (p : PollSeen S). p.master) after in

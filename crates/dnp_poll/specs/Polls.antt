@@ -47,7 +47,8 @@ answer_to confirms answered taking = record {
 
 -- A fragment came that is a response. Where it is the next one of the response that is awaited, or one that nobody asked for, its rows were
 -- shown, all of them and in order, and the master went on; then alone is it confirmed. Any other one is passed over.
-pub data HearsPoll {S : Type 0} (shows : S → List ShownRow → S → Type 0) (old : PollSeen S) (now : ℕ) (octets : List ℕ) (answer : Answer) (new : PollSeen S) : Type 0 where
+pub data HearsPoll {S : Type 0} (shows : S → List ShownRow → S → Type 0) (old : PollSeen S) (now : ℕ) (octets : List ℕ)
+    (answer : Answer) (new : PollSeen S) : Type 0 where
   Taken : (answered : Answered) → response_at octets ≡ Ok answered → is_awaited old.master answered ≡ true
       → shows old.sink (rows_in answered) new.sink
       → new ≡ record old { master = (follow_of old.master now answered).state; sink = new.sink }
@@ -58,7 +59,8 @@ pub data HearsPoll {S : Type 0} (shows : S → List ShownRow → S → Type 0) (
 
 -- A fragment came. One that is no response, or whose rows couldn't be shown, is not confirmed, changes nothing of the master, and closes
 -- the connection.
-pub data ReceivesPoll {S : Type 0} (shows : S → List ShownRow → S → Type 0) (old : PollSeen S) (now : ℕ) (octets : List ℕ) (answer : Answer) (new : PollSeen S) : Type 0 where
+pub data ReceivesPoll {S : Type 0} (shows : S → List ShownRow → S → Type 0) (old : PollSeen S) (now : ℕ) (octets : List ℕ)
+    (answer : Answer) (new : PollSeen S) : Type 0 where
   Heard : HearsPoll shows old now octets answer new → ReceivesPoll shows old now octets answer new
   Unheard : new ≡ record old { sink = new.sink } → answer ≡ closing → ReceivesPoll shows old now octets answer new
 
