@@ -23,6 +23,7 @@ mod outstation;
 mod patience;
 mod plan_file;
 mod planned;
+mod poll;
 mod replay;
 mod serving;
 mod sim;
@@ -95,6 +96,7 @@ fn command<'a>(alloc: Global) -> Result<Command<'a>, AllocError> {
         .subcommand(decode::command(alloc)?)?
         .subcommand(loopback::command(alloc)?)?
         .subcommand(outstation::command(alloc)?)?
+        .subcommand(poll::command(alloc)?)?
         .subcommand(sim::command(alloc)?)
 }
 
@@ -107,6 +109,7 @@ fn dispatch(rt: &HostRuntime, matches: &ArgMatches<'_>) -> anyhow::Result<ExitCo
         Some((decode::NAME, given)) => decode::run(rt, given),
         Some((loopback::NAME, given)) => loopback::run(rt, given),
         Some((outstation::NAME, given)) => outstation::run(rt, given),
+        Some((poll::NAME, given)) => poll::run(rt, given),
         Some((sim::NAME, given)) => sim::run(rt, given),
         // `clap` refuses a missing or an unknown subcommand before this.
         _ => Ok(ExitCode::from(exit::USAGE)),

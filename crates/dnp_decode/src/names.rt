@@ -33,7 +33,7 @@ pub(crate) fn link_function(control: u8) -> &'static str {
 }
 
 /// The name of the fault of a fragment.
-pub(crate) fn fault_name(fault: AppFault) -> &'static str {
+pub fn fault_name(fault: AppFault) -> &'static str {
     match fault {
         AppFault::Short => "Short",
         AppFault::FunctionUnknown => "FunctionUnknown",
