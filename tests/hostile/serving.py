@@ -191,6 +191,9 @@ def outstation(r, size, room, bounded):
             program.kill()
             program.wait()
     lines = (room / "out").read_text(encoding="ascii").split("\n")
-    if len(lines) != 2 * CONNECTIONS + 1 or any(not line.startswith("served ") for line in lines[:-1]) or (room / "err").read_bytes():
+    told = (room / "err").read_text(encoding="utf-8").split("\n")
+    log = [" connected", ": the master closed the connection"] * (2 * CONNECTIONS) + [""]
+    if (len(lines) != 2 * CONNECTIONS + 1 or any(not line.startswith("served ") for line in lines[:-1]) or len(told) != len(log)
+            or any(not line.endswith(end) for line, end in zip(told, log))):
         raise Broken(f"it printed {lines}, and said {(room / 'err').read_bytes()[-200:]!r}", **given)
     return size

@@ -18,8 +18,8 @@ completes() {
 }
 completes completes-a-command 'sim' s
 completes completes-a-limit '--limit' sim --l
-completes completes-options '--plan --station --port --bind --connections --replay --help' outstation ''
+completes completes-options '--plan --station --port --bind --connections --forever --idle --replay --repeat --verbose --help' outstation ''
 completes completes-the-one-option '--own' answer --o
 completes completes-the-options-of-sim '--plan --limit --trace --chart --capture --json --plain --help' sim ''
 completes completes-no-number '' outstation --port ''
-completes completes-help 'answer centre concentrate decode loopback outstation sim' help ''
+completes completes-help 'answer centre concentrate decode loopback outstation poll sim' help ''

@@ -158,7 +158,26 @@ impl<'s, 'r, S: Living, R: Eprint + Clock> Living for Attended<'s, 'r, S, R> {
         self.station.tick(alloc, now)
     }
 
+    fn tick_into(
+        &mut self,
+        answer: &mut KeptAnswer,
+        alloc: Global,
+        now: u64,
+    ) -> Result<(), StationFault> {
+        self.station.tick_into(answer, alloc, now)
+    }
+
     fn change(&mut self, alloc: Global, now: u64, change: &Change) -> Result<Answer, StationFault> {
         self.station.change(alloc, now, change)
+    }
+
+    fn change_into(
+        &mut self,
+        answer: &mut KeptAnswer,
+        alloc: Global,
+        now: u64,
+        change: &Change,
+    ) -> Result<(), StationFault> {
+        self.station.change_into(answer, alloc, now, change)
     }
 }
