@@ -160,8 +160,8 @@ done
 mkdir -p unbuilt/crates/dnp
 cp "$dnp" unbuilt/dnp
 cp -r "$top/crates/dnp/help" unbuilt/crates/dnp/help
-for words in --help:dnp -h:dnp help:dnp --version:version -V:version {answer,centre,concentrate,decode,loopback,outstation,sim}' --help:' \
-    {answer,centre,concentrate,decode,loopback,outstation,sim}' -h:' 'help '{answer,centre,concentrate,decode,loopback,outstation,sim}:; do
+for words in --help:dnp -h:dnp help:dnp --version:version -V:version {answer,centre,concentrate,decode,loopback,outstation,poll,sim}' --help:' \
+    {answer,centre,concentrate,decode,loopback,outstation,poll,sim}' -h:' 'help '{answer,centre,concentrate,decode,loopback,outstation,poll,sim}:; do
     case $words in
     *' '*) words=$words$(tr ' ' '\n' <<<"${words%:}" | grep -v -e help -e -h) ;;
     esac

@@ -131,6 +131,23 @@ listens "$port"
 polls polls-over-other-tables 0 'rows 3'
 ended works-beside-other-tables 0 'round 1 rows 3'
 says tells-of-other-tables 'dnp: beside.db: other tables stand there too: nothing is promised of what is stored beside them'
+
+# A queue of an earlier release, for one centre, whose last row had the id 28
+grep -v '^INSERT INTO queue ' "$top/tests/files/old.sql" | sqlite3 old.db
+expect takes-no-old-queue 1 '' '' concentrate $refused --queue old.db --controls next.db
+says tells-that-a-queue-is-old "dnp: old.db: a queue of an earlier release, for one centre: let '--migrate' bring it to the form for two"
+expect takes-no-migration-of-a-new-one 2 '' '' concentrate $refused --queue old.db --controls next.db --migrate --new
+holds leaves-an-old-queue old.db 'SELECT number FROM form' 1
+for said in 'dnp: old.db: the queue was for one centre, and has the form for two now' ''; do
+    "$dnp" concentrate $refused --queue old.db --controls next.db --migrate >rounds 2>said </dev/null &
+    concentrating=$!
+    listens "$port"
+    polls "goes-on-from-an-old-queue:${said:+first}" 0 'rows 3'
+    ended "works-after-a-migration:${said:+first}" 0 'round 1 rows 3'
+    says "tells-of-a-migration:${said:+first}" "$said"
+done
+holds has-migrated old.db 'SELECT number, seq FROM form, sqlite_sequence' '2|34'
+holds keeps-its-places old.db 'SELECT sum(cap) FROM lanes' 36
 gone
 
 # Substations that are not there, silent, send noise, or rows that are not planned: a line each, and the next one is polled

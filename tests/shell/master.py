@@ -12,6 +12,11 @@ It connects to a port of this machine and does what the lines of standard input 
     nothing                wants nothing to come for a while
     end                    wants the connection to end
     reset                  ends the connection at once, and not in an orderly way
+    another                connects once more, and speaks on that connection from now on
+    other                  speaks on the other one of the last two connections from now on
+    gone LEAST MOST        wants the connection to end in so many seconds, and nothing to come
+    drip LEAST MOST        the same, while it sends an octet 05 each tenth of a second
+    deaf                   asks for readings again and again, reads nothing that comes, and wants the connection to end in 90 seconds
 It prints the first line that came out otherwise, and what came.
 """
 import socket
@@ -41,7 +46,9 @@ def frame(control, user=b""):
 
 class Master:
     def __init__(self, port):
+        self.port = port
         self.stream = connect(port)
+        self.before = None
         self.slow = False
         self.number = 0
 
@@ -104,12 +111,56 @@ class Master:
         self.stream.settimeout(20)
         return came
 
+    def another(self):
+        self.before, self.stream, self.number = self.stream, connect(self.port), 0
+
+    def other(self):
+        self.before, self.stream = self.stream, self.before
+
+    def gone(self, least, most, sent=b""):
+        """Wants the connection to end in so many seconds, while it sends these octets again and again."""
+        begun = time.monotonic()
+        self.stream.settimeout(0.1)
+        while time.monotonic() - begun < most:
+            try:
+                self.stream.sendall(sent)
+                if came := self.stream.recv(300):
+                    raise ValueError(came.hex(" "))
+                break
+            except TimeoutError:
+                continue
+            except (ConnectionResetError, BrokenPipeError):
+                break
+        within(least, most, time.monotonic() - begun)
+
+    def deaf(self, sent):
+        """Sends this again and again, and reads nothing, until the connection ends."""
+        begun = time.monotonic()
+        self.stream.settimeout(0.1)
+        while time.monotonic() - begun < 90:
+            try:
+                self.stream.send(sent)
+            except TimeoutError:
+                continue
+            except (ConnectionResetError, BrokenPipeError):
+                return
+        raise ValueError("no end")
+
+
+def within(least, most, waited):
+    if not least <= waited < most:
+        raise ValueError("the end after %.2f seconds" % waited)
+
 
 def connect(port):
     for _ in range(400):
         try:
-            stream = socket.create_connection(("127.0.0.1", port), timeout=20)
+            stream = socket.socket()
+            # (so that little is sent to one who doesn't read)
+            stream.setsockopt(socket.SOL_SOCKET, socket.SO_RCVBUF, 4096)
             stream.setsockopt(socket.IPPROTO_TCP, socket.TCP_NODELAY, 1)
+            stream.settimeout(20)
+            stream.connect(("127.0.0.1", port))
             return stream
         except ConnectionRefusedError:
             time.sleep(0.05)
@@ -123,6 +174,10 @@ def wants(wanted, came):
 
 def do(master, words):
     word = words[0]
+    if word in ("gone", "drip"):
+        return master.gone(float(words[1]), float(words[2]), b"\x05" if word == "drip" else b"")
+    if word == "deaf":
+        return master.deaf(frame(0xC4, bytes.fromhex("C0 C0 01 3C 01 06")) * 50)
     octets = bytes.fromhex("".join(words[2:] if word in ("cut", "wait") else words[1:]))
     if word == "link":
         master.send(frame(octets[0]))
@@ -144,6 +199,8 @@ def do(master, words):
         wants(None, master.idle())
     elif word == "end":
         wants(b"", master.idle())
+    elif word in ("another", "other"):
+        getattr(master, word)()
     elif word == "reset":
         master.stream.setsockopt(socket.SOL_SOCKET, socket.SO_LINGER, struct.pack("ii", 1, 0))
 

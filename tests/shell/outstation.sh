@@ -2,42 +2,7 @@
 # `dnp outstation` from the shell, with a master that is not this program: master.py.
 . "$(dirname "${BASH_SOURCE[0]}")/../expect.bash"
 
-master=$top/tests/shell/master.py
-port=$(python3 -c 'import socket; s = socket.socket(); s.bind(("", 0)); print(s.getsockname()[1])')
-
-# plan FILE KEY=VALUE..: a plan of one substation with these values in place of those below
-plan() {
-    local file=$1 lanes='[2, 2, 2, 2, 2, 2, 2, 2, 2]' pair
-    local -A keys=([confirm_ms]=5000 [response_ms]=10000 [select_ms]=300 [retries]=0 [unsolicited]=false [queue]=$lanes)
-    local -A own=([lanes]=$lanes [binary]=[] [counter]=[] [analog]=[] [deadband]=[] [outputs]=6 [setpoints]=0 [base]='[0, 0, 0, 0, 0]')
-    shift
-    for pair; do
-        if [ -n "${keys[${pair%%=*}]+there}" ]; then keys[${pair%%=*}]=${pair#*=}; else own[${pair%%=*}]=${pair#*=}; fi
-    done
-    for pair in "${!keys[@]}"; do echo "$pair = ${keys[$pair]}"; done >"$file"
-    echo '[[substation]]' >>"$file"
-    for pair in "${!own[@]}"; do echo "$pair = ${own[$pair]}"; done >>"$file"
-}
-# serve ARGS..: begins to serve station 0 of plan.toml, for two minutes at most
-serve() {
-    timeout 120 "$dnp" outstation --plan plan.toml --station 0 --port "$port" "$@" >out 2>err </dev/null &
-    served=$!
-}
-# talks NAME: the master does what standard input says, and all comes out so
-talks() {
-    if python3 "$master" "$port" >came 2>&1; then
-        echo "ok $1"
-        return
-    fi
-    echo "FAILED $1"
-    sed 's/^/    /' came
-}
-# ended NAME STDOUT: the program has served its connections
-ended() {
-    local got=0
-    wait "$served" || got=$?
-    judge "$1" 0 "$2" "$got"
-}
+. "$top/tests/outstation.bash"
 
 # The link layer, polls, the restart bit, and what malformed requests are answered
 plan plan.toml

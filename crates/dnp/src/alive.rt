@@ -1,15 +1,21 @@
-//! An outstation that lives on connections over TCP: its timers run and its points change while nothing comes.
+//! An outstation that lives on connections over TCP: its timers run and its points change while nothing comes. The newest
+//! master is served, and one from which nothing whole comes is hung up.
 
+use crate::attended::Attended;
+use crate::door::{Caller, Door, listen};
 use crate::exit;
 use crate::fault::{Noted, unwritten};
-use crate::serving::{Listening, SILENCE_MS, no_port, prepare, say};
+use crate::logged::{Ended, Ending, note, utc};
+use crate::replay::Replay;
+use crate::serving::no_port;
+use crate::visit::{Ear, Leave, Mouth, Visit, moment, prepare};
 use dnp_daemons::{
-    Change, Limits, Living, Log, MASTER_BELOW, ServeFault, Session, Waiting, live_stream,
+    Limits, Lived, Living, Log, MASTER_BELOW, ServeFault, Session, Station, live_stream,
 };
+use dnp_decode::Moment;
 use dnp_line::Port;
 use std::io;
-use std::io::Read;
-use std::net::{Net, SocketAddr, TcpListener, TcpStream};
+use std::net::{IpAddr, Net, SocketAddr, TcpListener, TcpStream};
 use std::process::ExitCode;
 use std::rt::Clock;
 use std::time::Duration;
@@ -20,144 +26,260 @@ const LIMITS: Limits = Limits {
     wait_ms: 50,
 };
 
-/// The end of a connection that is read: nothing has come, until it was silent for too long.
+/// While changes are due and no master is there, it is looked so often for one, in milliseconds.
+const DOOR_MS: u64 = 10;
+
+/// How long it is waited after no master could be had, in milliseconds.
+const AFTER_MS: u64 = 1_000;
+
+/// Where a station listens, for how many connections, and how they are served.
+#[derive(Clone, Copy)]
+pub(crate) struct Listening {
+    /// The station's link address.
+    pub own: u16,
+    /// The address at which it listens.
+    pub address: IpAddr,
+    /// The TCP port.
+    pub port: u16,
+    /// How many connections it serves; none where it serves without an end.
+    pub connections: Option<u64>,
+    /// How long a connection may stand in which nothing whole comes, in seconds.
+    pub idle: u64,
+    /// Whether each request is said in the log.
+    pub is_said: bool,
+}
+
+/// What happens to a station over its connections.
 #[derive(Drop)]
-struct Ear<'s, 'c, C> {
-    /// The connection.
-    stream: &'s TcpStream,
-    /// What tells the moments.
-    clock: &'c C,
-    /// The moment at which something came last, in milliseconds.
-    since: u64,
-    /// How long a read waits now, in milliseconds.
-    wait: u64,
+struct Course {
+    /// The moment of its last step, in milliseconds.
+    now: u64,
+    /// The changes that are to come.
+    replay: Replay,
 }
 
-/// The moment that the clock shows, in milliseconds, or the one before, where it fails or goes back.
-fn moment<C: Clock>(clock: &C, before: u64) -> u64 {
-    match clock.monotonic() {
-        Ok(time) => before.max(u64::try_from(time.as_millis()).unwrap_or(u64::MAX)),
-        Err(_) => before,
+/// Makes the changes that are due, while no master is there.
+fn make_due<S: Living, R: AllocGlobal + Clock>(rt: &R, station: &mut S, course: &mut Course) {
+    course.now = moment(rt, course.now);
+    for _ in 0..u64::MAX {
+        course.replay.begin_again(rt);
+        let Some(change) = course.replay.next_due(course.now) else {
+            return;
+        };
+        // (one that the plan has no point for does nothing, as where a master is there)
+        let _ = station.change(rt.alloc(), course.now, &change);
     }
 }
 
-impl<'s, 'c, C: Clock> Ear<'s, 'c, C> {
-    /// The end of a connection that begins now.
-    fn new(stream: &'s TcpStream, clock: &'c C) -> Self {
-        Ear {
-            stream,
-            clock,
-            since: moment(clock, 0),
-            wait: 0,
+/// The next master. Until it is there, changes are made when they are due.
+fn next_caller<S: Living, R: AllocGlobal + Clock>(
+    rt: &R,
+    station: &mut S,
+    door: &Door,
+    course: &mut Course,
+) -> io::Result<Caller> {
+    for _ in 0..u64::MAX {
+        make_due(rt, station, course);
+        if course.replay.left().is_empty() {
+            return door.wait();
         }
-    }
-}
-
-impl<'s, 'c, C: Clock> Read for Ear<'s, 'c, C> {
-    fn read(&mut self, buf: &mut [u8]) -> io::Result<usize> {
-        let mut stream = self.stream;
-        let result = stream.read(buf);
-        let now = moment(self.clock, self.since);
-        match result {
-            Ok(count) => {
-                self.since = now;
-                Ok(count)
+        match door.next() {
+            Err(cause) if cause.kind() == io::ErrorKind::WouldBlock => {
+                rt.sleep(Duration::from_millis(DOOR_MS))
             }
-            Err(error) if error.kind() == io::ErrorKind::WouldBlock => {
-                if now.saturating_sub(self.since) < SILENCE_MS {
-                    Err(error)
-                } else {
-                    Err(io::ErrorKind::NotConnected.into())
-                }
-            }
-            Err(error) => Err(error),
+            caller => return caller,
         }
     }
+    door.wait()
 }
 
-impl<'s, 'c, C: Clock> Waiting for Ear<'s, 'c, C> {
-    fn wait_at_most(&mut self, ms: u64) -> io::Result<()> {
-        if ms != self.wait {
-            self.stream
-                .set_read_timeout(Some(Duration::from_millis(ms)))?;
-            self.wait = ms;
-        }
-        Ok(())
-    }
-}
-
-/// Serves connections one by one, prints of each how many fragments came whole, and makes the changes that become due
-/// while one stands, or when the next one begins.
+/// Serves connections, prints of each how many fragments came whole, and makes the changes when they become due.
 pub(crate) fn live_on_connections<S, R>(
     rt: &R,
     station: &mut S,
     listening: &Listening,
-    changes: &[Change],
-) -> anyhow::Result<ExitCode>
+    replay: Replay,
+) -> ExitCode
 where
     S: Living,
     R: AllocGlobal + Print + Eprint + Clock + Net<Listener = TcpListener, Stream = TcpStream>,
 {
-    let listener = match TcpListener::bind(rt, SocketAddr::new(listening.address, listening.port)) {
+    let listener = match listen(rt, SocketAddr::new(listening.address, listening.port)) {
         Ok(listener) => listener,
-        Err(cause) => return Ok(no_port(rt, listening.port, &cause)),
+        Err(cause) => return no_port(rt, listening.port, &cause),
     };
-    let mut session = Session { now: 0, changes };
-    for _ in 0..listening.connections {
-        let stream = match listener.accept() {
-            Ok((stream, _)) => stream,
-            Err(cause) => return Ok(no_port(rt, listening.port, &cause)),
-        };
-        let served = live_on_connection(rt, station, listening.own, &stream, &mut session);
-        let Some(fragments) = served else {
-            return Ok(ExitCode::from(exit::FAULT));
-        };
-        if let Err(cause) = println!(rt; "served {fragments}") {
-            return Ok(unwritten(rt, &cause));
+    let door = Door::new(listener);
+    let mut course = Course { now: 0, replay };
+    let count = listening.connections.unwrap_or(u64::MAX);
+    for number in 0..count {
+        let is_last = number == count - 1;
+        door.open(!is_last);
+        match serve_next(rt, station, listening, &door, &mut course) {
+            Ok(()) => {}
+            Err(status) => return status,
         }
     }
-    Ok(ExitCode::from(exit::DONE))
+    ExitCode::from(exit::DONE)
+}
+
+/// Waits for the next master, serves it, and prints how many fragments came whole. Where the program can't go on, the exit
+/// status is told.
+fn serve_next<S, R>(
+    rt: &R,
+    station: &mut S,
+    listening: &Listening,
+    door: &Door,
+    course: &mut Course,
+) -> Result<(), ExitCode>
+where
+    S: Living,
+    R: AllocGlobal + Print + Eprint + Clock,
+{
+    let caller = match next_caller(rt, station, door, course) {
+        Ok(caller) => caller,
+        Err(cause) if listening.connections.is_none() => {
+            let moment = Moment(utc(rt));
+            let _ = eprintln!(rt; "{moment} port {}: {cause}", listening.port);
+            rt.sleep(Duration::from_millis(AFTER_MS));
+            return Ok(());
+        }
+        Err(cause) => return Err(no_port(rt, listening.port, &cause)),
+    };
+    let served = live_on_connection(rt, station, listening, door, &caller, course);
+    let Some(fragments) = served else {
+        return Err(ExitCode::from(exit::FAULT));
+    };
+    match println!(rt; "served {fragments}") {
+        Ok(()) => Ok(()),
+        Err(cause) => Err(unwritten(rt, &cause)),
+    }
+}
+
+/// How a connection ended, by why its last session did, and what became of that. It may be idle for so many seconds.
+fn ending_of<'a>(
+    leave: Option<Leave>,
+    lived: &Lived,
+    idle: u64,
+    cause: Option<&'a io::Error>,
+) -> Ending<'a> {
+    match (leave, lived.result) {
+        (Some(Leave::Idle), _) => Ending::Idle(idle),
+        (Some(Leave::Taken(peer)), _) => Ending::Taken(peer),
+        (Some(Leave::Memory), _) => Ending::Failed(ServeFault::Memory, None),
+        (_, Ok(())) if lived.served.closed => Ending::Station,
+        (_, Ok(())) => Ending::Master,
+        (_, Err(fault)) => Ending::Failed(fault, cause),
+    }
 }
 
 /// Lives on a connection to its end, hangs the station up, and tells how many fragments came whole; nothing where memory
-/// ran out. What goes wrong is said on standard error.
-fn live_on_connection<S, R>(
-    rt: &R,
+/// ran out. How it ended is said in the log.
+fn live_on_connection<'v, S, R>(
+    rt: &'v R,
     station: &mut S,
-    own: u16,
-    stream: &TcpStream,
-    session: &mut Session<'_>,
+    listening: &Listening,
+    door: &'v Door,
+    caller: &'v Caller,
+    course: &mut Course,
 ) -> Option<u64>
 where
     S: Living,
     R: AllocGlobal + Eprint + Clock,
 {
-    if let Err(cause) = prepare(stream) {
-        let _ = eprintln!(rt; "dnp: a connection: {cause}");
+    let peer = caller.peer;
+    note(rt, peer, &"connected");
+    if let Err(cause) = prepare(&caller.stream) {
+        let how = Ending::Unprepared(&cause);
+        note(rt, peer, &Ended { fragments: 0, how });
         return Some(0);
     }
+    let idle_ms = listening.idle.saturating_mul(1_000);
+    let visit = Visit::new(&caller.stream, door, rt, idle_ms);
+    let mut station = Attended::new(station, rt, peer, listening.is_said);
+    let mut reader = Noted::new(Ear::new(rt.alloc(), &visit, listening.own));
+    let mut out = Noted::new(Mouth { visit: &visit });
+    let (fragments, lived) = live_on(
+        rt,
+        &mut station,
+        listening.own,
+        &visit,
+        &mut reader,
+        &mut out,
+        course,
+    );
+    let cause = reader.cause().or(out.cause());
+    let how = ending_of(visit.leave(), &lived, listening.idle, cause);
+    let is_fault = matches!(how, Ending::Failed(ServeFault::Memory, _));
+    note(rt, peer, &Ended { fragments, how });
+    if is_fault { None } else { Some(fragments) }
+}
+
+/// Lives on a connection, session after session: one begins where a replay does again. Tells how many fragments came whole
+/// on all, and how the last one ended; the station is hung up then.
+fn live_on<S, R>(
+    rt: &R,
+    station: &mut Attended<'_, '_, S, R>,
+    own: u16,
+    visit: &Visit<'_, R>,
+    reader: &mut Noted<Ear<'_, '_, R>>,
+    out: &mut Noted<Mouth<'_, '_, R>>,
+    course: &mut Course,
+) -> (u64, Lived)
+where
+    S: Living,
+    R: AllocGlobal + Eprint + Clock,
+{
     let mut port = Port::new(own, MASTER_BELOW, false);
-    let mut reader = Noted::new(Ear::new(stream, rt));
-    let mut out = Noted::new(stream);
+    let mut lived = live_once(rt, station, &mut port, visit, reader, out, course);
+    let mut fragments = lived.served.fragments;
+    for _ in 0..u64::MAX {
+        if lived.result.is_err() || !matches!(visit.leave(), Some(Leave::Again)) {
+            break;
+        }
+        station.go_on();
+        lived = live_once(rt, station, &mut port, visit, reader, out, course);
+        fragments = fragments.saturating_add(lived.served.fragments);
+    }
+    if lived.result.is_ok() {
+        station.hung_up();
+    }
+    (fragments, lived)
+}
+
+/// Lives on a connection for a session: to the end of the connection, or until the replay begins again.
+fn live_once<S, R>(
+    rt: &R,
+    station: &mut Attended<'_, '_, S, R>,
+    port: &mut Port,
+    visit: &Visit<'_, R>,
+    reader: &mut Noted<Ear<'_, '_, R>>,
+    out: &mut Noted<Mouth<'_, '_, R>>,
+    course: &mut Course,
+) -> Lived
+where
+    S: Living,
+    R: AllocGlobal + Eprint + Clock,
+{
+    course.replay.begin_again(rt);
+    visit.begin(course.replay.ends());
+    let mut session = Session {
+        now: course.now,
+        changes: course.replay.left(),
+    };
+    let mut log = Log::new();
     let lived = live_stream(
         rt.alloc(),
         station,
-        &mut port,
+        port,
         rt,
-        session,
-        &mut reader,
-        &mut out,
+        &mut session,
+        reader,
+        out,
         LIMITS,
-        &mut Log::new(),
+        &mut log,
     );
-    match lived.result {
-        Ok(()) => station.hung_up(),
-        Err(fault) => {
-            say(rt, fault, reader.cause(), out.cause());
-            if fault == ServeFault::Memory {
-                return None;
-            }
-        }
-    }
-    Some(lived.served.fragments)
+    course.now = session.now;
+    let left = session.changes.len();
+    course.replay.keep(left);
+    lived
 }

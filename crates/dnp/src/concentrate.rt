@@ -43,6 +43,10 @@ STORES
   without its store: remove the files that it left, and give --new again.
   A queue takes as many events as the plan allowed when it was made. Each event and control that
   stands there has to be of the plan, so a plan that loses points waits until they are gone.
+  A queue has room for two centres, of which the first is served. Earlier releases made queues for
+  one: --migrate makes such a queue one for two, in place, in one step that is done whole or not at
+  all, and says so on standard error. Its events go to the first centre; an earlier release can't
+  open it then. Without --migrate it is refused, and left as it is. Keep a copy of the file.
 
 ROUNDS
   In each round it connects to one substation after the other, substation S at the port P + S of
@@ -63,8 +67,9 @@ OUTPUT
 
 EXIT STATUS
   0  all rounds were done
-  1  the plan was refused; a file holds no such store, or already one where --new is to make it; or
-     a store holds an event or a control that is not of the plan
+  1  the plan was refused; a file holds no such store, or already one where --new is to make it, or
+     a queue for one centre without --migrate; or a store holds an event or a control that is not of
+     the plan
   2  the command line is wrong, or the last substation would have a port over 65535
   3  the program failed: the plan or a file can't be read, a file is in use by another program or
      given twice, the port can't be had, a store's device failed, out of memory, or the output was
@@ -83,6 +88,8 @@ const ROUNDS: &str = "How many rounds, 1 to 1000000";
 
 const NEW: &str = "Make the queue and the book of controls, which are not there yet";
 
+const MIGRATE: &str = "Bring a queue of an earlier release, for one centre, to the form for two";
+
 /// How many substations a plan can have.
 const MOST: u8 = MAX_SUBSTATIONS as u8;
 
@@ -100,7 +107,8 @@ pub(crate) fn command<'a>(alloc: Global) -> Result<Command<'a>, AllocError> {
         .arg(required(alloc, "port", "P", PORT))?
         .arg(required(alloc, "below", "P", BELOW))?
         .arg(defaulted(alloc, "rounds", "N", "1", ROUNDS))?
-        .arg(flag(alloc, "new", NEW))
+        .arg(flag(alloc, "new", NEW))?
+        .arg(flag(alloc, "migrate", MIGRATE).conflicts_with("new")?)
 }
 
 /// What the words of the command line say.
@@ -118,6 +126,8 @@ struct Words<'a> {
     below: u16,
     /// How many rounds there are.
     rounds: u64,
+    /// Whether a queue for one centre is brought to the form for two.
+    migrates: bool,
 }
 
 /// What the words say. Where one is wrong, that is printed.
@@ -141,6 +151,7 @@ fn words_given<'a, R: Eprint>(rt: &R, given: &ArgMatches<'a>) -> Option<Words<'a
         port: u16::try_from(port).ok()?,
         below: u16::try_from(below).ok()?,
         rounds,
+        migrates: given.get_flag("migrate"),
     })
 }
 
@@ -194,7 +205,7 @@ fn queue_there(rt: &HostRuntime, words: &Words<'_>, plan: &Plan) -> Result<Queue
     requires { KeepsLimits plan.now }
 {
     let conn = files::connection(rt, &words.queue)?;
-    files::queue(rt, &words.queue, conn, plan.queue)
+    files::queue(rt, &words.queue, conn, plan.queue, words.migrates)
 }
 
 /// Runs the concentrator over its stores, and gives their databases back, with the exit status. Where it can't begin, the

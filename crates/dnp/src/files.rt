@@ -83,12 +83,17 @@ fn no_store<S: Alter, R: Eprint>(
     fault: OpenFault,
     conn: &Connection<S>,
 ) -> ExitCode {
-    if fault != OpenFault::WrongForm {
+    if matches!(fault, OpenFault::Memory | OpenFault::Device) {
         let _ = eprintln!(rt; "dnp: {}: {fault}", place.path);
         return ExitCode::from(exit::FAULT);
     }
     let store = place.store;
-    let _ = if place.new {
+    let _ = if fault == OpenFault::OldForm {
+        eprintln!(rt;
+            "dnp: {}: a {store} of an earlier release, for one centre: let '--migrate' bring it to the form for two",
+            place.path
+        )
+    } else if place.new {
         eprintln!(rt;
             "dnp: {}: a {store} is there already, or tables of its names: leave '--new' away, or remove the file",
             place.path
@@ -114,18 +119,46 @@ fn look_round<R: Eprint>(rt: &R, place: &Place<'_>, owned: bool) {
     }
 }
 
-/// The queue in a database, made with these capacities or opened. Where there is none, that is said, and the exit status
-/// is told.
+/// The queue in a database, opened, or brought to the form for two centres before, which is said, where it was of that for
+/// one.
+fn migrated<S: Alter + Drop, R: AllocGlobal + Eprint>(
+    rt: &R,
+    place: &Place<'_>,
+    conn: Connection<S>,
+    capacities: [u32; LANES],
+) -> Result<Queue<S>, (OpenFault, Connection<S>)>
+    requires { All (λ capacity. (1 ≤ capacity) × (capacity ≤ MAX_CAPACITY)) capacities }
+{
+    match Queue::open(rt.alloc(), conn) {
+        Err((OpenFault::OldForm | OpenFault::WrongForm, conn)) => {
+            let begun = Queue::migrate(rt.alloc(), conn, capacities);
+            if begun.is_ok() {
+                place.say(
+                    rt,
+                    "the queue was for one centre, and has the form for two now",
+                );
+            }
+            begun
+        }
+        begun => begun,
+    }
+}
+
+/// The queue in a database, made with lanes of these capacities for each of two centres, or opened, or brought to the form
+/// for two centres and opened, where that is asked for. Where there is none, that is said, and the exit status is told.
 pub(crate) fn queue<S: Alter + Drop, R: AllocGlobal + Eprint>(
     rt: &R,
     place: &Place<'_>,
     conn: Connection<S>,
     capacities: [u32; LANES],
+    migrates: bool,
 ) -> Result<Queue<S>, ExitCode>
     requires { All (λ capacity. (1 ≤ capacity) × (capacity ≤ MAX_CAPACITY)) capacities }
 {
     let begun = if place.new {
-        Queue::create(rt.alloc(), conn, capacities)
+        Queue::create(rt.alloc(), conn, capacities, capacities)
+    } else if migrates {
+        migrated(rt, place, conn, capacities)
     } else {
         Queue::open(rt.alloc(), conn)
     };

@@ -6,12 +6,15 @@
 mod alive;
 mod answer;
 mod asking;
+mod attended;
 mod centre;
 mod concentrate;
 mod decode;
+mod door;
 mod exit;
 mod fault;
 mod files;
+mod logged;
 mod looks;
 mod loopback;
 mod numbers;
@@ -20,10 +23,12 @@ mod outstation;
 mod patience;
 mod plan_file;
 mod planned;
+mod poll;
 mod replay;
 mod serving;
 mod sim;
 mod texts;
+mod visit;
 mod watched;
 mod wire;
 
@@ -91,6 +96,7 @@ fn command<'a>(alloc: Global) -> Result<Command<'a>, AllocError> {
         .subcommand(decode::command(alloc)?)?
         .subcommand(loopback::command(alloc)?)?
         .subcommand(outstation::command(alloc)?)?
+        .subcommand(poll::command(alloc)?)?
         .subcommand(sim::command(alloc)?)
 }
 
@@ -103,6 +109,7 @@ fn dispatch(rt: &HostRuntime, matches: &ArgMatches<'_>) -> anyhow::Result<ExitCo
         Some((decode::NAME, given)) => decode::run(rt, given),
         Some((loopback::NAME, given)) => loopback::run(rt, given),
         Some((outstation::NAME, given)) => outstation::run(rt, given),
+        Some((poll::NAME, given)) => poll::run(rt, given),
         Some((sim::NAME, given)) => sim::run(rt, given),
         // `clap` refuses a missing or an unknown subcommand before this.
         _ => Ok(ExitCode::from(exit::USAGE)),

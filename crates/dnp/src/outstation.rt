@@ -1,12 +1,11 @@
 //! `dnp outstation`: an outstation of a plan, for masters that connect by TCP.
 
-use crate::alive::live_on_connections;
+use crate::alive::{Listening, live_on_connections};
 use crate::exit;
 use crate::numbers::number_given;
-use crate::options::{HINT, defaulted, plan, required, valued};
+use crate::options::{HINT, defaulted, flag, plan, required, valued};
 use crate::plan_file::{plan_text, refused};
-use crate::replay::replay_given;
-use crate::serving::Listening;
+use crate::replay::{Replay, replay_given};
 use clap::{ArgMatches, Command};
 use dnp_concentrator::MAX_SUBSTATIONS;
 use dnp_daemons::{Living, PlanTextFault, outstation_address, planned_outstation};
@@ -37,21 +36,36 @@ REPLAY
   words, and a file has 16 MiB at most. KIND is binary, counter or analog; FLAGS are two
   hexadecimal digits; TIME is in milliseconds since 1970-01-01 00:00 UTC, or '-' for none, or
   'now' for the time at which the change is due. A change that the plan has no point for, or whose
-  value doesn't fit, does nothing. What becomes due while no master is connected is changed when
-  the next one connects, in the order of the file.
+  value doesn't fit, does nothing. Changes are made in the order of the file, also while no master
+  is connected. With --repeat the file begins again when its last change is made: each change is
+  due as long after that one as it was after the start, and 'now' is the time then. The last change
+  has to be due after 0 ms, and between two runs of the file the station waits for the end of a
+  frame that has begun.
 
 CONNECTIONS
   It listens on the port at the address of --bind: at 127.0.0.1, for masters on the same machine,
   unless another is given, as 0.0.0.0 for all addresses of the machine, or one of IPv6 as ::1. Who
-  reaches it may operate its outputs. It serves one connection after the other; who connects
-  meanwhile waits. A connection ends when the master ends it, when the station closes it, or after
-  300 seconds in which nothing came, or in which nothing could be sent. Why a connection failed is
-  said on standard error, and the next one is served; it has its 'served N' too, and the status
-  stays 0. What the station ignores, such as a frame for another address, is not told.
+  reaches it may operate its outputs. It serves one master at a time, the newest: who connects
+  meanwhile takes the place of the one that is served as soon as that one sends nothing for 50 ms,
+  or else after a second. Only on the last of the connections of --connections is nobody hung up
+  so: who connects then waits, and is not served. With --forever it serves without an end: a signal
+  ends it, as SIGTERM, at once and with all that stands in memory.
+  A connection ends when the master ends it, when the station closes it, when another master takes
+  its place, or after --idle seconds in which no frame from the master for the station came whole,
+  whatever else came, and whether the master reads what is sent or not. It has its 'served N' then,
+  the next master is served, and the status stays 0. What the station ignores, such as a frame for
+  another address, is not told.
   Timers run while nothing comes: a read waits 50 ms at most. With unsolicited responses on, one
   is sent when the master connects, and when an event of an enabled class comes; one that isn't
   confirmed in time is repeated as often as the plan says, and then the station closes the
   connection. It closes it at the first of these times where a READ waits for that confirm.
+
+LOG
+  On standard error a line for each connection that begins or ends, with the time in UTC and the
+  master's address, as '2026-11-26T03:12:44.120Z 127.0.0.1:51234 connected', and 'ended, served N'
+  with the cause: the master or the station closed it, it was idle, it was taken over by another,
+  whose address is told, or it failed, and why. With --verbose a line for each fragment that came
+  whole, too, with how many octets are sent for it.
 
 OUTPUT
   On standard output a line for each connection when it has ended, 'served N': N is how many
@@ -74,6 +88,9 @@ EXIT STATUS
 /// The highest number that a substation of a plan can have.
 const MAX_STATION: u64 = MAX_SUBSTATIONS as u64 - 1;
 
+/// The longest that a master may send nothing whole, in seconds: a day.
+const MAX_IDLE: u64 = 86_400;
+
 /// What is said of the options.
 const STATION: &str = "The number of the substation in the plan, from 0";
 
@@ -85,6 +102,14 @@ const REPLAY: &str = "Changes of points, a line each, to be made while it runs";
 
 const CONNECTIONS: &str = "How many connections to serve, 1 to 1000000";
 
+const FOREVER: &str = "Serve connections without an end";
+
+const IDLE: &str = "How long a master may send nothing whole, in seconds, 1 to 86400";
+
+const REPEAT: &str = "Begin the replay again at its end";
+
+const VERBOSE: &str = "Say each request on standard error";
+
 /// What `clap` has to know of `dnp outstation`.
 pub(crate) fn command<'a>(alloc: Global) -> Result<Command<'a>, AllocError> {
     Command::new(alloc, NAME)
@@ -95,7 +120,11 @@ pub(crate) fn command<'a>(alloc: Global) -> Result<Command<'a>, AllocError> {
         .arg(required(alloc, "port", "P", PORT))?
         .arg(defaulted(alloc, "bind", "ADDRESS", "127.0.0.1", BIND))?
         .arg(defaulted(alloc, "connections", "N", "1", CONNECTIONS))?
-        .arg(valued(alloc, "replay", "FILE", REPLAY))
+        .arg(flag(alloc, "forever", FOREVER).conflicts_with("connections")?)?
+        .arg(defaulted(alloc, "idle", "SECONDS", "60", IDLE))?
+        .arg(valued(alloc, "replay", "FILE", REPLAY))?
+        .arg(flag(alloc, "repeat", REPEAT).requires_arg("replay")?)?
+        .arg(flag(alloc, "verbose", VERBOSE))
 }
 
 /// What the words of the command line say.
@@ -109,10 +138,16 @@ struct Words<'a> {
     port: u16,
     /// The address at which it listens.
     bind: IpAddr,
-    /// How many connections are served.
-    connections: u64,
+    /// How many connections are served; none where there is no end.
+    connections: Option<u64>,
+    /// How long a master may send nothing whole, in seconds.
+    idle: u64,
     /// The path of the replay's file, if there is one.
     replay: Option<&'a str>,
+    /// Whether the replay begins again at its end.
+    repeats: bool,
+    /// Whether each request is said.
+    is_said: bool,
 }
 
 /// What the words say. Where one is wrong, that is printed.
@@ -120,14 +155,19 @@ fn words_given<'a, R: Eprint>(rt: &R, given: &ArgMatches<'a>) -> Option<Words<'a
     let number = number_given(rt, given, "station", "S", 0, MAX_STATION)?;
     let port = number_given(rt, given, "port", "P", 1, 65_535)?;
     let connections = number_given(rt, given, "connections", "N", 1, 1_000_000)?;
+    let idle = number_given(rt, given, "idle", "SECONDS", 1, MAX_IDLE)?;
     let bind = address_given(rt, given.get_str("bind").unwrap_or(""))?;
+    let is_forever = given.get_flag("forever");
     Some(Words {
         plan: given.get_str("plan").unwrap_or(""),
         number: u8::try_from(number).ok()?,
         port: u16::try_from(port).ok()?,
         bind,
-        connections,
+        connections: if is_forever { None } else { Some(connections) },
+        idle,
         replay: given.get_str("replay"),
+        repeats: given.get_flag("repeat"),
+        is_said: given.get_flag("verbose"),
     })
 }
 
@@ -176,19 +216,22 @@ where
     R: AllocGlobal + Print + Eprint + Files + Clock,
     R: Net<Listener = TcpListener, Stream = TcpStream>,
 {
-    let mut changes = Vec::new(rt.alloc());
-    if let Some(path) = words.replay
-        && let Err(status) = replay_given(rt, path, &mut changes)?
-    {
-        return Ok(status);
-    }
+    let replay = match words.replay {
+        Some(path) => match replay_given(rt, path, words.repeats)? {
+            Ok(replay) => replay,
+            Err(status) => return Ok(status),
+        },
+        None => Replay::new(rt.alloc()),
+    };
     let listening = Listening {
         own: outstation_address(words.number),
         address: words.bind,
         port: words.port,
         connections: words.connections,
+        idle: words.idle,
+        is_said: words.is_said,
     };
-    live_on_connections(rt, station, &listening, &changes)
+    Ok(live_on_connections(rt, station, &listening, replay))
 }
 
 /// Says on standard error that the plan has no such substation, and gives the exit status of a wrong command line.

@@ -5,7 +5,7 @@ use crate::fault::Noted;
 use dnp_daemons::{Clocked, ServeFault, Station, serve_stream};
 use dnp_line::Port;
 use std::io;
-use std::net::{IpAddr, TcpStream};
+use std::net::TcpStream;
 use std::process::ExitCode;
 use std::rt::Clock;
 use std::time::Duration;
@@ -15,19 +15,6 @@ const SILENCE: u64 = 300;
 
 /// The same in milliseconds.
 pub(crate) const SILENCE_MS: u64 = SILENCE * 1_000;
-
-/// Where a station listens, and for how many connections.
-#[derive(Clone, Copy)]
-pub(crate) struct Listening {
-    /// The station's link address.
-    pub own: u16,
-    /// The address at which it listens.
-    pub address: IpAddr,
-    /// The TCP port.
-    pub port: u16,
-    /// How many connections it serves.
-    pub connections: u64,
-}
 
 /// Says on standard error why no connection can be had on the port, and gives the exit status of a fault.
 pub(crate) fn no_port<R: Eprint>(rt: &R, port: u16, cause: &io::Error) -> ExitCode {
@@ -80,7 +67,7 @@ where
 }
 
 /// Sends what is written at once, and ends reads and writes that stand still.
-pub(crate) fn prepare(stream: &TcpStream) -> io::Result<()> {
+fn prepare(stream: &TcpStream) -> io::Result<()> {
     let silence = Some(Duration::from_secs(SILENCE));
     stream.set_nodelay(true)?;
     stream.set_read_timeout(silence)?;
@@ -88,7 +75,7 @@ pub(crate) fn prepare(stream: &TcpStream) -> io::Result<()> {
 }
 
 /// Says on standard error why a connection was not served to its end.
-pub(crate) fn say<R: Eprint>(
+fn say<R: Eprint>(
     rt: &R,
     fault: ServeFault,
     read: Option<&io::Error>,

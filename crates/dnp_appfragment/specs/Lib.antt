@@ -11,6 +11,7 @@ pub mod Joining
 pub mod Left
 pub mod Lending
 pub mod Meaning
+pub mod Names
 pub mod Objects
 pub mod Places
 pub mod Reading

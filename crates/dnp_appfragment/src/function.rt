@@ -1,6 +1,7 @@
 //! The functions of fragments and their octets.
 ghost use Rattle.std.specs.Prelude.{◌≡◌, ◌↔◌, IsTrue, IfSome};
 ghost use Rattle.dnp_appfragment.specs.declared.function.Function.{Function as FunctionValue};
+ghost use Rattle.dnp_appfragment.specs.Names.{function_name};
 ghost use Rattle.dnp_appfragment.specs.Table.{function_octet, function_of, is_response};
 ghost use Rattle.dnp_appfragment.specs.Built.{carries_commands};
 
@@ -78,6 +79,26 @@ impl Function {
         ensures { result ≡ function_octet self }
     {
         self as u8
+    }
+
+    /// What the standard calls it, as `READ`.
+    pub fn name(self) -> &'static str
+        ensures { result.now ≡ function_name self }
+    {
+        match self {
+            Function::Confirm => "CONFIRM",
+            Function::Read => "READ",
+            Function::Write => "WRITE",
+            Function::Select => "SELECT",
+            Function::Operate => "OPERATE",
+            Function::DirectOperate => "DIRECT_OPERATE",
+            Function::DirectOperateNr => "DIRECT_OPERATE_NR",
+            Function::EnableUnsolicited => "ENABLE_UNSOLICITED",
+            Function::DisableUnsolicited => "DISABLE_UNSOLICITED",
+            Function::DelayMeasure => "DELAY_MEASURE",
+            Function::Response => "RESPONSE",
+            Function::UnsolicitedResponse => "UNSOLICITED_RESPONSE",
+        }
     }
 
     /// Whether it is a response's, and not a request's.

@@ -38,10 +38,13 @@ span_at spans substation kind = span_of (slice_index_or spans substation no_span
 abbrev pub HasIndex : List Spans → ℕ → IndexKind → ℕ → Type 0
 HasIndex spans substation kind index = index < (span_at spans substation kind).count
 
+-- an index of a substation whose indices stand so, as it stands above, if the substation has it
+abbrev pub above_in : Spans → IndexKind → ℕ → Option ℕ
+above_in spans kind index = (if nat_lt index (span_of spans kind).count then Some ((span_of spans kind).base + index) else None)
+
 -- a substation's index as it stands above, if the substation has it
 abbrev pub index_above : List Spans → ℕ → IndexKind → ℕ → Option ℕ
-index_above spans substation kind index =
-    (if nat_lt index (span_at spans substation kind).count then Some ((span_at spans substation kind).base + index) else None)
+index_above spans substation kind index = above_in (slice_index_or spans substation no_spans) kind index
 
 -- the same of the next substation
 abbrev pub one_on : ℕ × ℕ → ℕ × ℕ

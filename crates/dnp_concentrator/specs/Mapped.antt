@@ -1,6 +1,6 @@
 -- Definition: rows and commands through the index map: what stands below under an index of a substation's stands above
 -- under the index above, and is else the same.
-use Rattle.std.specs.Prelude.{ℕ, List, Option, filter_map}
+use Rattle.std.specs.Prelude.{ℕ, List, Option, filter_map, slice_index_or}
 use Rattle.std.specs.Option.{option_map, option_and_then}
 use Rattle.dnp_objects.specs.declared.row.Row.{Row}
 use Rattle.dnp_objects.specs.declared.lane.LaneRow.{LaneRow}
@@ -12,14 +12,17 @@ use Rattle.dnp_pointdb.specs.Events.{lane_of}
 use Rattle.dnp_pointdb.specs.Plan as points
 use Rattle.dnp_concentrator.specs.declared.span.Spans.{Spans}
 use Rattle.dnp_concentrator.specs.IndexKinds.{kind_of_points, kind_of_command}
-use Rattle.dnp_concentrator.specs.IndexMap.{index_above, index_below}
+use Rattle.dnp_concentrator.specs.IndexMap.{above_in, index_above, index_below, no_spans}
 
 -- ---- rows
 
+-- a row of a substation whose indices stand so, as it stands above
+abbrev pub row_in : Spans → Row → Option Row
+row_in spans row = option_map (λ index. record row { index = index }) (above_in spans (kind_of_points row.kind) row.index)
+
 -- a substation's row as it stands above
 abbrev pub row_above : List Spans → ℕ → Row → Option Row
-row_above spans substation row =
-    option_map (λ index. record row { index = index }) (index_above spans substation (kind_of_points row.kind) row.index)
+row_above spans substation row = row_in (slice_index_or spans substation no_spans) row
 
 -- whose row a row above is, and that row there
 abbrev pub row_below : List Spans → Row → Option (ℕ × Row)

@@ -1,6 +1,6 @@
 //! A concentrator's links to its substations.
 
-ghost use Rattle.std.specs.Prelude.{◌≡◌, ◌<◌, Ok, Err, IfOk, MatchResult, if◌then◌else◌, length, option_map};
+ghost use Rattle.std.specs.Prelude.{◌≡◌, ◌<◌, Ok, Err, IfOk, OnErr, OnOk, MatchResult, if◌then◌else◌, length, option_map};
 ghost use Rattle.dnp_appfragment.specs.Fragments.{IsRequest};
 ghost use Rattle.dnp_master.specs.Calls.{ask_answer};
 ghost use Rattle.dnp_master.specs.Requests.{request_for};
@@ -98,5 +98,25 @@ impl<Q: Lanes, B: Book> Concentrator<Q, B> {
         ensures stores { KeepsStores self.old self.new }
     {
         self.links[usize::from(substation)].ask(now, task)
+    }
+    /// Asks the substation a task at this moment, as `ask_below` does, but the request, to be sent, is put into the caller's
+    /// fragment, in place of what was there. A refusal leaves that as it was.
+    pub fn ask_below_into(
+        &mut self,
+        request: &mut Fragment,
+        substation: u8,
+        now: u64,
+        task: Task,
+    ) -> Result<(), AskFault>
+        requires { substation < length (links_of self.old) }
+        ensures answer { MatchResult result (λ _. ask_answer (link_at self.old substation).master task ≡ Ok request.new.items)
+            (λ fault. ask_answer (link_at self.old substation).master task ≡ Err fault) }
+        ensures reads { OnOk result (IsRequest request.new.items (request_for (link_at self.old substation).master.seq task)) }
+        ensures left { OnErr result (request.new ≡ request.old) }
+        ensures link { SetsLink self.old substation (spec.asking (link_at self.old substation) now task) self.new }
+        ensures core { core_of self.new ≡ core_of self.old }
+        ensures stores { KeepsStores self.old self.new }
+    {
+        self.links[usize::from(substation)].ask_into(request, now, task)
     }
 }

@@ -195,6 +195,21 @@ impl<J: JournalStore, B: Book> Centre<J, B> {
         self.relay.ask(now, task)
     }
 
+    /// Asks a task at this moment, as `ask` does, but the request, to be sent, is put into the caller's fragment, in place of
+    /// what was there. A refusal leaves that as it was.
+    pub fn ask_into(&mut self, request: &mut Fragment, now: u64, task: Task) -> Result<(), AskFault>
+        ensures answer { MatchResult result (λ _. ask_answer (link_of self.old).master task ≡ Ok request.new.items)
+            (λ fault. ask_answer (link_of self.old).master task ≡ Err fault) }
+        ensures reads { OnOk result (IsRequest request.new.items (request_for (link_of self.old).master.seq task)) }
+        ensures left { OnErr result (request.new ≡ request.old) }
+        ensures link { link_of self.new ≡ spec.asking (link_of self.old) now task }
+        ensures journal { journal_of self.new ≡ journal_of self.old }
+        ensures book { book_of self.new ≡ book_of self.old }
+        ensures indices { indices_of self.new ≡ indices_of self.old }
+    {
+        self.relay.ask_into(request, now, task)
+    }
+
     /// Takes in octets that came at this moment, as `Master::receive` does, with the same refusals: the
     /// events of a fragment that is taken are put into the journal by one append, if there are any rows, and
     /// only then it is confirmed.

@@ -1,7 +1,8 @@
 //! The index map between the substations and the station above them.
 
-ghost use Rattle.std.specs.Prelude.{◌≡◌, ◌↔◌, ◌≤◌, ◌<◌, ◌+◌, ℕ, IfOk, IfSome, IsTrue, true, Any, Err, length, map};
-ghost use Rattle.dnp_concentrator.specs.IndexMap.{IsMap, IsWide, IsTooWide, Meet, ShareIndex, Overlaps, span_of, index_above, index_below};
+ghost use Rattle.std.specs.Prelude.{◌≡◌, ◌↔◌, ◌≤◌, ◌<◌, ◌+◌, ℕ, IfOk, IfSome, IsTrue, true, Any, Err, length, map, slice_index_or};
+ghost use Rattle.dnp_concentrator.specs.declared.index_kind.IndexKind.{IndexKind as KindValue};
+ghost use Rattle.dnp_concentrator.specs.IndexMap.{IsMap, IsWide, IsTooWide, Meet, ShareIndex, Overlaps, no_spans, span_of, index_above, index_below};
 ghost use Rattle.dnp_concentrator.specs.steps.Order.{AreOrders};
 ghost use Rattle.dnp_concentrator.specs.Plan.{map_of, spans_of, KeepsLimits};
 
@@ -196,11 +197,17 @@ impl IndexMap {
     pub fn above(&self, substation: u8, kind: IndexKind, index: u16) -> Option<u16>
         ensures { result ≡ index_above self.now substation kind index }
     {
-        let span = self.spans.get(usize::from(substation))?.of(kind);
-        if usize::from(index) < span.count {
-            Some(span.base + index)
-        } else {
-            None
+        self.spans_of(substation).above(kind, index)
+    }
+
+    /// Where the indices of the substation with this number stand above; a number that is no substation's has none.
+    pub(crate) fn spans_of(&self, substation: u8) -> Spans
+        ensures spans { result ≡ slice_index_or self.now substation no_spans }
+        ensures narrow { (kind : KindValue) → (span_of result kind).base + (span_of result kind).count ≤ INDICES }
+    {
+        match self.spans.get(usize::from(substation)) {
+            Some(spans) => *spans,
+            None => Spans::none(),
         }
     }
 

@@ -1,13 +1,18 @@
 //! Rows and commands through the index map.
 
-ghost use Rattle.std.specs.Prelude.{◌≡◌, ◌<◌, IfSome, IfOk, All};
+ghost use Rattle.std.specs.Prelude.{◌≡◌, ◌+◌, ◌<◌, ◌≤◌, IfSome, IfOk, All};
+ghost use Rattle.std.specs.Option.{option_and_then};
 ghost use Rattle.dnp_objects.specs.Events.{IsEvent};
 ghost use Rattle.dnp_eventbuf.specs.Carried.{IsCarried};
+ghost use Rattle.dnp_pointdb.specs.declared.limits.TheConstants.{INDICES};
+ghost use Rattle.dnp_concentrator.specs.declared.index_kind.IndexKind.{IndexKind as KindValue};
+ghost use Rattle.dnp_concentrator.specs.IndexMap.{span_of};
 ghost use Rattle.dnp_concentrator.specs.Mapped as spec;
 
 use crate::index_kind::IndexKind;
 use crate::index_map::IndexMap;
 use crate::limits::MAX_SUBSTATIONS;
+use crate::span::Spans;
 use dnp_objects::{Command, Kind, Lane, LaneRow, Row};
 use dnp_pointdb::{PointPlan, lane_of};
 use std::alloc::{AllocError, Global};
@@ -84,16 +89,19 @@ fn lane_row(points: &PointPlan, row: Row) -> Option<LaneRow>
     Some(LaneRow { lane, row })
 }
 
-/// A substation's event as it is queued above: `points` are those above.
-fn queued_row(map: &IndexMap, points: &PointPlan, substation: u8, event: &Row) -> Option<LaneRow>
-    ensures { result ≡ spec.queued_row map.now points.now substation event.now }
+/// An event of a substation whose indices stand so, as it is queued above: `points` are those above.
+#[inline]
+fn queued_row(spans: &Spans, points: &PointPlan, event: &Row) -> Option<LaneRow>
+    requires { (kind : KindValue) → (span_of spans.now kind).base + (span_of spans.now kind).count ≤ INDICES }
+    ensures { result ≡ option_and_then (spec.lane_row points.now) (spec.row_in spans.now event.now) }
 {
-    lane_row(points, map.row_above(substation, event)?)
+    let index = spans.above(IndexKind::of_points(event.kind), event.index)?;
+    lane_row(points, Row { index, ..*event })
 }
 
 /// A substation's events as they are queued above, in order: each under its index above and in the lane of the class
 /// that the plan gives its point there, and else unchanged. An event that is of no point with a class above is passed
-/// over. `points` are those above.
+/// over. `points` are those above. Where the substation's indices stand is looked up once.
 pub fn queued_rows(
     alloc: Global,
     map: &IndexMap,
@@ -106,9 +114,10 @@ pub fn queued_rows(
 {
     // To count the substations is to know that their indices above have 16 bits.
     prove!(map.substations() <= MAX_SUBSTATIONS);
+    let spans = map.spans_of(substation);
     let mut rows = Vec::with_capacity(alloc, events.len())?;
     for event in events {
-        if let Some(row) = queued_row(map, points, substation, event) {
+        if let Some(row) = queued_row(&spans, points, event) {
             rows.push(row)?;
         }
     }

@@ -102,6 +102,17 @@ impl Relay {
         self.master.ask(now, task)
     }
 
+    /// The same, but the request is put into the caller's fragment, in place of what was there.
+    pub fn ask_into(&mut self, request: &mut Fragment, now: u64, task: Task) -> Result<(), AskFault>
+        ensures answer { MatchResult result (λ _. ask_answer self.old.master task ≡ Ok request.new.items)
+            (λ fault. ask_answer self.old.master task ≡ Err fault) }
+        ensures reads { OnOk result (ReadsAs request.new.items (request_for self.old.master.seq task)) }
+        ensures left { OnErr result (request.new ≡ request.old) }
+        ensures after { self.new ≡ spec.asking self.old now task }
+    {
+        self.master.ask_into(request, now, task)
+    }
+
     /// Asks to select this control, and makes it the one in progress.
     fn select(&mut self, now: u64, id: u64, command: Command) -> Fragment
         requires { master.is_idle self.old.master ≡ true }

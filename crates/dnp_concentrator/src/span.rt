@@ -1,5 +1,9 @@
 //! Where the indices of a substation stand above.
 
+ghost use Rattle.std.specs.Prelude.{◌≡◌, ◌+◌, ◌≤◌};
+ghost use Rattle.dnp_pointdb.specs.declared.limits.TheConstants.{INDICES};
+ghost use Rattle.dnp_concentrator.specs.IndexMap.{above_in, no_spans, span_of};
+
 use crate::index_kind::IndexKind;
 
 /// Consecutive indices above: those of one kind of a substation, whose indices there begin with 0.
@@ -27,8 +31,19 @@ pub struct Spans {
 }
 
 impl Spans {
-    ghost use Rattle.std.specs.Prelude.{◌≡◌};
-    ghost use Rattle.dnp_concentrator.specs.IndexMap.{span_of};
+    /// No indices.
+    pub(crate) fn none() -> Spans
+        ensures { result ≡ no_spans }
+    {
+        let none = Span { base: 0, count: 0 };
+        Spans {
+            binary: none,
+            counter: none,
+            analog: none,
+            output: none,
+            setpoint: none,
+        }
+    }
 
     /// Those of this kind.
     pub fn of(&self, kind: IndexKind) -> Span
@@ -40,6 +55,19 @@ impl Spans {
             IndexKind::Analog => self.analog,
             IndexKind::Output => self.output,
             IndexKind::Setpoint => self.setpoint,
+        }
+    }
+    /// The substation's index of this kind as it stands above, if the substation has it.
+    #[inline]
+    pub(crate) fn above(&self, kind: IndexKind, index: u16) -> Option<u16>
+        requires { (span_of self.now kind).base + (span_of self.now kind).count ≤ INDICES }
+        ensures { result ≡ above_in self.now kind index }
+    {
+        let span = self.of(kind);
+        if usize::from(index) < span.count {
+            Some(span.base + index)
+        } else {
+            None
         }
     }
 }

@@ -40,7 +40,7 @@ pub struct Taking {
 
 impl Taking {
     /// A writer that takes this many octets.
-    pub fn new(left: usize) -> Taking
+    pub(crate) fn new(left: usize) -> Taking
         ensures left { result.left ≡ left }
     {
         Taking {

@@ -7,15 +7,14 @@ use Rattle.std.specs.Map.{lookup}
 use Rattle.std.specs.Ordering.{nat_cmp}
 use Rattle.dnp_linkframe.specs.declared.frame.Frame.{Frame}
 use Rattle.dnp_transport.specs.Assembly.{Assembly, Idle, Stands}
-use Rattle.dnp_transport.proofs.Exits.{idle_stands, nothing_pushed}
 use Rattle.dnp_decode.specs.FrameLines.{says_data, is_data_of, data_of}
 use Rattle.dnp_decode.specs.steps.Remembered.{Ports, Remembers, direction_of, found, assembly_at}
 
 -- nothing is remembered before the first frame
-pub remembers_none : (ports : Ports) → ports.entries ≡ [] → Remembers [] ports
-remembers_none ports none = record {
+pub remembers_none : Stands [] Idle → (ports : Ports) → ports.entries ≡ [] → Remembers [] ports
+remembers_none idle ports none = record {
   each = λ s d low.
-      subst (λ (es : List (ℕ × Box Assembly)). Stands [] (found (lookup (is_at (nat_cmp (direction_of s d))) es))) (sym none) (idle_stands [] nothing_pushed);
+      subst (λ (es : List (ℕ × Box Assembly)). Stands [] (found (lookup (is_at (nat_cmp (direction_of s d))) es))) (sym none) idle;
 }
 
 -- a direction is told by its number

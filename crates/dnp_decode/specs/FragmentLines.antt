@@ -124,6 +124,12 @@ fault_place RangeBackward octets = length octets
 fault_place ObjectsCut octets = length octets
 fault_place CommonTime octets = length octets
 
+-- where the fault of a refused fragment lies: after its longest beginning that says something, or, where none does, at its function or
+-- at its end
+pub data IsFaultPlace (fault : AppFault) (octets : List ℕ) (place : ℕ) : Type 0 where
+  AfterBeginning : (s : Said) → IsLongest octets place s → IsFaultPlace fault octets place
+  AtFunction : HasNone octets → place ≡ fault_place fault octets → IsFaultPlace fault octets place
+
 -- the lines of a fragment that is read, of one that is refused after what was read, and of one that is refused at once
 pub data AreFragmentLines (octets : List ℕ) (lines : List Line) : Type 0 where
   IsRead : (s : Said) → said_at octets ≡ Ok s → lines ≡ said_lines s → AreFragmentLines octets lines

@@ -5,6 +5,7 @@ ghost use Rattle.dnp_decode.specs.StreamLines.{AreLines};
 use crate::line::Line;
 use crate::ports::Ports;
 use crate::stream::step;
+use dnp_transport::laws::a_push_goes_on;
 use std::alloc::{AllocError, Global};
 
 /// The lines of a stream of octets, in order: what is read in it and what is refused, from its link frames to the
@@ -18,6 +19,7 @@ use std::alloc::{AllocError, Global};
 pub fn decode(alloc: Global, stream: &[u8]) -> Result<Vec<Line>, AllocError>
     ensures { IfOk result (λ lines. AreLines [] stream.now lines.items) }
 {
+    a_push_goes_on();
     let mut lines = Vec::new(alloc);
     let mut ports = Ports::new(alloc);
     let mut done = 0;

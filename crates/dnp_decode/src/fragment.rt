@@ -3,7 +3,7 @@ ghost use Rattle.std.specs.Prelude.{◌≡◌, ◌∷◌, ◌++◌, List, OnOk, 
 ghost use Rattle.dnp_appfragment.specs.Seen.{head, Gives};
 ghost use Rattle.dnp_decode.specs.FragmentLines as spec;
 ghost use Rattle.dnp_decode.specs.declared.fragment.TheConstants.{TIME_OCTETS, DELAY_OCTETS};
-ghost use Rattle.dnp_decode.specs.FragmentLines.{Said, said, said_at, IsLongest, HasNone, AreFragmentLines};
+ghost use Rattle.dnp_decode.specs.FragmentLines.{Said, said, said_at, IsLongest, HasNone, IsFaultPlace, AreFragmentLines};
 ghost use Rattle.dnp_decode.specs.declared.line.Line.{Line as LineValue};
 
 use crate::line::Line;
@@ -82,8 +82,8 @@ fn point_line(header: &Header<'_>, k: usize) -> Option<Line>
     }
 }
 
-/// The line of object k of a header, if it has one.
-fn object_line(header: &Header<'_>, k: usize) -> Option<Line>
+/// The line of object k of a header, if it has one: its row, its command, the state or the time that it is.
+pub fn object_line(header: &Header<'_>, k: usize) -> Option<Line>
     ensures { result ≡ spec.object_line (head header.now) k }
 {
     match (header.group, header.variation) {
@@ -208,6 +208,17 @@ fn fault_place(fault: AppFault, octets: &[u8]) -> usize
     match fault {
         AppFault::FunctionUnknown => 1,
         _ => octets.len(),
+    }
+}
+
+/// Where the fault lies in a refused fragment, in octets from its beginning: after its longest beginning that is a fragment,
+/// or, where none is, at the function, or at the end where the octets are too few.
+pub fn refused_place(fault: AppFault, octets: &[u8]) -> usize
+    ensures { IsFaultPlace fault octets.now result }
+{
+    match longest(octets) {
+        Some(place) => place,
+        None => fault_place(fault, octets),
     }
 }
 

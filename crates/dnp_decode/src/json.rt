@@ -1,9 +1,7 @@
 //! The lines as members of JSON objects.
 
 use crate::line::Line;
-use crate::names::{
-    HEADER_CHECK_PLACE, Refusal, fault_name, function_name, link_function, setting_of,
-};
+use crate::names::{HEADER_CHECK_PLACE, Refusal, fault_name, link_function, setting_of};
 use dnp_appfragment::{Control, Range};
 use dnp_linkframe::FrameFault;
 use dnp_objects::{Command, Kind, Row, Status};
@@ -160,7 +158,7 @@ impl Display for Said {
         match self.0 {
             Line::Request { control, function } => {
                 let bits = Bits(control);
-                let function = function_name(function);
+                let function = function.name();
                 write!(
                     f,
                     "\"layer\":\"request\",{bits},\"function\":\"{function}\""
@@ -172,7 +170,7 @@ impl Display for Said {
                 iin,
             } => {
                 let bits = Bits(control);
-                let function = function_name(function);
+                let function = function.name();
                 let one = iin.one;
                 let two = iin.two;
                 write!(

@@ -14,5 +14,8 @@ mod stream;
 mod time;
 
 pub use decoding::decode;
+pub use fragment::{object_line, refused_place};
 pub use json::Members;
 pub use line::Line;
+pub use names::fault_name;
+pub use time::Moment;

@@ -1,6 +1,6 @@
 //! The standard's names of functions, and those of faults, and where a frame's faults lie.
 
-use dnp_appfragment::{AppFault, Function};
+use dnp_appfragment::AppFault;
 use dnp_linkframe::FrameFault;
 use dnp_objects::Command;
 
@@ -32,26 +32,8 @@ pub(crate) fn link_function(control: u8) -> &'static str {
     }
 }
 
-/// The name of the function of a fragment (IEEE Std 1815-2012, application layer: function codes).
-pub(crate) fn function_name(function: Function) -> &'static str {
-    match function {
-        Function::Confirm => "CONFIRM",
-        Function::Read => "READ",
-        Function::Write => "WRITE",
-        Function::Select => "SELECT",
-        Function::Operate => "OPERATE",
-        Function::DirectOperate => "DIRECT_OPERATE",
-        Function::DirectOperateNr => "DIRECT_OPERATE_NR",
-        Function::EnableUnsolicited => "ENABLE_UNSOLICITED",
-        Function::DisableUnsolicited => "DISABLE_UNSOLICITED",
-        Function::DelayMeasure => "DELAY_MEASURE",
-        Function::Response => "RESPONSE",
-        Function::UnsolicitedResponse => "UNSOLICITED_RESPONSE",
-    }
-}
-
 /// The name of the fault of a fragment.
-pub(crate) fn fault_name(fault: AppFault) -> &'static str {
+pub fn fault_name(fault: AppFault) -> &'static str {
     match fault {
         AppFault::Short => "Short",
         AppFault::FunctionUnknown => "FunctionUnknown",

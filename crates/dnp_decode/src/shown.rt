@@ -1,9 +1,7 @@
 //! The lines as texts, in the words of the standard.
 
 use crate::line::Line;
-use crate::names::{
-    HEADER_CHECK_PLACE, Refusal, fault_name, function_name, link_function, setting_of,
-};
+use crate::names::{HEADER_CHECK_PLACE, Refusal, fault_name, link_function, setting_of};
 use crate::time::Moment;
 use dnp_appfragment::{Control, Range};
 use dnp_linkframe::FrameFault;
@@ -194,7 +192,7 @@ impl Display for Own {
         match self.0 {
             Line::Request { control, function } => {
                 let bits = Bits(control);
-                let function = function_name(function);
+                let function = function.name();
                 write!(f, "request {bits} {function}")
             }
             Line::Response { control, iin, .. } => {

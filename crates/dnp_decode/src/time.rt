@@ -12,9 +12,9 @@ const CYCLE: u64 = 146_097;
 /// The days from 1 March of the year 0 to 1970-01-01.
 const TO_1970: u64 = 719_468;
 
-/// A moment in milliseconds since 1970-01-01 00:00 UTC.
+/// A moment in milliseconds since 1970-01-01 00:00 UTC, which is shown as `2026-11-25T03:00:01.000Z`.
 #[derive(Clone, Copy)]
-pub(crate) struct Moment(pub u64);
+pub struct Moment(pub u64);
 
 /// A day of the calendar.
 #[derive(Clone, Copy)]

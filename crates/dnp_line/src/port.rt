@@ -166,6 +166,16 @@ impl Port {
         }
     }
 
+    /// Makes another port the same as this one. No new room is made, and of a series or a fragment the octets in use
+    /// alone are written.
+    pub fn copy_into(&self, other: &mut Port)
+        ensures { other.new ≡ self.now }
+    {
+        other.link = self.link.copy();
+        other.number = self.number;
+        self.assembler.copy_into(&mut other.assembler);
+    }
+
     /// Forgets what was sent and taken: the next segment has the number 0, no fragment is begun, and the link states
     /// were never reset.
     pub fn reset(&mut self)

@@ -3,3 +3,4 @@ pub mod Gatherings
 pub mod KnownPoints
 pub mod LinkSteps
 pub mod Reported
+pub mod Selecting

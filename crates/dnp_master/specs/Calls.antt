@@ -14,6 +14,7 @@ use Rattle.dnp_appfragment.specs.EventRows.{events_in}
 use Rattle.dnp_appfragment.specs.Fragments.{Answered, request_octets, confirmation}
 use Rattle.dnp_appfragment.specs.Meaning.{response_at}
 use Rattle.dnp_pointdb.specs.Plan.{Plan}
+use Rattle.dnp_master.specs.declared.actions.Followed.{Followed}
 use Rattle.dnp_master.specs.declared.actions.MasterActions.{MasterActions}
 use Rattle.dnp_master.specs.declared.fault.AskFault.{AskFault}
 use Rattle.dnp_master.specs.declared.fault.AskFault.TheVariants.{Closed, Busy, NotSelected, BadTask}
@@ -180,6 +181,25 @@ heard s now (Ok answered) = response_of s now answered
 -- a closed master looks at nothing
 unfoldable pub receive_of : State → ℕ → List ℕ → Result Taking MasterFault
 receive_of s now octets = if s.is_open then heard s now (response_at octets) else Ok (unheeded s)
+
+-- ---- the same, where the caller gives the rows on, whatever the plan says of them
+
+abbrev pub is_heeded : Case → Bool
+is_heeded Unheeded = false
+is_heeded Report = true
+is_heeded (Awaited request) = true
+
+-- it is the next fragment of the response that is awaited, or a report
+abbrev pub is_awaited : State → Answered → Bool
+is_awaited s answered = s.is_open && is_heeded (case_of s answered)
+
+-- a closed master takes nothing
+abbrev pub follow_of : State → ℕ → Answered → Taking
+follow_of s now answered = if s.is_open then taken_as (case_of s answered) s now answered else unheeded s
+
+-- what the call answers
+abbrev pub followed_of : Taking → Followed
+followed_of t = record { send = t.confirm; outcome = t.outcome }
 
 -- ---- what the call answers
 

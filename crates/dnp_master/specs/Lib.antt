@@ -5,6 +5,7 @@ pub mod Rows
 pub mod State
 pub mod LinkCalls
 pub mod Taking
+pub mod Selecting
 pub mod Sinks
 -- Words of private steps.
 pub mod steps

@@ -7,9 +7,11 @@ ghost use Rattle.dnp_master.specs.Calls.{ask_answer, asked, receive_of, unheeded
 ghost use Rattle.dnp_master.specs.Rows.{is_reported};
 ghost use Rattle.dnp_master.specs.State.{State, closed, is_timed_out, ticked};
 ghost use Rattle.dnp_master.specs.LinkCalls.{Asks, PassesOver, TakesReport, TakesResponse};
+ghost use Rattle.dnp_master.specs.Selecting.{OperatesSelected, SelectsBySuccess};
 
 use crate::fault::AskFault;
 use dnp_appfragment::laws::{octets_say_a_request, what_is_spelled_is_a_fragment};
+use dnp_objects::laws::equality_is_decided;
 
 /// Octets that come are passed over, or are the response that is awaited, or a response that nobody
 /// asked for: which of them, and what is taken and confirmed, their control octet and the master's
@@ -46,4 +48,14 @@ pub fn a_confirm_reads_as_one()
 {
     octets_say_a_request();
     what_is_spelled_is_a_fragment();
+}
+
+/// An OPERATE is asked only while its own command stands selected; and of all responses that `Master::follow` takes only the
+/// answer SUCCESS to the select of a command makes that command stand selected.
+pub fn an_operate_follows_its_select()
+    ensures operates { OperatesSelected }
+    ensures selects { SelectsBySuccess }
+{
+    // (a law, for the proof: it does nothing)
+    equality_is_decided::<(), ()>();
 }

@@ -15,7 +15,7 @@ mod requesting;
 mod taking;
 mod task;
 
-pub use actions::MasterActions;
+pub use actions::{Followed, MasterActions};
 pub use dnp_eventbuf::Rows;
 pub use fault::{AskFault, MasterFault};
 pub use master::Master;

@@ -4,8 +4,9 @@ ghost use Rattle.dnp_master.specs.State as state;
 use crate::fault::AskFault;
 use crate::outcome::Echo;
 use crate::request::OpenRequest;
-use crate::requesting::{Fragment, request_for};
+use crate::requesting::{Fragment, put_request};
 use crate::task::Task;
+use dnp_appfragment::{Builder, Function};
 use dnp_objects::Command;
 use dnp_pointdb::{PointPlan, Times};
 use std::marker::Model;
@@ -24,6 +25,8 @@ pub struct Master {
     pub(crate) seq: u8,
     pub(crate) request: Option<OpenRequest>,
     pub(crate) selected: Option<Command>,
+    /// What requests are built in: kept, so that none of them makes room for a fragment.
+    pub(crate) builder: Builder,
 }
 
 impl Model for Master {
@@ -54,12 +57,13 @@ impl Drop for Master {
             seq: _,
             request: _,
             selected: _,
+            builder: _,
         } = self;
     }
 }
 
 impl Master {
-    ghost use Rattle.std.specs.Prelude.{◌≡◌, Ok, Err, IfOk, MatchResult};
+    ghost use Rattle.std.specs.Prelude.{◌≡◌, Ok, Err, IfOk, MatchResult, OnErr, OnOk};
     ghost use Rattle.dnp_appfragment.specs.Fragments.{IsRequest};
     ghost use Rattle.dnp_master.specs.Calls.{asked, ask_answer, may_follow};
     ghost use Rattle.dnp_master.specs.Requests.{request_for};
@@ -76,6 +80,7 @@ impl Master {
             seq: 0,
             request: None,
             selected: None,
+            builder: Builder::new(Function::Read, false),
         }
     }
 
@@ -134,17 +139,32 @@ impl Master {
         has_ended
     }
 
-    /// Asks a task at this moment, in milliseconds: the request, to be sent.
-    ///
-    /// Refused is, first of all, asking while the master is closed (`Closed`), then while another
-    /// response is awaited (`Busy`), then to carry out a command that doesn't stand selected
-    /// (`NotSelected`), and then a task without a class, one that enables or disables class 0, or a
-    /// time of 2^48 ms or more (`BadTask`). Nothing has changed then.
+    /// Asks a task at this moment, in milliseconds: the request, to be sent; as `ask_into`.
     pub fn ask(&mut self, now: u64, task: Task) -> Result<Fragment, AskFault>
         ensures answer { MatchResult result (λ request. ask_answer self.old task ≡ Ok request.items)
             (λ fault. ask_answer self.old task ≡ Err fault) }
         // The outstation reads it as that request.
         ensures reads { IfOk result (λ request. IsRequest request.items (request_for self.old.seq task)) }
+        ensures after { self.new ≡ asked self.old now task }
+    {
+        let mut request = Fragment::new();
+        self.ask_into(&mut request, now, task)?;
+        Ok(request)
+    }
+
+    /// Asks a task at this moment, in milliseconds. The request, to be sent, is put into the caller's fragment, in place of
+    /// what was there.
+    ///
+    /// Refused is, first of all, asking while the master is closed (`Closed`), then while another
+    /// response is awaited (`Busy`), then to carry out a command that doesn't stand selected
+    /// (`NotSelected`), and then a task without a class, one that enables or disables class 0, or a
+    /// time of 2^48 ms or more (`BadTask`). Nothing has changed then, and the fragment neither.
+    pub fn ask_into(&mut self, request: &mut Fragment, now: u64, task: Task) -> Result<(), AskFault>
+        ensures answer { MatchResult result (λ _. ask_answer self.old task ≡ Ok request.new.items)
+            (λ fault. ask_answer self.old task ≡ Err fault) }
+        // The outstation reads it as that request.
+        ensures reads { OnOk result (IsRequest request.new.items (request_for self.old.seq task)) }
+        ensures left { OnErr result (request.new ≡ request.old) }
         ensures after { self.new ≡ asked self.old now task }
     {
         if !self.is_open {
@@ -159,7 +179,7 @@ impl Master {
         if !task.is_good() {
             return Err(AskFault::BadTask);
         }
-        let request = request_for(&task, self.seq);
+        put_request(&mut self.builder, request, &task, self.seq);
         self.request = Some(OpenRequest {
             task,
             has_begun: false,
@@ -167,7 +187,7 @@ impl Master {
             ends: deadline(now, self.times.response_ms),
         });
         self.selected = None;
-        Ok(request)
+        Ok(())
     }
 
     /// Whether the task may be asked after what stands selected.

@@ -3,14 +3,17 @@
 ghost use Rattle.std.specs.Prelude.{◌≡◌, ◌≢◌, ◌+◌, ◌<◌, ◌⊎◌, false, true, [], All, IsTrue, OnOk, IfOk, IfErr, OnErr, Err, length};
 ghost use Rattle.std.specs.Result.{IsOkAnd};
 ghost use Rattle.dnp_objects.specs.Events.{IsEvent};
-ghost use Rattle.dnp_master.specs.Calls.{actions_of, has_rows, receive_of};
+ghost use Rattle.dnp_appfragment.specs.Whole.{response as answered};
+ghost use Rattle.dnp_master.specs.Calls.{actions_of, follow_of, followed_of, has_rows, is_awaited, receive_of};
 ghost use Rattle.dnp_master.specs.Sinks.{IsSinkFault, LeavesSink};
 ghost use Rattle.dnp_master.specs.Taking.{IsFit, WorksOut, taking_of};
 
-use crate::actions::MasterActions;
+use crate::actions::{Followed, MasterActions};
 use crate::fault::MasterFault;
 use crate::master::Master;
-use crate::taking::Taken;
+use crate::request::Case;
+use crate::taking::{Taken, confirm_for};
+use dnp_appfragment::Response;
 use dnp_eventbuf::{Rows, Sink};
 use dnp_objects::Row;
 use std::alloc::Global;
@@ -83,6 +86,42 @@ impl Master {
             dropped,
             outcome: next.outcome,
             restart: taken.restart,
+        }
+    }
+
+    /// Whether it takes this response, whatever the plan says of its rows: the next fragment of the response that is
+    /// awaited, or, at any time, a response in one fragment that nobody asked for.
+    pub fn awaits(&self, response: &Response<'_>) -> bool
+        ensures { result ≡ is_awaited self.now (answered response.now) }
+    {
+        self.is_open
+            && match self.case(response) {
+                Case::Unheeded => false,
+                Case::Report | Case::Awaited(_) => true,
+            }
+    }
+
+    /// Takes a response that came at this moment, in milliseconds, whose rows the caller has given on, whatever the
+    /// plan says of them: the master goes on, and the confirm may be sent. A response that it doesn't await
+    /// changes nothing, and nothing is to be sent.
+    pub fn follow(&mut self, now: u64, response: &Response<'_>) -> Followed
+        ensures after { self.new ≡ (follow_of self.old now (answered response.now)).state }
+        ensures answer { result ≡ followed_of (follow_of self.old now (answered response.now)) }
+    {
+        if !self.is_open {
+            return Followed::NOTHING;
+        }
+        let next = match self.case(response) {
+            Case::Unheeded => return Followed::NOTHING,
+            Case::Report => self.unchanged(),
+            Case::Awaited(request) => self.advance(now, &request, response),
+        };
+        self.seq = next.seq;
+        self.request = next.request;
+        self.selected = next.selected;
+        Followed {
+            send: confirm_for(response.control),
+            outcome: next.outcome,
         }
     }
 

@@ -126,15 +126,25 @@ fn function_for(task: &Task) -> Function
     }
 }
 
-/// The request of a task, with this sequence number.
-pub(crate) fn request_for(task: &Task, seq: u8) -> Fragment
+/// Puts octets into a fragment, for which it has room, in place of what was there.
+fn refill(fragment: &mut Fragment, octets: &[u8])
+    requires { length octets.now ≤ MAX_FRAGMENT }
+    ensures { fragment.new.items ≡ octets.now }
+{
+    fragment.clear();
+    fragment.try_extend_from_slice(octets).unwrap();
+}
+
+/// Puts the request of a task, with this sequence number, into a fragment, in place of what was there. It is built in a
+/// builder that is kept for all requests.
+pub(crate) fn put_request(builder: &mut Builder, request: &mut Fragment, task: &Task, seq: u8)
     requires seq { seq < 16 }
     requires good { IsTrue (spec.is_good task.now) }
-    ensures octets { result.items ≡ request_octets (spec.request_for seq task.now) }
-    ensures reads { IsRequest result.items (spec.request_for seq task.now) }
+    ensures octets { request.new.items ≡ request_octets (spec.request_for seq task.now) }
+    ensures reads { IsRequest request.new.items (spec.request_for seq task.now) }
 {
-    let mut builder = Builder::new(function_for(task), false);
-    put_headers(&mut builder, task);
+    builder.restart(function_for(task), false);
+    put_headers(builder, task);
     let control = Control {
         fir: true,
         fin: true,
@@ -142,5 +152,7 @@ pub(crate) fn request_for(task: &Task, seq: u8) -> Fragment
         uns: false,
         seq,
     };
-    builder.finish(control, Iin::NONE)
+    // What is left says that the fragment fits.
+    let _left = builder.left();
+    refill(request, builder.fragment(control, Iin::NONE));
 }

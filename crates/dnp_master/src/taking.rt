@@ -89,7 +89,7 @@ fn is_next(seq: u8, request: &OpenRequest, control: Control) -> bool
 }
 
 /// The confirm of a fragment, where it asks for one.
-fn confirm_for(control: Control) -> Option<[u8; 2]>
+pub(crate) fn confirm_for(control: Control) -> Option<[u8; 2]>
     ensures { result ≡ spec.confirm_for control }
 {
     if control.con {
@@ -121,7 +121,7 @@ fn selected_by(task: &Task, echo: &Echo) -> Option<Command>
 
 impl Master {
     /// What a response is to the master.
-    fn case(&self, response: &Response<'_>) -> Case
+    pub(crate) fn case(&self, response: &Response<'_>) -> Case
         ensures { result ≡ spec.case_of self.now (answered response.now) }
     {
         if is_report(response.function, response.control) {
@@ -139,7 +139,7 @@ impl Master {
     }
 
     /// Nothing changes.
-    fn unchanged(&self) -> Next
+    pub(crate) fn unchanged(&self) -> Next
         ensures state { with_next self.now result ≡ self.now }
         ensures outcome { result.outcome ≡ None }
         ensures seq { result.seq < 16 }
@@ -196,7 +196,7 @@ impl Master {
     }
 
     /// The next fragment of the response to this request came, at this moment.
-    fn advance(&self, now: u64, request: &OpenRequest, response: &Response<'_>) -> Next
+    pub(crate) fn advance(&self, now: u64, request: &OpenRequest, response: &Response<'_>) -> Next
         ensures taking { spec.taken_as (Case.Awaited request.now) self.now now (answered response.now)
             ≡ spec.taking (answered response.now) (with_next self.now result) self.now.plan result.outcome }
         ensures seq { result.seq < 16 }

@@ -18,7 +18,6 @@ use Rattle.std.proofs.Math.ListN.{length-set}
 use Rattle.dnp_controls.specs.Panel.{Panel}
 use Rattle.dnp_controls.specs.Selecting.{Select}
 use Rattle.dnp_objects.specs.declared.limits.TheConstants.{MAX_FRAGMENT}
-use Rattle.dnp_appfragment.proofs.Places.{any_place}
 use Rattle.dnp_outstation.specs.Items.{first_place, last_in, is_inside}
 use Rattle.dnp_outstation.specs.State.{State}
 use Rattle.dnp_outstation.specs.Content.{Content, Executed, plain, answered, content_of, for_request, by_function, read_content, source_of, refused, written, write_bits, time_written, enabled_after, switched, class_in, no_delay, bits_of, parameter_error, no_func_code_support}
@@ -67,7 +66,7 @@ unfolding takes_of rules objects object_content
 delay_header = record { object = refl; fits = omega arith; forward = tt; objects = refl }
 
 pub delay_stands : (context : Context) → IsHeaderAt form.Response context no_delay
-delay_stands context = any_place form.Response context no_delay delay_header refl refl
+delay_stands context = record { header = delay_header; common = refl; timed = λ relative. absurd (cc) }
 
 pub no_headers : HoldNoEvents []
 no_headers = record { stand = tt; none = refl }

@@ -14,7 +14,6 @@ use Rattle.dnp_appfragment.specs.declared.header.Range.{Range}
 use Rattle.std.proofs.lemmas.List.Concat.{flat_map-append}
 use Rattle.dnp_appfragment.specs.Built.{Built, heads, size, with_header}
 use Rattle.dnp_objects.specs.declared.limits.TheConstants.{MAX_FRAGMENT}
-use Rattle.dnp_appfragment.proofs.Places.{any_place}
 use Rattle.dnp_outstation.specs.Controls.{command_at, object_in, with_status, answered_object, answered_from, answered_head, headers_with}
 use Rattle.dnp_outstation.proofs.ControlCommands.{more_from}
 
@@ -190,7 +189,11 @@ pub answered_header : (code : Command → ℕ) (h : Head) → IsHeader form.Comm
     → IsHeaderAt form.Response context (answered_head code h)
 answered_header code h is none context =
     let of = of_commands h is in
-    any_place form.Response context (answered_head code h) (of.answers (answered_head code h).octets (answered_length code h is)) none of.other
+    record {
+      header = of.answers (answered_head code h).octets (answered_length code h is);
+      common = none ∙ sym (ap (λ (b : Bool). cond b context None) of.other);
+      timed = λ relative. absurd (cc (sym of.other ∙ relative));
+    }
 
 -- in a request it has no common time
 pub no_common : (context : Context) (h : Head) → IsHeaderAt form.Command context h → h.common ≡ None

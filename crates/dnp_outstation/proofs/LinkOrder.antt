@@ -14,7 +14,6 @@ use Rattle.dnp_appfragment.specs.Fragments.{looked_at}
 use Rattle.dnp_appfragment.specs.Headers.{Head}
 use Rattle.dnp_appfragment.specs.Reading.{◌>>=◌, headers_at}
 use Rattle.dnp_appfragment.specs.Table.{form_of, function_octet, function_of, is_response}
-use Rattle.dnp_appfragment.proofs.Functions.{function_found}
 use Rattle.dnp_appfragment.specs.Fragments.{Asked}
 use Rattle.dnp_appfragment.specs.Meaning.{control_of, function_at, request_at}
 use Rattle.dnp_controls.specs.Panel.{Panel}
@@ -141,56 +140,34 @@ again_order s now octets last is = go last.reply
 
 -- ---- what a request is answered
 
-read_only : (octets : List ℕ) (r : Asked) → request_at octets ≡ Ok r → r.function ≡ function.Read → function_in octets ≡ function_octet function.Read
-unfolding request_at
-read_only [] r is read = absurd (cc)
-read_only (control ∷ []) r is read = absurd (cc)
-read_only (control ∷ code ∷ body) r is read = by (function_of code) (function_found code) is
-  where
-    by_headers : (f : Function) → function_octet f ≡ code → (hs : Result (List Head) AppFault)
-        → (hs >>= λ (x : List Head). Ok (record { control = control_of control; function = f; headers = x })) ≡ Ok r
-        → code ≡ function_octet function.Read
-    by_headers f octet (Err fault) e = absurd (cc)
-    by_headers f octet (Ok hs) e =
-        let same : f ≡ r.function = cc in
-        sym octet ∙ ap function_octet (same ∙ read)
-
-    by_response : (b : Bool) (f : Function) → function_octet f ≡ code
-        → ((if b then Err FunctionUnknown else Ok f) >>= λ (g : Function). headers_at (form_of g) (looked_at (form_of g) body)
-        >>= λ (x : List Head). Ok (record { control = control_of control; function = g; headers = x })) ≡ Ok r → code ≡ function_octet function.Read
-    by_response true f octet e = absurd (cc)
-    by_response false f octet e = by_headers f octet (headers_at (form_of f) (looked_at (form_of f) body)) e
-
-    by : (o : Option Function) → IfSome o (λ f. function_octet f ≡ code)
-        → (function_at false o >>= λ (g : Function). headers_at (form_of g) (looked_at (form_of g) body)
-        >>= λ (x : List Head). Ok (record { control = control_of control; function = g; headers = x })) ≡ Ok r → code ≡ function_octet function.Read
-    by None octet e = absurd (cc)
-    by (Some f) octet e = by_response (is_response f) f octet e
+-- what the crate of fragments promises of a request that octets say
+abbrev pub FunctionLaw : Type 0
+FunctionLaw = (octets : List ℕ) (r : Asked) → request_at octets ≡ Ok r → function_in octets ≡ function_octet r.function
 
 no_left : (octets : List ℕ) (s : State) (bits : ℕ) → LeavesOfReads octets (refused s bits).content
 no_left octets s bits = λ left. absurd (cc)
 
-function_leaves : (octets : List ℕ) (s : State) (o : Panel) (r : Asked) (f : Function) → request_at octets ≡ Ok r → r.function ≡ f
+function_leaves : FunctionLaw → (octets : List ℕ) (s : State) (o : Panel) (r : Asked) (f : Function) → request_at octets ≡ Ok r → r.function ≡ f
     → LeavesOfReads octets (by_function s o r.headers f).content
-function_leaves octets s o r function.Read is read = by (list_all (is_inside (source_of s o)) r.headers)
+function_leaves law octets s o r function.Read is read = by (list_all (is_inside (source_of s o)) r.headers)
   where
     by : (b : Bool) → LeavesOfReads octets (if b then answered s (read_content s o (last_in s.lanes) first_place r.headers)
         else refused s parameter_error).content
-    by true = λ left. read_only octets r is read
+    by true = λ left. law octets r is ∙ ap function_octet read
     by false = λ left. absurd (cc)
-function_leaves octets s o r function.Write is read = by (write_bits r.headers == 0)
+function_leaves law octets s o r function.Write is read = by (write_bits r.headers == 0)
   where
     by : (b : Bool) → LeavesOfReads octets (if b then record (answered (written s r.headers) (plain 0 [])) { time = time_written r.headers }
         else refused s (write_bits r.headers)).content
     by true = λ left. absurd (cc)
     by false = λ left. absurd (cc)
-function_leaves octets s o r function.EnableUnsolicited is read = λ left. absurd (cc)
-function_leaves octets s o r function.DisableUnsolicited is read = λ left. absurd (cc)
-function_leaves octets s o r function.DelayMeasure is read = λ left. absurd (cc)
-function_leaves octets s o r _ is read = λ left. absurd (cc)
+function_leaves law octets s o r function.EnableUnsolicited is read = λ left. absurd (cc)
+function_leaves law octets s o r function.DisableUnsolicited is read = λ left. absurd (cc)
+function_leaves law octets s o r function.DelayMeasure is read = λ left. absurd (cc)
+function_leaves law octets s o r _ is read = λ left. absurd (cc)
 
-content_leaves : (s : State) (o : Panel) (now : ℕ) (octets : List ℕ) → LeavesOfReads octets (content_at s o now octets).content
-content_leaves s o now octets = by (is_control octets)
+content_leaves : FunctionLaw → (s : State) (o : Panel) (now : ℕ) (octets : List ℕ) → LeavesOfReads octets (content_at s o now octets).content
+content_leaves law s o now octets = by (is_control octets)
   where
     carried : (r : Result (Outcome × List Head) ℕ) → LeavesOfReads octets (carried_out s r).content
     carried (Err bits) = λ left. absurd (cc)
@@ -201,7 +178,7 @@ content_leaves s o now octets = by (is_control octets)
     silent false x leaves = leaves
 
     of_request : (r : Result Asked AppFault) → request_at octets ≡ r → LeavesOfReads octets (for_request s o r).content
-    of_request (Ok r) is = function_leaves octets s o r r.function is refl
+    of_request (Ok r) is = function_leaves law octets s o r r.function is refl
     of_request (Err fault) is = no_left octets s (bits_of fault)
 
     by : (b : Bool) → LeavesOfReads octets (if b then control_content s o now octets else content_of s o octets).content
@@ -253,8 +230,9 @@ unsolicited_order s o now (Some w) is =
     held_order (unsolicited_confirmed s w) o now s.core.session.last
     (record { number = is.number; classes = is.classes; held = is.held; several = is.several }) is.held
 
-pub received_order : (s : State) (o : Panel) (now : ℕ) (octets : List ℕ) → IsInOrder s.core → IsInOrder (connection_after s o now octets).state.core
-received_order s o now octets is = go (case_of s.core octets) (case_says s.core octets)
+pub received_order : FunctionLaw → (s : State) (o : Panel) (now : ℕ) (octets : List ℕ) → IsInOrder s.core
+    → IsInOrder (connection_after s o now octets).state.core
+received_order law s o now octets is = go (case_of s.core octets) (case_says s.core octets)
   where
     again : (last : Option LastRequest) → IsInOrder (with_that s last (on_again s now octets)).state.core
     again None = is
@@ -273,7 +251,7 @@ received_order s o now octets is = go (case_of s.core octets) (case_says s.core 
     go Asks says =
         end_order now (on_request s o now octets)
         (done_order now (control_in octets).seq (asked s octets) o (content_at (asked s octets) o now octets)
-        (content_done AnyHeaders (asked s octets) o now octets (any_fine octets)) is.number is.classes (content_leaves (asked s octets) o now octets))
+        (content_done AnyHeaders (asked s octets) o now octets (any_fine octets)) is.number is.classes (content_leaves law (asked s octets) o now octets))
 
 -- ---- time, a new reading, opening and restart
 

@@ -1,15 +1,14 @@
 -- What a quiet outstation makes of a READ of classes 1, 2 and 3 that is not its last request.
 use Rattle.std.proofs.Common.{◌≡◌, Bool, true, false, not, ◌&&◌, ◌||◌, ◌==◌, if◌then◌else◌, refl, sym, ap, ◌∙◌, subst, ℕ, ◌<◌, nat_le, nat_lt, List, [], length, Option, None, Some, is_none, is_some, Result, Ok, arith}
 use Rattle.std.proofs.lemmas.Bool.{and_parts, and_right, or_parts}
-use Rattle.dnp_appfragment.specs.Control.{ControlBits, IsControl}
+use Rattle.dnp_appfragment.specs.Control.{ControlBits, IsControl, control_octet}
 use Rattle.dnp_appfragment.specs.Fragments.{Answered, Asked, request_octets, response_octets}
 use Rattle.dnp_appfragment.specs.Headers.{AreHeaders, Head, begin}
-use Rattle.dnp_appfragment.specs.Meaning.{request_at, response_at}
+use Rattle.dnp_appfragment.specs.Meaning.{control_of, request_at, response_at}
 use Rattle.dnp_appfragment.specs.Table.{form_of, is_response, rules, takes_of}
 use Rattle.dnp_appfragment.specs.declared.table.Form.TheVariants as form
 use Rattle.dnp_appfragment.specs.declared.fault.AppFault.{AppFault}
 use Rattle.dnp_appfragment.specs.declared.function.Function.TheVariants as function
-use Rattle.dnp_appfragment.proofs.Controls.{octet_of_control}
 use Rattle.dnp_controls.specs.Panel.{Panel}
 use Rattle.dnp_controls.specs.Selecting.{deadline}
 use Rattle.dnp_eventbuf.specs.Sound.{IsSound}
@@ -27,13 +26,17 @@ use Rattle.dnp_outstation.specs.declared.case.Case.TheVariants.{Again, Asks, Pas
 use Rattle.dnp_outstation.specs.declared.offer.place.Place.{Place}
 use Rattle.dnp_outstation.specs.declared.session.Awaited.{Awaited}
 use Rattle.dnp_outstation.specs.declared.session.Unsolicited.{Unsolicited}
-use Rattle.dnp_appfragment.proofs.Places.{any_place}
 use Rattle.dnp_outstation.specs.Polled.{Offers, are_all_polled, poll_octets, poll_request, polled_headers, polled_rows}
 use Rattle.dnp_outstation.proofs.PolledLayout.{IsOffered, read_offered}
 use Rattle.dnp_outstation.proofs.PolledNone.{lanes_are_empty, no_rows_polled, none_enabled}
 
+-- what the crate of fragments promises of a control octet
+abbrev pub ControlLaw : Type 0
+ControlLaw = (control : ControlBits) → IsControl control → control_of (control_octet control) ≡ control
+
 -- what lower crates promise of requests and responses
 pub record OfferLaws : Type 0 where
+  pub is_control : ControlLaw
   pub is_request : (asked : Asked) → IsControl asked.control → is_response asked.function ≡ false
       → AreHeaders (form_of asked.function) begin asked.headers → request_at (request_octets asked) ≡ Ok asked
   pub is_answer : (answered : Answered) (s : Source) (stood : ℕ) (place : Place) (headers : List Head)
@@ -73,22 +76,22 @@ quiet_parts c quiet =
 abbrev asked_control : ℕ → ControlBits
 asked_control seq = record { fir = true; fin = true; con = false; uns = false; seq = seq }
 
-control_is : (seq : ℕ) → seq < 16 → control_in (poll_octets seq) ≡ asked_control seq
-control_is seq low = octet_of_control (asked_control seq) low
+control_is : ControlLaw → (seq : ℕ) → seq < 16 → control_in (poll_octets seq) ≡ asked_control seq
+control_is law seq low = law (asked_control seq) low
 
-looked_at : (c : Core) (seq : ℕ) → seq < 16 → c.is_open ≡ true → is_looked_at c (poll_octets seq) ≡ true
-looked_at c seq low opens =
+looked_at : ControlLaw → (c : Core) (seq : ℕ) → seq < 16 → c.is_open ≡ true → is_looked_at c (poll_octets seq) ≡ true
+looked_at law c seq low opens =
     let octets : List ℕ = poll_octets seq in
     let bits : ControlBits → Bool = λ k. (k.fir && k.fin) && (nat_lt (function_in octets) 129 && (not k.uns || function_in octets == 0)) in
     ap (λ (b : Bool). (b && (nat_le 2 (length octets) && nat_le (length octets) MAX_FRAGMENT)) && bits (control_in octets)) opens
-    ∙ ap (λ (k : ControlBits). (true && (nat_le 2 (length octets) && nat_le (length octets) MAX_FRAGMENT)) && bits k) (control_is seq low)
+    ∙ ap (λ (k : ControlBits). (true && (nat_le 2 (length octets) && nat_le (length octets) MAX_FRAGMENT)) && bits k) (control_is law seq low)
 
-asks : (c : Core) (seq : ℕ) → seq < 16 → IsQuiet c → is_last_request c.session (poll_octets seq) ≡ false → case_of c (poll_octets seq) ≡ Asks
-asks c seq low quiet other =
+asks : ControlLaw → (c : Core) (seq : ℕ) → seq < 16 → IsQuiet c → is_last_request c.session (poll_octets seq) ≡ false → case_of c (poll_octets seq) ≡ Asks
+asks law c seq low quiet other =
     let octets : List ℕ = poll_octets seq in
     let by_wait : Bool → Case = λ b. if b then Waits else Asks in
     let by_last : Bool → Case = λ b. if b then Again else by_wait (is_some c.session.unsolicited) in
-    ap (λ (b : Bool). if not b then PassedOver else by_last (is_last_request c.session octets)) (looked_at c seq low quiet.is_open)
+    ap (λ (b : Bool). if not b then PassedOver else by_last (is_last_request c.session octets)) (looked_at law c seq low quiet.is_open)
     ∙ ap by_last other
     ∙ ap (λ (o : Option Unsolicited). by_wait (is_some o)) quiet.unsolicited
 
@@ -104,10 +107,10 @@ answer_of s o now seq = responds (asked s (poll_octets seq)) now (last_in s.lane
 are_read : AreHeaders form.Read begin polled_headers
 unfolding takes_of rules content_of objects
 are_read = (
-  any_place form.Read _ _ (record { object = refl; fits = tt; forward = tt; objects = refl }) refl refl,
+  record { header = record { object = refl; fits = tt; forward = tt; objects = refl }; common = refl; timed = λ relative. absurd (cc) },
   (
-    any_place form.Read _ _ (record { object = refl; fits = tt; forward = tt; objects = refl }) refl refl,
-    (any_place form.Read _ _ (record { object = refl; fits = tt; forward = tt; objects = refl }) refl refl, tt),
+    record { header = record { object = refl; fits = tt; forward = tt; objects = refl }; common = refl; timed = λ relative. absurd (cc) },
+    (record { header = record { object = refl; fits = tt; forward = tt; objects = refl }; common = refl; timed = λ relative. absurd (cc) }, tt),
   ),
 )
 
@@ -120,7 +123,7 @@ answers laws s o now seq low =
     let octets : List ℕ = poll_octets seq in
     let t : State = asked s octets in
     ap (λ (r : Result Asked AppFault). replied now (control_in octets).seq (for_request t o r)) (is_asked laws seq low)
-    ∙ ap (λ (k : ControlBits). responds t now (last_in s.lanes) k.seq (content_for s o)) (control_is seq low)
+    ∙ ap (λ (k : ControlBits). responds t now (last_in s.lanes) k.seq (content_for s o)) (control_is laws.is_control seq low)
 
 -- ---- the end of the call
 
@@ -212,7 +215,7 @@ module _ (laws : OfferLaws) (s : State) (o : Panel) (now seq : ℕ) (low : seq <
 
   pub answer_is : is_last_request s.core.session (poll_octets seq) ≡ false → connection_after s o now (poll_octets seq) ≡ answer_of s o now seq
   answer_is other =
-      ap (received s o now (poll_octets seq)) (asks s.core seq low quiet other)
+      ap (received s o now (poll_octets seq)) (asks laws.is_control s.core seq low quiet other)
       ∙ ap (at_end now) (answers laws s o now seq low)
       ∙ ends_still now (answer_of s o now seq) starts_none
 
@@ -221,9 +224,10 @@ module _ (laws : OfferLaws) (s : State) (o : Panel) (now seq : ℕ) (low : seq <
 
 -- ---- the last request again
 
-pub comes_again : (c : Core) (seq : ℕ) → seq < 16 → c.is_open ≡ true → is_last_request c.session (poll_octets seq) ≡ true → case_of c (poll_octets seq) ≡ Again
-comes_again c seq low opens again =
+pub comes_again : ControlLaw → (c : Core) (seq : ℕ) → seq < 16 → c.is_open ≡ true → is_last_request c.session (poll_octets seq) ≡ true
+    → case_of c (poll_octets seq) ≡ Again
+comes_again law c seq low opens again =
     let octets : List ℕ = poll_octets seq in
     let by_wait : Bool → Case = λ b. if b then Waits else Asks in
     let by_last : Bool → Case = λ b. if b then Again else by_wait (is_some c.session.unsolicited) in
-    ap (λ (b : Bool). if not b then PassedOver else by_last (is_last_request c.session octets)) (looked_at c seq low opens) ∙ ap by_last again
+    ap (λ (b : Bool). if not b then PassedOver else by_last (is_last_request c.session octets)) (looked_at law c seq low opens) ∙ ap by_last again

@@ -34,7 +34,9 @@ ghost use Rattle.dnp_outstation.specs.Connection.{has_rows, control_for, control
 ghost use Rattle.dnp_outstation.specs.Calls.{connection_after, tick_of, change_of, opened_of, restart_of};
 
 use crate::laws::octets_say_what_is_held;
-use dnp_appfragment::laws::{octets_say_a_request, what_is_spelled_is_said};
+use dnp_appfragment::laws::{
+    octets_say_a_request, octets_say_their_control_and_function, what_is_spelled_is_said,
+};
 use dnp_controls::laws::an_operate_is_answered_by_its_select;
 use dnp_eventbuf::link_laws::{a_release_is_by_ids, each_row_stands_once};
 use dnp_objects::Command;
@@ -257,4 +259,6 @@ pub fn calls_keep_a_connection_in_order()
         → IsInOrder s.core → IsInOrder (change_of s now kind index reading made).state.core }
     ensures closed { (s : State) → IsInOrder s.core → IsInOrder (closed s.core) }
     ensures restarted { (s : State) (keep : Bool) → IsInOrder (restart_of s keep).core }
-{}
+{
+    octets_say_their_control_and_function();
+}

@@ -24,7 +24,7 @@ use crate::laws::{a_release_takes_what_the_octets_said, octets_say_what_is_held}
 use crate::link_laws::{
     a_confirm_releases_what_its_fragment_reported, commands_are_performed_as_they_are_asked,
 };
-use dnp_appfragment::laws::what_is_spelled_is_said;
+use dnp_appfragment::laws::{octets_say_their_control_and_function, what_is_spelled_is_said};
 
 /// A quiet outstation answers a READ of classes 1, 2 and 3 that isn't its last request with the first rows of its lanes, one
 /// lane after another, as many as fit into a fragment. The confirm of that fragment takes just these out of the lanes. As its
@@ -38,6 +38,7 @@ pub fn a_quiet_outstation_offers_its_events()
     ensures confirmed { (s : State) (o : Panel) (now seq : ℕ) → seq < 16 → IsSound s.lanes → s.core.is_open ≡ true
         → Awaits seq (polled_ids s.lanes) s → Releases s (connection_after s o now (confirm_octets seq)) }
 {
+    octets_say_their_control_and_function();
     what_is_spelled_is_said();
     a_release_takes_what_the_octets_said();
     a_confirm_releases_what_its_fragment_reported();
@@ -55,5 +56,6 @@ pub fn a_fragment_of_classes_is_said_and_released()
         → c.session.unsolicited ≡ Some w → w.seq ≡ seq
         → case_of c (request_octets (confirmation seq true)) ≡ case.ConfirmsUnsolicited }
 {
+    octets_say_their_control_and_function();
     octets_say_what_is_held();
 }

@@ -9,7 +9,7 @@ use Rattle.dnp_pointdb.specs.declared.state.BlockState.{BlockState}
 use Rattle.dnp_pointdb.specs.declared.fault.ChangeFault.{ChangeFault}
 use Rattle.dnp_pointdb.specs.declared.fault.ChangeFault.TheVariants.{ValueRange, TimeRange}
 use Rattle.dnp_pointdb.specs.Ranges.{is_carried, is_in_time, is_in_range}
-use Rattle.dnp_pointdb.specs.Database.{state_in, updated_in, checked, made_from, answer_in, new_state}
+use Rattle.dnp_pointdb.specs.Database.{state_in, updated_in, checked, set_from, made_from, answer_in, new_state}
 use Rattle.dnp_pointdb.specs.Events.{event_of}
 use Rattle.dnp_pointdb.specs.steps.Order.{extents, place_in}
 use Rattle.dnp_pointdb.proofs.Lookups.{lookup_found, lookup_lacks}
@@ -24,6 +24,24 @@ out_of_range : (s : PointState) (fault : ChangeFault) (carried timely : Bool) �
 out_of_range s fault true true is = absurd (cc)
 out_of_range s fault true false is = refl
 out_of_range s fault false timely is = refl
+
+-- what is asked of the reading alone
+pub can_have : (s : PointState) (kind : Kind) (reading : Reading) → set_from (checked (Some s) kind reading) ≡ Ok tt → is_in_range kind reading ≡ true
+can_have s kind reading = by (is_carried kind reading) (is_in_time reading.time)
+  where
+    by : (carried timely : Bool) → set_from (tested s carried timely) ≡ Ok tt → carried && timely ≡ true
+    by true true is = refl
+    by true false is = absurd (cc)
+    by false timely is = absurd (cc)
+
+cannot_have : (s : PointState) (kind : Kind) (reading : Reading) (fault : ChangeFault) → set_from (checked (Some s) kind reading) ≡ Err fault
+    → checked (Some s) kind reading ≡ Err fault
+cannot_have s kind reading fault = by (is_carried kind reading) (is_in_time reading.time)
+  where
+    by : (carried timely : Bool) → set_from (tested s carried timely) ≡ Err fault → tested s carried timely ≡ Err fault
+    by true true is = absurd (cc)
+    by true false is = cc
+    by false timely is = cc
 
 -- the row that is made of a point that can have the reading
 made_of : (s : PointState) (kind : Kind) (index : ℕ) (reading : Reading) (made : Option LaneRow) (carried timely : Bool) → carried && timely ≡ true
@@ -63,6 +81,16 @@ state_in-place blocks index n p b s at b_is s_is =
 
 no_block : BlockState
 no_block = record { base = 0; points = [] }
+
+-- a reading that no point can have is refused to the one that was found
+pub refused_there : (blocks : List BlockState) (index n p : ℕ) (kind : Kind) (reading : Reading) (fault : ChangeFault)
+    → place_in (extents blocks) index ≡ Some (n, p) → ((s : PointState) → set_from (checked (Some s) kind reading) ≡ Err fault)
+    → checked (state_in blocks index) kind reading ≡ Err fault
+refused_there blocks index n p kind reading fault at refused =
+    let blank : PointState = new_state (record { class = 0; deadband = 0 }) in
+    let s : PointState = get_or (get_or blocks n no_block).points p blank in
+    ap (λ (o : Option PointState). checked o kind reading) ((lookup_found blocks index (n, p) at).state no_block blank)
+    ∙ cannot_have s kind reading fault (refused s)
 
 -- another point in the place of the one that was found
 put_at : (blocks after : List BlockState) (index n p : ℕ) (s x : PointState) (f : PointState → PointState)

@@ -2,11 +2,12 @@
 use Rattle.std.proofs.Common.{◌≡◌, ℕ, zero, suc, ◌+◌, ◌-◌, ◌<◌, ◌≤◌, Bool, true, false, cond, List, [], ◌∷◌, length, get_or, set, Option, Some, None, refl, sym, ◌∙◌, ap, subst, arith}
 use Rattle.std.specs.Option.{option_map}
 use Rattle.std.specs.List.{slice_get}
+use Rattle.std.proofs.lemmas.List.{get_or-map, length-map}
 use Rattle.dnp_pointdb.specs.declared.state.PointState.{PointState}
 use Rattle.dnp_pointdb.specs.declared.state.BlockState.{BlockState}
 use Rattle.dnp_pointdb.specs.Database.{has_index, state_in, updated, updated_in}
-use Rattle.dnp_pointdb.specs.steps.Order.{extent, extents, place_in}
-use Rattle.dnp_pointdb.proofs.Places.{covers_low, covers_high}
+use Rattle.dnp_pointdb.specs.steps.Order.{AreApart, Extent, covers, extent, extents, place_in}
+use Rattle.dnp_pointdb.proofs.Places.{covers_low, covers_high, covers_true, found_in}
 
 -- ---- one member of a list
 
@@ -90,6 +91,17 @@ lookup_found (b ∷ bs) index at is = by_test (λ q was. lookup_found bs index q
         let later : next (place_in (extents bs) index) ≡ Some at =
         sym (ap (λ (t : Bool). cond t (Some (0, index - b.base)) (next (place_in (extents bs) index))) lacks) ∙ is in
         in_tail rest (place_in (extents bs) index) refl later lacks
+
+-- by a look at one block alone
+pub lookup_block : (blocks : List BlockState) (index n : ℕ) (b : BlockState) → AreApart (extents blocks) → n < length blocks → b ≡ get_or blocks n b
+    → b.base ≤ index → index - b.base < length b.points → place_in (extents blocks) index ≡ Some (n, index - b.base)
+lookup_block blocks index n b apart inside is low high =
+    let there : get_or (extents blocks) n (extent b) ≡ extent b =
+    get_or-map extent blocks n b (extent b) inside ∙ ap (λ (x : BlockState). extent x) (sym is) in
+    let lt : n < length (extents blocks) = simp length-map inside in
+    let has : covers (get_or (extents blocks) n (extent b)) index ≡ true =
+    ap (λ (e : Extent). covers e index) there ∙ covers_true (extent b) index low (omega arith) in
+    found_in (extents blocks) index n (extent b) apart lt has ∙ ap (λ (e : Extent). Some (n, index - e.first)) there
 
 -- ---- a point that is not there
 

@@ -64,6 +64,11 @@ only_one es index j d apart lt here i d' before =
       | inl has ↦ absurd (apart i j index d' d before lt has here)
     ]
 
+-- so that a look at one block alone finds the index, if that block has it
+pub found_in : (es : List Extent) (index j : ℕ) (d : Extent) → AreApart es → j < length es
+    → covers (get_or es j d) index ≡ true → place_in es index ≡ Some (j, index - (get_or es j d).first)
+found_in es index j d apart lt here = place_in-some es index j d lt here (only_one es index j d apart lt here)
+
 -- two blocks that have an index in common are one block
 one_block : (es : List Extent) (index i j : ℕ) (d d' : Extent) → AreApart es → i < length es → j < length es
     → covers (get_or es i d) index ≡ true → covers (get_or es j d') index ≡ true → i ≡ j

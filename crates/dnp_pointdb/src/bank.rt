@@ -1,8 +1,9 @@
 //! The points of one kind.
 
-ghost use Rattle.std.specs.Prelude.{◌≡◌, ◌<◌, List, map, length, Option, true, IfOk, IfErr, OnErr, Some, Ok, Err, slice_index_or, slice_set};
+ghost use Rattle.std.specs.Prelude.{◌≡◌, ◌<◌, List, map, length, Option, true, IfOk, IfErr, IfSome, OnErr, Some, Ok, Err, slice_index_or, slice_set};
 ghost use Rattle.std.specs.List.{HoldsAt};
 ghost use Rattle.dnp_pointdb.specs.declared.state.BlockState.{BlockState as BlockValue};
+ghost use Rattle.dnp_pointdb.specs.declared.state.PointState.{PointState as StateValue};
 ghost use Rattle.dnp_pointdb.specs.Database as spec;
 
 use crate::fault::ChangeFault;
@@ -22,6 +23,9 @@ pub struct Bank {
     blocks: Vec<BlockState>,
     /// Those of the blocks that have points, by rising base.
     order: Vec<Place>,
+    /// The number of the block in which the last reading without an event was set: such readings come in runs, so that
+    /// the next one mostly is of that block too. It may be any number.
+    near: usize,
 }
 
 impl Model for Bank {
@@ -37,22 +41,18 @@ impl Model for Bank {
     ghost invariant = { λ bank. IsOrder (extents bank.blocks.items) bank.order.items };
 }
 
-/// The point, if it is there and can have the reading, or the first cause to refuse it.
-fn checked(
-    found: Option<PointState>,
-    kind: Kind,
-    reading: Reading,
-) -> Result<PointState, ChangeFault>
-    ensures { result ≡ spec.checked found kind reading }
+/// Whether a point that is there can have the reading, or the first cause to refuse it.
+#[inline]
+fn check_reading(kind: Kind, reading: Reading) -> Result<(), ChangeFault>
+    ensures { (state : StateValue) → result ≡ spec.set_from (spec.checked (Some state) kind reading) }
 {
-    let state = found.ok_or(ChangeFault::NoPoint)?;
     if !reading.is_carried(kind) {
         return Err(ChangeFault::ValueRange);
     }
     if !reading.is_in_time() {
         return Err(ChangeFault::TimeRange);
     }
-    Ok(state)
+    Ok(())
 }
 
 impl Bank {
@@ -75,6 +75,7 @@ impl Bank {
         Ok(Bank {
             blocks: states,
             order,
+            near: 0,
         })
     }
 
@@ -92,17 +93,59 @@ impl Bank {
         find(&self.order, index)
     }
 
+    /// The point's place in the block with this number, if that block has it.
+    #[inline]
+    fn place_in_block(&self, number: usize, index: u16) -> Option<usize>
+        ensures { IfSome result (λ place. place_in (extents self.now) index ≡ Some (number, place)) }
+    {
+        let block = self.blocks.get(number)?;
+        let place = usize::from(index.checked_sub(block.base)?);
+        if place < block.points.as_slice().len() {
+            Some(place)
+        } else {
+            None
+        }
+    }
+
+    /// The same as `find`, where the point mostly is of the block in which a reading was set last.
+    #[inline]
+    fn find_near(&self, index: u16) -> Option<(usize, usize)>
+        ensures { result ≡ place_in (extents self.now) index }
+    {
+        match self.place_in_block(self.near, index) {
+            Some(place) => Some((self.near, place)),
+            None => self.find(index),
+        }
+    }
+
+    /// Where the point stands that a look-up has found, if it can have the reading, or the first cause to refuse it.
+    #[inline]
+    fn check_found(
+        &self,
+        found: Option<(usize, usize)>,
+        kind: Kind,
+        index: u16,
+        reading: Reading,
+    ) -> Result<PointPlace, ChangeFault>
+        requires { found ≡ place_in (extents self.now) index }
+        ensures place { IfOk result (IsPlaceIn self.now index) }
+        ensures in_range { IfOk result (λ _. is_in_range kind reading ≡ true) }
+        ensures fault { IfErr result (λ fault. spec.checked (spec.state_in self.now index) kind reading ≡ Err fault) }
+    {
+        let Some((block, place)) = found else {
+            return Err(ChangeFault::NoPoint);
+        };
+        check_reading(kind, reading)?;
+        Ok(PointPlace { block, place })
+    }
+
     /// Where the point stands, if it is there and can have the reading, or the first cause to refuse it.
     pub fn check(&self, kind: Kind, index: u16, reading: Reading) -> Result<PointPlace, ChangeFault>
         ensures place { IfOk result (IsPlaceIn self.now index) }
         ensures in_range { IfOk result (λ _. is_in_range kind reading ≡ true) }
         ensures fault { IfErr result (λ fault. spec.checked (spec.state_in self.now index) kind reading ≡ Err fault) }
     {
-        let Some((block, place)) = self.find(index) else {
-            return Err(ChangeFault::NoPoint);
-        };
-        let _ = checked(Some(self.blocks[block].state(place)), kind, reading)?;
-        Ok(PointPlace { block, place })
+        self.check_found(self.find(index), kind, index, reading)
     }
 
     /// The point that stands there.
@@ -121,6 +164,14 @@ impl Bank {
             self.new ≡ slice_set self.old block (record b { points = slice_set b.points place state }) }
     {
         self.blocks[block].set(place, state);
+    }
+
+    /// The next reading is looked for in the block with this number first.
+    #[inline]
+    fn remember(&mut self, number: usize)
+        ensures { self.new ≡ self.old }
+    {
+        self.near = number;
     }
 
     /// The point with this index.
@@ -200,9 +251,10 @@ impl Bank {
         ensures after { self.new ≡ spec.set_in self.old kind index reading }
         ensures err { OnErr result (self.new ≡ self.old) }
     {
-        let at = self.check(kind, index, reading)?;
+        let at = self.check_found(self.find_near(index), kind, index, reading)?;
         let state = self.state_at(index, at);
         self.put(at.block, at.place, state.set(reading));
+        self.remember(at.block);
         Ok(())
     }
 

@@ -167,7 +167,7 @@ fn lanes_step_by_step(rt: HostRuntime) -> Result<(), Fail> {
     assert_eq!(rt; first_wrong(&mut lanes, alloc)?, None, "lists");
     let mut lanes = RingLanes::new(alloc, CAPACITIES)?;
     assert_eq!(rt; first_wrong(&mut lanes, alloc)?, None, "rings");
-    let mut lanes = Queue::in_memory(alloc, CAPACITIES)
+    let mut lanes = Queue::in_memory(alloc, CAPACITIES, CAPACITIES)
         .ok()
         .expect(&rt, "a queue");
     assert_eq!(rt; first_wrong(&mut lanes, alloc)?, None, "a database");
@@ -205,42 +205,55 @@ fn side_does<P: PairLanes>(
     does(&mut side, alloc, step)
 }
 
+/// What lanes for two centres do otherwise than they have to, or nothing: each step with those of one, and then one row and
+/// the next for both.
+fn wrong_of_two<P: PairLanes>(
+    pair: &mut P,
+    alloc: Global,
+) -> Result<Option<&'static str>, StoreFault> {
+    if first_wrong(&mut Side::new(pair, 0), alloc)?.is_some() {
+        return Ok(Some("the first centre's"));
+    }
+    if !side_does(pair, alloc, true, Counts(0, 0, 0, 0, false))? {
+        return Ok(Some("the second's are empty"));
+    }
+    // The first centre's lane 0 holds the row 118, and takes two.
+    if !puts_to_both(pair, alloc, [201, 202], &[118], &[])? {
+        return Ok(Some("both"));
+    }
+    let ids_go_on = Offer(0, 0, 9, &[(24, 201), (25, 202)]);
+    if !side_does(pair, alloc, false, ids_go_on)? {
+        return Ok(Some("the first's ids go on"));
+    }
+    let ids_begin = Release([1, 0, 0, 0, 0, 0, 0, 0, 0], &[201]);
+    if !side_does(pair, alloc, true, ids_begin)? {
+        return Ok(Some("the second's begin"));
+    }
+    if !side_does(pair, alloc, false, Counts(0, 2, 25, 6, true))? {
+        return Ok(Some("the first's stay"));
+    }
+    Ok(None)
+}
+
+/// The number of the first step that the lanes for the second centre do otherwise than they have to, or none.
+fn wrong_of_second<P: PairLanes>(pair: &mut P, alloc: Global) -> Result<Option<usize>, StoreFault> {
+    first_wrong(&mut Side::new(pair, 1), alloc)
+}
+
 #[test]
 fn lanes_for_two_centres(rt: HostRuntime) -> Result<(), Fail> {
     let alloc = rt.alloc();
     let mut pair = PlainPair::new(alloc, CAPACITIES, [4; 9])?;
-    let wrong = first_wrong(&mut Side::new(&mut pair, 0), alloc)?;
-    assert_eq!(rt; wrong, None, "the first centre's");
-    assert!(rt;
-        side_does(&mut pair, alloc, true, Counts(0, 0, 0, 0, false))?,
-        "the second's are empty"
-    );
-    // The first centre's lane 0 holds the row 118, and takes two.
-    assert!(rt;
-        puts_to_both(&mut pair, alloc, [201, 202], &[118], &[])?,
-        "both"
-    );
-    assert!(rt;
-        side_does(
-            &mut pair,
-            alloc,
-            false,
-            Offer(0, 0, 9, &[(24, 201), (25, 202)])
-        )?,
-        "the first's ids go on"
-    );
-    assert!(rt;
-        side_does(
-            &mut pair,
-            alloc,
-            true,
-            Release([1, 0, 0, 0, 0, 0, 0, 0, 0], &[201])
-        )?,
-        "the second's begin"
-    );
-    assert!(rt;
-        side_does(&mut pair, alloc, false, Counts(0, 2, 25, 6, true))?,
-        "the first's stay"
-    );
+    assert_eq!(rt; wrong_of_two(&mut pair, alloc)?, None, "lists");
+    let mut pair = PlainPair::new(alloc, [4; 9], CAPACITIES)?;
+    assert_eq!(rt; wrong_of_second(&mut pair, alloc)?, None, "lists");
+    let mut pair = Queue::in_memory(alloc, CAPACITIES, [4; 9])
+        .ok()
+        .expect(&rt, "a queue");
+    assert_eq!(rt; wrong_of_two(&mut pair, alloc)?, None, "a database");
+    let mut pair = Queue::in_memory(alloc, [4; 9], CAPACITIES)
+        .ok()
+        .expect(&rt, "a queue");
+    assert_eq!(rt; wrong_of_second(&mut pair, alloc)?, None, "a database");
     Ok(())
 }

@@ -370,7 +370,8 @@ fn outstations_over_other_lanes(rt: HostRuntime) -> Result<(), Fail> {
             let rings = RingLanes::new(alloc, capacities_of(*setup))?;
             let ran = steps_over(alloc, points, *setup, steps, rings);
             assert!(rt; ran.is_ok(), "rings, {table}, case {case}: {ran:?}");
-            let queue = Queue::in_memory(alloc, capacities_of(*setup));
+            let capacities = capacities_of(*setup);
+            let queue = Queue::in_memory(alloc, capacities, capacities);
             let queue = queue.ok().expect(&rt, "a queue");
             let ran = steps_over(alloc, points, *setup, steps, queue);
             assert!(rt; ran.is_ok(), "a queue, {table}, case {case}: {ran:?}");

@@ -41,7 +41,7 @@ use Rattle.dnp_store.proofs.Statements.{went, written, same_value}
 use Rattle.dnp_store.proofs.Counting.{cast_int, cast_null}
 use Rattle.dnp_store.proofs.IdRows.{put_apart}
 use Rattle.dnp_store.proofs.QueueDeletes.{passes_on, and_true}
-use Rattle.dnp_store.proofs.QueueUpdates.{others_left}
+use Rattle.dnp_store.proofs.Recounting.{others_left}
 use Rattle.dnp_store.specs.declared.store_kind.StoreKind.TheVariants.{Book}
 use Rattle.dnp_store.proofs.Inserting.{quiet}
 use Rattle.dnp_store.proofs.Tests.{eq_holds, has_is, is_other}

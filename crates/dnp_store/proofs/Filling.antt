@@ -18,7 +18,7 @@ use Rattle.sqlite.specs.Given.{IsPlain}
 use Rattle.sqlite.specs.State.{State, Executes, mode_of}
 use Rattle.sqlite.proofs.Callers.{command_of, statement_of, runs_as, one_step}
 use Rattle.dnp_store.specs.Texts.{lanes_insert}
-use Rattle.dnp_store.specs.QueueTables.{queue_schema, lanes_with, Figures, figures_cells, figures_rows, no_figures, is_raised, IsQueue}
+use Rattle.dnp_store.specs.QueueTables.{queue_schema, lanes_with, Figures, figures_cells, figures_rows, no_figures, is_raised, HoldsLanes, HoldsStock}
 use Rattle.dnp_store.proofs.Statements.{went, written, same_value}
 use Rattle.dnp_store.proofs.Counting.{cast_int, cast_null}
 use Rattle.dnp_store.proofs.IdRows.{is_less}
@@ -73,7 +73,7 @@ lane_put f q l limit number capacity db a h =
       others = λ t not_3. ap (λ (w : Written). w.trees t) out ∙ ap (λ (d : Trees). d t) last ∙ step.others t not_3 tt;
     }
 
-put_end : (n number : ℕ) (fs : List Figures) (new : Figures) → number ≡ n + length fs
+pub put_end : (n number : ℕ) (fs : List Figures) (new : Figures) → number ≡ n + length fs
     → put_row (Int (pos number) ∷ figures_cells new) (figures_rows n fs) ≡ figures_rows n (fs ++ new ∷ [])
 put_end n number [] new is = let same : number ≡ n = omega arith in ap (λ (m : ℕ). (Int (pos m) ∷ figures_cells new) ∷ []) same
 put_end n number (f ∷ fs) new is = rw (is_less n number (omega arith))
@@ -132,32 +132,32 @@ pub length_fresh : (cs : List ℕ) → length (map fresh cs) ≡ length cs
 length_fresh [] = refl
 length_fresh (c ∷ cs) = ap suc (length_fresh cs)
 
-none_raised : (capacities : List ℕ) → is_raised (map fresh capacities) ≡ false
+pub none_raised : (capacities : List ℕ) → is_raised (map fresh capacities) ≡ false
 none_raised [] = refl
 none_raised (c ∷ cs) = none_raised cs
 
-pub made_empty : (db : Database) (capacities : List ℕ) → length capacities ≡ LANES → HasLanes db (map fresh capacities) → IsQueue db (empty_stock capacities)
+-- such rows are those of nine empty lanes
+pub empty_lanes : (name : List ℕ) (rows counts lanes : List Row) (capacities : List ℕ) → length capacities ≡ LANES → rows ≡ [] → counts ≡ []
+    → lanes ≡ figures_rows 0 (map fresh capacities) → HoldsLanes name rows counts lanes (empty_stock capacities) (map fresh capacities)
+empty_lanes name rows counts lanes capacities nine none uncounted filled = record {
+  queued = [];
+  queue_is = IsPermutation-same [] rows (sym none);
+  lanes_is = IsPermutation-same (figures_rows 0 (map fresh capacities)) lanes (sym filled);
+  counted = inl (uncounted, refl);
+  rise = tt;
+  up_to_last = tt;
+  low = tt;
+  nine = length_fresh capacities ∙ nine;
+  lanes = λ k low. get_or_map empty_lane capacities k no_lane (omega (arith, nine))
+      ∙ sym (ap (λ (fig : Figures). record { capacity = fig.capacity; rows = []; lost = fig.lost })
+      (get_or_map fresh capacities k no_figures (omega (arith, nine))));
+}
+
+pub made_empty : (db : Database) (capacities : List ℕ) → length capacities ≡ LANES → HasLanes db (map fresh capacities)
+    → HoldsStock db.trees (empty_stock capacities)
 made_empty db capacities nine has = record {
-  form_checks = has.form;
-  queue_checks = has.queue;
-  lanes_checks = has.lanes;
-  schema = has.schema;
-  holds = record {
-    figures = map fresh capacities;
-    form = (pos 1, has.holds.number);
-    lanes = record {
-      queued = [];
-      queue_is = IsPermutation-same [] (db.trees 1) (sym has.holds.empty.0);
-      lanes_is = IsPermutation-same (figures_rows 0 (map fresh capacities)) (db.trees 3) (sym has.filled);
-      counted = inl (has.holds.empty.1, refl);
-      rise = tt;
-      up_to_last = tt;
-      low = tt;
-      nine = length_fresh capacities ∙ nine;
-      lanes = λ k low. get_or_map empty_lane capacities k no_lane (omega (arith, nine))
-          ∙ sym (ap (λ (fig : Figures). record { capacity = fig.capacity; rows = []; lost = fig.lost })
-          (get_or_map fresh capacities k no_figures (omega (arith, nine))));
-    };
-    overflow = sym (none_raised capacities);
-  };
+  figures = map fresh capacities;
+  form = (pos 1, has.holds.number);
+  lanes = empty_lanes (codes "queue") (db.trees 1) (db.trees 2) (db.trees 3) capacities nine has.holds.empty.0 has.holds.empty.1 has.filled;
+  overflow = sym (none_raised capacities);
 }

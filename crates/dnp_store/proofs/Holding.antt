@@ -1,5 +1,5 @@
 -- The lanes that the tables hold after a statement.
-use Rattle.std.proofs.Common.{◌≡◌, ◌≢◌, inl, inr, ℕ, zero, suc, ◌+◌, ◌-◌, ◌*◌, ◌<◌, ◌≤◌, ◌==◌, ◌&&◌, nat_le, nat_lt, not, Bool, true, false, cond, List, [], ◌∷◌, ◌++◌, map, filter, length, set, get_or, codes, refl, sym, ap, ap₂, subst, subst₂, ◌∙◌, arith, append-nil, IsPermutation}
+use Rattle.std.proofs.Common.{◌≡◌, ◌≢◌, inl, inr, ℕ, zero, suc, ◌+◌, ◌-◌, ◌*◌, ◌<◌, ◌≤◌, ◌==◌, ◌&&◌, nat_le, nat_lt, not, Bool, true, false, cond, List, [], ◌∷◌, ◌++◌, map, filter, length, set, get_or, refl, sym, ap, ap₂, subst, subst₂, ◌∙◌, arith, append-nil, IsPermutation}
 use Rattle.std.specs.Prelude.{slice_index_or}
 use Rattle.std.specs.List.{AllByRecursion}
 use Rattle.sqlite.specs.Order.{Row as SqlRow}
@@ -12,7 +12,7 @@ use Rattle.dnp_objects.specs.Lanes.{lane_number, kind_number}
 use Rattle.dnp_eventbuf.specs.Carried.{IsCarried}
 use Rattle.dnp_eventbuf.specs.Stock.{LaneState, Stock, lane_at, no_lane, added_in, above}
 use Rattle.dnp_store.specs.Tables.{IsCounted}
-use Rattle.dnp_store.specs.QueueTables.{Queued, queued_row, queued_cells, event_of, kind_in, Figures, no_figures, figures_rows, in_lane, lane_of, HoldsLanes, HoldsIn}
+use Rattle.dnp_store.specs.QueueTables.{Queued, queued_row, queued_cells, event_of, kind_in, Figures, no_figures, figures_rows, in_lane, lane_of, HoldsLanes}
 use Rattle.std.proofs.lemmas.Bool.{cases_eq}
 use Rattle.std.proofs.lemmas.List.{map-append, get_or-set_same, get_or-set_other}
 use Rattle.std.proofs.Common.{length-set}
@@ -120,10 +120,14 @@ low_push : (xs : List Queued) (y : Queued) → AllByRecursion (λ x. x.lane < LA
 low_push [] y all low = (low, tt)
 low_push (x ∷ xs) y all low = (all.0, low_push xs y all.1 low)
 
-pub put : (db now : Trees) (s : Stock) (fs : List Figures) (x : LaneRow) → HoldsIn db s fs → length s.lanes ≡ LANES → lane_number x.lane < LANES
+-- the lanes in the trees of a queue for one centre, whose count stands under this name
+abbrev pub HoldsUnder : List ℕ → Trees → Stock → List Figures → Type 0
+HoldsUnder name db = HoldsLanes name (db 1) (db 2) (db 3)
+
+pub put : (name : List ℕ) (db now : Trees) (s : Stock) (fs : List Figures) (x : LaneRow) → HoldsUnder name db s fs → length s.lanes ≡ LANES → lane_number x.lane < LANES
     → IsCarried x
-    → PutsAt (codes "queue") db (queued_cells (queued_for (s.last_id + 1) x)) s.last_id now → HoldsIn now (added s x) fs
-put db now s fs x h nine low carried puts =
+    → PutsAt name db (queued_cells (queued_for (s.last_id + 1) x)) s.last_id now → HoldsUnder name now (added s x) fs
+put name db now s fs x h nine low carried puts =
     let number = lane_number x.lane in
     let new = queued_for (s.last_id + 1) x in
     let id_of : Queued → ℕ = λ y. y.id in
@@ -151,16 +155,16 @@ put db now s fs x h nine low carried puts =
           (sym (pushed_else k h.queued new (λ e. other (sym e)))));
     }
 
-pub took : (db now : Trees) (s : Stock) (fs : List Figures) (number upto : ℕ) (h : HoldsIn db s fs) → length s.lanes ≡ LANES → number < LANES
-    → Takes db number upto h.queued now → HoldsIn now (cut s number upto) fs
-took db now s fs number upto h nine low takes =
+pub took : (name : List ℕ) (db now : Trees) (s : Stock) (fs : List Figures) (number upto : ℕ) (h : HoldsUnder name db s fs) → length s.lanes ≡ LANES → number < LANES
+    → Takes 1 db number upto h.queued now → HoldsUnder name now (cut s number upto) fs
+took name db now s fs number upto h nine low takes =
     let id_of : Queued → ℕ = λ y. y.id in
     let left = filter (stays number upto) h.queued in
     record {
       queued = left;
       queue_is = takes.table;
       lanes_is = subst (IsPermutation (figures_rows 0 fs)) (sym (takes.others 3 (λ e. absurd (omega arith)))) h.lanes_is;
-      counted = subst (λ rows. IsCounted (codes "queue") rows s.last_id) (sym (takes.others 2 (λ e. absurd (omega arith)))) h.counted;
+      counted = subst (λ rows. IsCounted name rows s.last_id) (sym (takes.others 2 (λ e. absurd (omega arith)))) h.counted;
       rise = id_rows.rise-filter id_of queued_cells (stays number upto) h.queued h.rise;
       up_to_last = id_rows.up_to-filter id_of queued_cells (stays number upto) h.queued s.last_id h.up_to_last;
       low = id_rows.all_over-filter id_of queued_cells (λ x. x.lane < LANES) (stays number upto) h.queued h.low;
@@ -175,9 +179,9 @@ took db now s fs number upto h nine low takes =
           (sym (cut_else number upto k h.queued other)));
     }
 
-pub noted_in : (db now : Trees) (s : Stock) (fs : List Figures) (number lost : ℕ) (raised : Bool) → HoldsIn db s fs → length s.lanes ≡ LANES → number < LANES
-    → Notes db number lost raised fs now → HoldsIn now (counted s number lost) (set fs number (noted_as (slice_index_or fs number no_figures) lost raised))
-noted_in db now s fs number lost raised h nine low notes =
+pub noted_in : (name : List ℕ) (db now : Trees) (s : Stock) (fs : List Figures) (number lost : ℕ) (raised : Bool) → HoldsUnder name db s fs → length s.lanes ≡ LANES → number < LANES
+    → Notes 3 db number lost raised fs now → HoldsUnder name now (counted s number lost) (set fs number (noted_as (slice_index_or fs number no_figures) lost raised))
+noted_in name db now s fs number lost raised h nine low notes =
     let new = noted_as (slice_index_or fs number no_figures) lost raised in
     let all = set fs number new in
     let new_lane : LaneState = record (lane_at s number) { lost = lost } in
@@ -185,7 +189,7 @@ noted_in db now s fs number lost raised h nine low notes =
       queued = h.queued;
       queue_is = subst (IsPermutation (map queued_row h.queued)) (sym (notes.others 1 (λ e. absurd (omega arith)))) h.queue_is;
       lanes_is = notes.table;
-      counted = subst (λ rows. IsCounted (codes "queue") rows s.last_id) (sym (notes.others 2 (λ e. absurd (omega arith)))) h.counted;
+      counted = subst (λ rows. IsCounted name rows s.last_id) (sym (notes.others 2 (λ e. absurd (omega arith)))) h.counted;
       rise = h.rise;
       up_to_last = h.up_to_last;
       low = h.low;

@@ -1,5 +1,6 @@
 -- What an INSERT of a row under the next id makes of a store's tables.
-use Rattle.std.proofs.Common.{◌≡◌, ℕ, ◌+◌, ◌<◌, ◌≤◌, pos, List, [], ◌∷◌, length, map, drop, Some, None, Ok, refl, sym, ap, subst}
+use Rattle.std.proofs.Common.{◌≡◌, ◌≢◌, ℕ, ◌+◌, ◌<◌, ◌≤◌, pos, List, [], ◌∷◌, length, map, drop, true, Some, None, Ok, refl, sym, ap, subst, arith}
+use Rattle.std.specs.Prelude.{slice_get}
 use Rattle.std.specs.List.{AllByRecursion}
 use Rattle.sqlite_tied.specs.Compute.{everything}
 use Rattle.sqlite_schema.specs.declared.schema.Keys.TheVariants.{Enforced}
@@ -11,21 +12,26 @@ use Rattle.sqlite.specs.Order.{Row}
 use Rattle.sqlite.specs.Tree.{Trees}
 use Rattle.sqlite.specs.Edit.{Edit, next_rowid, taken_by}
 use Rattle.sqlite.specs.Effect.{Database}
-use Rattle.sqlite.specs.Does.{Does}
+use Rattle.sqlite.specs.Does.{Does, OnRows}
 use Rattle.sqlite.specs.Rows.{Sourced, stamped, sequence as counters_of}
 use Rattle.sqlite.specs.Cast.{cast_row}
 use Rattle.sqlite_rules.specs.Action.{works}
+use Rattle.sqlite_rules.specs.Edit.{IsNoIndex}
 use Rattle.sqlite.specs.Listing.{understood}
 use Rattle.sqlite.specs.Given.{IsPlain}
 use Rattle.sqlite.specs.State.{State, Executes, mode_of}
 use Rattle.sqlite.proofs.Callers.{command_of, statement_of, runs_as}
-use Rattle.dnp_store.specs.Tables.{sequence, IsCounted}
+use Rattle.sqlite_schema.specs.declared.schema.Column.{Column}
+use Rattle.sqlite.specs.Schema.{Schema}
+use Rattle.sqlite.specs.Table.{Table}
+use Rattle.dnp_store.specs.Tables.{sequence, table_of, counts_of, IsCounted}
 use Rattle.dnp_store.specs.declared.store_kind.StoreKind.{StoreKind}
 use Rattle.dnp_store.specs.declared.store_kind.StoreKind.TheVariants.{Queue, Journal, Book}
 use Rattle.dnp_store.specs.steps.Stores.{name_of, columns_of, rows_with, more_with, schema_for}
-use Rattle.dnp_store.proofs.Statements.{written}
+use Rattle.dnp_store.proofs.Statements.{at_table, written}
 use Rattle.dnp_store.proofs.Counting as counting
-use Rattle.dnp_store.proofs.Counting.{PutsAt, PutsAll, next_id}
+use Rattle.dnp_store.proofs.Counting.{PutsAt, PutsAll, PutsIn, PutsAllIn, puts_at, puts_all_at, next_id}
+use Rattle.dnp_store.proofs.Recounting.{named_alone}
 use Rattle.dnp_store.proofs.IdRows.{IsUnder}
 
 -- no table refers to another
@@ -35,11 +41,61 @@ quiet Queue f r m db e = refl
 quiet Journal f r m db e = refl
 quiet Book f r m db e = refl
 
-listed : (kind : StoreKind) (f r m : List Term) → counters_of (schema_for kind f r m) ≡ Some sequence
+pub listed : (kind : StoreKind) (f r m : List Term) → counters_of (schema_for kind f r m) ≡ Some sequence
 unfolding everything
 listed Queue f r m = refl
 listed Journal f r m = refl
 listed Book f r m = refl
+
+-- ---- into any table that is counted
+
+module _ (name : List ℕ) (tree : ℕ) (columns : List Column) (checks : List Term) (schema : Schema) (is_listed : counters_of schema ≡ Some sequence)
+    (is_quiet : (db : Trees) (e : Edit) → works schema Enforced 0 e.table.tree (taken_by db e) e.news ≡ []) (unindexed : (t : ℕ) → IsNoIndex schema t)
+    (there : slice_get schema.tables tree ≡ Some (table_of name tree columns true true checks)) (apart : tree ≢ 2) where
+  abbrev table : Table
+  table = table_of name tree columns true true checks
+
+  -- one row
+  pub inserts_in : (old new : State) (text : List ℕ) (params source rest : Row) (from : Source) (n next count : ℕ)
+      → command_of (understood schema text) ≡ Insert tree from → IsPlain (understood schema text)
+      → ((rows : List Row) → Sourced old.step_limit (record { schema = schema; trees = old.now.trees }) (stamped table params) from (Ok rows)
+      → rows ≡ source ∷ [])
+      → cast_row table source ≡ Null ∷ rest → old.now.schema ≡ schema → IsCounted name (counts_of name (old.now.trees 2)) n
+      → next_rowid (old.now.trees tree) ≡ pos next → next ≤ n + 1 → Executes text params old new (Ok count)
+      → (new.now.schema ≡ schema) × PutsIn name tree old.now.trees rest n new.now.trees
+  inserts_in old new text params source rest from n next count is plain sources casts has counted next_is low h =
+      let w = runs_as text params old new schema has (Insert tree from) is plain count h in
+      let task = counting.task name tree columns checks schema old.step_limit params in
+      let does = subst (λ s. Does old.step_limit (mode_of old) params (record old.now { schema = s }) (statement_of text (understood schema text)) None
+      (Insert tree from) (Ok (w.tally, new.now))) has w.changed in
+      let on = at_table (λ t. OnRows (record task { table = t }) (mode_of old) None (Insert tree from) old.now.trees) schema.tables tree table
+      (Ok (w.tally, new.now)) there does in
+      let done = written task (mode_of old) (Insert tree from) old.now.trees w.tally new.now on in
+      let put = counting.inserted name tree columns checks schema is_listed is_quiet unindexed apart old.step_limit params old.now.trees done.0 source rest from n next
+      counted next_is low sources casts done.1 in
+      (ap (λ (d : Database). d.schema) done.2, subst (λ (d : Database). PutsIn name tree old.now.trees rest n d.trees) (sym done.2) put)
+
+  -- several rows
+  pub inserts_all_in : (old new : State) (text : List ℕ) (params : Row) (rests : List Row) (from : Source) (n next count : ℕ)
+      → command_of (understood schema text) ≡ Insert tree from → IsPlain (understood schema text)
+      → ((rows : List Row) → Sourced old.step_limit (record { schema = schema; trees = old.now.trees }) (stamped table params) from (Ok rows)
+      → map (λ s. cast_row table (drop 0 s)) rows ≡ map (λ r. Null ∷ r) rests)
+      → 0 < length rests → old.now.schema ≡ schema → IsCounted name (counts_of name (old.now.trees 2)) n
+      → AllByRecursion (IsUnder n) (old.now.trees tree) → next_rowid (old.now.trees tree) ≡ pos next → next ≤ n + 1 → Executes text params old new (Ok count)
+      → (new.now.schema ≡ schema) × PutsAllIn name tree old.now.trees rests n new.now.trees
+  inserts_all_in old new text params rests from n next count is plain sources some has counted under next_is low h =
+      let w = runs_as text params old new schema has (Insert tree from) is plain count h in
+      let task = counting.task name tree columns checks schema old.step_limit params in
+      let does = subst (λ s. Does old.step_limit (mode_of old) params (record old.now { schema = s }) (statement_of text (understood schema text)) None
+      (Insert tree from) (Ok (w.tally, new.now))) has w.changed in
+      let on = at_table (λ t. OnRows (record task { table = t }) (mode_of old) None (Insert tree from) old.now.trees) schema.tables tree table
+      (Ok (w.tally, new.now)) there does in
+      let done = written task (mode_of old) (Insert tree from) old.now.trees w.tally new.now on in
+      let put = counting.inserted_all name tree columns checks schema is_listed is_quiet unindexed apart old.step_limit params old.now.trees done.0 rests from n counted
+      under (next_id (old.now.trees tree) n next next_is low) some sources done.1 in
+      (ap (λ (d : Database). d.schema) done.2, subst (λ (d : Database). PutsAllIn name tree old.now.trees rests n d.trees) (sym done.2) put)
+
+-- ---- into the rows of a store that has one such table
 
 pub inserts : (kind : StoreKind) (f r m : List Term) (old new : State) (text : List ℕ) (params source rest : Row) (from : Source) (n next count : ℕ)
     → command_of (understood (schema_for kind f r m) text) ≡ Insert 1 from → IsPlain (understood (schema_for kind f r m) text)
@@ -50,14 +106,10 @@ pub inserts : (kind : StoreKind) (f r m : List Term) (old new : State) (text : L
     → next_rowid (old.now.trees 1) ≡ pos next → next ≤ n + 1 → Executes text params old new (Ok count)
     → (new.now.schema ≡ schema_for kind f r m) × PutsAt (name_of kind) old.now.trees rest n new.now.trees
 inserts kind f r m old new text params source rest from n next count is plain sources casts has counted next_is low h =
-    let w = runs_as text params old new (schema_for kind f r m) has (Insert 1 from) is plain count h in
-    let task = counting.task (name_of kind) (columns_of kind) f r (more_with kind m) old.step_limit params in
-    let does = subst (λ s. Does old.step_limit (mode_of old) params (record old.now { schema = s })
-    (statement_of text (understood (schema_for kind f r m) text)) None (Insert 1 from) (Ok (w.tally, new.now))) has w.changed in
-    let done = written task (mode_of old) (Insert 1 from) old.now.trees w.tally new.now does in
-    let put = counting.inserted (name_of kind) (columns_of kind) f r (more_with kind m) (listed kind f r m) (quiet kind f r m) old.step_limit params
-    old.now.trees done.0 source rest from n next counted next_is low sources casts done.1 in
-    (ap (λ (d : Database). d.schema) done.2, subst (λ (d : Database). PutsAt (name_of kind) old.now.trees rest n d.trees) (sym done.2) put)
+    let name = name_of kind in
+    let did = inserts_in name 1 (columns_of kind) r (schema_for kind f r m) (listed kind f r m) (quiet kind f r m) (λ t. tt) refl (λ e. absurd (omega arith)) old new text params
+    source rest from n next count is plain sources casts has (named_alone name (old.now.trees 2) n counted) next_is low h in
+    (did.0, puts_at name old.now.trees rest n new.now.trees counted did.1)
 
 pub inserts_all : (kind : StoreKind) (f r m : List Term) (old new : State) (text : List ℕ) (params : Row) (rests : List Row) (from : Source) (n next count : ℕ)
     → command_of (understood (schema_for kind f r m) text) ≡ Insert 1 from → IsPlain (understood (schema_for kind f r m) text)
@@ -68,11 +120,7 @@ pub inserts_all : (kind : StoreKind) (f r m : List Term) (old new : State) (text
     → AllByRecursion (IsUnder n) (old.now.trees 1) → next_rowid (old.now.trees 1) ≡ pos next → next ≤ n + 1 → Executes text params old new (Ok count)
     → (new.now.schema ≡ schema_for kind f r m) × PutsAll (name_of kind) old.now.trees rests n new.now.trees
 inserts_all kind f r m old new text params rests from n next count is plain sources some has counted under next_is low h =
-    let w = runs_as text params old new (schema_for kind f r m) has (Insert 1 from) is plain count h in
-    let task = counting.task (name_of kind) (columns_of kind) f r (more_with kind m) old.step_limit params in
-    let does = subst (λ s. Does old.step_limit (mode_of old) params (record old.now { schema = s })
-    (statement_of text (understood (schema_for kind f r m) text)) None (Insert 1 from) (Ok (w.tally, new.now))) has w.changed in
-    let done = written task (mode_of old) (Insert 1 from) old.now.trees w.tally new.now does in
-    let put = counting.inserted_all (name_of kind) (columns_of kind) f r (more_with kind m) (listed kind f r m) (quiet kind f r m) old.step_limit params
-    old.now.trees done.0 rests from n counted under (next_id (old.now.trees 1) n next next_is low) some sources done.1 in
-    (ap (λ (d : Database). d.schema) done.2, subst (λ (d : Database). PutsAll (name_of kind) old.now.trees rests n d.trees) (sym done.2) put)
+    let name = name_of kind in
+    let did = inserts_all_in name 1 (columns_of kind) r (schema_for kind f r m) (listed kind f r m) (quiet kind f r m) (λ t. tt) refl (λ e. absurd (omega arith)) old new text
+    params rests from n next count is plain sources some has (named_alone name (old.now.trees 2) n counted) under next_is low h in
+    (did.0, puts_all_at name old.now.trees rests n new.now.trees counted did.1)

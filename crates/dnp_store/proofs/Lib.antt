@@ -1,8 +1,11 @@
 pub mod Statements
 pub mod Stepping
+pub mod Recounting
 pub mod Counting
 pub mod IdRows
 pub mod Inserting
+pub mod PairSchema
+pub mod PairSides
 pub mod QueueStatements
 pub mod QueueDeletes
 pub mod QueueUpdates
@@ -44,3 +47,8 @@ pub mod JournalMany
 pub mod Blocks
 pub mod Rising
 pub mod Once
+pub mod Seconding
+pub mod Ending
+pub mod PairOpening
+pub mod PairReading
+pub mod PairCounting

@@ -25,7 +25,10 @@ use Rattle.sqlite.specs.Clock.{timed}
 use Rattle.sqlite.proofs.Callers.{command_of, reads_as, one_permutation}
 use Rattle.dnp_store.specs.Tables.{sequence, IsCounted}
 use Rattle.dnp_store.specs.QueueTables.{queue_schema, lanes_columns, Figures, no_figures, figures_rows, IsForm1}
-use Rattle.dnp_store.specs.steps.Shown.{ShowsForm1, ShowsFigures, ShowNine, AreNine, ShowsCount}
+use Rattle.dnp_store.specs.PairTables.{IsForm}
+use Rattle.dnp_store.specs.steps.Shown.{ShowsForm, ShowsForm1, ShowsFigures, ShowNine, AreNine, ShowsCount}
+use Rattle.dnp_store.specs.Texts.{lanes_select, rows_select}
+use Rattle.dnp_store.specs.declared.queue_side.QueueSide.TheVariants.{First}
 use Rattle.dnp_store.specs.declared.store_kind.StoreKind.{StoreKind}
 use Rattle.dnp_store.specs.declared.store_kind.StoreKind.TheVariants.{Queue, Journal, Book}
 use Rattle.dnp_store.specs.steps.Stores.{Reads, schema_for}
@@ -71,18 +74,18 @@ abbrev pub form_query : List ℕ
 form_query = codes "SELECT rowid, number FROM form ORDER BY rowid"
 
 abbrev pub lanes_query : List ℕ
-lanes_query = codes "SELECT lane, cap, lost, raised FROM lanes ORDER BY lane"
+lanes_query = lanes_select First
 
 abbrev pub count_query : List ℕ
 count_query = codes "SELECT rowid, name, seq FROM sqlite_sequence ORDER BY rowid"
 
 abbrev pub queue_query : List ℕ
-queue_query = codes "SELECT id, lane, point, flags, value, time FROM queue ORDER BY id"
+queue_query = rows_select First
 
 abbrev pub form_terms : List Term
 form_terms = col 1 0 ∷ col 1 1 ∷ []
 
-abbrev lanes_terms : List Term
+abbrev pub lanes_terms : List Term
 lanes_terms = col 1 0 ∷ col 1 2 ∷ col 1 3 ∷ col 1 4 ∷ []
 
 abbrev pub count_terms : List Term
@@ -166,36 +169,61 @@ none_left [] rs perm none = refl
 none_left (r ∷ db) rs perm none = absurd (let h = length_permutation (r ∷ db) rs perm in omega arith)
 
 module _ (old new : State) (rows : List Row) where
+  -- under any schema that begins with `form`
+  pub reads_form_in : (schema : Schema) (id n : ℤ)
+      → (command_of (understood schema form_query) ≡ Select (record { lets = []; body = query 0 form_terms }) (codes "rowid" ∷ codes "number" ∷ []))
+      × (reads_listing schema form_query ≡ false) → IsPlain (understood schema form_query)
+      → AllByRecursion (IsTyped None form_columns) (old.now.trees 0) → Shown form_query [] old new rows
+      → length rows ≡ 1 → column (get_or rows 0 []) 0 ≡ Int id → column (get_or rows 0 []) 1 ≡ Int n → old.now.schema ≡ schema
+      → (new.now ≡ old.now) × (old.now.trees 0 ≡ (Int id ∷ Int n ∷ []) ∷ [])
+  reads_form_in schema id n is plain types shown one id_at number_at has =
+      let read = reads_as form_query [] old new schema has _ is.0 plain is.1 rows shown in
+      let got = listed 0 form_terms old.now.trees rows refl (read.answer Null) in
+      let at = alone (shown_by form_terms) (old.now.trees 0) got.0 rows got.1 got.2 one in
+      let typed = subst (AllByRecursion (IsTyped None form_columns)) at.1 types in
+      let id_is : column at.0 0 ≡ Int id = ap (λ r. column r 0) (sym at.2) ∙ id_at in
+      let number : column at.0 1 ≡ Int n = ap (λ r. column r 1) (sym at.2) ∙ number_at in
+      (unchanged form_query old new schema rows has plain shown, at.1 ∙ ap (λ r. r ∷ []) (form_row at.0 id n typed.0 number id_is))
+
   pub reads_form : (id : ℤ) → Shown form_query [] old new rows → ShowsForm1 rows id → (kind : StoreKind) → Reads kind old new (λ db. IsForm1 (db 0))
   reads_form id shown one kind f r m sound has =
-      let read = reads_as form_query [] old new (schema_for kind f r m) has _ (form_is kind f r m).0
-      (form_plain kind f r m) (form_is kind f r m).1 rows shown in
-      let got = listed 0 form_terms old.now.trees rows refl (read.answer Null) in
-      let at = alone (shown_by form_terms) (old.now.trees 0) got.0 rows got.1 got.2 one.one in
-      let typed = subst (AllByRecursion (IsTyped None form_columns)) at.1 (typed_form kind old.now f r m has sound) in
-      let id_is : column at.0 0 ≡ Int id = ap (λ r. column r 0) (sym at.2) ∙ one.id_is in
-      let number : column at.0 1 ≡ Int (pos 1) = ap (λ r. column r 1) (sym at.2) ∙ one.number in (
-        unchanged form_query old new (schema_for kind f r m) rows has (form_plain kind f r m) shown,
-        (id, at.1 ∙ ap (λ r. r ∷ []) (form_row at.0 id typed.0 number id_is)),
-      )
+      let it = reads_form_in (schema_for kind f r m) id (pos 1) (form_is kind f r m) (form_plain kind f r m) (typed_form kind old.now f r m has sound) shown
+      one.one one.id_is one.number has in
+      (it.0, (id, it.1))
 
-  pub reads_lanes : (figures : List Figures) → Shown lanes_query [] old new rows → AreNine figures → ShowNine rows figures
-      → Reads Queue old new (λ db. IsPermutation (figures_rows 0 figures) (db 3))
-  reads_lanes figures shown nine shows f q l sound has =
-      let read = reads_as lanes_query [] old new (queue_schema f q l) has _ (lanes_is f q l).0 (lanes_plain f q l) (lanes_is f q l).1 rows shown in
-      let got = listed 3 lanes_terms old.now.trees rows refl (read.answer Null) in
-      let typed = all-permutation (IsTyped (Some 0) lanes_columns) (old.now.trees 3) got.0 got.1 (typed_lanes old.now f q l has sound) in
+  pub reads_number : (n : ℕ) → Shown form_query [] old new rows → ShowsForm rows n → Reads Queue old new (λ db. IsForm n (db 0))
+  reads_number n shown one f r m sound has =
+      let it = reads_form_in (schema_for Queue f r m) one.id (pos n) (form_is Queue f r m) (form_plain Queue f r m) (typed_form Queue old.now f r m has sound)
+      shown one.one one.id_is one.number has in
+      (it.0, (one.id, it.1))
+
+  -- under any schema that has such a table in this tree
+  pub reads_lanes_in : (schema : Schema) (tree : ℕ) (text : List ℕ) (figures : List Figures)
+      → (command_of (understood schema text) ≡ Select (record { lets = []; body = query tree lanes_terms })
+      (codes "lane" ∷ codes "cap" ∷ codes "lost" ∷ codes "raised" ∷ [])) × (reads_listing schema text ≡ false)
+      → IsPlain (understood schema text) → overlay old.now.trees [] tree ≡ old.now.trees tree
+      → AllByRecursion (IsTyped (Some 0) lanes_columns) (old.now.trees tree) → Shown text [] old new rows → AreNine figures → ShowNine rows figures
+      → old.now.schema ≡ schema → (new.now ≡ old.now) × IsPermutation (figures_rows 0 figures) (old.now.trees tree)
+  reads_lanes_in schema tree text figures is plain bare types shown nine shows has =
+      let read = reads_as text [] old new schema has _ is.0 plain is.1 rows shown in
+      let got = listed tree lanes_terms old.now.trees rows bare (read.answer Null) in
+      let typed = all-permutation (IsTyped (Some 0) lanes_columns) (old.now.trees tree) got.0 got.1 types in
       let many : length got.0 ≡ length figures =
       sym (length-map got.0 shown_lane) ∙ ap length (sym got.2) ∙ shows.rows_nine ∙ sym nine.nine in
       let same : got.0 ≡ figures_rows 0 figures = lanes_rows got.0 0 figures typed many
       (λ k low. subst₂ (λ (n : ℕ) (xs : List Row). ShowsFigures (get_or xs k []) n (get_or figures k no_figures)) (zero-first k) got.2
       (shows.each k (omega (arith, nine.nine)))) in (
-        unchanged lanes_query old new (queue_schema f q l) rows has (lanes_plain f q l) shown,
-        subst (λ xs. IsPermutation xs (old.now.trees 3)) same (IsPermutation-sym (old.now.trees 3) got.0 got.1),
+        unchanged text old new schema rows has plain shown,
+        subst (λ xs. IsPermutation xs (old.now.trees tree)) same (IsPermutation-sym (old.now.trees tree) got.0 got.1),
       )
     where
       zero-first : (k : ℕ) → k ≡ 0 + k
       zero-first k = omega arith
+
+  pub reads_lanes : (figures : List Figures) → Shown lanes_query [] old new rows → AreNine figures → ShowNine rows figures
+      → Reads Queue old new (λ db. IsPermutation (figures_rows 0 figures) (db 3))
+  reads_lanes figures shown nine shows f q l sound has =
+      reads_lanes_in (queue_schema f q l) 3 lanes_query figures (lanes_is f q l) (lanes_plain f q l) refl (typed_lanes old.now f q l has sound) shown nine shows has
 
   pub reads_counts : Shown count_query [] old new rows → (kind : StoreKind)
       → Reads kind old new (λ db. (table : List ℕ) (n : ℕ) → ShowsCount table rows n → IsCounted table (db 2) n)
@@ -216,12 +244,6 @@ module _ (old new : State) (rows : List Row) where
           let name : column at.0 1 ≡ Text table = ap (λ r. column r 1) (sym at.2) ∙ one.2.name in
           let count : column at.0 2 ≡ Int (pos n) = ap (λ r. column r 2) (sym at.2) ∙ one.2.count in
           inr (pos one.0, at.1 ∙ ap (λ r. r ∷ []) (count_row_is at.0 (pos one.0) (pos n) table typed.0 id_is name count))
-
-module _ {E : Type 0} (old new : State) (rows : List Row) where
-  pub lanes_if : (r : Result (Vec Figures Global) E) → Shown lanes_query [] old new rows → IfOk r (λ figures. AreNine figures.items)
-      → IfOk r (λ figures. ShowNine rows figures.items) → IfOk r (λ figures. Reads Queue old new (λ db. IsPermutation (figures_rows 0 figures.items) (db 3)))
-  lanes_if (Ok figures) shown nine shows = reads_lanes old new rows figures.items shown nine shows
-  lanes_if (Err e) shown nine shows = tt
 
 pub counts_if : {E : Type 0} (old new : State) (r : Result (Vec (List Value) Global) E) → IfOk r (λ rows. Shown count_query [] old new rows.items)
     → IfOk r (λ rows. (kind : StoreKind) → Reads kind old new (λ db. (table : List ℕ) (n : ℕ) → ShowsCount table rows.items n → IsCounted table (db 2) n))

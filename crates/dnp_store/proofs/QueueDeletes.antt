@@ -1,6 +1,6 @@
 -- What a DELETE takes out of a queue's table.
 use Rattle.std.proofs.lemmas.Simd.{map-map}
-use Rattle.std.proofs.Common.{◌≡◌, ◌≢◌, ℕ, pos, negsuc, List, [], ◌∷◌, ◌++◌, map, filter, codes, Bool, true, false, not, cond, None, Ok, Option, refl, sym, ap, ap₂, subst, subst₂, ◌∙◌, ◌&&◌, nat_le, ◌==◌}
+use Rattle.std.proofs.Common.{◌≡◌, ◌≢◌, ℕ, pos, negsuc, List, [], ◌∷◌, ◌++◌, map, filter, Bool, true, false, not, cond, None, Ok, Option, refl, sym, ap, ap₂, subst, subst₂, ◌∙◌, ◌&&◌, nat_le, ◌==◌}
 use Rattle.std.specs.List.{list_all, AllByRecursion}
 use Rattle.std.specs.List.Sorted.{IsPermutation}
 use Rattle.std.specs.Prelude.{flat_map}
@@ -15,7 +15,7 @@ use Rattle.sqlite.specs.Program.{overlay}
 use Rattle.sqlite.specs.Term.{Term, lit, col, op1, op2, holds}
 use Rattle.sqlite.specs.Order.{Row}
 use Rattle.sqlite.specs.Ops.{binary, is_true}
-use Rattle.dnp_store.specs.Texts.{queue_delete}
+use Rattle.dnp_store.specs.Texts.{rows_delete}
 use Rattle.dnp_store.proofs.Tests.{numeric_is, eq_holds, le_holds}
 use Rattle.dnp_store.proofs.IdRows as id_rows
 use Rattle.dnp_store.specs.QueueTables.{queued_cells}
@@ -23,7 +23,7 @@ use Rattle.sqlite.specs.Tree.{Trees, rowid}
 use Rattle.sqlite_trees.proofs.ListLemmas.{IsPermutation-filter}
 use Rattle.sqlite.specs.Edit.{without_all, edit_of}
 use Rattle.sqlite.specs.Effect.{Database}
-use Rattle.sqlite.specs.Does.{Does}
+use Rattle.sqlite.specs.Does.{Does, OnRows}
 use Rattle.sqlite.specs.Command.TheVariants.{Delete}
 use Rattle.sqlite.specs.Listing.{understood}
 use Rattle.sqlite.specs.Given.{IsPlain}
@@ -33,22 +33,24 @@ use Rattle.sqlite.specs.State.{State, Executes, mode_of}
 use Rattle.sqlite.proofs.Callers.{command_of, statement_of, runs_as, one_step}
 use Rattle.sqlite_rules.specs.Calls.{ids_of}
 use Rattle.sqlite_schema.specs.declared.schema.Keys.TheVariants.{Enforced}
-use Rattle.dnp_store.specs.QueueTables.{queue_schema, queue_with, queue_columns, lanes_with, Queued, queued_row}
-use Rattle.dnp_store.proofs.Statements.{went, written, same_value}
+use Rattle.dnp_store.specs.QueueTables.{queue_columns, Queued, queued_row}
+use Rattle.dnp_store.specs.PairTables.{Checks, pair_schema, rows_name, rows_tree}
+use Rattle.dnp_store.proofs.Statements.{at_table, went, written, same_value}
 use Rattle.dnp_store.proofs.Without.{HasInt, deleted}
 use Rattle.dnp_store.proofs.Counting as counting
-use Rattle.dnp_store.specs.declared.store_kind.StoreKind.TheVariants.{Queue}
-use Rattle.dnp_store.proofs.Inserting.{quiet}
+use Rattle.dnp_store.specs.declared.queue_side.QueueSide.{QueueSide}
+use Rattle.dnp_store.specs.declared.queue_side.QueueSide.TheVariants.{First, Second}
+use Rattle.dnp_store.proofs.PairSchema.{quiet_pair, rows_checks, rows_read, rows_there, rows_with}
 
-abbrev pub delete_text : List ℕ
-delete_text = queue_delete
+abbrev pub delete_text : QueueSide → List ℕ
+delete_text = rows_delete
 
 abbrev tests : List Term
 tests = op2 (Compare Eq Binary) (col 1 2) (op1 ToNumeric (col 0 0)) ∷ op2 (Compare Le Binary) (col 1 0) (col 0 1) ∷ []
 
-abbrev query : Query
-query = record {
-  from = inner 1 end;
+abbrev query : ℕ → Query
+query tree = record {
+  from = inner tree end;
   filter = tests;
   group = None;
   project = col 1 0 ∷ [];
@@ -59,13 +61,16 @@ query = record {
   offset = lit (Int (pos 0));
 }
 
-delete_is : (f q l : List Term) → command_of (understood (queue_schema f q l) delete_text) ≡ Delete 1 (record { lets = []; body = query })
+delete_is : (side : QueueSide) (c : Checks)
+    → command_of (understood (pair_schema c) (delete_text side)) ≡ Delete (rows_tree side) (record { lets = []; body = query (rows_tree side) })
 unfolding understood everything
-delete_is f q l = refl
+delete_is First c = refl
+delete_is Second c = refl
 
-delete_plain : (f q l : List Term) → IsPlain (understood (queue_schema f q l) delete_text)
+delete_plain : (side : QueueSide) (c : Checks) → IsPlain (understood (pair_schema c) (delete_text side))
 unfolding understood everything
-delete_plain f q l = (refl, refl)
+delete_plain First c = (refl, refl)
+delete_plain Second c = (refl, refl)
 
 abbrev pub delete_params : ℕ → ℕ → Row
 delete_params number upto = Int (pos number) ∷ Int (pos upto) ∷ []
@@ -96,13 +101,15 @@ passes_on p f (x ∷ xs) = go (p x) (passes_on p f xs)
     go false h = h
 
 -- the outputs of the query, in some order
-taken : (params : Row) (db : Trees) (rows : List Row) → IsAnswer query (overlay db []) params rows → (ordered : List Output)
-    × IsPermutation (map (λ r. ([], rowid r ∷ [])) (filter (is_taken_by params) (db 1))) ordered × (rows ≡ map (λ (o : Output). o.1) ordered)
-taken params db rows a =
-    let few = filter (is_taken_by params) (db 1) in
-    let staged : a.staged ≡ map (λ r. params ∷ r ∷ []) few = a.grouped ∙ passes_on (is_taken_by params) (λ r. params ∷ r ∷ []) (db 1) in
+taken : (tree : ℕ) (params : Row) (db : Trees) (rows : List Row) → IsAnswer (query tree) (overlay db []) params rows → overlay db [] tree ≡ db tree
+    → (ordered : List Output)
+    × IsPermutation (map (λ r. ([], rowid r ∷ [])) (filter (is_taken_by params) (db tree))) ordered × (rows ≡ map (λ (o : Output). o.1) ordered)
+taken tree params db rows a same =
+    let few = filter (is_taken_by params) (db tree) in
+    let staged : a.staged ≡ map (λ r. params ∷ r ∷ []) few = a.grouped
+    ∙ passes_on (is_taken_by params) (λ r. params ∷ r ∷ []) (overlay db [] tree) ∙ ap (λ rs. map (λ r. params ∷ r ∷ []) (filter (is_taken_by params) rs)) same in
     let made : Row → Output = λ r. ([], rowid r ∷ []) in
-    let kept : a.kept ≡ map made few = a.distinct ∙ ap (map (output query)) staged ∙ map-map (output query) (λ r. params ∷ r ∷ []) few in
+    let kept : a.kept ≡ map made few = a.distinct ∙ ap (map (output (query tree))) staged ∙ map-map (output (query tree)) (λ r. params ∷ r ∷ []) few in
     (a.ordered, subst (λ k. IsPermutation k a.ordered) kept a.same, a.shown)
 
 -- a row that is above the number or in another lane
@@ -125,45 +132,49 @@ have_int [] = tt
 have_int (x ∷ xs) = ((pos x.id, refl), have_int xs)
 
 -- the rows of a lane up to an id leave the table, and no other tree changes
-pub record Takes (db : Trees) (number upto : ℕ) (xs : List Queued) (now : Trees) : Type 0 where
-  pub table : IsPermutation (map queued_row (filter (stays number upto) xs)) (now 1)
-  pub others : (t : ℕ) → t ≢ 1 → now t ≡ db t
+pub record Takes (tree : ℕ) (db : Trees) (number upto : ℕ) (xs : List Queued) (now : Trees) : Type 0 where
+  pub table : IsPermutation (map queued_row (filter (stays number upto) xs)) (now tree)
+  pub others : (t : ℕ) → t ≢ tree → now t ≡ db t
 
-takes : (f q l : List Term) (limit : Option ℕ) (number upto : ℕ) (xs : List Queued) (db : Trees) (a : Written)
-    → IsPermutation (map queued_row xs) (db 1)
+takes : (side : QueueSide) (c : Checks) (limit : Option ℕ) (number upto : ℕ) (xs : List Queued) (db : Trees) (a : Written)
+    → IsPermutation (map queued_row xs) (db (rows_tree side))
     → id_rows.Rise (λ (x : Queued). x.id) queued_cells xs
-    → Deletes (counting.task (codes "queue") queue_columns f q (lanes_with l ∷ []) limit (delete_params number upto)) (record { lets = []; body = query }) db
-    (Ok a) → Takes db number upto xs a.trees
+    → Deletes (counting.task (rows_name side) (rows_tree side) queue_columns (rows_checks side c) (pair_schema c) limit (delete_params number upto))
+    (record { lets = []; body = query (rows_tree side) }) db (Ok a)
+    → Takes (rows_tree side) db number upto xs a.trees
 unfolding everything
-takes f q l limit number upto xs db a is rise h =
+takes side c limit number upto xs db a is rise h =
+    let tree = rows_tree side in
     let params = delete_params number upto in
     let queried = went h in
-    let found = taken params db queried.0 (queried.1.answer Null) in
+    let found = taken tree params db queried.0 (queried.1.answer Null) (rows_read side db) in
     let edited_to = went queried.2 in
     let out = same_value edited_to.2 in
-    let edit = edit_of db (queue_with q) (ids_of queried.0) Given 0 [] in
-    let step = one_step (queue_schema f q l) Enforced db edited_to.0 edit (quiet Queue f q l db edit) edited_to.1 in
+    let edit = edit_of db (rows_with side c) (ids_of queried.0) Given 0 [] in
+    let step = one_step (pair_schema c) Enforced db edited_to.0 edit (quiet_pair c db edit) edited_to.1 in
     let table = id_rows.is_table (λ (x : Queued). x.id) queued_cells xs rise in
     let rest : Row → Bool = λ r. not (is_taken_by params r) in
-    let gone : a.trees 1 ≡ filter rest (db 1) = ap (λ (w : Written). w.trees 1) out ∙ step.rows
-    ∙ ap (λ rows. without_all (db 1) (ids_of rows)) found.2
-    ∙ deleted (is_taken_by params) (map queued_row xs) (db 1) found.0 table (have_int xs) is found.1 in
+    let gone : a.trees tree ≡ filter rest (db tree) = ap (λ (w : Written). w.trees tree) out ∙ step.rows
+    ∙ ap (λ rows. without_all (db tree) (ids_of rows)) found.2
+    ∙ deleted (is_taken_by params) (map queued_row xs) (db tree) found.0 table (have_int xs) is found.1 in
     record {
-      table = subst₂ IsPermutation (left number upto xs) (sym gone) (IsPermutation-filter rest (map queued_row xs) (db 1) is);
-      others = λ t not_1. ap (λ (w : Written). w.trees t) out ∙ step.others t not_1 tt;
+      table = subst₂ IsPermutation (left number upto xs) (sym gone) (IsPermutation-filter rest (map queued_row xs) (db tree) is);
+      others = λ t not_it. ap (λ (w : Written). w.trees t) out ∙ step.others t not_it tt;
     }
 
-pub deletes : (old new : State) (f q l : List Term) (number upto count : ℕ) (xs : List Queued) → old.now.schema ≡ queue_schema f q l
-    → IsPermutation (map queued_row xs) (old.now.trees 1)
-    → id_rows.Rise (λ (x : Queued). x.id) queued_cells xs → Executes delete_text (delete_params number upto) old new (Ok count)
-    → (new.now.schema ≡ queue_schema f q l) × Takes old.now.trees number upto xs new.now.trees
-deletes old new f q l number upto count xs has is rise h =
+pub deletes : (side : QueueSide) (old new : State) (c : Checks) (number upto count : ℕ) (xs : List Queued) → old.now.schema ≡ pair_schema c
+    → IsPermutation (map queued_row xs) (old.now.trees (rows_tree side))
+    → id_rows.Rise (λ (x : Queued). x.id) queued_cells xs → Executes (delete_text side) (delete_params number upto) old new (Ok count)
+    → (new.now.schema ≡ pair_schema c) × Takes (rows_tree side) old.now.trees number upto xs new.now.trees
+deletes side old new c number upto count xs has is rise h =
     let params = delete_params number upto in
-    let command = Delete 1 (record { lets = []; body = query }) in
-    let w = runs_as delete_text params old new (queue_schema f q l) has command (delete_is f q l) (delete_plain f q l) count h in
-    let task = counting.task (codes "queue") queue_columns f q (lanes_with l ∷ []) old.step_limit params in
+    let command = Delete (rows_tree side) (record { lets = []; body = query (rows_tree side) }) in
+    let w = runs_as (delete_text side) params old new (pair_schema c) has command (delete_is side c) (delete_plain side c) count h in
+    let task = counting.task (rows_name side) (rows_tree side) queue_columns (rows_checks side c) (pair_schema c) old.step_limit params in
     let does = subst (λ s. Does old.step_limit (mode_of old) params (record old.now { schema = s })
-    (statement_of delete_text (understood (queue_schema f q l) delete_text)) None command (Ok (w.tally, new.now))) has w.changed in
-    let done = written task (mode_of old) command old.now.trees w.tally new.now does in
-    let took = takes f q l old.step_limit number upto xs old.now.trees done.0 is rise done.1 in
-    (ap (λ (d : Database). d.schema) done.2, subst (λ (d : Database). Takes old.now.trees number upto xs d.trees) (sym done.2) took)
+    (statement_of (delete_text side) (understood (pair_schema c) (delete_text side))) None command (Ok (w.tally, new.now))) has w.changed in
+    let on = at_table (λ t. OnRows (record task { table = t }) (mode_of old) None command old.now.trees) (pair_schema c).tables (rows_tree side)
+    (rows_with side c) (Ok (w.tally, new.now)) (rows_there side c) does in
+    let done = written task (mode_of old) command old.now.trees w.tally new.now on in
+    let took = takes side c old.step_limit number upto xs old.now.trees done.0 is rise done.1 in
+    (ap (λ (d : Database). d.schema) done.2, subst (λ (d : Database). Takes (rows_tree side) old.now.trees number upto xs d.trees) (sym done.2) took)

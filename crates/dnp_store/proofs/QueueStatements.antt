@@ -1,5 +1,5 @@
 -- What the statements of a queue make of its tables.
-use Rattle.std.proofs.Common.{◌≡◌, ℕ, ◌+◌, ◌≤◌, pos, List, [], ◌∷◌, codes, Option, Some, None, Ok, refl}
+use Rattle.std.proofs.Common.{◌≡◌, ℕ, ◌+◌, ◌≤◌, pos, List, [], ◌∷◌, Option, Some, None, Ok, refl}
 use Rattle.sqlite_tied.specs.Compute.{everything}
 use Rattle.sqlite.specs.declared.types.Value.TheVariants.{Null, Int}
 use Rattle.sqlite.specs.Command.TheVariants.{Insert}
@@ -13,12 +13,15 @@ use Rattle.sqlite.specs.Listing.{understood}
 use Rattle.sqlite.specs.Given.{IsPlain}
 use Rattle.sqlite.specs.State.{State, Executes}
 use Rattle.sqlite.proofs.Callers.{command_of}
-use Rattle.dnp_store.specs.Texts.{queue_insert}
-use Rattle.dnp_store.specs.Tables.{or_null, IsCounted}
-use Rattle.dnp_store.specs.QueueTables.{queue_schema, queue_with, Queued}
-use Rattle.dnp_store.specs.declared.store_kind.StoreKind.TheVariants.{Queue}
-use Rattle.dnp_store.proofs.Inserting as inserting
-use Rattle.dnp_store.proofs.Counting.{cast_int, cast_null, PutsAt}
+use Rattle.dnp_store.specs.Texts.{rows_insert}
+use Rattle.dnp_store.specs.Tables.{or_null, counts_of, IsCounted}
+use Rattle.dnp_store.specs.QueueTables.{queue_columns, Queued}
+use Rattle.dnp_store.specs.PairTables.{Checks, pair_schema, rows_name, rows_tree}
+use Rattle.dnp_store.specs.declared.queue_side.QueueSide.{QueueSide}
+use Rattle.dnp_store.specs.declared.queue_side.QueueSide.TheVariants.{First, Second}
+use Rattle.dnp_store.proofs.Inserting.{inserts_in}
+use Rattle.dnp_store.proofs.PairSchema.{listed_pair, quiet_pair, rows_with, rows_checks, rows_there, rows_apart}
+use Rattle.dnp_store.proofs.Counting.{cast_int, cast_null, PutsIn}
 
 pub cast_time : (t : Option ℕ) → Rattle.sqlite.specs.Cast.cast Rattle.sqlite.specs.Kind.TheVariants.Integer (or_null t) ≡ or_null t
 cast_time None = cast_null
@@ -26,19 +29,21 @@ cast_time (Some n) = cast_int (pos n)
 
 -- ---- INSERT
 
-abbrev pub insert_text : List ℕ
-insert_text = queue_insert
+abbrev pub insert_text : QueueSide → List ℕ
+insert_text = rows_insert
 
 abbrev insert_terms : List Term
 insert_terms = lit Null ∷ lit Null ∷ col 0 0 ∷ col 0 1 ∷ col 0 2 ∷ col 0 3 ∷ col 0 4 ∷ []
 
-insert_is : (f q l : List Term) → command_of (understood (queue_schema f q l) insert_text) ≡ Insert 1 (Values insert_terms 7)
+insert_is : (side : QueueSide) (c : Checks) → command_of (understood (pair_schema c) (insert_text side)) ≡ Insert (rows_tree side) (Values insert_terms 7)
 unfolding understood everything
-insert_is f q l = refl
+insert_is First c = refl
+insert_is Second c = refl
 
-insert_plain : (f q l : List Term) → IsPlain (understood (queue_schema f q l) insert_text)
+insert_plain : (side : QueueSide) (c : Checks) → IsPlain (understood (pair_schema c) (insert_text side))
 unfolding understood everything
-insert_plain f q l = (refl, refl)
+insert_plain First c = (refl, refl)
+insert_plain Second c = (refl, refl)
 
 -- the cells of a row that ends with its time
 abbrev pub whole_cells : Queued → Row
@@ -47,19 +52,20 @@ whole_cells x = Null ∷ Int (pos x.lane) ∷ Int (pos x.index) ∷ Int (pos x.f
 abbrev pub insert_params : Queued → Row
 insert_params x = Int (pos x.lane) ∷ Int (pos x.index) ∷ Int (pos x.flags) ∷ Int x.value ∷ or_null x.time ∷ []
 
-insert_sources : (f q l : List Term) (limit : Option ℕ) (db : Trees) (x : Queued) (rows : List Row)
-    → Sourced limit (record { schema = queue_schema f q l; trees = db }) (stamped (queue_with q) (insert_params x)) (Values insert_terms 7) (Ok rows)
+insert_sources : (side : QueueSide) (c : Checks) (limit : Option ℕ) (db : Trees) (x : Queued) (rows : List Row)
+    → Sourced limit (record { schema = pair_schema c; trees = db }) (stamped (rows_with side c) (insert_params x)) (Values insert_terms 7) (Ok rows)
     → rows ≡ (Null ∷ whole_cells x) ∷ []
 unfolding everything
-insert_sources f q l limit db x rows h = h.1
+insert_sources side c limit db x rows h = h.1
 
-pub insert_casts : (q : List Term) (x : Queued) → cast_row (queue_with q) (Null ∷ whole_cells x) ≡ Null ∷ whole_cells x
-insert_casts q x = rw (cast_null, cast_int (pos x.lane), cast_int (pos x.index), cast_int (pos x.flags), cast_int x.value, cast_time x.time)
+pub insert_casts : (side : QueueSide) (c : Checks) (x : Queued) → cast_row (rows_with side c) (Null ∷ whole_cells x) ≡ Null ∷ whole_cells x
+insert_casts side c x = rw (cast_null, cast_int (pos x.lane), cast_int (pos x.index), cast_int (pos x.flags), cast_int x.value, cast_time x.time)
 
-pub inserts : (old new : State) (f q l : List Term) (x : Queued) (n m count : ℕ) → old.now.schema ≡ queue_schema f q l
-    → IsCounted (codes "queue") (old.now.trees 2) n
-    → Rattle.sqlite.specs.Edit.next_rowid (old.now.trees 1) ≡ pos m → m ≤ n + 1 → Executes insert_text (insert_params x) old new (Ok count)
-    → (new.now.schema ≡ queue_schema f q l) × PutsAt (codes "queue") old.now.trees (whole_cells x) n new.now.trees
-inserts old new f q l x n m count has counted next low h =
-    inserting.inserts Queue f q l old new insert_text (insert_params x) (Null ∷ whole_cells x) (whole_cells x) (Values insert_terms 7) n m count
-    (insert_is f q l) (insert_plain f q l) (insert_sources f q l old.step_limit old.now.trees x) (insert_casts q x) has counted next low h
+pub inserts : (side : QueueSide) (old new : State) (c : Checks) (x : Queued) (n m count : ℕ) → old.now.schema ≡ pair_schema c
+    → IsCounted (rows_name side) (counts_of (rows_name side) (old.now.trees 2)) n
+    → Rattle.sqlite.specs.Edit.next_rowid (old.now.trees (rows_tree side)) ≡ pos m → m ≤ n + 1 → Executes (insert_text side) (insert_params x) old new (Ok count)
+    → (new.now.schema ≡ pair_schema c) × PutsIn (rows_name side) (rows_tree side) old.now.trees (whole_cells x) n new.now.trees
+inserts side old new c x n m count has counted next low h =
+    inserts_in (rows_name side) (rows_tree side) queue_columns (rows_checks side c) (pair_schema c) (listed_pair c) (quiet_pair c) (λ t. tt) (rows_there side c)
+    (rows_apart side) old new (insert_text side) (insert_params x) (Null ∷ whole_cells x) (whole_cells x) (Values insert_terms 7) n m count
+    (insert_is side c) (insert_plain side c) (insert_sources side c old.step_limit old.now.trees x) (insert_casts side c x) has counted next low h

@@ -17,13 +17,17 @@ use Rattle.dnp_objects.specs.Objects.{objects, content_of}
 use Rattle.dnp_eventbuf.specs.Carried.{IsCarried}
 use Rattle.dnp_eventbuf.specs.Stock.{Stock}
 use Rattle.dnp_store.specs.Tables.{or_null}
-use Rattle.dnp_store.specs.QueueTables.{Queued, queued_cells, Figures, HoldsQueue, IsForm1}
+use Rattle.dnp_store.specs.QueueTables.{Queued, queued_cells, Figures}
+use Rattle.dnp_store.specs.PairTables.{IsForm2, lanes_tree, rows_name, rows_tree}
+use Rattle.dnp_store.specs.declared.queue_side.QueueSide.{QueueSide}
+use Rattle.dnp_store.specs.steps.Pairs.{HoldsFor}
 use Rattle.dnp_store.specs.steps.Steps.{added, counted, cut, noted}
 use Rattle.dnp_store.proofs.IdRows as id_rows
 use Rattle.dnp_store.proofs.QueueStatements.{insert_text, insert_params, inserts}
 use Rattle.dnp_store.proofs.QueueDeletes.{delete_text, delete_params, deletes}
 use Rattle.dnp_store.proofs.QueueUpdates.{update_text, update_params, updates}
 use Rattle.dnp_store.proofs.Holding.{queued_for, put, took, noted_in}
+use Rattle.dnp_store.proofs.PairSchema.{view, puts_seen, puts_spare, one_spares, rows_seen, lanes_seen, rows_of_side, lanes_of_side, spared}
 
 below : (t : ℕ) → nat_lt t MAX_TIME ≡ true → t < 2 ^ 63
 below t h = let less = (Decides-ltb t MAX_TIME).0 h in omega arith
@@ -65,47 +69,58 @@ pub insert_bound : (x : LaneRow) (a b c d t : Value) → a ≡ Int (pos (lane_nu
     ≡ insert_params (queued_for 0 x)
 insert_bound x a b c d t p q r s u = rw (p, q, r, s, u, bound_time x.row.time) refl
 
-pub insert_holds : (old new : State) (s : Stock) (fs : List Figures) (x : LaneRow) (count : ℕ) → length s.lanes ≡ LANES → lane_number x.lane < LANES
-    → IsCarried x
-    → Executes insert_text (insert_params (queued_for 0 x)) old new (Ok count) → HoldsQueue old.now s fs → HoldsQueue new.now (added s x) fs
-insert_holds old new s fs x count nine low carried ran h =
-    let under = id_rows.are_under (λ (y : Queued). y.id) queued_cells h.lanes.queued s.last_id (old.now.trees 1) h.lanes.up_to_last h.lanes.queue_is in
-    let next = id_rows.next_is (old.now.trees 1) s.last_id under in
-    let did = inserts old new h.form_checks h.queue_checks h.lanes_checks (queued_for (s.last_id + 1) x) s.last_id next.0 count h.schema h.lanes.counted
-    next.1 next.2 ran in
+pub insert_holds : (side : QueueSide) (old new : State) (others s : Stock) (fs : List Figures) (x : LaneRow) (count : ℕ) → length s.lanes ≡ LANES
+    → lane_number x.lane < LANES → IsCarried x → Executes (insert_text side) (insert_params (queued_for 0 x)) old new (Ok count)
+    → HoldsFor side others old.now s fs → HoldsFor side others new.now (added s x) fs
+insert_holds side old new others s fs x count nine low carried ran h =
+    let db = old.now.trees in
+    let tree = rows_tree side in
+    let under = id_rows.are_under (λ (y : Queued). y.id) queued_cells h.lanes.queued s.last_id (db tree) h.lanes.up_to_last h.lanes.queue_is in
+    let next = id_rows.next_is (db tree) s.last_id under in
+    let did = inserts side old new h.checks (queued_for (s.last_id + 1) x) s.last_id next.0 count h.schema h.lanes.counted next.1 next.2 ran in
+    let spares = puts_spare side db new.now.trees _ did.1.count did.1.others in
     record {
-      form_checks = h.form_checks;
-      queue_checks = h.queue_checks;
-      lanes_checks = h.lanes_checks;
+      checks = h.checks;
       schema = did.0;
-      form = subst IsForm1 (sym (did.1.others 0 (λ e. absurd (omega arith)) (λ e. absurd (omega arith)))) h.form;
-      lanes = put old.now.trees new.now.trees s fs x h.lanes nine low carried did.1;
+      form = subst IsForm2 (sym spares.form) h.form;
+      counts = spares.ids h.counts;
+      lanes = put (rows_name side) (view side db) (view side new.now.trees) s fs x h.lanes nine low carried
+          (puts_seen side db _ s.last_id new.now.trees did.1);
+      rest = spared side db new.now.trees others spares h.counts h.rest;
     }
 
-pub take_holds : (old new : State) (s : Stock) (fs : List Figures) (number upto count : ℕ) → length s.lanes ≡ LANES → number < LANES
-    → Executes delete_text (delete_params number upto) old new (Ok count) → HoldsQueue old.now s fs → HoldsQueue new.now (cut s number upto) fs
-take_holds old new s fs number upto count nine low ran h =
-    let did = deletes old new h.form_checks h.queue_checks h.lanes_checks number upto count h.lanes.queued h.schema h.lanes.queue_is h.lanes.rise ran in
+pub take_holds : (side : QueueSide) (old new : State) (others s : Stock) (fs : List Figures) (number upto count : ℕ) → length s.lanes ≡ LANES → number < LANES
+    → Executes (delete_text side) (delete_params number upto) old new (Ok count) → HoldsFor side others old.now s fs
+    → HoldsFor side others new.now (cut s number upto) fs
+take_holds side old new others s fs number upto count nine low ran h =
+    let db = old.now.trees in
+    let now = new.now.trees in
+    let did = deletes side old new h.checks number upto count h.lanes.queued h.schema h.lanes.queue_is h.lanes.rise ran in
+    let spares = one_spares side (rows_tree side) db now (rows_of_side side) did.1.others in
     record {
-      form_checks = h.form_checks;
-      queue_checks = h.queue_checks;
-      lanes_checks = h.lanes_checks;
+      checks = h.checks;
       schema = did.0;
-      form = subst IsForm1 (sym (did.1.others 0 (λ e. absurd (omega arith)))) h.form;
-      lanes = took old.now.trees new.now.trees s fs number upto h.lanes nine low did.1;
+      form = subst IsForm2 (sym spares.form) h.form;
+      counts = spares.ids h.counts;
+      lanes = took (rows_name side) (view side db) (view side now) s fs number upto h.lanes nine low
+          (record { table = did.1.table; others = rows_seen side db now did.1.others });
+      rest = spared side db now others spares h.counts h.rest;
     }
 
-pub note_holds : (old new : State) (s : Stock) (fs : List Figures) (number lost count : ℕ) (raised : Bool) → length s.lanes ≡ LANES → number < LANES
-    → Executes update_text (update_params number lost raised) old new (Ok count) → HoldsQueue old.now s fs
-    → HoldsQueue new.now (counted s number lost) (noted fs number lost raised)
-note_holds old new s fs number lost count raised nine low ran h =
-    let did = updates old new h.form_checks h.queue_checks h.lanes_checks number lost count raised fs h.schema h.lanes.lanes_is (omega (arith, h.lanes.nine))
-    ran in
+pub note_holds : (side : QueueSide) (old new : State) (others s : Stock) (fs : List Figures) (number lost count : ℕ) (raised : Bool) → length s.lanes ≡ LANES
+    → number < LANES → Executes (update_text side) (update_params number lost raised) old new (Ok count) → HoldsFor side others old.now s fs
+    → HoldsFor side others new.now (counted s number lost) (noted fs number lost raised)
+note_holds side old new others s fs number lost count raised nine low ran h =
+    let db = old.now.trees in
+    let now = new.now.trees in
+    let did = updates side old new h.checks number lost count raised fs h.schema h.lanes.lanes_is (omega (arith, h.lanes.nine)) ran in
+    let spares = one_spares side (lanes_tree side) db now (lanes_of_side side) did.1.others in
     record {
-      form_checks = h.form_checks;
-      queue_checks = h.queue_checks;
-      lanes_checks = h.lanes_checks;
+      checks = h.checks;
       schema = did.0;
-      form = subst IsForm1 (sym (did.1.others 0 (λ e. absurd (omega arith)))) h.form;
-      lanes = noted_in old.now.trees new.now.trees s fs number lost raised h.lanes nine low did.1;
+      form = subst IsForm2 (sym spares.form) h.form;
+      counts = spares.ids h.counts;
+      lanes = noted_in (rows_name side) (view side db) (view side now) s fs number lost raised h.lanes nine low
+          (record { table = did.1.table; others = lanes_seen side db now did.1.others });
+      rest = spared side db now others spares h.counts h.rest;
     }

@@ -29,28 +29,31 @@ use Rattle.sqlite.specs.Edit.{edit_of, put_all}
 use Rattle.sqlite.specs.Cast.{cast_row}
 use Rattle.sqlite.specs.Rowids.TheVariants.{Given}
 use Rattle.sqlite.specs.Effect.{Database}
-use Rattle.sqlite.specs.Does.{Does}
+use Rattle.sqlite.specs.Does.{Does, OnRows}
 use Rattle.sqlite.specs.Rows.{Task, Written, Updates}
 use Rattle.sqlite.specs.State.{State, Executes, mode_of}
 use Rattle.sqlite.proofs.Callers.{one_permutation}
 use Rattle.sqlite_rules.specs.Calls.{ids_of}
 use Rattle.sqlite_schema.specs.declared.schema.Keys.TheVariants.{Enforced}
 use Rattle.dnp_store.specs.Texts.{lanes_update}
-use Rattle.dnp_store.specs.QueueTables.{queue_schema, lanes_with, Figures, no_figures, figures_cells, figures_rows}
-use Rattle.dnp_store.proofs.Statements.{went, written, same_value}
+use Rattle.dnp_store.specs.QueueTables.{Figures, no_figures, figures_cells, figures_rows}
+use Rattle.dnp_store.specs.PairTables.{Checks, lanes_tree, pair_schema}
+use Rattle.dnp_store.proofs.Statements.{at_table, went, written, same_value}
 use Rattle.dnp_store.proofs.Counting.{cast_int, cast_null}
+use Rattle.dnp_store.proofs.Recounting.{others_left}
 use Rattle.dnp_store.proofs.IdRows.{is_less, put_apart}
-use Rattle.dnp_store.specs.declared.store_kind.StoreKind.TheVariants.{Queue}
-use Rattle.dnp_store.proofs.Inserting.{quiet}
+use Rattle.dnp_store.specs.declared.queue_side.QueueSide.{QueueSide}
+use Rattle.dnp_store.specs.declared.queue_side.QueueSide.TheVariants.{First, Second}
+use Rattle.dnp_store.proofs.PairSchema.{lanes_of, lanes_read, lanes_there, quiet_pair}
 use Rattle.dnp_store.proofs.QueueDeletes.{passes_on, and_true}
 use Rattle.dnp_store.proofs.Tests.{eq_holds, has_is, is_same, is_other}
 
-abbrev pub update_text : List ℕ
+abbrev pub update_text : QueueSide → List ℕ
 update_text = lanes_update
 
-abbrev query : Query
-query = record {
-  from = inner 3 end;
+abbrev query : ℕ → Query
+query tree = record {
+  from = inner tree end;
   filter = op2 (Compare Eq Binary) (col 1 0) (col 0 0) ∷ [];
   group = None;
   project = col 1 0 ∷ col 1 0 ∷ lit Null ∷ col 1 2 ∷ col 0 1 ∷ col 0 2 ∷ [];
@@ -61,13 +64,16 @@ query = record {
   offset = lit (Int (pos 0));
 }
 
-update_is : (f q l : List Term) → command_of (understood (queue_schema f q l) update_text) ≡ Update 3 (record { lets = []; body = query })
+update_is : (side : QueueSide) (c : Checks)
+    → command_of (understood (pair_schema c) (update_text side)) ≡ Update (lanes_tree side) (record { lets = []; body = query (lanes_tree side) })
 unfolding understood everything
-update_is f q l = refl
+update_is First c = refl
+update_is Second c = refl
 
-update_plain : (f q l : List Term) → IsPlain (understood (queue_schema f q l) update_text)
+update_plain : (side : QueueSide) (c : Checks) → IsPlain (understood (pair_schema c) (update_text side))
 unfolding understood everything
-update_plain f q l = (refl, refl)
+update_plain First c = (refl, refl)
+update_plain Second c = (refl, refl)
 
 -- ---- the lanes by their numbers
 
@@ -135,25 +141,17 @@ made : Row → Row → Output
 made params r = ([], column r 0 ∷ column r 0 ∷ Null ∷ column r 2 ∷ column params 1 ∷ column params 2 ∷ [])
 
 -- the outputs of the query, in some order
-matched : (params : Row) (db : Trees) (rows : List Row) → IsAnswer query (overlay db []) params rows
-    → (ordered : List Output) × IsPermutation (map (made params) (filter (is_found params) (db 3))) ordered × (rows ≡ map (λ (o : Output). o.1) ordered)
+matched : (tree : ℕ) (params : Row) (db : Trees) (rows : List Row) → IsAnswer (query tree) (overlay db []) params rows → overlay db [] tree ≡ db tree
+    → (ordered : List Output) × IsPermutation (map (made params) (filter (is_found params) (db tree))) ordered × (rows ≡ map (λ (o : Output). o.1) ordered)
 unfolding made
-matched params db rows a =
-    let few = filter (is_found params) (db 3) in
-    let staged : a.staged ≡ map (λ r. params ∷ r ∷ []) few = a.grouped ∙ passes_on (is_found params) (λ r. params ∷ r ∷ []) (db 3) in
-    let kept : a.kept ≡ map (made params) few = a.distinct ∙ ap (map (output query)) staged ∙ map-map (output query) (λ r. params ∷ r ∷ []) few in
+matched tree params db rows a same =
+    let few = filter (is_found params) (db tree) in
+    let staged : a.staged ≡ map (λ r. params ∷ r ∷ []) few = a.grouped
+    ∙ passes_on (is_found params) (λ r. params ∷ r ∷ []) (overlay db [] tree) ∙ ap (λ rs. map (λ r. params ∷ r ∷ []) (filter (is_found params) rs)) same in
+    let kept : a.kept ≡ map (made params) few = a.distinct ∙ ap (map (output (query tree))) staged ∙ map-map (output (query tree)) (λ r. params ∷ r ∷ []) few in
     (a.ordered, subst (λ k. IsPermutation k a.ordered) kept a.same, a.shown)
 
 -- ---- rows in any order
-
-pub others_left : (n : ℤ) (rows : List Row) → AllByRecursion (λ r. has_rowid n r ≡ false) (without_rowid n rows)
-others_left n [] = tt
-others_left n (r ∷ rows) = go (has_rowid n r) refl (others_left n rows)
-  where
-    go : (b : Bool) → has_rowid n r ≡ b → AllByRecursion (λ x. has_rowid n x ≡ false) (without_rowid n rows)
-        → AllByRecursion (λ x. has_rowid n x ≡ false) (cond (not b) (r ∷ without_rowid n rows) (without_rowid n rows))
-    go true is rest = rest
-    go false is rest = (is, rest)
 
 -- a row in place of the one with its rowid leaves the same rows, in whatever order they stood
 put_in_turn : (cells : List Value) (number : ℕ) (xs ys : List Row) → IsPermutation xs ys
@@ -171,57 +169,63 @@ abbrev pub noted_as : Figures → ℕ → Bool → Figures
 noted_as f lost raised = record { capacity = f.capacity; lost = lost; raised = raised }
 
 -- one lane's figures are replaced, and no other tree changes
-pub record Notes (db : Trees) (number lost : ℕ) (raised : Bool) (fs : List Figures) (now : Trees) : Type 0 where
-  pub table : IsPermutation (figures_rows 0 (set fs number (noted_as (slice_index_or fs number no_figures) lost raised))) (now 3)
-  pub others : (t : ℕ) → t ≢ 3 → now t ≡ db t
+pub record Notes (tree : ℕ) (db : Trees) (number lost : ℕ) (raised : Bool) (fs : List Figures) (now : Trees) : Type 0 where
+  pub table : IsPermutation (figures_rows 0 (set fs number (noted_as (slice_index_or fs number no_figures) lost raised))) (now tree)
+  pub others : (t : ℕ) → t ≢ tree → now t ≡ db t
 
-abbrev task : List Term → List Term → List Term → Option ℕ → Row → Task
-task f q l limit params = record { limit = limit; keys = Enforced; schema = queue_schema f q l; table = lanes_with l; params = params }
+abbrev task : QueueSide → Checks → Option ℕ → Row → Task
+task side c limit params = record { limit = limit; keys = Enforced; schema = pair_schema c; table = lanes_of side c; params = params }
 
-casts : (l : List Term) (number : ℕ) (f : Figures) → cast_row (lanes_with l) (cells_row number f) ≡ cells_row number f
-casts l number f = rw (cast_int (pos number), cast_null, cast_int (pos f.capacity), cast_int (pos f.lost), cast_int (if f.raised then pos 1 else pos 0)) refl
+casts : (side : QueueSide) (c : Checks) (number : ℕ) (f : Figures) → cast_row (lanes_of side c) (cells_row number f) ≡ cells_row number f
+casts side c number f = rw (cast_int (pos number), cast_null, cast_int (pos f.capacity), cast_int (pos f.lost), cast_int (if f.raised then pos 1 else pos 0)) refl
 
-notes : (f q l : List Term) (limit : Option ℕ) (number lost : ℕ) (raised : Bool) (fs : List Figures) (db : Trees) (a : Written)
-    → IsPermutation (figures_rows 0 fs) (db 3) → number < length fs
-    → Updates (task f q l limit (update_params number lost raised)) (record { lets = []; body = query }) (update_params number lost raised) db (Ok a)
-    → Notes db number lost raised fs a.trees
+notes : (side : QueueSide) (c : Checks) (limit : Option ℕ) (number lost : ℕ) (raised : Bool) (fs : List Figures) (db : Trees) (a : Written)
+    → IsPermutation (figures_rows 0 fs) (db (lanes_tree side)) → number < length fs
+    → Updates (task side c limit (update_params number lost raised)) (record { lets = []; body = query (lanes_tree side) }) (update_params number lost raised)
+    db (Ok a)
+    → Notes (lanes_tree side) db number lost raised fs a.trees
 unfolding everything made
-notes f q l limit number lost raised fs db a is low h =
+notes side c limit number lost raised fs db a is low h =
+    let tree = lanes_tree side in
     let params = update_params number lost raised in
     let old = slice_index_or fs number no_figures in
     let new = noted_as old lost raised in
     let queried = went h in
-    let found = matched params db queried.0 (queried.1.answer Null) in
-    let few : filter (is_found params) (db 3) ≡ cells_row number old ∷ [] = one_permutation _ (filter (is_found params) (db 3))
-    (subst (λ rs. IsPermutation rs (filter (is_found params) (db 3))) (one number number lost 0 raised fs (omega arith) low)
-    (IsPermutation-filter (is_found params) (figures_rows 0 fs) (db 3) is)) in
+    let found = matched tree params db queried.0 (queried.1.answer Null) (lanes_read side db) in
+    let few : filter (is_found params) (db tree) ≡ cells_row number old ∷ [] = one_permutation _ (filter (is_found params) (db tree))
+    (subst (λ rs. IsPermutation rs (filter (is_found params) (db tree))) (one number number lost 0 raised fs (omega arith) low)
+    (IsPermutation-filter (is_found params) (figures_rows 0 fs) (db tree) is)) in
     let ordered : found.0 ≡ made params (cells_row number old) ∷ [] = one_permutation _ found.0
     (subst (λ rows. IsPermutation (map (made params) rows) found.0) few found.1) in
     let rows : queried.0 ≡ (Int (pos number) ∷ cells_row number new) ∷ [] = found.2 ∙ ap (map (λ (o : Output). o.1)) ordered in
     let edited_to = went queried.2 in
     let out = same_value edited_to.2 in
-    let edit = λ (rs : List Row). edit_of db (lanes_with l) (ids_of rs) Given 1 rs in
-    let step = one_step (queue_schema f q l) Enforced db edited_to.0 (edit queried.0) (quiet Queue f q l db (edit queried.0)) edited_to.1 in
+    let edit = λ (rs : List Row). edit_of db (lanes_of side c) (ids_of rs) Given 1 rs in
+    let step = one_step (pair_schema c) Enforced db edited_to.0 (edit queried.0) (quiet_pair c db (edit queried.0)) edited_to.1 in
     let row = cells_row number new in
-    let made_of : a.trees 3 ≡ put_row row (without_rowid (pos number) (db 3)) = ap (λ (w : Written). w.trees 3) out ∙ step.rows
-    ∙ ap (λ rs. put_all (Rattle.sqlite.specs.Edit.without_all (db 3) (edit rs).gone) (edit rs).news) rows
-    ∙ ap (λ r. put_row r (without_rowid (pos number) (db 3))) (casts l number new) in
+    let made_of : a.trees tree ≡ put_row row (without_rowid (pos number) (db tree)) = ap (λ (w : Written). w.trees tree) out ∙ step.rows
+    ∙ ap (λ rs. put_all (Rattle.sqlite.specs.Edit.without_all (db tree) (edit rs).gone) (edit rs).news) rows
+    ∙ ap (λ r. put_row r (without_rowid (pos number) (db tree))) (casts side c number new) in
     record {
-      table = subst₂ IsPermutation (replaced number number 0 new fs (omega arith) low) (sym made_of) (put_in_turn (figures_cells new) number (figures_rows 0 fs) (db 3) is);
-      others = λ t not_3. ap (λ (w : Written). w.trees t) out ∙ step.others t not_3 tt;
+      table = subst₂ IsPermutation (replaced number number 0 new fs (omega arith) low) (sym made_of) (put_in_turn (figures_cells new) number (figures_rows 0 fs) (db tree) is);
+      others = λ t not_it. ap (λ (w : Written). w.trees t) out ∙ step.others t not_it tt;
     }
 
-pub updates : (old new : State) (f q l : List Term) (number lost count : ℕ) (raised : Bool) (fs : List Figures) → old.now.schema ≡ queue_schema f q l
-    → IsPermutation (figures_rows 0 fs) (old.now.trees 3)
-    → number < length fs → Executes update_text (update_params number lost raised) old new (Ok count)
-    → (new.now.schema ≡ queue_schema f q l) × Notes old.now.trees number lost raised fs new.now.trees
-updates old new f q l number lost count raised fs has is low h =
+pub updates : (side : QueueSide) (old new : State) (c : Checks) (number lost count : ℕ) (raised : Bool) (fs : List Figures) → old.now.schema ≡ pair_schema c
+    → IsPermutation (figures_rows 0 fs) (old.now.trees (lanes_tree side))
+    → number < length fs → Executes (update_text side) (update_params number lost raised) old new (Ok count)
+    → (new.now.schema ≡ pair_schema c) × Notes (lanes_tree side) old.now.trees number lost raised fs new.now.trees
+updates side old new c number lost count raised fs has is low h =
     let params = update_params number lost raised in
-    let command = Update 3 (record { lets = []; body = query }) in
-    let w = runs_as update_text params old new (queue_schema f q l) has command (update_is f q l) (update_plain f q l) count h in
-    let the_task = task f q l old.step_limit params in
+    let command = Update (lanes_tree side) (record { lets = []; body = query (lanes_tree side) }) in
+    let w = runs_as (update_text side) params old new (pair_schema c) has command (update_is side c) (update_plain side c) count h in
+    let the_task = task side c old.step_limit params in
     let does = subst (λ s. Does old.step_limit (mode_of old) params (record old.now { schema = s })
-    (statement_of update_text (understood (queue_schema f q l) update_text)) None command (Ok (w.tally, new.now))) has w.changed in
-    let done = written the_task (mode_of old) command old.now.trees w.tally new.now does in
-    let took = notes f q l old.step_limit number lost raised fs old.now.trees done.0 is low done.1 in
-    (ap (λ (d : Database). d.schema) done.2, subst (λ (d : Database). Notes old.now.trees number lost raised fs d.trees) (sym done.2) took)
+    (statement_of (update_text side) (understood (pair_schema c) (update_text side))) None command (Ok (w.tally, new.now))) has w.changed in
+    let on = at_table (λ t. OnRows (record the_task { table = t }) (mode_of old) None command old.now.trees) (pair_schema c).tables (lanes_tree side)
+    (lanes_of side c) (Ok (w.tally, new.now)) (lanes_there side c) does in
+    let done = written the_task (mode_of old) command old.now.trees w.tally new.now on in
+    let took = notes side c old.step_limit number lost raised fs old.now.trees done.0 is low done.1 in (
+      ap (λ (d : Database). d.schema) done.2,
+      subst (λ (d : Database). Notes (lanes_tree side) old.now.trees number lost raised fs d.trees) (sym done.2) took,
+    )

@@ -24,10 +24,12 @@ use Rattle.dnp_store.specs.declared.store_kind.StoreKind.{StoreKind}
 use Rattle.dnp_store.specs.Faults.{IsCut, is_memory}
 use Rattle.dnp_store.specs.declared.fault.Unread.{Unread}
 use Rattle.dnp_store.specs.declared.fault.Unread.TheVariants.{Form, Memory, Failed}
-use Rattle.dnp_store.specs.declared.store_kind.StoreKind.TheVariants.{Journal}
+use Rattle.dnp_store.specs.declared.queue_side.QueueSide.{QueueSide}
+use Rattle.dnp_store.specs.declared.queue_side.QueueSide.TheVariants.{First, Second}
+use Rattle.dnp_store.specs.declared.store_kind.StoreKind.TheVariants.{Queue, Journal}
 use Rattle.dnp_store.specs.steps.JournalShown.{HasNoEvent}
 use Rattle.dnp_store.specs.Refusals.{IsRefused, IsUnread}
-use Rattle.dnp_store.specs.Texts.{IsMaking, IsOwn}
+use Rattle.dnp_store.specs.Texts.{IsMaking, IsOwn, lanes_update, rows_delete, rows_insert, rows_insert_16}
 use Rattle.dnp_store.proofs.Statements.{same_value}
 use Rattle.dnp_store.proofs.Standing.{survives_itself}
 
@@ -37,6 +39,23 @@ same_err e = cc
 pub other_if : {X : Type 0} (b : Bool) → b ≡ false → IsTrue b ⊎ X → X
 other_if b is (inl so) = absurd cc
 other_if b is (inr x) = x
+
+-- the statements of each side are a queue's own
+pub own_insert : (side : QueueSide) → IsOwn Queue (rows_insert side)
+own_insert First = (0, refl)
+own_insert Second = (4, refl)
+
+pub own_insert_16 : (side : QueueSide) → IsOwn Queue (rows_insert_16 side)
+own_insert_16 First = (1, refl)
+own_insert_16 Second = (5, refl)
+
+pub own_delete : (side : QueueSide) → IsOwn Queue (rows_delete side)
+own_delete First = (2, refl)
+own_delete Second = (6, refl)
+
+pub own_update : (side : QueueSide) → IsOwn Queue (lanes_update side)
+own_update First = (3, refl)
+own_update Second = (7, refl)
 
 module _ {S : Type 0} (g : Ghosts S) (kind : StoreKind) where
   -- a statement

@@ -14,10 +14,14 @@ use Rattle.dnp_eventbuf.specs.declared.numbered.Numbered.{Numbered}
 use Rattle.dnp_eventbuf.specs.Latest.{numbered_for}
 use Rattle.dnp_eventbuf.specs.Sound.{IsSound}
 use Rattle.dnp_eventbuf.specs.Stock.{LaneState, Stock, lane_at, no_lane, above, emptied, without, without_all, lanes_above}
-use Rattle.dnp_store.specs.QueueTables.{Figures, no_figures, HoldsQueue, HoldsStock, IsQueue, is_raised}
+use Rattle.dnp_store.specs.declared.queue_side.QueueSide.{QueueSide}
+use Rattle.dnp_store.specs.QueueTables.{Figures, no_figures, is_raised}
+use Rattle.dnp_store.specs.PairTables.{HoldsPair, IsPair}
+use Rattle.dnp_store.specs.steps.Pairs.{HoldsFor, IsFor, sides_of}
+use Rattle.dnp_store.proofs.PairSides.{for_of, pair_of}
 use Rattle.dnp_store.specs.steps.Steps.{mixed, cut, counted, noted, left, released}
 use Rattle.dnp_store.proofs.Standing.{on_trees}
-use Rattle.dnp_store.proofs.Trimming.{mixed_low, mixed_high, nine_mixed, same_queue, of_queue, as_queue}
+use Rattle.dnp_store.proofs.Trimming.{mixed_low, mixed_high, nine_mixed, same_queue}
 
 pub mixed_step : (number : ℕ) (a b t : Stock) → length a.lanes ≡ LANES → length b.lanes ≡ LANES → number < LANES
     → ((k : ℕ) → k < LANES → k ≢ number → lane_at t k ≡ lane_at (mixed number a b) k)
@@ -96,10 +100,10 @@ pub nine_left : (s : Stock) (upto : List ℕ) → length s.lanes ≡ LANES → l
 nine_left s upto nine = as_many_left s.lanes upto ∙ nine
 
 -- one lane more has lost its rows
-pub cut_step : LaneByLane → (db : Database) (s : Stock) (upto : List ℕ) (fs : List Figures) (number u : ℕ) → IsSound s → length upto ≡ LANES → number < LANES
+pub cut_step : LaneByLane → (side : QueueSide) (others : Stock) (db : Database) (s : Stock) (upto : List ℕ) (fs : List Figures) (number u : ℕ) → IsSound s → length upto ≡ LANES → number < LANES
     → u ≡ min (get_or upto number 0) MAX_ID
-    → HoldsQueue db (cut (mixed number s (left s upto)) number u) fs → HoldsQueue db (mixed (suc number) s (left s upto)) fs
-cut_step by_lane db s upto fs number u sound nine_u low u_is h =
+    → HoldsFor side others db (cut (mixed number s (left s upto)) number u) fs → HoldsFor side others db (mixed (suc number) s (left s upto)) fs
+cut_step by_lane side others db s upto fs number u sound nine_u low u_is h =
     let b = left s upto in
     let m = mixed number s b in
     let nine_b = nine_left s upto sound.nine in
@@ -114,18 +118,18 @@ cut_step by_lane db s upto fs number u sound nine_u low u_is h =
     ∙ ap (λ (rows : List Numbered). record { capacity = (lane_at s number).capacity; rows = rows; lost = (lane_at s number).lost })
     (same_above (get_or upto number 0) MAX_ID (lane_at s number).rows ids)
     ∙ sym (by_lane s upto number (omega (arith, sound.nine)) (omega (arith, sound.nine))) in
-    same_queue db (cut m number u) (mixed (suc number) s b) fs h
+    same_queue side others db (cut m number u) (mixed (suc number) s b) fs h
     (mixed_step number s b (cut m number u) sound.nine nine_b low
     (λ k k_low other. get_or-set_other m.lanes number k (above u (lane_at m number)) no_lane other) there) refl
 
 -- ---- the mark
 
 -- a lane that has dropped as many rows as before is as before
-pub note_step : (db : Database) (s : Stock) (fs : List Figures) (number lost : ℕ) → length s.lanes ≡ LANES → number < LANES → lost ≡ (lane_at s number).lost
-    → HoldsQueue db (counted s number lost) fs → HoldsQueue db s fs
-note_step db s fs number lost nine low is h =
+pub note_step : (side : QueueSide) (others : Stock) (db : Database) (s : Stock) (fs : List Figures) (number lost : ℕ) → length s.lanes ≡ LANES → number < LANES → lost ≡ (lane_at s number).lost
+    → HoldsFor side others db (counted s number lost) fs → HoldsFor side others db s fs
+note_step side others db s fs number lost nine low is h =
     let new : LaneState = record (lane_at s number) { lost = lost } in
-    same_queue db (counted s number lost) s fs h (λ k k_low. elim (cases_eq k number) [
+    same_queue side others db (counted s number lost) s fs h (λ k k_low. elim (cases_eq k number) [
       | inl same ↦ subst (λ (m : ℕ). lane_at s m ≡ lane_at (counted s number lost) m) (sym same)
           (sym (get_or-set_same s.lanes number new no_lane (omega (arith, nine)) ∙ ap (λ (n : ℕ). record (lane_at s number) { lost = n }) is))
       | inr other ↦ sym (get_or-set_other s.lanes number k new no_lane other)
@@ -157,15 +161,21 @@ pub lost_left : LaneByLane → (s : Stock) (upto : List ℕ) → length s.lanes 
     → (lane_at (left s upto) k).lost ≡ (lane_at s k).lost
 lost_left by_lane s upto nine nine_u k low = ap (λ (l : LaneState). l.lost) (by_lane s upto k (omega arith) (omega arith))
 
-pub kept_mark : (db : Database) (s : Stock) (upto : List ℕ) (h : IsQueue db s) (now : Database) → HoldsQueue now (left s upto) h.holds.figures
-    → IsQueue now (released s upto false)
-kept_mark db s upto h now held = as_queue now (released s upto false) h.holds.figures
-    (same_queue now (left s upto) (released s upto false) h.holds.figures held (λ k low. refl) refl) (and_true s.overflow ∙ h.holds.overflow)
+pub kept_mark : (side : QueueSide) (others : Stock) (db : Database) (s : Stock) (upto : List ℕ) (h : IsFor side others db s) (now : Database)
+    → HoldsFor side others now (left s upto) h.figures → IsFor side others now (released s upto false)
+kept_mark side others db s upto h now held = record {
+  figures = h.figures;
+  holds = same_queue side others now (left s upto) (released s upto false) h.figures held (λ k low. refl) refl;
+  overflow = and_true s.overflow ∙ h.overflow;
+}
 
-pub lowered_mark : (s : Stock) (upto : List ℕ) (now : Database) (fs : List Figures) → HoldsQueue now (left s upto) fs → is_raised fs ≡ false
-    → IsQueue now (released s upto true)
-lowered_mark s upto now fs held none = as_queue now (released s upto true) fs
-    (same_queue now (left s upto) (released s upto true) fs held (λ k low. refl) refl) (and_false s.overflow ∙ sym none)
+pub lowered_mark : (side : QueueSide) (others s : Stock) (upto : List ℕ) (now : Database) (fs : List Figures) → HoldsFor side others now (left s upto) fs
+    → is_raised fs ≡ false → IsFor side others now (released s upto true)
+lowered_mark side others s upto now fs held none = record {
+  figures = fs;
+  holds = same_queue side others now (left s upto) (released s upto true) fs held (λ k low. refl) refl;
+  overflow = and_false s.overflow ∙ sym none;
+}
 
 -- ---- all rows leave
 
@@ -180,9 +190,9 @@ not_both : (b : Bool) → (b && not b) ≡ false
 not_both true = refl
 not_both false = refl
 
-pub all_left : LaneByLane → (db : Database) (s : Stock) (upto : List ℕ) → IsSound s → length upto ≡ LANES → ((k : ℕ) → k < LANES → get_or upto k 0 ≡ MAX_ID)
-    → IsQueue db (released s upto s.overflow) → IsQueue db (without_all s)
-all_left by_lane db s upto sound nine all h =
+pub all_left : LaneByLane → (side : QueueSide) (others : Stock) (db : Database) (s : Stock) (upto : List ℕ) → IsSound s → length upto ≡ LANES → ((k : ℕ) → k < LANES → get_or upto k 0 ≡ MAX_ID)
+    → IsFor side others db (released s upto s.overflow) → IsFor side others db (without_all s)
+all_left by_lane side others db s upto sound nine all h =
     let lanes : (k : ℕ) → k < LANES → lane_at (without_all s) k ≡ lane_at (released s upto s.overflow) k = λ k low.
     let lane = sound.each k low in
     let ids = weaker s.last_id MAX_ID (lane_at s k).rows sound.last_id_at_most
@@ -191,13 +201,24 @@ all_left by_lane db s upto sound nine all h =
     ∙ sym (by_lane s upto k (omega (arith, sound.nine)) (omega (arith, sound.nine)) ∙ ap (λ (n : ℕ). above n (lane_at s k)) (all k low)
     ∙ ap (λ (rows : List Numbered). record { capacity = (lane_at s k).capacity; rows = rows; lost = (lane_at s k).lost })
     (none_above MAX_ID (lane_at s k).rows ids)) in
-    as_queue db (without_all s) h.holds.figures (same_queue db (released s upto s.overflow) (without_all s) h.holds.figures
-    (of_queue db (released s upto s.overflow) h) lanes refl)
-    (sym (not_both s.overflow) ∙ h.holds.overflow)
+    record {
+      figures = h.figures;
+      holds = same_queue side others db (released s upto s.overflow) (without_all s) h.figures h.holds lanes refl;
+      overflow = sym (not_both s.overflow) ∙ h.overflow;
+    }
 
-pub all_left_in : LaneByLane → (db : Trees) (s : Stock) (upto : List ℕ) → IsSound s → length upto ≡ LANES → ((k : ℕ) → k < LANES → get_or upto k 0 ≡ MAX_ID)
-    → HoldsStock db (released s upto s.overflow) → HoldsStock db (without_all s)
-all_left_in by_lane db s upto sound nine all = on_trees (released s upto s.overflow) (without_all s) (λ d h. all_left by_lane d s upto sound nine all h) db
+pub all_left_of : LaneByLane → (side : QueueSide) (others : Stock) (db : Database) (s : Stock) (upto : List ℕ) → IsSound s → length upto ≡ LANES
+    → ((k : ℕ) → k < LANES → get_or upto k 0 ≡ MAX_ID)
+    → IsPair db (sides_of side (released s upto s.overflow) others) → IsPair db (sides_of side (without_all s) others)
+all_left_of by_lane side others db s upto sound nine all h =
+    pair_of side others (without_all s) db (all_left by_lane side others db s upto sound nine all (for_of side others (released s upto s.overflow) db h))
+
+pub all_left_in : LaneByLane → (side : QueueSide) (others : Stock) (db : Trees) (s : Stock) (upto : List ℕ) → IsSound s → length upto ≡ LANES
+    → ((k : ℕ) → k < LANES → get_or upto k 0 ≡ MAX_ID)
+    → HoldsPair db (sides_of side (released s upto s.overflow) others) → HoldsPair db (sides_of side (without_all s) others)
+all_left_in by_lane side others db s upto sound nine all =
+    on_trees (sides_of side (released s upto s.overflow) others) (sides_of side (without_all s) others)
+    (λ d h. all_left_of by_lane side others d s upto sound nine all h) db
 
 abbrev pub nine_most : List ℕ
 nine_most = MAX_ID ∷ MAX_ID ∷ MAX_ID ∷ MAX_ID ∷ MAX_ID ∷ MAX_ID ∷ MAX_ID ∷ MAX_ID ∷ MAX_ID ∷ []

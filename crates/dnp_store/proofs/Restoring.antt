@@ -1,7 +1,6 @@
 -- Rows that are put back into lanes are those of the table.
-use Rattle.std.proofs.Common.{◌≡◌, ℕ, ◌-◌, ◌<◌, ◌≤◌, ◌&&◌, ◌==◌, Bool, true, false, cond, List, [], ◌∷◌, ◌++◌, map, filter, length, codes, Option, Some, None, Ok, Err, Result, IfOk, refl, sym, ap, ap₂, subst, ◌∙◌, arith, append-nil, append_assoc, length-set, IsPermutation}
-use Rattle.std.specs.Prelude.{Vec, if◌then◌else◌}
-use Rattle.std.specs.declared.alloc.Global.{Global}
+use Rattle.std.proofs.Common.{◌≡◌, ℕ, ◌-◌, ◌<◌, ◌≤◌, ◌&&◌, ◌==◌, Bool, true, cond, List, [], ◌∷◌, ◌++◌, map, filter, length, codes, Option, Some, None, false, refl, sym, ap, ap₂, subst, ◌∙◌, arith, append-nil, append_assoc, length-set, IsPermutation}
+use Rattle.std.specs.Prelude.{if◌then◌else◌}
 use Rattle.std.specs.List.{AllByRecursion}
 use Rattle.std.proofs.lemmas.Bool.{leb-true}
 use Rattle.std.proofs.lemmas.List.Sorted.{IsPermutation-sym}
@@ -10,7 +9,7 @@ use Rattle.sqlite.specs.declared.types.Value.{Value}
 use Rattle.sqlite.specs.Order.{Row}
 use Rattle.sqlite.specs.Tree.{IsAscending}
 use Rattle.sqlite.specs.State.{State, Shown}
-use Rattle.sqlite.proofs.Callers.{reads_as}
+use Rattle.sqlite.proofs.Callers.{command_of, reads_as}
 use Rattle.dnp_objects.specs.declared.limits.TheConstants.{LANES}
 use Rattle.dnp_objects.specs.declared.lane.LaneRow.{LaneRow}
 use Rattle.dnp_objects.specs.declared.row.Kind.{Kind}
@@ -20,13 +19,18 @@ use Rattle.dnp_eventbuf.specs.Carried.{IsCarried}
 use Rattle.dnp_eventbuf.specs.Restored.{with_old_row, fits_behind}
 use Rattle.dnp_eventbuf.specs.Stock.{LaneState, Stock, lane_at, added_in}
 use Rattle.dnp_store.specs.Tables.{IsCounted}
-use Rattle.dnp_store.specs.QueueTables.{queue_schema, queue_columns, Queued, queued_row, event_of, in_lane, Figures, figures_rows, IsForm1, IsQueue}
+use Rattle.dnp_store.specs.QueueTables.{queue_schema, queue_columns, Queued, queued_row, event_of, in_lane, Figures, figures_rows, HoldsLanes, IsForm1, IsQueue}
 use Rattle.sqlite.specs.Effect.{Database}
 use Rattle.sqlite.specs.Term.{Term}
 use Rattle.dnp_store.specs.steps.Shown.{AreNine, IsBegun, Restores, PutBack}
 use Rattle.dnp_store.proofs.Appending.{behind}
 use Rattle.dnp_store.proofs.Holding.{at_lane, kind_is}
-use Rattle.dnp_store.proofs.Opening.{listed, queue_is, queue_plain, queue_query, queue_terms, shown_by, unchanged}
+use Rattle.sqlite.specs.Command.TheVariants.{Select}
+use Rattle.sqlite.specs.Program.{overlay}
+use Rattle.sqlite.specs.Schema.{Schema}
+use Rattle.sqlite.specs.Listing.{understood, reads_listing}
+use Rattle.sqlite.specs.Given.{IsPlain}
+use Rattle.dnp_store.proofs.Opening.{listed, query, queue_is, queue_plain, queue_query, queue_terms, shown_by, unchanged}
 use Rattle.dnp_store.specs.declared.store_kind.StoreKind.TheVariants.{Queue}
 use Rattle.dnp_store.specs.steps.Stores.{Reads}
 use Rattle.dnp_store.proofs.Rows.{IsTyped, typed_rows, queue_row, queued_of}
@@ -124,19 +128,27 @@ restored last (r ∷ rs) a b typed nine h =
       last_is = rest.last_is;
     }
 
-pub reads_queued : (old new : State) (rows : List Row) → Shown queue_query [] old new rows
-    → Reads Queue old new (λ db. (a b : Stock) → length a.lanes ≡ LANES → ((k : ℕ) → k < LANES → (lane_at a k).rows ≡ [])
-    → Restores 0 rows a b → PutBack (db 1) a b)
-reads_queued old new rows shown f q l sound has =
-    let read = reads_as queue_query [] old new (queue_schema f q l) has _ (queue_is f q l).0 (queue_plain f q l) (queue_is f q l).1 rows shown in
-    let got = listed 1 queue_terms old.now.trees rows refl (read.answer Rattle.sqlite.specs.declared.types.Value.TheVariants.Null) in
-    let typed = all-permutation (IsTyped (Some 0) queue_columns) (old.now.trees 1) got.0 got.1 (typed_rows Queue old.now f q l has sound) in (
-      unchanged queue_query old new (queue_schema f q l) rows has (queue_plain f q l) shown,
+-- what the rows of a table are, where they were put back
+abbrev pub PutsBack : List Row → List Row → Type 0
+PutsBack rows table = (a b : Stock) → length a.lanes ≡ LANES → ((k : ℕ) → k < LANES → (lane_at a k).rows ≡ []) → Restores 0 rows a b → PutBack table a b
+
+-- under any schema that has such a table in this tree
+pub reads_queued_in : (old new : State) (rows : List Row) (schema : Schema) (tree : ℕ) (text : List ℕ)
+    → (command_of (understood schema text) ≡ Select (record { lets = []; body = query tree queue_terms })
+    (codes "id" ∷ codes "lane" ∷ codes "point" ∷ codes "flags" ∷ codes "value" ∷ codes "time" ∷ [])) × (reads_listing schema text ≡ false)
+    → IsPlain (understood schema text) → overlay old.now.trees [] tree ≡ old.now.trees tree
+    → AllByRecursion (IsTyped (Some 0) queue_columns) (old.now.trees tree) → Shown text [] old new rows → old.now.schema ≡ schema
+    → (new.now ≡ old.now) × PutsBack rows (old.now.trees tree)
+reads_queued_in old new rows schema tree text is plain bare types shown has =
+    let read = reads_as text [] old new schema has _ is.0 plain is.1 rows shown in
+    let got = listed tree queue_terms old.now.trees rows bare (read.answer Rattle.sqlite.specs.declared.types.Value.TheVariants.Null) in
+    let typed = all-permutation (IsTyped (Some 0) queue_columns) (old.now.trees tree) got.0 got.1 types in (
+      unchanged text old new schema rows has plain shown,
       λ a b nine none restores.
           let did = restored 0 got.0 a b typed nine (subst (λ (xs : List Row). Restores 0 xs a b) got.2 restores) in
           record {
             queued = did.queued;
-            queue_is = subst (λ xs. IsPermutation xs (old.now.trees 1)) did.rows_are (IsPermutation-sym (old.now.trees 1) got.0 got.1);
+            queue_is = subst (λ xs. IsPermutation xs (old.now.trees tree)) did.rows_are (IsPermutation-sym (old.now.trees tree) got.0 got.1);
             rise = did.rise;
             up_to_last = did.up_to;
             low = did.low;
@@ -147,39 +159,40 @@ reads_queued old new rows shown f q l sound has =
           },
     )
 
-pub queued_if : {E : Type 0} (old new : State) (r : Result (Vec (List Value) Global) E)
-    → IfOk r (λ rows. Shown queue_query [] old new rows.items)
-    → IfOk r (λ rows. Reads Queue old new (λ db. (a b : Stock) → length a.lanes ≡ LANES → ((k : ℕ) → k < LANES → (lane_at a k).rows ≡ [])
-    → Restores 0 rows.items a b
-    → PutBack (db 1) a b))
-queued_if old new (Ok rows) shown = reads_queued old new rows.items shown
-queued_if old new (Err e) shown = tt
+pub reads_queued : (old new : State) (rows : List Row) → Shown queue_query [] old new rows → Reads Queue old new (λ db. PutsBack rows (db 1))
+reads_queued old new rows shown f q l sound has =
+    reads_queued_in old new rows (queue_schema f q l) 1 queue_query (queue_is f q l) (queue_plain f q l) refl (typed_rows Queue old.now f q l has sound) shown has
 
--- lanes whose rows were put back are those of the database
+-- lanes whose rows were put back are those of the tables
+pub held_lanes : (name : List ℕ) (rows counts lanes : List Row) (figures : List Figures) (a b : Stock) (n : ℕ) → AreNine figures
+    → IsPermutation (figures_rows 0 figures) lanes → IsCounted name counts n → IsBegun a figures n → PutBack rows a b
+    → HoldsLanes name rows counts lanes b figures
+held_lanes name rows counts lanes figures a b n nine lanes_is counted begun put =
+    let last : b.last_id ≡ n = put.last_is ∙ begun.last_is in
+    record {
+      queued = put.queued;
+      queue_is = put.queue_is;
+      lanes_is = lanes_is;
+      counted = subst (λ (m : ℕ). IsCounted name counts m) (sym last) counted;
+      rise = put.rise;
+      up_to_last = subst (λ (m : ℕ). AllByRecursion (λ x. x.id ≤ m) put.queued) (sym put.last_is) put.up_to_last;
+      low = put.low;
+      nine = nine.nine;
+      lanes = λ k low. put.lanes k low ∙ ap (λ (lane : LaneState). record lane { rows = in_lane k put.queued }) (begun.lanes k low);
+    }
+
 pub opened : (db : Database) (f q l : List Term) (figures : List Figures) (a b : Stock) (n : ℕ) → db.schema ≡ queue_schema f q l → IsForm1 (db.trees 0)
     → AreNine figures → IsPermutation (figures_rows 0 figures) (db.trees 3) → IsCounted (codes "queue") (db.trees 2) n → IsBegun a figures n
     → PutBack (db.trees 1) a b → IsQueue db b
-opened db f q l figures a b n has form nine lanes counted begun put =
-    let last : b.last_id ≡ n = put.last_is ∙ begun.last_is in
-    record {
-      form_checks = f;
-      queue_checks = q;
-      lanes_checks = l;
-      schema = has;
-      holds = record {
-        figures = figures;
-        form = form;
-        lanes = record {
-          queued = put.queued;
-          queue_is = put.queue_is;
-          lanes_is = lanes;
-          counted = subst (λ (m : ℕ). IsCounted (codes "queue") (db.trees 2) m) (sym last) counted;
-          rise = put.rise;
-          up_to_last = subst (λ (m : ℕ). AllByRecursion (λ x. x.id ≤ m) put.queued) (sym put.last_is) put.up_to_last;
-          low = put.low;
-          nine = nine.nine;
-          lanes = λ k low. put.lanes k low ∙ ap (λ (lane : LaneState). record lane { rows = in_lane k put.queued }) (begun.lanes k low);
-        };
-        overflow = put.overflow ∙ begun.overflow;
-      };
-    }
+opened db f q l figures a b n has form nine lanes counted begun put = record {
+  form_checks = f;
+  queue_checks = q;
+  lanes_checks = l;
+  schema = has;
+  holds = record {
+    figures = figures;
+    form = form;
+    lanes = held_lanes (codes "queue") (db.trees 1) (db.trees 2) (db.trees 3) figures a b n nine lanes counted begun put;
+    overflow = put.overflow ∙ begun.overflow;
+  };
+}

@@ -76,12 +76,12 @@ typed_lanes db f q l has sound =
 
 -- ---- `form`
 
-pub form_row : (r : Row) (id : ℤ) → IsTyped None form_columns r
-    → column r 1 ≡ Int (pos 1) → column r 0 ≡ Int id → r ≡ Int id ∷ Int (pos 1) ∷ []
-form_row [] id h one at = absurd cc
-form_row (a ∷ []) id h one at = absurd cc
-form_row (a ∷ b ∷ []) id h one at = cc
-form_row (a ∷ b ∷ c ∷ more) id h one at = absurd (let low : length (b ∷ c ∷ more) ≤ 1 = at_most None 0 form_columns (b ∷ c ∷ more) h in omega arith)
+pub form_row : (r : Row) (id n : ℤ) → IsTyped None form_columns r
+    → column r 1 ≡ Int n → column r 0 ≡ Int id → r ≡ Int id ∷ Int n ∷ []
+form_row [] id n h one at = absurd cc
+form_row (a ∷ []) id n h one at = absurd cc
+form_row (a ∷ b ∷ []) id n h one at = cc
+form_row (a ∷ b ∷ c ∷ more) id n h one at = absurd (let low : length (b ∷ c ∷ more) ≤ 1 = at_most None 0 form_columns (b ∷ c ∷ more) h in omega arith)
 
 -- ---- `lanes`
 

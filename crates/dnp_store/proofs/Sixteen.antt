@@ -1,5 +1,5 @@
 -- One statement of sixteen rows, as if it were sixteen of a row each.
-use Rattle.std.proofs.Common.{◌≡◌, ◌≢◌, inr, ℕ, suc, ◌+◌, ◌<◌, ◌≤◌, ◌==◌, pos, List, [], ◌∷◌, ◌++◌, length, map, set, get_or, take, drop, cond, codes, Option, Ok, refl, sym, ap, ap₂, subst, ◌∙◌, arith}
+use Rattle.std.proofs.Common.{◌≡◌, ◌≢◌, inr, ℕ, suc, ◌+◌, ◌<◌, ◌≤◌, ◌==◌, pos, List, [], ◌∷◌, ◌++◌, length, map, set, get_or, take, drop, cond, true, Option, Some, Ok, refl, sym, ap, ap₂, subst, ◌∙◌, arith}
 use Rattle.std.specs.List.{AllByRecursion}
 use Rattle.sqlite_tied.specs.Compute.{everything}
 use Rattle.sqlite.specs.declared.types.Value.TheVariants.{Null, Int}
@@ -13,20 +13,28 @@ use Rattle.sqlite.specs.Source.TheVariants.{Values}
 use Rattle.sqlite.specs.Term.{Term, lit, col}
 use Rattle.sqlite.specs.Order.{Row}
 use Rattle.sqlite.specs.Tree.{Trees, put_row}
-use Rattle.sqlite.specs.Rows.{Sourced, stamped}
+use Rattle.sqlite.specs.Rows.{Sourced, stamped, sequence as counters_of}
+use Rattle.sqlite.specs.Schema.{Schema}
+use Rattle.sqlite.specs.Table.{Table}
+use Rattle.sqlite_schema.specs.declared.schema.Column.{Column}
+use Rattle.sqlite_schema.specs.declared.schema.Keys.TheVariants.{Enforced}
+use Rattle.sqlite_rules.specs.Action.{works}
+use Rattle.sqlite_rules.specs.Edit.{IsNoIndex}
+use Rattle.std.specs.Prelude.{slice_get}
 use Rattle.sqlite.specs.Cast.{cast_row}
-use Rattle.sqlite.specs.Edit.{next_rowid}
+use Rattle.sqlite.specs.Edit.{Edit, next_rowid, taken_by}
 use Rattle.sqlite.specs.Listing.{understood}
 use Rattle.sqlite.specs.Given.{IsPlain}
 use Rattle.sqlite.specs.State.{State, Executes}
 use Rattle.sqlite.proofs.Callers.{command_of}
-use Rattle.dnp_store.specs.Tables.{count_row, IsCounted}
+use Rattle.dnp_store.specs.Tables.{count_row, counts_of, sequence, table_of, IsCounted}
 use Rattle.dnp_store.specs.QueueTables.{Queued}
 use Rattle.dnp_store.specs.declared.store_kind.StoreKind.{StoreKind}
-use Rattle.dnp_store.specs.steps.Stores.{name_of, rows_with, schema_for}
+use Rattle.dnp_store.specs.steps.Stores.{columns_of, name_of, rows_with, schema_for}
 use Rattle.dnp_store.proofs.Tests.{is_other}
 use Rattle.dnp_store.proofs.IdRows.{IsUnder}
-use Rattle.dnp_store.proofs.Counting.{PutsAt, PutsAll}
+use Rattle.dnp_store.proofs.Counting.{PutsAt, PutsAll, PutsAllIn, puts_all_at}
+use Rattle.dnp_store.proofs.Recounting.{named_alone}
 use Rattle.dnp_store.proofs.Inserting as inserting
 use Rattle.dnp_store.proofs.QueueStatements.{whole_cells, insert_params}
 
@@ -86,9 +94,12 @@ pub long_rests : (xs : List Queued) → length (rests_of xs) ≡ length xs
 long_rests [] = refl
 long_rests (x ∷ xs) = ap suc (long_rests xs)
 
-module _ (kind : StoreKind) (f r m : List Term) where
+module _ (name : List ℕ) (tree : ℕ) (columns : List Column) (checks : List Term) (schema : Schema) where
+  abbrev table : Table
+  table = table_of name tree columns true true checks
+
   sources_16 : (limit : Option ℕ) (db : Trees) (x0 x1 x2 x3 x4 x5 x6 x7 x8 x9 x10 x11 x12 x13 x14 x15 : Queued) (rows : List Row)
-      → Sourced limit (record { schema = schema_for kind f r m; trees = db }) (stamped (rows_with kind r) (params_of (
+      → Sourced limit (record { schema = schema; trees = db }) (stamped table (params_of (
       x0 ∷ x1 ∷ x2 ∷ x3 ∷ x4 ∷ x5 ∷ x6 ∷ x7 ∷ x8 ∷ x9 ∷ x10 ∷ x11 ∷ x12 ∷ x13 ∷ x14 ∷ x15 ∷ []))) (Values terms_16 7) (Ok rows)
       → rows ≡ map (λ r. Null ∷ r) (rests_of (
       x0 ∷ x1 ∷ x2 ∷ x3 ∷ x4 ∷ x5 ∷ x6 ∷ x7 ∷ x8 ∷ x9 ∷ x10 ∷ x11 ∷ x12 ∷ x13 ∷ x14 ∷ x15 ∷ []))
@@ -96,7 +107,7 @@ module _ (kind : StoreKind) (f r m : List Term) where
   sources_16 limit db x0 x1 x2 x3 x4 x5 x6 x7 x8 x9 x10 x11 x12 x13 x14 x15 rows h = h.1
 
   given_16 : (limit : Option ℕ) (db : Trees) (xs : List Queued) → length xs ≡ 16 → (rows : List Row)
-      → Sourced limit (record { schema = schema_for kind f r m; trees = db }) (stamped (rows_with kind r) (params_of xs)) (Values terms_16 7) (Ok rows)
+      → Sourced limit (record { schema = schema; trees = db }) (stamped table (params_of xs)) (Values terms_16 7) (Ok rows)
       → rows ≡ map (λ r. Null ∷ r) (rests_of xs)
   given_16 limit db [] long rows h = absurd (omega arith)
   given_16 limit db (x0 ∷ []) long rows h = absurd (omega arith)
@@ -121,23 +132,40 @@ module _ (kind : StoreKind) (f r m : List Term) where
 
   -- each row's cells stay as they are
   abbrev pub Stays : Queued → Type 0
-  Stays x = cast_row (rows_with kind r) (Null ∷ whole_cells x) ≡ Null ∷ whole_cells x
+  Stays x = cast_row table (Null ∷ whole_cells x) ≡ Null ∷ whole_cells x
 
   cast_all : ((x : Queued) → Stays x) → (xs : List Queued)
-      → map (λ s. cast_row (rows_with kind r) (drop 0 s)) (map (λ r. Null ∷ r) (rests_of xs)) ≡ map (λ r. Null ∷ r) (rests_of xs)
+      → map (λ s. cast_row table (drop 0 s)) (map (λ r. Null ∷ r) (rests_of xs)) ≡ map (λ r. Null ∷ r) (rests_of xs)
   cast_all stays [] = refl
   cast_all stays (x ∷ xs) = ap₂ (λ (r : Row) (rs : List Row). r ∷ rs) (stays x) (cast_all stays xs)
 
-  pub inserts_16 : (old new : State) (text : List ℕ) (xs : List Queued) (n next count : ℕ)
-      → command_of (understood (schema_for kind f r m) text) ≡ Insert 1 (Values terms_16 7) → IsPlain (understood (schema_for kind f r m) text)
-      → ((x : Queued) → Stays x) → length xs ≡ 16 → old.now.schema ≡ schema_for kind f r m
-      → IsCounted (name_of kind) (old.now.trees 2) n → AllByRecursion (IsUnder n) (old.now.trees 1)
-      → next_rowid (old.now.trees 1) ≡ pos next → next ≤ n + 1 → Executes text (params_of xs) old new (Ok count)
-      → (new.now.schema ≡ schema_for kind f r m) × PutsAll (name_of kind) old.now.trees (rests_of xs) n new.now.trees
-  inserts_16 old new text xs n next count is plain stays long has counted under next_is low h =
-      inserting.inserts_all kind f r m old new text (params_of xs) (rests_of xs) (Values terms_16 7) n next count is plain
-      (λ rows sourced. ap (map (λ s. cast_row (rows_with kind r) (drop 0 s))) (given_16 old.step_limit old.now.trees xs long rows sourced) ∙ cast_all stays xs)
+  pub inserts_16_in : (is_listed : counters_of schema ≡ Some sequence)
+      → (is_quiet : (db : Trees) (e : Edit) → works schema Enforced 0 e.table.tree (taken_by db e) e.news ≡ [])
+      → (unindexed : (t : ℕ) → IsNoIndex schema t) → slice_get schema.tables tree ≡ Some table → tree ≢ 2
+      → (old new : State) (text : List ℕ) (xs : List Queued) (n next count : ℕ)
+      → command_of (understood schema text) ≡ Insert tree (Values terms_16 7) → IsPlain (understood schema text)
+      → ((x : Queued) → Stays x) → length xs ≡ 16 → old.now.schema ≡ schema
+      → IsCounted name (counts_of name (old.now.trees 2)) n → AllByRecursion (IsUnder n) (old.now.trees tree)
+      → next_rowid (old.now.trees tree) ≡ pos next → next ≤ n + 1 → Executes text (params_of xs) old new (Ok count)
+      → (new.now.schema ≡ schema) × PutsAllIn name tree old.now.trees (rests_of xs) n new.now.trees
+  inserts_16_in is_listed is_quiet unindexed there apart old new text xs n next count is plain stays long has counted under next_is low h =
+      inserting.inserts_all_in name tree columns checks schema is_listed is_quiet unindexed there apart old new text (params_of xs) (rests_of xs)
+      (Values terms_16 7) n next count is plain
+      (λ rows sourced. ap (map (λ s. cast_row table (drop 0 s))) (given_16 old.step_limit old.now.trees xs long rows sourced) ∙ cast_all stays xs)
       (omega (arith, long_rests xs)) has counted under next_is low h
+
+-- into the rows of a store that has one such table
+pub inserts_16 : (kind : StoreKind) (f r m : List Term) (old new : State) (text : List ℕ) (xs : List Queued) (n next count : ℕ)
+    → command_of (understood (schema_for kind f r m) text) ≡ Insert 1 (Values terms_16 7) → IsPlain (understood (schema_for kind f r m) text)
+    → ((x : Queued) → cast_row (rows_with kind r) (Null ∷ whole_cells x) ≡ Null ∷ whole_cells x) → length xs ≡ 16 → old.now.schema ≡ schema_for kind f r m
+    → IsCounted (name_of kind) (old.now.trees 2) n → AllByRecursion (IsUnder n) (old.now.trees 1)
+    → next_rowid (old.now.trees 1) ≡ pos next → next ≤ n + 1 → Executes text (params_of xs) old new (Ok count)
+    → (new.now.schema ≡ schema_for kind f r m) × PutsAll (name_of kind) old.now.trees (rests_of xs) n new.now.trees
+inserts_16 kind f r m old new text xs n next count is plain stays long has counted under next_is low h =
+    let name = name_of kind in
+    let did = inserts_16_in name 1 (columns_of kind) r (schema_for kind f r m) (inserting.listed kind f r m) (inserting.quiet kind f r m) (λ t. tt) refl
+    (λ e. absurd (omega arith)) old new text xs n next count is plain stays long has (named_alone name (old.now.trees 2) n counted) under next_is low h in
+    (did.0, puts_all_at name old.now.trees (rests_of xs) n new.now.trees counted did.1)
 
 -- ---- as if one by one
 

@@ -1,12 +1,13 @@
 -- What a statement on the rows of a table makes of a database.
-use Rattle.std.proofs.Common.{◌≡◌, ◌⊎◌, inl, inr, Bool, true, false, IsTrue, None, Ok, Err, Result, sym, ap, subst}
-use Rattle.std.specs.Prelude.{MatchBool}
+use Rattle.std.proofs.Common.{◌≡◌, ◌⊎◌, inl, inr, ℕ, List, Some, Bool, true, false, IsTrue, None, Ok, Err, Result, sym, ap, subst}
+use Rattle.std.specs.Prelude.{MatchBool, slice_get}
 use Rattle.sqlite.specs.declared.run.Mode.{Mode}
 use Rattle.sqlite.specs.Command.{Command}
 use Rattle.sqlite.specs.Tree.{Trees}
 use Rattle.sqlite.specs.Effect.{Database}
-use Rattle.sqlite.specs.Rows.{Task, Written}
-use Rattle.sqlite.specs.Does.{Tally, WritesRows, OnRows}
+use Rattle.sqlite.specs.Table.{Table}
+use Rattle.sqlite.specs.Rows.{Task, Written, Part, Outcome}
+use Rattle.sqlite.specs.Does.{Tally, WritesRows, OnRows, AtPlace}
 use Rattle.sqlite.specs.declared.error.Error.{Error}
 use Rattle.std.specs.Prelude.{OnOk}
 use Rattle.sqlite_trees.specs.declared.store.Store.{Ghosts}
@@ -39,6 +40,11 @@ written task mode command db tally now h =
     let tested = went wrote.2 in
     let shown = went tested.2 in
     (wrote.0, wrote.1, ap (λ (p : Tally × Database). p.1) (same_value shown.2))
+
+-- a statement on the table at a place is one on that table
+pub at_table : (P : Table → Part (Tally × Database)) (tables : List Table) (at : ℕ) (table : Table) (out : Outcome (Tally × Database))
+    → slice_get tables at ≡ Some table → AtPlace P (slice_get tables at) out → P table out
+at_table P tables at table out there h = subst (λ t. AtPlace P t out) there h
 
 -- ---- transactions
 

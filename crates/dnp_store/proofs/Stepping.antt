@@ -1,5 +1,5 @@
 -- Steps inside a transaction, one after the other.
-use Rattle.std.proofs.Common.{Ok, Err, Result, IsTrue, arith, ◌∙◌}
+use Rattle.std.proofs.Common.{Ok, Err, Result, IsTrue, arith, refl, ◌∙◌}
 use Rattle.std.specs.Prelude.{OnOk}
 use Rattle.std.specs.Borrow.{MutBor}
 use Rattle.sqlite_trees.specs.declared.store.Store.{Ghosts}
@@ -8,11 +8,21 @@ use Rattle.sqlite.specs.State.{HasCleanDisk}
 use Rattle.sqlite.specs.Held.{Held, state}
 use Rattle.sqlite.proofs.InsideLemmas.{keeps_then}
 use Rattle.sqlite.proofs.StateLemmas.{survives_then}
-use Rattle.dnp_store.specs.steps.Inside.{IsStep}
+use Rattle.dnp_store.specs.steps.Inside.{IsInside, IsStep}
+use Rattle.dnp_store.proofs.Standing.{survives_itself}
 
 -- the steps so far, all answered Ok
 abbrev pub AreSteps : {S : Type 0} → Ghosts S → MutBor (Held S) → MutBor (Held S) → Type 0
 AreSteps g old new = IsStep {A = Unit {0}} {E = Error} g old new (Ok tt)
+
+-- none so far
+pub step_none : {S : Type 0} (g : Ghosts S) (x : MutBor (Held S)) → IsInside g x → AreSteps g x x
+step_none g x inside = record {
+  same_reference = refl;
+  inside = inside;
+  kept = λ clean. record { was_open = λ h. h; committed = λ h. refl };
+  survives = survives_itself (state g x.now);
+}
 
 pub step_then : {S A B E F : Type 0} (g : Ghosts S) (old mid new : MutBor (Held S)) (first : Result A E) (result : Result B F) → IsStep g old mid first
     → IsStep g mid new result → IsStep g old new result

@@ -1,5 +1,5 @@
 -- A lane that drops its oldest rows.
-use Rattle.std.proofs.Common.{◌≡◌, ◌≢◌, inl, inr, ℕ, zero, suc, ◌+◌, ◌-◌, ◌<◌, ◌≤◌, ◌^◌, ◌==◌, ◌||◌, nat_lt, Bool, true, false, cond, Some, List, [], ◌∷◌, ◌++◌, length, drop, set, map, filter, refl, sym, ap, ap₂, subst, ◌∙◌, arith, length-append, length-set, codes}
+use Rattle.std.proofs.Common.{◌≡◌, ◌≢◌, inl, inr, ℕ, zero, suc, ◌+◌, ◌-◌, ◌<◌, ◌≤◌, ◌^◌, ◌==◌, ◌||◌, nat_lt, Bool, true, false, cond, Some, List, [], ◌∷◌, ◌++◌, length, drop, set, map, filter, refl, sym, ap, ap₂, subst, ◌∙◌, arith, length-append, length-set}
 use Rattle.std.specs.Prelude.{slice_get, option_map}
 use Rattle.std.specs.List.{AllByRecursion}
 use Rattle.std.proofs.lemmas.Bool.{cases_eq, cases_lt}
@@ -19,7 +19,11 @@ use Rattle.dnp_eventbuf.specs.declared.numbered.Numbered.{Numbered}
 use Rattle.dnp_eventbuf.specs.Latest.{numbered_for}
 use Rattle.dnp_eventbuf.specs.Sound.{IsSound}
 use Rattle.dnp_eventbuf.specs.Stock.{LaneState, Stock, lane_at, no_lane, with_row, with_rows, above}
-use Rattle.dnp_store.specs.QueueTables.{Queued, event_of, in_lane, Figures, HoldsQueue, is_raised, IsQueue}
+use Rattle.dnp_store.specs.declared.queue_side.QueueSide.{QueueSide}
+use Rattle.dnp_store.specs.Tables.{counts_of}
+use Rattle.dnp_store.specs.QueueTables.{Queued, event_of, in_lane, Figures, is_raised}
+use Rattle.dnp_store.specs.PairTables.{lanes_tree, rows_name, rows_tree}
+use Rattle.dnp_store.specs.steps.Pairs.{HoldsFor, IsFor}
 use Rattle.dnp_store.specs.steps.Steps.{all_added, mixed, over, any_over, cut, counted, noted, IsTrimmed}
 use Rattle.dnp_store.proofs.Appending.{KeepsRows, behind, lane_added, nine_added, last_added, overflow_is}
 use Rattle.dnp_store.proofs.Holding.{same_stock}
@@ -87,15 +91,15 @@ mixed_high number k a b na nb few low = grind (na, nb, few, low, arith, elements
 pub nine_mixed : (number : ℕ) (a b : Stock) → length a.lanes ≡ LANES → length b.lanes ≡ LANES → number ≤ LANES → length (mixed number a b).lanes ≡ LANES
 nine_mixed number a b na nb few = grind (na, nb, few, arith, elements)
 
-pub same_queue : (db : Database) (s t : Stock) (fs : List Figures) → HoldsQueue db s fs → ((k : ℕ) → k < LANES → lane_at t k ≡ lane_at s k)
-    → t.last_id ≡ s.last_id → HoldsQueue db t fs
-same_queue db s t fs h same last = record {
-  form_checks = h.form_checks;
-  queue_checks = h.queue_checks;
-  lanes_checks = h.lanes_checks;
+pub same_queue : (side : QueueSide) (others : Stock) (db : Database) (s t : Stock) (fs : List Figures) → HoldsFor side others db s fs
+    → ((k : ℕ) → k < LANES → lane_at t k ≡ lane_at s k) → t.last_id ≡ s.last_id → HoldsFor side others db t fs
+same_queue side others db s t fs h same last = record {
+  checks = h.checks;
   schema = h.schema;
   form = h.form;
-  lanes = same_stock (codes "queue") (db.trees 1) (db.trees 2) (db.trees 3) s t fs h.lanes same last;
+  counts = h.counts;
+  lanes = same_stock (rows_name side) (db.trees (rows_tree side)) (counts_of (rows_name side) (db.trees 2)) (db.trees (lanes_tree side)) s t fs h.lanes same last;
+  rest = h.rest;
 }
 
 -- ---- the mark
@@ -162,29 +166,30 @@ module _ (keeps : KeepsRows) (s : Stock) (rows : List LaneRow) (number : ℕ) (s
   ]
 
   -- it has room for all
-  pub trimmed_none : (db : Database) (raised : Bool) → over s rows number ≡ 0 → IsTrimmed db s rows raised number → IsTrimmed db s rows raised (suc number)
-  trimmed_none db raised none h =
+  pub trimmed_none : (side : QueueSide) (others : Stock) (db : Database) (raised : Bool) → over s rows number ≡ 0 → IsTrimmed side others db s rows raised number
+      → IsTrimmed side others db s rows raised (suc number)
+  trimmed_none side others db raised none h =
       let m = mixed number a b in
       let same : lane_at m number ≡ lane_at b number =
       at_number ∙ sym (lane_b ∙ ap (λ (n : ℕ). record { capacity = (lane_at s number).capacity; rows = drop n here; lost = (lane_at s number).lost + n })
       none ∙ ap (λ (n : ℕ). record { capacity = (lane_at s number).capacity; rows = here; lost = n }) (omega arith)) in
       let mark : (raised || any_over s rows (suc number)) ≡ (raised || any_over s rows number) = ap
       (λ (n : ℕ). raised || (any_over s rows number || nat_lt 0 n)) none ∙ ap (λ c. raised || c) (or_false (any_over s rows number)) in
-      (h.0, same_queue db m (mixed (suc number) a b) h.0 h.1 (moves m (λ k k_low other. refl) same) refl, h.2 ∙ sym mark)
+      (h.0, same_queue side others db m (mixed (suc number) a b) h.0 h.1 (moves m (λ k k_low other. refl) same) refl, h.2 ∙ sym mark)
 
   -- it drops the rows up to an id
-  pub trimmed_some : (old new : Database) (raised : Bool) (upto lost : ℕ) → 0 < over s rows number
+  pub trimmed_some : (side : QueueSide) (others : Stock) (old new : Database) (raised : Bool) (upto lost : ℕ) → 0 < over s rows number
       → option_map (λ (x : Numbered). x.id) (slice_get here (over s rows number - 1)) ≡ Some upto
       → lost ≡ (lane_at s number).lost + over s rows number
-      → ((t : Stock) (fs : List Figures) → length t.lanes ≡ LANES → HoldsQueue old t fs
-      → HoldsQueue new (counted (cut t number upto) number lost) (noted fs number lost true))
-      → IsTrimmed old s rows raised number → IsTrimmed new s rows raised (suc number)
-  trimmed_some old new raised upto lost some at lost_is did h =
+      → ((t : Stock) (fs : List Figures) → length t.lanes ≡ LANES → HoldsFor side others old t fs
+      → HoldsFor side others new (counted (cut t number upto) number lost) (noted fs number lost true))
+      → IsTrimmed side others old s rows raised number → IsTrimmed side others new s rows raised (suc number)
+  trimmed_some side others old new raised upto lost some at lost_is did h =
       let m = mixed number a b in
       let nine_m : length m.lanes ≡ LANES = nine_mixed number a b nine_a nine (omega arith) in
       let end = counted (cut m number upto) number lost in
       let nine_cut : length (cut m number upto).lanes ≡ LANES = length-set m.lanes number (above upto (lane_at m number)) ∙ nine_m in
-      let held : HoldsQueue old m h.0 = h.1 in
+      let held : HoldsFor side others old m h.0 = h.1 in
       let rows_are : (lane_at m number).rows ≡ here = ap (λ (l : LaneState). l.rows) at_number in
       let rise : Rise here = subst Rise (sym (ap (λ (l : LaneState). l.rows) (held.lanes.lanes number low)) ∙ rows_are)
       (rise_in_lane number held.lanes.queued held.lanes.rise) in
@@ -204,7 +209,7 @@ module _ (keeps : KeepsRows) (s : Stock) (rows : List LaneRow) (number : ℕ) (s
       let mark : (raised || any_over s rows (suc number)) ≡ true = ap (λ c. raised || (any_over s rows number || c))
       ((Decides-ltb 0 (over s rows number)).1 some) ∙ ap (λ c. raised || c) (or_true (any_over s rows number)) ∙ or_true raised in (
         all,
-        same_queue new end (mixed (suc number) a b) all (did m h.0 nine_m held) (moves end else there) refl,
+        same_queue side others new end (mixed (suc number) a b) all (did m h.0 nine_m held) (moves end else there) refl,
         raised_set h.0 number _
             (omega (arith, held.lanes.nine)) refl ∙ sym mark,
       )
@@ -248,12 +253,12 @@ id_low s rows number place id sound low few at =
 
 -- ---- the whole append
 
-begun : (db : Database) (s : Stock) (rows : List LaneRow) (fs : List Figures) → length s.lanes ≡ LANES → length (with_rows s rows).lanes ≡ LANES
+begun : (side : QueueSide) (others : Stock) (db : Database) (s : Stock) (rows : List LaneRow) (fs : List Figures) → length s.lanes ≡ LANES → length (with_rows s rows).lanes ≡ LANES
     → (with_rows s rows).last_id ≡ (all_added s rows).last_id
-    → s.overflow ≡ is_raised fs → HoldsQueue db (all_added s rows) fs → IsTrimmed db s rows s.overflow 0
-begun db s rows fs nine_s nine_b last is h = (
+    → s.overflow ≡ is_raised fs → HoldsFor side others db (all_added s rows) fs → IsTrimmed side others db s rows s.overflow 0
+begun side others db s rows fs nine_s nine_b last is h = (
   fs,
-  same_queue db (all_added s rows) (mixed 0 (all_added s rows) (with_rows s rows)) fs h
+  same_queue side others db (all_added s rows) (mixed 0 (all_added s rows) (with_rows s rows)) fs h
       (λ k low. mixed_high 0 k (all_added s rows) (with_rows s rows) (nine_added s rows ∙ nine_s) nine_b (omega arith) low) last,
   sym (or_false s.overflow ∙ is),
 )
@@ -261,25 +266,6 @@ begun db s rows fs nine_s nine_b last is h = (
 pub last_rows : (s : Stock) (xs : List LaneRow) → (with_rows s xs).last_id ≡ s.last_id + length xs
 last_rows s [] = omega arith
 last_rows s (x ∷ xs) = let h = last_rows (with_row s x) xs in omega (arith, h)
-
-pub as_queue : (db : Database) (s : Stock) (fs : List Figures) → HoldsQueue db s fs → s.overflow ≡ is_raised fs → IsQueue db s
-as_queue db s fs h is = record {
-  form_checks = h.form_checks;
-  queue_checks = h.queue_checks;
-  lanes_checks = h.lanes_checks;
-  schema = h.schema;
-  holds = record { figures = fs; form = h.form; lanes = h.lanes; overflow = is };
-}
-
-pub of_queue : (db : Database) (s : Stock) (h : IsQueue db s) → HoldsQueue db s h.holds.figures
-of_queue db s h = record {
-  form_checks = h.form_checks;
-  queue_checks = h.queue_checks;
-  lanes_checks = h.lanes_checks;
-  schema = h.schema;
-  form = h.holds.form;
-  lanes = h.holds.lanes;
-}
 
 low_kind : (kind : Kind) → kind_number kind < KINDS
 low_kind Binary = omega arith
@@ -290,14 +276,17 @@ low_number : (lane : Lane) → lane_number lane < LANES
 low_number lane = omega (arith, low_kind lane.kind, lane.at_most_3)
 
 -- the rows are put in, and then the lanes drop what they have to
-pub appended : KeepsRows → (old mid new : Database) (s : Stock) (rows : List LaneRow) → IsSound s → IsSound (with_rows s rows) → IsQueue old s
-    → ((t : Stock) (fs : List Figures) → length t.lanes ≡ LANES → HoldsQueue old t fs → HoldsQueue mid (all_added t rows) fs)
-    → ((raised : Bool) → IsTrimmed mid s rows raised 0 → IsTrimmed new s rows raised LANES) → IsQueue new (with_rows s rows)
-appended keeps old mid new s rows sound after h puts trims =
-    let fs = h.holds.figures in
+pub appended : KeepsRows → (side : QueueSide) (others : Stock) (old mid new : Database) (s : Stock) (rows : List LaneRow) → IsSound s
+    → IsSound (with_rows s rows) → IsFor side others old s
+    → ((t : Stock) (fs : List Figures) → length t.lanes ≡ LANES → HoldsFor side others old t fs
+    → HoldsFor side others mid (all_added t rows) fs)
+    → ((raised : Bool) → IsTrimmed side others mid s rows raised 0 → IsTrimmed side others new s rows raised LANES)
+    → IsFor side others new (with_rows s rows)
+appended keeps side others old mid new s rows sound after h puts trims =
+    let fs = h.figures in
     let b = with_rows s rows in
-    let held = puts s fs sound.nine (of_queue old s h) in
-    let end = trims s.overflow (begun mid s rows fs sound.nine after.nine (last_rows s rows ∙ sym (last_added s rows)) h.holds.overflow held) in
-    let all = same_queue new (mixed LANES (all_added s rows) b) b end.0 end.1
+    let held = puts s fs sound.nine h.holds in
+    let end = trims s.overflow (begun side others mid s rows fs sound.nine after.nine (last_rows s rows ∙ sym (last_added s rows)) h.overflow held) in
+    let all = same_queue side others new (mixed LANES (all_added s rows) b) b end.0 end.1
     (λ k low. sym (mixed_low LANES k (all_added s rows) b (nine_added s rows ∙ sound.nine) after.nine (omega arith) low)) refl in
-    as_queue new b end.0 all (overflow_is keeps s rows sound (λ x. low_number x.lane) ∙ sym end.2)
+    record { figures = end.0; holds = all; overflow = overflow_is keeps s rows sound (λ x. low_number x.lane) ∙ sym end.2 }

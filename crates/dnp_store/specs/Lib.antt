@@ -1,6 +1,7 @@
 -- Definitions, by which contracts promise.
 pub mod Tables
 pub mod QueueTables
+pub mod PairTables
 pub mod Kept
 pub mod JournalTables
 pub mod JournalKept

@@ -10,6 +10,7 @@ use Rattle.dnp_store.specs.declared.store_kind.StoreKind.{StoreKind}
 use Rattle.dnp_store.specs.declared.store_kind.StoreKind.TheVariants.{Queue, Journal, Book}
 use Rattle.dnp_store.specs.Tables.{no_table}
 use Rattle.dnp_store.specs.QueueTables.{queue_schema}
+use Rattle.dnp_store.specs.PairTables.{pair_schema}
 use Rattle.dnp_store.specs.JournalTables.{journal_schema}
 use Rattle.dnp_store.specs.BookTables.{book_schema}
 
@@ -44,6 +45,19 @@ lanes_text =
     codes "CREATE TABLE lanes (lane INTEGER PRIMARY KEY CHECK (lane BETWEEN 0 AND 8), cap INTEGER NOT NULL CHECK (cap BETWEEN 1 AND 4096), "
     ++ codes "lost INTEGER NOT NULL CHECK (lost BETWEEN 0 AND 4611686018427387904), raised INTEGER NOT NULL CHECK (raised BETWEEN 0 AND 1))"
 
+-- those of the second centre's lanes
+abbrev pub queue_b_text : List ℕ
+queue_b_text =
+    codes "CREATE TABLE queue_b (id INTEGER PRIMARY KEY AUTOINCREMENT CHECK (id BETWEEN 1 AND 4611686018427387904), "
+    ++ codes "lane INTEGER NOT NULL CHECK (lane BETWEEN 0 AND 8), point INTEGER NOT NULL CHECK (point BETWEEN 0 AND 65535), "
+    ++ codes "flags INTEGER NOT NULL CHECK (flags BETWEEN 0 AND 255), value INTEGER NOT NULL, "
+    ++ codes "time INTEGER CHECK (time BETWEEN 0 AND 281474976710655))"
+
+abbrev pub lanes_b_text : List ℕ
+lanes_b_text =
+    codes "CREATE TABLE lanes_b (lane INTEGER PRIMARY KEY CHECK (lane BETWEEN 0 AND 8), cap INTEGER NOT NULL CHECK (cap BETWEEN 1 AND 4096), "
+    ++ codes "lost INTEGER NOT NULL CHECK (lost BETWEEN 0 AND 4611686018427387904), raised INTEGER NOT NULL CHECK (raised BETWEEN 0 AND 1))"
+
 -- ---- the CHECKs of the tables that they define
 
 abbrev pub table_of_text : Result Table CompileError → Table
@@ -59,10 +73,25 @@ checks_of_rows kind = (table_of_text (table_defined_by (rows_text kind))).checks
 unfoldable pub checks_of_lanes : List Term
 checks_of_lanes = (table_of_text (table_defined_by lanes_text)).checks
 
+unfoldable pub checks_of_queue_b : List Term
+checks_of_queue_b = (table_of_text (table_defined_by queue_b_text)).checks
+
+unfoldable pub checks_of_lanes_b : List Term
+checks_of_lanes_b = (table_of_text (table_defined_by lanes_b_text)).checks
+
 -- ---- the schemas
 
 abbrev pub made_queue : Schema
 made_queue = queue_schema checks_of_form (checks_of_rows Queue) checks_of_lanes
+
+abbrev pub made_pair : Schema
+made_pair = pair_schema (record {
+  form = checks_of_form;
+  queue = checks_of_rows Queue;
+  lanes = checks_of_lanes;
+  queue_b = checks_of_queue_b;
+  lanes_b = checks_of_lanes_b;
+})
 
 abbrev pub made_journal : Schema
 made_journal = journal_schema checks_of_form (checks_of_rows Journal)

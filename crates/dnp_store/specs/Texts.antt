@@ -1,8 +1,10 @@
 -- Definition: the statements of a store: those that make its tables, and those by which its calls read and change them.
 use Rattle.std.specs.Prelude.{◌≡◌, ℕ, List, [], ◌∷◌, ◌++◌, codes, slice_get, Some}
+use Rattle.dnp_store.specs.declared.queue_side.QueueSide.{QueueSide}
+use Rattle.dnp_store.specs.declared.queue_side.QueueSide.TheVariants.{First, Second}
 use Rattle.dnp_store.specs.declared.store_kind.StoreKind.{StoreKind}
 use Rattle.dnp_store.specs.declared.store_kind.StoreKind.TheVariants.{Queue, Journal, Book}
-use Rattle.dnp_store.specs.Schemas.{form_text, lanes_text, rows_text}
+use Rattle.dnp_store.specs.Schemas.{form_text, lanes_b_text, lanes_text, queue_b_text, rows_text}
 
 -- ---- those of a queue
 
@@ -14,17 +16,30 @@ sixteen_rows =
     codes "(?41, ?42, ?43, ?44, ?45), (?46, ?47, ?48, ?49, ?50), (?51, ?52, ?53, ?54, ?55), (?56, ?57, ?58, ?59, ?60), " ++
     codes "(?61, ?62, ?63, ?64, ?65), (?66, ?67, ?68, ?69, ?70), (?71, ?72, ?73, ?74, ?75), (?76, ?77, ?78, ?79, ?80)"
 
-abbrev pub queue_insert : List ℕ
-queue_insert = codes "INSERT INTO queue (lane, point, flags, value, time) VALUES (?1, ?2, ?3, ?4, ?5)"
+abbrev pub rows_insert : QueueSide → List ℕ
+rows_insert First = codes "INSERT INTO queue (lane, point, flags, value, time) VALUES (?1, ?2, ?3, ?4, ?5)"
+rows_insert Second = codes "INSERT INTO queue_b (lane, point, flags, value, time) VALUES (?1, ?2, ?3, ?4, ?5)"
 
-abbrev pub queue_insert_16 : List ℕ
-queue_insert_16 = codes "INSERT INTO queue (lane, point, flags, value, time) VALUES " ++ sixteen_rows
+abbrev pub rows_insert_16 : QueueSide → List ℕ
+rows_insert_16 First = codes "INSERT INTO queue (lane, point, flags, value, time) VALUES " ++ sixteen_rows
+rows_insert_16 Second = codes "INSERT INTO queue_b (lane, point, flags, value, time) VALUES " ++ sixteen_rows
 
-abbrev pub queue_delete : List ℕ
-queue_delete = codes "DELETE FROM queue WHERE lane = ?1 AND id <= ?2"
+abbrev pub rows_delete : QueueSide → List ℕ
+rows_delete First = codes "DELETE FROM queue WHERE lane = ?1 AND id <= ?2"
+rows_delete Second = codes "DELETE FROM queue_b WHERE lane = ?1 AND id <= ?2"
 
-abbrev pub lanes_update : List ℕ
-lanes_update = codes "UPDATE lanes SET lost = ?2, raised = ?3 WHERE lane = ?1"
+abbrev pub lanes_update : QueueSide → List ℕ
+lanes_update First = codes "UPDATE lanes SET lost = ?2, raised = ?3 WHERE lane = ?1"
+lanes_update Second = codes "UPDATE lanes_b SET lost = ?2, raised = ?3 WHERE lane = ?1"
+
+-- what stands in the two tables of a side
+abbrev pub lanes_select : QueueSide → List ℕ
+lanes_select First = codes "SELECT lane, cap, lost, raised FROM lanes ORDER BY lane"
+lanes_select Second = codes "SELECT lane, cap, lost, raised FROM lanes_b ORDER BY lane"
+
+abbrev pub rows_select : QueueSide → List ℕ
+rows_select First = codes "SELECT id, lane, point, flags, value, time FROM queue ORDER BY id"
+rows_select Second = codes "SELECT id, lane, point, flags, value, time FROM queue_b ORDER BY id"
 
 -- ---- those of a journal
 
@@ -54,10 +69,20 @@ form_insert = codes "INSERT INTO form VALUES (1)"
 abbrev pub lanes_insert : List ℕ
 lanes_insert = codes "INSERT INTO lanes VALUES (?1, ?2, 0, 0)"
 
+-- ---- those that make the second centre's side of a queue, beside its two tables
+
+abbrev pub lanes_b_insert : List ℕ
+lanes_b_insert = codes "INSERT INTO lanes_b VALUES (?1, ?2, 0, 0)"
+
+abbrev pub form_update : List ℕ
+form_update = codes "UPDATE form SET number = 2"
+
 -- ---- all of them
 
 abbrev pub texts_of : StoreKind → List (List ℕ)
-texts_of Queue = queue_insert ∷ queue_insert_16 ∷ queue_delete ∷ lanes_update ∷ []
+texts_of Queue =
+    rows_insert First ∷ rows_insert_16 First ∷ rows_delete First ∷ lanes_update First ∷ rows_insert Second ∷ rows_insert_16 Second ∷ rows_delete Second
+    ∷ lanes_update Second ∷ []
 texts_of Journal = journal_insert ∷ journal_insert_16 ∷ journal_select ∷ []
 texts_of Book = book_insert ∷ book_update ∷ []
 
@@ -65,9 +90,10 @@ texts_of Book = book_insert ∷ book_update ∷ []
 abbrev pub IsOwn : StoreKind → List ℕ → Type 0
 IsOwn kind sql = (k : ℕ) × (slice_get (texts_of kind) k ≡ Some sql)
 
--- the last of those that make tables asks for nothing
+-- one of those that make tables asks for nothing
 abbrev pub making_of : StoreKind → List (List ℕ)
-making_of kind = form_text ∷ rows_text kind ∷ form_insert ∷ lanes_text ∷ lanes_insert ∷ [] ∷ []
+making_of kind =
+    form_text ∷ rows_text kind ∷ form_insert ∷ lanes_text ∷ lanes_insert ∷ [] ∷ queue_b_text ∷ lanes_b_text ∷ lanes_b_insert ∷ form_update ∷ []
 
 abbrev pub IsMaking : StoreKind → List ℕ → Type 0
 IsMaking kind sql = (k : ℕ) × (slice_get (making_of kind) k ≡ Some sql)

@@ -3,6 +3,9 @@ pub mod BookShown
 pub mod Inside
 pub mod JournalShown
 pub mod Making
+pub mod Pairs
+pub mod Seconds
 pub mod Shown
 pub mod Steps
+pub mod Stored
 pub mod Stores

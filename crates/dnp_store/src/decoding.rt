@@ -8,7 +8,7 @@ ghost use Rattle.dnp_eventbuf.specs.Carried.{IsCarried};
 ghost use Rattle.dnp_eventbuf.specs.Stock.{lane_at};
 ghost use Rattle.dnp_store.specs.QueueTables.{is_raised, no_figures};
 ghost use Rattle.dnp_store.specs.Tables.{or_null};
-ghost use Rattle.dnp_store.specs.steps.Shown.{AreInRange, AreNine, IsBegun, LackNine, Restores, ShowNine, IsMost, ShowsCount, ShowsCountOf, ShowsFigures, ShowsForm1, ShowsQueued};
+ghost use Rattle.dnp_store.specs.steps.Shown.{AreInRange, AreNine, IsBegun, LackNine, Restores, ShowNine, IsMost, ShowsCount, ShowsCountOf, ShowsFigures, ShowsForm, ShowsForm1, ShowsQueued, ShowsTwo};
 ghost use Rattle.dnp_store.specs.declared.figures.Figures.{Figures as FiguresValue};
 
 use crate::fault::Unread;
@@ -75,6 +75,17 @@ pub(crate) fn form1(rows: &[Shown]) -> Option<i64>
     } else {
         None
     }
+}
+
+/// The number in the only row.
+pub(crate) fn number_of(rows: &[Shown]) -> Option<u64>
+    ensures { IfSome result (λ n. ShowsForm rows.now n) }
+{
+    if rows.len() != 1 {
+        return None;
+    }
+    let _id = signed(&rows[0], 0)?;
+    whole(&rows[0], 1)
 }
 
 /// The mark in this column, 0 or 1.
@@ -157,6 +168,31 @@ fn counted(rows: &[Shown], table: &str) -> Option<u64>
     Some(n)
 }
 
+/// The last ids used that are noted for two tables, 0 where none is, if nothing else is noted and their ids differ.
+pub(crate) fn counted_two(rows: &[Shown], first: &str, second: &str) -> Option<(u64, u64)>
+    ensures { IfSome result (λ n. ShowsTwo first.now second.now rows.now n.0 n.1) }
+{
+    match rows {
+        [] => Some((0, 0)),
+        [row] => match count_in(row, first) {
+            Some((_id, n)) => Some((n, 0)),
+            None => Some((0, count_in(row, second)?.1)),
+        },
+        [row, other] => match count_in(row, first) {
+            Some((id, n)) => {
+                let (next, m) = count_in(other, second)?;
+                if id == next { None } else { Some((n, m)) }
+            }
+            None => {
+                let (id, m) = count_in(row, second)?;
+                let (next, n) = count_in(other, first)?;
+                if id == next { None } else { Some((n, m)) }
+            }
+        },
+        _ => None,
+    }
+}
+
 /// The greatest number that is noted for this table, or 0.
 fn greatest(rows: &[Shown], table: &str) -> u64
     ensures { IsMost table.now rows.now result }
@@ -188,6 +224,27 @@ pub(crate) fn last_noted(counts: &[Shown], top: u64, table: &str) -> Option<(u64
     let last = greatest(counts, table).max(top);
     if is_id(last) {
         Some((last, noted == Some(last)))
+    } else {
+        None
+    }
+}
+
+/// The last id used in this table, at most `MAX_ID`, where these rows of it are shown, and whether that is the one noted.
+pub(crate) fn last_of_side(
+    counts: &[Shown],
+    rows: &[Shown],
+    table: &str,
+    noted: u64,
+) -> Option<(u64, bool)>
+    ensures { IfSome result (λ last. (last.0 ≤ limits.MAX_ID) × (IsTrue last.1 → noted ≡ last.0)) }
+{
+    let top = match rows.last() {
+        Some(row) => whole(row, 0)?,
+        None => 0,
+    };
+    let last = greatest(counts, table).max(top);
+    if is_id(last) {
+        Some((last, noted == last))
     } else {
         None
     }

@@ -1,21 +1,26 @@
 //! Stores on databases: how they begin.
 
-ghost use Rattle.std.specs.Prelude.{◌≡◌, ◌≢◌, ◌⊎◌, ◌↔◌, ◌≤◌, true, false, not, if◌then◌else◌, All, IsTrue, IfOk, IfErr, IsErrAnd, IfSome, Err};
+ghost use Rattle.std.specs.Prelude.{◌≡◌, ◌≢◌, ◌⊎◌, ◌||◌, List, ◌↔◌, ◌≤◌, true, false, not, if◌then◌else◌, All, IsTrue, IfOk, IfErr, IsErrAnd, IfSome, OnErr, OnOk, Err};
 ghost use Rattle.sqlite.specs.Held.{Held, state};
 ghost use Rattle.sqlite.specs.State.{HasCleanDisk, Survives};
+ghost use Rattle.sqlite.specs.Term.{Term};
 ghost use Rattle.sqlite.specs.Steps.{IsEmpty, over_memory};
-ghost use Rattle.dnp_eventbuf.specs.Stock.{empty_stock};
+ghost use Rattle.dnp_eventbuf.specs.Sound.{IsSound};
+ghost use Rattle.dnp_eventbuf.specs.Stock.{Stock, empty_stock};
 ghost use Rattle.dnp_store.specs.Faults.{IsCut, RefusesNothing, is_out_of_memory, is_wrong};
-ghost use Rattle.dnp_store.specs.Kept.{IsHonest, Leaves, Stands};
-ghost use Rattle.dnp_store.specs.QueueTables.{HoldsStock, IsQueue};
+ghost use Rattle.dnp_store.specs.Kept.{AreSound, IsHonest, Leaves, Stands};
+ghost use Rattle.dnp_store.specs.PairTables.{HoldsMigrated, HoldsPair, IsPair, Sides, migrated};
+ghost use Rattle.dnp_store.specs.QueueTables.{IsQueue, queue_schema};
 ghost use Rattle.dnp_store.specs.Refusals.{IsLost, IsTaken};
-ghost use Rattle.dnp_store.specs.Schemas.{made_queue};
+ghost use Rattle.dnp_store.specs.Schemas.{made_pair};
+ghost use Rattle.dnp_store.specs.steps.Seconds.{Opens};
+ghost use Rattle.dnp_store.specs.steps.Stored.{IsStored};
 ghost use Rattle.dnp_store.specs.Tables.{no_schema};
 
 use crate::fault::{Unread, is_lost, is_memory, is_taken, is_unread, probe};
 use crate::queue::Queue;
-use crate::queue_opening::read_queue;
-use crate::queue_tables::write_tables;
+use crate::queue_opening::{Stored, read_stored};
+use crate::queue_tables::{write_second, write_tables};
 use crate::store_kind::StoreKind;
 use dnp_eventbuf::{MAX_CAPACITY, PlainLanes};
 use dnp_objects::LANES;
@@ -35,6 +40,9 @@ pub enum OpenFault {
     /// The device under the database failed.
     #[error("the device under the database failed")]
     Device,
+    /// The database is a queue's of the form for one centre, which `Queue::migrate` brings to that for two.
+    #[error("the database is a queue's of the form for one centre")]
+    OldForm,
 }
 
 /// Whether the database has no table, index or view.
@@ -66,6 +74,7 @@ pub(crate) fn unread_fault<S: Alter>(conn: &mut Connection<S>, unread: &Unread) 
     ensures wrong { IsTrue (is_wrong unread.now) → result ≡ OpenFault.WrongForm }
     ensures only_wrong { result ≡ OpenFault.WrongForm → IsTrue (is_wrong unread.now) }
     ensures memory { result ≡ OpenFault.Memory → IsTrue (is_out_of_memory unread.now) }
+    ensures current { result ≢ OpenFault.OldForm }
     ensures lost { HasCleanDisk (state S.Store conn.new) → result ≡ OpenFault.Device → (is_out_of_memory unread.now ≡ false) ⊎ RefusesNothing (state S.Store conn.old) (state S.Store conn.new) }
     ensures survives { Survives (state S.Store conn.old) (state S.Store conn.new) (λ _. ⊥) }
     ensures same { HasCleanDisk (state S.Store conn.new) → IsTrue (state S.Store conn.new).is_open
@@ -90,6 +99,7 @@ pub(crate) fn last_fault<S: Alter>(conn: &mut Connection<S>) -> Option<OpenFault
         → IsTrue (state S.Store conn.old).is_open × ((state S.Store conn.new).committed ≡ (state S.Store conn.old).committed) }
     ensures device { HasCleanDisk (state S.Store conn.new) → result ≡ Some OpenFault.Device → IsCut (state S.Store conn.old) (state S.Store conn.new) }
     ensures named { IfSome result (λ fault. fault ≢ OpenFault.WrongForm) }
+    ensures current { IfSome result (λ fault. fault ≢ OpenFault.OldForm) }
     ensures survives { Survives (state S.Store conn.old) (state S.Store conn.new) (λ _. ⊥) }
 {
     match probe(conn) {
@@ -98,27 +108,83 @@ pub(crate) fn last_fault<S: Alter>(conn: &mut Connection<S>) -> Option<OpenFault
     }
 }
 
+/// What a queue's database holds, where the connection serves still.
+fn find_stored<S: Alter>(conn: &mut Connection<S>, alloc: Global) -> Result<Stored, OpenFault>
+    requires idle { conn.old.in_transaction ≡ false }
+    ensures idle { conn.new.in_transaction ≡ false }
+    ensures read { HasCleanDisk (state S.Store conn.new) → IfOk result (IsStored (state S.Store conn.old).committed) }
+    ensures open { HasCleanDisk (state S.Store conn.new) → OnOk result (IsTrue (state S.Store conn.new).is_open) }
+    ensures current { IfErr result (λ fault. fault ≢ OpenFault.OldForm) }
+    ensures same { HasCleanDisk (state S.Store conn.new) → IsTrue (state S.Store conn.new).is_open
+        → IsTrue (state S.Store conn.old).is_open × ((state S.Store conn.new).committed ≡ (state S.Store conn.old).committed) }
+    ensures survives { Survives (state S.Store conn.old) (state S.Store conn.new) (λ _. ⊥) }
+{
+    match read_stored(conn, alloc) {
+        Ok(stored) => match last_fault(conn) {
+            Some(fault) => Err(fault),
+            None => Ok(stored),
+        },
+        Err(unread) => Err(unread_fault(conn, &unread)),
+    }
+}
+
+/// Why a queue for one centre doesn't open, by whether nothing else stands in its database and whether other tables do:
+/// where neither is so, its ids aren't counted as they should be.
+fn old_fault(owned: bool, others: bool) -> OpenFault
+    ensures { result ≡ (if owned || others then OpenFault.OldForm else OpenFault.WrongForm) }
+{
+    if owned || others {
+        OpenFault::OldForm
+    } else {
+        OpenFault::WrongForm
+    }
+}
+
+/// Makes a queue for one centre into one for two, or says why not.
+fn second_made<S: Alter>(
+    conn: &mut Connection<S>,
+    capacities: &[u32; LANES],
+) -> Result<(), OpenFault>
+    requires idle { conn.old.in_transaction ≡ false }
+    ensures idle { conn.new.in_transaction ≡ false }
+    ensures ok { HasCleanDisk (state S.Store conn.new) → (s : Stock) → Opens (state S.Store conn.old) s → OnOk result (Stands (state S.Store conn.new) (migrated s capacities.now)) }
+    ensures current { IfErr result (λ fault. fault ≢ OpenFault.OldForm) }
+    ensures err { HasCleanDisk (state S.Store conn.new) → IsTrue (state S.Store conn.new).is_open → OnErr result (IsTrue (state S.Store conn.old).is_open × ((state S.Store conn.new).committed ≡ (state S.Store conn.old).committed)) }
+    ensures survives { Survives (state S.Store conn.old) (state S.Store conn.new) (λ db. (s : Stock) → Opens (state S.Store conn.old) s → HoldsPair db (migrated s capacities.now)) }
+{
+    match write_second(conn, capacities) {
+        Ok(()) => Ok(()),
+        Err(error) => {
+            let lost = is_lost(conn, &error);
+            Err(open_fault(is_taken(&error), lost))
+        }
+    }
+}
+
 impl<S: Alter> Queue<S> {
-    /// Makes empty lanes in the database, which take this many rows each, 1 to `MAX_CAPACITY`. Other
-    /// tables are left alone, but the lanes promise to hold their rows only where there are none.
+    /// Makes empty lanes in the database for two centres, which take this many rows each, 1 to `MAX_CAPACITY`: those
+    /// for the first, and those for the second. Other tables are left alone, but the lanes promise to hold their
+    /// rows only where there are none.
     ///
     /// WrongForm where a name of its tables is taken, or the connection is inside a transaction; else
     /// Memory or Device. A refusal hands the connection back, with the database as it was.
     pub fn create(
         alloc: Global,
         conn: Connection<S>,
-        capacities: [u32; LANES],
+        first: [u32; LANES],
+        second: [u32; LANES],
     ) -> Result<Queue<S>, (OpenFault, Connection<S>)>
-        requires { All (λ capacity. (1 ≤ capacity) × (capacity ≤ MAX_CAPACITY)) capacities }
+        requires first { All (λ capacity. (1 ≤ capacity) × (capacity ≤ MAX_CAPACITY)) first }
+        requires second { All (λ capacity. (1 ≤ capacity) × (capacity ≤ MAX_CAPACITY)) second }
         ensures inside { IsTrue conn.in_transaction → IsErrAnd result (λ e. (e.0 ≡ OpenFault.WrongForm) × (e.1 ≡ conn)) }
         ensures held { IfOk result (λ q. HasCleanDisk (state S.Store q.conn) → HasCleanDisk (state S.Store conn)) }
-        ensures empty { IfOk result (λ q. (q.stock ≡ empty_stock capacities) × (q.stopped ≡ false)) }
+        ensures empty { IfOk result (λ q. (q.sides ≡ record { first = empty_stock first; second = empty_stock second }) × (q.stopped ≡ false)) }
         ensures owned { IfOk result (λ q. IsTrue q.owned ↔ ((state S.Store conn).now.schema ≡ no_schema)) }
-        ensures stands { IfOk result (λ q. HasCleanDisk (state S.Store q.conn) → IsTrue q.owned → Stands (state S.Store q.conn) q.stock) }
+        ensures stands { IfOk result (λ q. HasCleanDisk (state S.Store q.conn) → IsTrue q.owned → Stands (state S.Store q.conn) q.sides) }
         ensures same { IfErr result (λ e. HasCleanDisk (state S.Store e.1) → IsTrue (state S.Store e.1).is_open → (state S.Store e.1).committed ≡ (state S.Store conn).committed) }
-        ensures schema { IfOk result (λ q. HasCleanDisk (state S.Store q.conn) → IsTrue q.owned → (state S.Store q.conn).committed.schema ≡ made_queue) }
-        ensures made { IfOk result (λ q. Survives (state S.Store conn) (state S.Store q.conn) (λ db. (state S.Store conn).now.schema ≡ no_schema → HoldsStock db (empty_stock capacities))) }
-        ensures left { IfErr result (λ e. Survives (state S.Store conn) (state S.Store e.1) (λ db. (state S.Store conn).now.schema ≡ no_schema → HoldsStock db (empty_stock capacities))) }
+        ensures schema { IfOk result (λ q. HasCleanDisk (state S.Store q.conn) → IsTrue q.owned → (state S.Store q.conn).committed.schema ≡ made_pair) }
+        ensures made { IfOk result (λ q. Survives (state S.Store conn) (state S.Store q.conn) (λ db. (state S.Store conn).now.schema ≡ no_schema → HoldsPair db (record { first = empty_stock first; second = empty_stock second }))) }
+        ensures left { IfErr result (λ e. Survives (state S.Store conn) (state S.Store e.1) (λ db. (state S.Store conn).now.schema ≡ no_schema → HoldsPair db (record { first = empty_stock first; second = empty_stock second }))) }
         ensures handed_back { IfErr result (λ e. (e.1.in_transaction ≡ conn.in_transaction) × (e.1.step_limit ≡ conn.step_limit)) }
         ensures device { IfErr result (λ e. HasCleanDisk (state S.Store e.1) → e.0 ≡ OpenFault.Device → IsLost S.Store StoreKind.Queue conn e.1) }
         ensures taken { IfErr result (λ e. HasCleanDisk (state S.Store e.1) → e.0 ≡ OpenFault.WrongForm → IsTrue conn.in_transaction ⊎ IsTaken S.Store StoreKind.Queue conn e.1) }
@@ -126,62 +192,119 @@ impl<S: Alter> Queue<S> {
         if !conn.is_autocommit() {
             return Err((OpenFault::WrongForm, conn));
         }
-        let Ok(lanes) = PlainLanes::new(alloc, capacities) else {
+        let Ok(ours) = PlainLanes::new(alloc, first) else {
+            return Err((OpenFault::Memory, conn));
+        };
+        let Ok(others) = PlainLanes::new(alloc, second) else {
             return Err((OpenFault::Memory, conn));
         };
         let owned = is_bare(&conn);
         let mut conn = conn;
-        if let Err(error) = write_tables(&mut conn, &capacities) {
+        if let Err(error) = write_tables(&mut conn, &first, &second) {
             let lost = is_lost(&mut conn, &error);
             return Err((open_fault(is_taken(&error), lost), conn));
         }
         Ok(Queue {
             conn,
-            lanes,
+            first: ours,
+            second: others,
             stopped: false,
             owned,
         })
     }
 
-    /// Opens the lanes that the database holds, with the capacities that stand there. Nothing is written.
+    /// Opens the lanes that the database holds for two centres, with the capacities that stand there. Nothing is written.
     ///
-    /// WrongForm where a table or a column of theirs is missing; where `form` isn't one row with the number
-    /// 1, or `lanes` isn't its nine rows; where a value isn't a whole number in its column's range, an id
-    /// isn't in 1 to `MAX_ID`, a lane holds more rows than its capacity, or a row that its event object
-    /// can't carry; or where the connection is inside a transaction. Else Memory or Device. A refusal hands
-    /// the connection back, with the database as it was.
+    /// OldForm where a queue for one centre would open, which `migrate` takes. WrongForm where a table or a column of theirs
+    /// is missing; where `form` isn't one row with the number 2, or `lanes` or `lanes_b` isn't its nine rows; where a value
+    /// isn't a whole number in its column's range, an id isn't in 1 to `MAX_ID`, a lane holds more rows than its
+    /// capacity, or a row that its event object can't carry; where nothing but a queue for one centre stands there, and
+    /// `sqlite_sequence` doesn't count its ids as it should; or where the connection is inside a transaction. Else Memory or Device. A refusal hands the
+    /// connection back, with the database as it was.
     pub fn open(alloc: Global, conn: Connection<S>) -> Result<Queue<S>, (OpenFault, Connection<S>)>
         ensures inside { IsTrue conn.in_transaction → IsErrAnd result (λ e. (e.0 ≡ OpenFault.WrongForm) × (e.1 ≡ conn)) }
         ensures held { IfOk result (λ q. HasCleanDisk (state S.Store q.conn) → HasCleanDisk (state S.Store conn)) }
         ensures serves { IfOk result (λ q. q.stopped ≡ false) }
-        ensures found { IfOk result (λ q. HasCleanDisk (state S.Store q.conn) → IsTrue q.owned → IsQueue (state S.Store conn).committed q.stock) }
-        ensures stands { IfOk result (λ q. HasCleanDisk (state S.Store q.conn) → IsTrue q.owned → Stands (state S.Store q.conn) q.stock) }
+        ensures found { IfOk result (λ q. HasCleanDisk (state S.Store q.conn) → IsTrue q.owned → IsPair (state S.Store conn).committed q.sides) }
+        ensures stands { IfOk result (λ q. HasCleanDisk (state S.Store q.conn) → IsTrue q.owned → Stands (state S.Store q.conn) q.sides) }
         ensures same { IfErr result (λ e. HasCleanDisk (state S.Store e.1) → IsTrue (state S.Store e.1).is_open → (state S.Store e.1).committed ≡ (state S.Store conn).committed) }
         ensures unwritten { IfOk result (λ q. Survives (state S.Store conn) (state S.Store q.conn) (λ _. ⊥)) }
         ensures left { IfErr result (λ e. Survives (state S.Store conn) (state S.Store e.1) (λ _. ⊥)) }
         ensures handed_back { IfErr result (λ e. (e.1.in_transaction ≡ conn.in_transaction) × (e.1.step_limit ≡ conn.step_limit)) }
+        ensures old_form { IfErr result (λ e. HasCleanDisk (state S.Store e.1) → e.0 ≡ OpenFault.OldForm → (f q l : List Term) → (state S.Store conn).committed.schema ≡ queue_schema f q l
+            → (stock : Stock) × IsQueue (state S.Store conn).committed stock) }
+        ensures not_old { IfErr result (λ e. HasCleanDisk (state S.Store e.1) → e.0 ≡ OpenFault.OldForm → (sides : Sides) → IsPair (state S.Store conn).committed sides → ⊥) }
     {
         if !conn.is_autocommit() {
             return Err((OpenFault::WrongForm, conn));
         }
         let mut conn = conn;
-        match read_queue(&mut conn, alloc) {
-            Ok((lanes, owned)) => {
-                if let Some(fault) = last_fault(&mut conn) {
-                    return Err((fault, conn));
-                }
-                let _last = lanes.last_id();
-                Ok(Queue {
+        match find_stored(&mut conn, alloc) {
+            Ok(Stored::Pair(first, second, owned)) => Ok(Queue {
+                conn,
+                first,
+                second,
+                stopped: false,
+                owned,
+            }),
+            Ok(Stored::One(_lanes, owned, others)) => Err((old_fault(owned, others), conn)),
+            Err(fault) => Err((fault, conn)),
+        }
+    }
+
+    /// Opens the lanes that the database holds, and where it holds them for one centre, brings it to the form for two
+    /// before, in one transaction: they are the first centre's, and the second's are empty and take this many rows each, 1
+    /// to `MAX_CAPACITY`. Where it holds them for two, nothing is written.
+    ///
+    /// WrongForm where `open` answers it, but for a queue for one centre whose ids aren't counted, or where the name of a
+    /// table for the second centre is taken; else Memory or Device. A refusal hands the connection back, with the
+    /// database as it was.
+    pub fn migrate(
+        alloc: Global,
+        conn: Connection<S>,
+        capacities: [u32; LANES],
+    ) -> Result<Queue<S>, (OpenFault, Connection<S>)>
+        requires capacities { All (λ capacity. (1 ≤ capacity) × (capacity ≤ MAX_CAPACITY)) capacities }
+        ensures inside { IsTrue conn.in_transaction → IsErrAnd result (λ e. (e.0 ≡ OpenFault.WrongForm) × (e.1 ≡ conn)) }
+        ensures held { IfOk result (λ q. HasCleanDisk (state S.Store q.conn) → HasCleanDisk (state S.Store conn)) }
+        ensures serves { IfOk result (λ q. q.stopped ≡ false) }
+        ensures current { IfErr result (λ e. e.0 ≢ OpenFault.OldForm) }
+        ensures migrated { IfOk result (λ q. HasCleanDisk (state S.Store q.conn) → IsTrue q.owned → (stock : Stock) → IsSound stock → IsQueue (state S.Store conn).committed stock → q.sides ≡ migrated stock capacities) }
+        ensures kept { IfOk result (λ q. HasCleanDisk (state S.Store q.conn) → IsTrue q.owned → (sides : Sides) → AreSound sides → IsPair (state S.Store conn).committed sides → q.sides ≡ sides) }
+        ensures stands { IfOk result (λ q. HasCleanDisk (state S.Store q.conn) → IsTrue q.owned → Stands (state S.Store q.conn) q.sides) }
+        ensures same { IfErr result (λ e. HasCleanDisk (state S.Store e.1) → IsTrue (state S.Store e.1).is_open → (state S.Store e.1).committed ≡ (state S.Store conn).committed) }
+        ensures made { IfOk result (λ q. Survives (state S.Store conn) (state S.Store q.conn) (HoldsMigrated (state S.Store conn).committed capacities)) }
+        ensures left { IfErr result (λ e. Survives (state S.Store conn) (state S.Store e.1) (HoldsMigrated (state S.Store conn).committed capacities)) }
+        ensures unwritten { IfOk result (λ q. (sides : Sides) → IsPair (state S.Store conn).committed sides → Survives (state S.Store conn) (state S.Store q.conn) (λ _. ⊥)) }
+        ensures unwritten_too { IfErr result (λ e. (sides : Sides) → IsPair (state S.Store conn).committed sides → Survives (state S.Store conn) (state S.Store e.1) (λ _. ⊥)) }
+        ensures handed_back { IfErr result (λ e. (e.1.in_transaction ≡ conn.in_transaction) × (e.1.step_limit ≡ conn.step_limit)) }
+    {
+        if !conn.is_autocommit() {
+            return Err((OpenFault::WrongForm, conn));
+        }
+        let Ok(others) = PlainLanes::new(alloc, capacities) else {
+            return Err((OpenFault::Memory, conn));
+        };
+        let mut conn = conn;
+        match find_stored(&mut conn, alloc) {
+            Ok(Stored::Pair(first, second, owned)) => Ok(Queue {
+                conn,
+                first,
+                second,
+                stopped: false,
+                owned,
+            }),
+            Ok(Stored::One(first, owned, _others)) => match second_made(&mut conn, &capacities) {
+                Ok(()) => Ok(Queue {
                     conn,
-                    lanes,
+                    first,
+                    second: others,
                     stopped: false,
                     owned,
-                })
-            }
-            Err(unread) => {
-                let fault = unread_fault(&mut conn, &unread);
-                Err((fault, conn))
-            }
+                }),
+                Err(fault) => Err((fault, conn)),
+            },
+            Err(fault) => Err((fault, conn)),
         }
     }
 
@@ -189,7 +312,7 @@ impl<S: Alter> Queue<S> {
     /// lanes as they stand.
     pub fn serves(&self) -> bool
         ensures value { result ≡ not self.now.stopped }
-        ensures left { HasCleanDisk (state S.Store self.now.conn) → IsTrue result → IsTrue self.now.owned → Leaves (state S.Store self.now.conn) self.now.stock }
+        ensures left { HasCleanDisk (state S.Store self.now.conn) → IsTrue result → IsTrue self.now.owned → Leaves (state S.Store self.now.conn) self.now.sides }
     {
         !self.stopped
     }
@@ -204,20 +327,25 @@ impl<S: Alter> Queue<S> {
 }
 
 impl Queue<MemStore> {
-    /// Empty lanes in a new database in memory, which take this many rows each, 1 to `MAX_CAPACITY`.
+    /// Empty lanes for two centres in a new database in memory, which take this many rows each, 1 to `MAX_CAPACITY`.
     ///
     /// Memory where it ran out; Device where the database failed otherwise.
-    pub fn in_memory(alloc: Global, capacities: [u32; LANES]) -> Result<Queue<MemStore>, OpenFault>
-        requires { All (λ capacity. (1 ≤ capacity) × (capacity ≤ MAX_CAPACITY)) capacities }
+    pub fn in_memory(
+        alloc: Global,
+        first: [u32; LANES],
+        second: [u32; LANES],
+    ) -> Result<Queue<MemStore>, OpenFault>
+        requires first { All (λ capacity. (1 ≤ capacity) × (capacity ≤ MAX_CAPACITY)) first }
+        requires second { All (λ capacity. (1 ≤ capacity) × (capacity ≤ MAX_CAPACITY)) second }
         ensures honest { IfOk result (IsHonest over_memory) }
-        ensures empty { IfOk result (λ q. q.stock ≡ empty_stock capacities) }
+        ensures empty { IfOk result (λ q. q.sides ≡ record { first = empty_stock first; second = empty_stock second }) }
         ensures device { result ≡ Err OpenFault.Device → (old new : Held MemStore) × IsEmpty (state over_memory old) × IsLost over_memory StoreKind.Queue old new }
         ensures taken { result ≡ Err OpenFault.WrongForm → (old new : Held MemStore) × IsEmpty (state over_memory old) × IsTaken over_memory StoreKind.Queue old new }
     {
         let Ok(conn) = Connection::open_in_memory(alloc) else {
             return Err(OpenFault::Memory);
         };
-        match Queue::create(alloc, conn, capacities) {
+        match Queue::create(alloc, conn, first, second) {
             Ok(queue) => Ok(queue),
             Err((fault, _)) => Err(fault),
         }

@@ -4,7 +4,9 @@ ghost use Rattle.std.specs.Prelude.{◌≡◌, IsTrue, true, false, List, [], �
 ghost use Rattle.sqlite.specs.Held.{state};
 ghost use Rattle.sqlite.specs.Kind.TheVariants.{Integer, Any};
 ghost use Rattle.sqlite.specs.State.{IsLive};
-ghost use Rattle.dnp_store.specs.QueueTables.{queue_with, lanes_with, queue_schema};
+ghost use Rattle.dnp_store.specs.PairTables.{lanes_b_with, pair_schema, queue_b_with};
+ghost use Rattle.dnp_store.specs.QueueTables.{lanes_columns, lanes_with, queue_columns, queue_schema, queue_with};
+ghost use Rattle.dnp_store.specs.steps.Pairs.{checks_among};
 ghost use Rattle.dnp_store.specs.Tables.{column_of, table_of, form_with, sequence, checks_at};
 
 use sqlite::{Alter, Connection};
@@ -96,16 +98,16 @@ pub(crate) fn are_last(columns: &[Column]) -> bool
         && is_column(&columns[5], "time", Kind::Integer, false)
 }
 
-/// Whether the table is `queue`.
-pub(crate) fn is_queue(table: &Table) -> bool
-    ensures form { IsTrue result → table.now ≡ queue_with table.now.checks }
-    ensures found { table.now ≡ queue_with table.now.checks → IsTrue result }
+/// Whether the table has the form of `queue`, under this name and in this tree.
+pub(crate) fn is_queue(table: &Table, name: &str, tree: u32) -> bool
+    ensures form { IsTrue result → table.now ≡ table_of name.now tree queue_columns true true table.now.checks }
+    ensures found { table.now ≡ table_of name.now tree queue_columns true true table.now.checks → IsTrue result }
 {
     let columns = table.columns.as_slice();
     columns.len() == 6
         && are_first(columns)
         && are_last(columns)
-        && is_plain(table, "queue", 1, true, true)
+        && is_plain(table, name, tree, true, true)
 }
 
 /// Whether the table is that in which AUTOINCREMENT counts.
@@ -141,31 +143,60 @@ fn are_last_of_lanes(columns: &[Column]) -> bool
         && is_column(&columns[3], "raised", Kind::Integer, true)
 }
 
-/// Whether the table is `lanes`.
-fn is_lanes(table: &Table) -> bool
-    ensures form { IsTrue result → table.now ≡ lanes_with table.now.checks }
-    ensures found { table.now ≡ lanes_with table.now.checks → IsTrue result }
+/// Whether the table has the form of `lanes`, under this name and in this tree.
+fn is_lanes(table: &Table, name: &str, tree: u32) -> bool
+    ensures form { IsTrue result → table.now ≡ table_of name.now tree lanes_columns true false table.now.checks }
+    ensures found { table.now ≡ table_of name.now tree lanes_columns true false table.now.checks → IsTrue result }
 {
     let columns = table.columns.as_slice();
     columns.len() == 4
         && are_first_of_lanes(columns)
         && are_last_of_lanes(columns)
-        && is_plain(table, "lanes", 3, true, false)
+        && is_plain(table, name, tree, true, false)
 }
 
-/// Whether the tables are those of a queue.
+/// Whether the tables are those of a queue for one centre.
 fn are_tables(tables: &[Table]) -> bool
     ensures form { IsTrue result → tables.now ≡ form_with (checks_at tables.now 0) ∷ queue_with (checks_at tables.now 1) ∷ sequence ∷ lanes_with (checks_at tables.now 3) ∷ [] }
     ensures found { tables.now ≡ form_with (checks_at tables.now 0) ∷ queue_with (checks_at tables.now 1) ∷ sequence ∷ lanes_with (checks_at tables.now 3) ∷ [] → IsTrue result }
 {
     tables.len() == 4
         && is_form(&tables[0])
-        && is_queue(&tables[1])
+        && is_queue(&tables[1], "queue", 1)
         && is_sequence(&tables[2])
-        && is_lanes(&tables[3])
+        && is_lanes(&tables[3], "lanes", 3)
 }
 
-/// Whether the database has the tables of a queue, and no others.
+/// Whether the first four of six tables are those of a queue's first centre.
+fn are_first_tables(tables: &[Table]) -> bool
+    requires { length tables.now ≡ 6 }
+    ensures form { IsTrue result → take 4 tables.now ≡ form_with (checks_at tables.now 0) ∷ queue_with (checks_at tables.now 1) ∷ sequence ∷ lanes_with (checks_at tables.now 3) ∷ [] }
+    ensures found { take 4 tables.now ≡ form_with (checks_at tables.now 0) ∷ queue_with (checks_at tables.now 1) ∷ sequence ∷ lanes_with (checks_at tables.now 3) ∷ [] → IsTrue result }
+{
+    is_form(&tables[0])
+        && is_queue(&tables[1], "queue", 1)
+        && is_sequence(&tables[2])
+        && is_lanes(&tables[3], "lanes", 3)
+}
+
+/// Whether the last two of six tables are those of its second centre.
+fn are_last_tables(tables: &[Table]) -> bool
+    requires { length tables.now ≡ 6 }
+    ensures form { IsTrue result → drop 4 tables.now ≡ queue_b_with (checks_at tables.now 4) ∷ lanes_b_with (checks_at tables.now 5) ∷ [] }
+    ensures found { drop 4 tables.now ≡ queue_b_with (checks_at tables.now 4) ∷ lanes_b_with (checks_at tables.now 5) ∷ [] → IsTrue result }
+{
+    is_queue(&tables[4], "queue_b", 4) && is_lanes(&tables[5], "lanes_b", 5)
+}
+
+/// Whether the tables are those of a queue for two centres.
+fn are_pair_tables(tables: &[Table]) -> bool
+    ensures form { IsTrue result → tables.now ≡ (pair_schema (checks_among tables.now)).tables }
+    ensures found { tables.now ≡ (pair_schema (checks_among tables.now)).tables → IsTrue result }
+{
+    tables.len() == 6 && are_first_tables(tables) && are_last_tables(tables)
+}
+
+/// Whether the database has the tables of a queue for one centre, and no others.
 pub(crate) fn is_of_queue<S: Alter>(conn: &Connection<S>) -> bool
     ensures live { IsLive (state S.Store conn.now) }
     ensures schema { IsTrue result → (state S.Store conn.now).now.schema ≡ queue_schema (checks_at (state S.Store conn.now).now.schema.tables 0)
@@ -175,4 +206,16 @@ pub(crate) fn is_of_queue<S: Alter>(conn: &Connection<S>) -> bool
 {
     let schema = conn.schema();
     are_tables(schema.tables.as_slice()) && schema.indexes.is_empty() && schema.views.is_empty()
+}
+
+/// Whether the database has the tables of a queue for two centres, and no others.
+pub(crate) fn is_of_pair<S: Alter>(conn: &Connection<S>) -> bool
+    ensures live { IsLive (state S.Store conn.now) }
+    ensures schema { IsTrue result → (state S.Store conn.now).now.schema ≡ pair_schema (checks_among (state S.Store conn.now).now.schema.tables) }
+    ensures found { (state S.Store conn.now).now.schema ≡ pair_schema (checks_among (state S.Store conn.now).now.schema.tables) → IsTrue result }
+{
+    let schema = conn.schema();
+    are_pair_tables(schema.tables.as_slice())
+        && schema.indexes.is_empty()
+        && schema.views.is_empty()
 }

@@ -1,4 +1,4 @@
-//! The lanes that a queue's database holds.
+//! The lanes that the database of a queue holds.
 
 ghost use Rattle.std.specs.Prelude.{◌≡◌, false, IsTrue, OnOk, IfOk, List};
 ghost use Rattle.sqlite.specs.Effect.{IsDatabase};
@@ -6,18 +6,21 @@ ghost use Rattle.sqlite.specs.Held.{state};
 ghost use Rattle.sqlite.specs.State.{HasCleanDisk, Survives};
 ghost use Rattle.sqlite.specs.Term.{Term};
 ghost use Rattle.dnp_store.specs.steps.Inside.{IsInside, IsStep};
+ghost use Rattle.dnp_store.specs.steps.Stored.{IsShown, IsStored, owned_by};
 ghost use Rattle.dnp_store.specs.QueueTables.{IsQueue, queue_schema};
 
 use crate::decoding::{begun, last_used, restore_rows};
 use crate::fault::Unread;
-use crate::queue_form::is_of_queue;
+use crate::queue_form::{is_of_pair, is_of_queue};
 use crate::queue_reading::{read_figures, read_queued};
-use crate::stores::{read_counts, read_form};
+use crate::queue_side::QueueSide;
+use crate::queue_sides::read_sides;
+use crate::stores::{read_counts, read_form, read_number};
 use dnp_eventbuf::PlainLanes;
 use sqlite::{Alter, Connection, Transaction};
 use std::alloc::Global;
 
-/// The lanes, and whether `sqlite_sequence` counts for them alone.
+/// The lanes for one centre, and whether `sqlite_sequence` counts for them alone.
 fn read_all<S: Alter>(
     tx: &mut Transaction<'_, S>,
     alloc: Global,
@@ -29,9 +32,9 @@ fn read_all<S: Alter>(
         → (state S.Store tx.old.conn.now).now.schema ≡ queue_schema f q l → IsQueue (state S.Store tx.old.conn.now).now found.0) }
 {
     read_form(tx)?;
-    let figures = read_figures(tx, alloc)?;
+    let figures = read_figures(tx, QueueSide::First, alloc)?;
     let counts = read_counts(tx)?;
-    let rows = read_queued(tx)?;
+    let rows = read_queued(tx, QueueSide::First)?;
     let Some((last_id, counted)) = last_used(&counts, &rows, "queue") else {
         return Err(Unread::Form);
     };
@@ -52,22 +55,62 @@ pub(crate) fn both(one: bool, other: bool) -> bool
     one && other
 }
 
-/// The lanes, and whether the database has the tables of a queue and nothing else.
-pub(crate) fn read_queue<S: Alter>(
+/// What the database of a queue holds, by the tables that it has.
+#[derive(Drop)]
+pub(crate) enum Stored {
+    /// The lanes of a queue for one centre, whether nothing else stands there, and whether other tables do.
+    One(PlainLanes, bool, bool),
+    /// The lanes of a queue for two centres, and whether nothing else stands there.
+    Pair(PlainLanes, PlainLanes, bool),
+}
+
+/// What stands there, by the number of its form, and whether `sqlite_sequence` counts for it alone.
+fn read_numbered<S: Alter>(tx: &mut Transaction<'_, S>, alloc: Global) -> Result<Stored, Unread>
+    requires inside { IsInside S.Store tx.old.conn }
+    ensures step { IsStep S.Store tx.old.conn tx.new.conn result }
+    ensures open { HasCleanDisk (state S.Store tx.new.conn.now) → OnOk result (IsTrue (state S.Store tx.old.conn.now).is_open) }
+    ensures read { HasCleanDisk (state S.Store tx.new.conn.now) → IfOk result (IsShown (state S.Store tx.old.conn.now).now) }
+{
+    match read_number(tx)? {
+        1 => {
+            let (lanes, counted) = read_all(tx, alloc)?;
+            Ok(Stored::One(lanes, counted, false))
+        }
+        2 => {
+            let (first, second, counted) = read_sides(tx, alloc)?;
+            Ok(Stored::Pair(first, second, counted))
+        }
+        _ => Err(Unread::Form),
+    }
+}
+
+/// What was found, and whether it is the database's own.
+fn owned_by(stored: Stored, one: bool, pair: bool) -> Stored
+    ensures { result ≡ owned_by stored one pair }
+{
+    match stored {
+        Stored::One(lanes, counted, _other) => Stored::One(lanes, one && counted, !one),
+        Stored::Pair(first, second, counted) => Stored::Pair(first, second, pair && counted),
+    }
+}
+
+/// What the database of a queue holds, and whether it has the tables of such a queue and nothing else.
+pub(crate) fn read_stored<S: Alter>(
     conn: &mut Connection<S>,
     alloc: Global,
-) -> Result<(PlainLanes, bool), Unread>
+) -> Result<Stored, Unread>
     requires idle { conn.old.in_transaction ≡ false }
     ensures idle { conn.new.in_transaction ≡ false }
-    ensures read { HasCleanDisk (state S.Store conn.new) → IfOk result (λ found. IsTrue found.1 → IsQueue (state S.Store conn.old).committed found.0) }
+    ensures read { HasCleanDisk (state S.Store conn.new) → IfOk result (IsStored (state S.Store conn.old).committed) }
     ensures same { HasCleanDisk (state S.Store conn.new) → IsTrue (state S.Store conn.new).is_open
         → IsTrue (state S.Store conn.old).is_open × ((state S.Store conn.new).committed ≡ (state S.Store conn.old).committed) }
     ensures survives { Survives (state S.Store conn.old) (state S.Store conn.new) (λ _. ⊥) }
 {
     prove!(conn.is_autocommit());
-    let ours = is_of_queue(conn);
+    let one = is_of_queue(conn);
+    let pair = is_of_pair(conn);
     let mut tx = conn.transaction();
-    let (lanes, counted) = read_all(&mut tx, alloc)?;
+    let stored = read_numbered(&mut tx, alloc)?;
     tx.rollback();
-    Ok((lanes, both(ours, counted)))
+    Ok(owned_by(stored, one, pair))
 }

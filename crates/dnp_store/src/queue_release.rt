@@ -9,9 +9,12 @@ ghost use Rattle.dnp_eventbuf.specs.Stock.{Stock, above, lane_at, without};
 ghost use Rattle.dnp_store.specs.Refusals.{IsRefused};
 ghost use Rattle.dnp_store.specs.steps.Inside.{IsInside, IsStep};
 ghost use Rattle.dnp_store.specs.Kept.{Stands};
-ghost use Rattle.dnp_store.specs.QueueTables.{Figures, HoldsQueue, HoldsStock, IsQueue, is_raised};
+ghost use Rattle.dnp_store.specs.PairTables.{HoldsPair};
+ghost use Rattle.dnp_store.specs.QueueTables.{Figures, is_raised};
+ghost use Rattle.dnp_store.specs.steps.Pairs.{HoldsFor, IsFor, sides_of};
 ghost use Rattle.dnp_store.specs.steps.Steps.{cut, left, released};
 
+use crate::queue_side::QueueSide;
 use crate::queue_statements::{note, take};
 use crate::store_kind::StoreKind;
 use dnp_eventbuf::laws::a_release_is_lane_by_lane;
@@ -35,6 +38,7 @@ fn has_up_to(lanes: &PlainLanes, number: usize, upto: u64) -> bool
 /// the same for none as for one.
 fn take_some<S: Alter>(
     tx: &mut Transaction<'_, S>,
+    side: QueueSide,
     lanes: &PlainLanes,
     number: usize,
     upto: &Upto,
@@ -44,12 +48,12 @@ fn take_some<S: Alter>(
     requires sound { IsSound lanes.now }
     ensures step { IsStep S.Store tx.old.conn tx.new.conn result }
     ensures refused { HasCleanDisk (state S.Store tx.new.conn.now) → IfErr result (IsRefused S.Store StoreKind.Queue tx.old.conn.now tx.new.conn.now) }
-    ensures taken { HasCleanDisk (state S.Store tx.new.conn.now) → OnOk result ((s : Stock) (figures : List Figures) → length s.lanes ≡ limits.LANES
-        → lane_at s number ≡ lane_at lanes.now number → HoldsQueue (state S.Store tx.old.conn.now).now s figures
-        → HoldsQueue (state S.Store tx.new.conn.now).now (cut s number (min (slice_index_or upto.now number 0) limits.MAX_ID)) figures) }
+    ensures taken { HasCleanDisk (state S.Store tx.new.conn.now) → OnOk result ((others s : Stock) (figures : List Figures) → length s.lanes ≡ limits.LANES
+        → lane_at s number ≡ lane_at lanes.now number → HoldsFor side others (state S.Store tx.old.conn.now).now s figures
+        → HoldsFor side others (state S.Store tx.new.conn.now).now (cut s number (min (slice_index_or upto.now number 0) limits.MAX_ID)) figures) }
 {
     if has_up_to(lanes, number, upto[number].min(MAX_ID)) {
-        take(tx, number, upto[number].min(MAX_ID))?;
+        take(tx, side, number, upto[number].min(MAX_ID))?;
     }
     Ok(())
 }
@@ -57,6 +61,7 @@ fn take_some<S: Alter>(
 /// Takes the rows of each lane with ids up to its number out of the table.
 fn take_all<S: Alter>(
     tx: &mut Transaction<'_, S>,
+    side: QueueSide,
     lanes: &PlainLanes,
     upto: &Upto,
 ) -> Result<(), Error>
@@ -64,29 +69,33 @@ fn take_all<S: Alter>(
     requires sound { IsSound lanes.now }
     ensures step { IsStep S.Store tx.old.conn tx.new.conn result }
     ensures refused { HasCleanDisk (state S.Store tx.new.conn.now) → IfErr result (IsRefused S.Store StoreKind.Queue tx.old.conn.now tx.new.conn.now) }
-    ensures taken { HasCleanDisk (state S.Store tx.new.conn.now) → OnOk result ((figures : List Figures)
-        → HoldsQueue (state S.Store tx.old.conn.now).now lanes.now figures → HoldsQueue (state S.Store tx.new.conn.now).now (left lanes.now upto.now) figures) }
+    ensures taken { HasCleanDisk (state S.Store tx.new.conn.now) → OnOk result ((others : Stock) (figures : List Figures)
+        → HoldsFor side others (state S.Store tx.old.conn.now).now lanes.now figures → HoldsFor side others (state S.Store tx.new.conn.now).now (left lanes.now upto.now) figures) }
 {
     // (a law, for the proof: it does nothing)
     a_release_is_lane_by_lane();
     for number in 0..LANES {
-        take_some(tx, lanes, number, upto)?;
+        take_some(tx, side, lanes, number, upto)?;
     }
     Ok(())
 }
 
 /// Notes for each lane that it doesn't raise the overflow.
-fn lower_all<S: Alter>(tx: &mut Transaction<'_, S>, lanes: &PlainLanes) -> Result<(), Error>
+fn lower_all<S: Alter>(
+    tx: &mut Transaction<'_, S>,
+    side: QueueSide,
+    lanes: &PlainLanes,
+) -> Result<(), Error>
     requires inside { IsInside S.Store tx.old.conn }
     requires sound { IsSound lanes.now }
     ensures step { IsStep S.Store tx.old.conn tx.new.conn result }
     ensures refused { HasCleanDisk (state S.Store tx.new.conn.now) → IfErr result (IsRefused S.Store StoreKind.Queue tx.old.conn.now tx.new.conn.now) }
-    ensures lowered { HasCleanDisk (state S.Store tx.new.conn.now) → OnOk result ((s : Stock) (figures : List Figures) → length s.lanes ≡ limits.LANES
-        → ((k : ℕ) → k < limits.LANES → (lane_at s k).lost ≡ (lane_at lanes.now k).lost) → HoldsQueue (state S.Store tx.old.conn.now).now s figures
-        → (lowered : List Figures) × HoldsQueue (state S.Store tx.new.conn.now).now s lowered × (is_raised lowered ≡ false)) }
+    ensures lowered { HasCleanDisk (state S.Store tx.new.conn.now) → OnOk result ((others s : Stock) (figures : List Figures) → length s.lanes ≡ limits.LANES
+        → ((k : ℕ) → k < limits.LANES → (lane_at s k).lost ≡ (lane_at lanes.now k).lost) → HoldsFor side others (state S.Store tx.old.conn.now).now s figures
+        → (lowered : List Figures) × HoldsFor side others (state S.Store tx.new.conn.now).now s lowered × (is_raised lowered ≡ false)) }
 {
     for number in 0..LANES {
-        note(tx, number, lanes.lost_in(number), false)?;
+        note(tx, side, number, lanes.lost_in(number), false)?;
     }
     Ok(())
 }
@@ -94,6 +103,7 @@ fn lower_all<S: Alter>(tx: &mut Transaction<'_, S>, lanes: &PlainLanes) -> Resul
 /// Takes rows out, and lowers the overflow if told to.
 fn release_in<S: Alter>(
     tx: &mut Transaction<'_, S>,
+    side: QueueSide,
     lanes: &PlainLanes,
     upto: &Upto,
     lower: bool,
@@ -103,13 +113,13 @@ fn release_in<S: Alter>(
     ensures step { IsStep S.Store tx.old.conn tx.new.conn result }
     ensures refused { HasCleanDisk (state S.Store tx.new.conn.now) → IfErr result (IsRefused S.Store StoreKind.Queue tx.old.conn.now tx.new.conn.now) }
     ensures released { HasCleanDisk (state S.Store tx.new.conn.now) → OnOk result (
-        IsQueue (state S.Store tx.old.conn.now).now lanes.now → IsQueue (state S.Store tx.new.conn.now).now (released lanes.now upto.now lower)) }
+        (others : Stock) → IsFor side others (state S.Store tx.old.conn.now).now lanes.now → IsFor side others (state S.Store tx.new.conn.now).now (released lanes.now upto.now lower)) }
 {
-    take_all(tx, lanes, upto)?;
+    take_all(tx, side, lanes, upto)?;
     if lower {
         // (a law, for the proof: it does nothing)
         a_release_is_lane_by_lane();
-        lower_all(tx, lanes)?;
+        lower_all(tx, side, lanes)?;
     }
     Ok(())
 }
@@ -125,6 +135,7 @@ pub(crate) fn lowers(lanes: &PlainLanes, upto: &Upto) -> bool
 /// to.
 pub(crate) fn write_release<S: Alter>(
     conn: &mut Connection<S>,
+    side: QueueSide,
     lanes: &PlainLanes,
     upto: &Upto,
     lower: bool,
@@ -132,13 +143,15 @@ pub(crate) fn write_release<S: Alter>(
     requires idle { conn.old.in_transaction ≡ false }
     requires sound { IsSound lanes.now }
     ensures idle { conn.new.in_transaction ≡ false }
-    ensures ok { HasCleanDisk (state S.Store conn.new) → Stands (state S.Store conn.old) lanes.now → OnOk result (Stands (state S.Store conn.new) (released lanes.now upto.now lower)) }
+    ensures ok { HasCleanDisk (state S.Store conn.new) → (others : Stock) → Stands (state S.Store conn.old) (sides_of side lanes.now others)
+        → OnOk result (Stands (state S.Store conn.new) (sides_of side (released lanes.now upto.now lower) others)) }
     ensures err { HasCleanDisk (state S.Store conn.new) → IsTrue (state S.Store conn.new).is_open → OnErr result (IsTrue (state S.Store conn.old).is_open × ((state S.Store conn.new).committed ≡ (state S.Store conn.old).committed)) }
     ensures refused { HasCleanDisk (state S.Store conn.new) → IfErr result (IsRefused S.Store StoreKind.Queue conn.old conn.new) }
-    ensures survives { Survives (state S.Store conn.old) (state S.Store conn.new) (λ db. Stands (state S.Store conn.old) lanes.now → HoldsStock db (released lanes.now upto.now lower)) }
+    ensures survives { Survives (state S.Store conn.old) (state S.Store conn.new) (λ db. (others : Stock)
+        → Stands (state S.Store conn.old) (sides_of side lanes.now others) → HoldsPair db (sides_of side (released lanes.now upto.now lower) others)) }
 {
     prove!(conn.is_autocommit());
     let mut tx = conn.transaction();
-    release_in(&mut tx, lanes, upto, lower)?;
+    release_in(&mut tx, side, lanes, upto, lower)?;
     tx.commit()
 }

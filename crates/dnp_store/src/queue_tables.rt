@@ -3,16 +3,19 @@
 ghost use Rattle.std.specs.Prelude.{◌≡◌, ◌++◌, false, IsTrue, OnOk, OnErr, List, [], ◌∷◌, length, map, IfErr};
 ghost use Rattle.sqlite.specs.Held.{state};
 ghost use Rattle.sqlite.specs.State.{HasCleanDisk, Survives};
-ghost use Rattle.dnp_eventbuf.specs.Stock.{empty_stock};
+ghost use Rattle.dnp_eventbuf.specs.Stock.{Stock, empty_stock};
 ghost use Rattle.dnp_store.specs.Refusals.{IsRefused};
 ghost use Rattle.dnp_store.specs.steps.Inside.{IsInside, IsStep};
 ghost use Rattle.dnp_store.specs.Kept.{Stands};
 ghost use Rattle.dnp_store.specs.steps.Making.{HasLanes, fresh};
-ghost use Rattle.dnp_store.specs.QueueTables.{Figures, HoldsStock};
-ghost use Rattle.dnp_store.specs.Schemas.{made_queue};
+ghost use Rattle.dnp_store.specs.PairTables.{HoldsPair, migrated};
+ghost use Rattle.dnp_store.specs.steps.Seconds.{Opens};
+ghost use Rattle.dnp_store.specs.QueueTables.{Figures};
+ghost use Rattle.dnp_store.specs.Schemas.{made_pair};
 ghost use Rattle.dnp_store.specs.steps.Stores.{HasNumber};
 ghost use Rattle.dnp_store.specs.Tables.{no_schema};
 
+use crate::queue_second::make_second;
 use crate::store_kind::StoreKind;
 use crate::stores::{keep_probe, make_tables};
 use dnp_objects::LANES;
@@ -73,20 +76,41 @@ fn make_all<S: Alter>(tx: &mut Transaction<'_, S>, capacities: &[u32; LANES]) ->
     Ok(())
 }
 
-/// Makes the tables of empty lanes, in one transaction.
+/// Makes the tables of empty lanes for two centres, in one transaction.
 pub(crate) fn write_tables<S: Alter>(
+    conn: &mut Connection<S>,
+    first: &[u32; LANES],
+    second: &[u32; LANES],
+) -> Result<(), Error>
+    requires idle { conn.old.in_transaction ≡ false }
+    ensures idle { conn.new.in_transaction ≡ false }
+    ensures ok { HasCleanDisk (state S.Store conn.new) → (state S.Store conn.old).now.schema ≡ no_schema → OnOk result (Stands (state S.Store conn.new) (record { first = empty_stock first.now; second = empty_stock second.now })) }
+    ensures schema { HasCleanDisk (state S.Store conn.new) → (state S.Store conn.old).now.schema ≡ no_schema → OnOk result ((state S.Store conn.new).committed.schema ≡ made_pair) }
+    ensures err { HasCleanDisk (state S.Store conn.new) → IsTrue (state S.Store conn.new).is_open → OnErr result (IsTrue (state S.Store conn.old).is_open × ((state S.Store conn.new).committed ≡ (state S.Store conn.old).committed)) }
+    ensures refused { HasCleanDisk (state S.Store conn.new) → IfErr result (IsRefused S.Store StoreKind.Queue conn.old conn.new) }
+    ensures survives { Survives (state S.Store conn.old) (state S.Store conn.new) (λ db. (state S.Store conn.old).now.schema ≡ no_schema → HoldsPair db (record { first = empty_stock first.now; second = empty_stock second.now })) }
+{
+    let mut tx = conn.transaction();
+    make_all(&mut tx, first)?;
+    make_second(&mut tx, second)?;
+    tx.commit()
+}
+
+/// Makes a queue for one centre into one for two, in one transaction: its lanes are the first centre's, and those of the
+/// second are empty.
+pub(crate) fn write_second<S: Alter>(
     conn: &mut Connection<S>,
     capacities: &[u32; LANES],
 ) -> Result<(), Error>
     requires idle { conn.old.in_transaction ≡ false }
     ensures idle { conn.new.in_transaction ≡ false }
-    ensures ok { HasCleanDisk (state S.Store conn.new) → (state S.Store conn.old).now.schema ≡ no_schema → OnOk result (Stands (state S.Store conn.new) (empty_stock capacities.now)) }
-    ensures schema { HasCleanDisk (state S.Store conn.new) → (state S.Store conn.old).now.schema ≡ no_schema → OnOk result ((state S.Store conn.new).committed.schema ≡ made_queue) }
+    ensures ok { HasCleanDisk (state S.Store conn.new) → (s : Stock) → Opens (state S.Store conn.old) s → OnOk result (Stands (state S.Store conn.new) (migrated s capacities.now)) }
     ensures err { HasCleanDisk (state S.Store conn.new) → IsTrue (state S.Store conn.new).is_open → OnErr result (IsTrue (state S.Store conn.old).is_open × ((state S.Store conn.new).committed ≡ (state S.Store conn.old).committed)) }
     ensures refused { HasCleanDisk (state S.Store conn.new) → IfErr result (IsRefused S.Store StoreKind.Queue conn.old conn.new) }
-    ensures survives { Survives (state S.Store conn.old) (state S.Store conn.new) (λ db. (state S.Store conn.old).now.schema ≡ no_schema → HoldsStock db (empty_stock capacities.now)) }
+    ensures survives { Survives (state S.Store conn.old) (state S.Store conn.new) (λ db. (s : Stock) → Opens (state S.Store conn.old) s → HoldsPair db (migrated s capacities.now)) }
 {
+    prove!(conn.is_autocommit());
     let mut tx = conn.transaction();
-    make_all(&mut tx, capacities)?;
+    make_second(&mut tx, capacities)?;
     tx.commit()
 }

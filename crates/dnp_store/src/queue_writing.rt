@@ -10,10 +10,13 @@ ghost use Rattle.dnp_eventbuf.specs.Stock.{Stock, with_rows};
 ghost use Rattle.dnp_store.specs.Refusals.{IsRefused};
 ghost use Rattle.dnp_store.specs.steps.Inside.{IsInside, IsStep};
 ghost use Rattle.dnp_store.specs.Kept.{Stands};
-ghost use Rattle.dnp_store.specs.QueueTables.{Figures, HoldsQueue, HoldsStock};
+ghost use Rattle.dnp_store.specs.PairTables.{HoldsPair};
+ghost use Rattle.dnp_store.specs.QueueTables.{Figures};
+ghost use Rattle.dnp_store.specs.steps.Pairs.{HoldsFor, IsFor, sides_of};
 ghost use Rattle.dnp_store.specs.steps.Steps.{IsTrimmed, all_added};
 
 use crate::cells::MANY;
+use crate::queue_side::QueueSide;
 use crate::queue_statements::{insert, insert_many, note, take};
 use crate::store_kind::StoreKind;
 use dnp_eventbuf::laws::a_lane_keeps_its_latest_rows;
@@ -22,47 +25,59 @@ use dnp_objects::LANES;
 use sqlite::{Alter, Connection, Error, Transaction};
 
 /// Puts the rows into the table one by one, under the ids that follow the last one used.
-fn insert_each<S: Alter>(tx: &mut Transaction<'_, S>, rows: &[LaneRow]) -> Result<(), Error>
+fn insert_each<S: Alter>(
+    tx: &mut Transaction<'_, S>,
+    side: QueueSide,
+    rows: &[LaneRow],
+) -> Result<(), Error>
     requires inside { IsInside S.Store tx.old.conn }
     requires carried { All IsCarried rows.now }
     ensures step { IsStep S.Store tx.old.conn tx.new.conn result }
     ensures refused { HasCleanDisk (state S.Store tx.new.conn.now) → IfErr result (IsRefused S.Store StoreKind.Queue tx.old.conn.now tx.new.conn.now) }
-    ensures added { HasCleanDisk (state S.Store tx.new.conn.now) → OnOk result ((s : Stock) (figures : List Figures) → length s.lanes ≡ limits.LANES
-        → HoldsQueue (state S.Store tx.old.conn.now).now s figures → HoldsQueue (state S.Store tx.new.conn.now).now (all_added s rows.now) figures) }
+    ensures added { HasCleanDisk (state S.Store tx.new.conn.now) → OnOk result ((others s : Stock) (figures : List Figures) → length s.lanes ≡ limits.LANES
+        → HoldsFor side others (state S.Store tx.old.conn.now).now s figures → HoldsFor side others (state S.Store tx.new.conn.now).now (all_added s rows.now) figures) }
 {
     for x in rows {
-        insert(tx, x)?;
+        insert(tx, side, x)?;
     }
     Ok(())
 }
 
 /// Puts some rows into the table: sixteen by one statement, any others one by one.
-fn insert_block<S: Alter>(tx: &mut Transaction<'_, S>, rows: &[LaneRow]) -> Result<(), Error>
+fn insert_block<S: Alter>(
+    tx: &mut Transaction<'_, S>,
+    side: QueueSide,
+    rows: &[LaneRow],
+) -> Result<(), Error>
     requires inside { IsInside S.Store tx.old.conn }
     requires carried { All IsCarried rows.now }
     ensures step { IsStep S.Store tx.old.conn tx.new.conn result }
     ensures refused { HasCleanDisk (state S.Store tx.new.conn.now) → IfErr result (IsRefused S.Store StoreKind.Queue tx.old.conn.now tx.new.conn.now) }
-    ensures added { HasCleanDisk (state S.Store tx.new.conn.now) → OnOk result ((s : Stock) (figures : List Figures) → length s.lanes ≡ limits.LANES
-        → HoldsQueue (state S.Store tx.old.conn.now).now s figures → HoldsQueue (state S.Store tx.new.conn.now).now (all_added s rows.now) figures) }
+    ensures added { HasCleanDisk (state S.Store tx.new.conn.now) → OnOk result ((others s : Stock) (figures : List Figures) → length s.lanes ≡ limits.LANES
+        → HoldsFor side others (state S.Store tx.old.conn.now).now s figures → HoldsFor side others (state S.Store tx.new.conn.now).now (all_added s rows.now) figures) }
 {
     if rows.len() == MANY {
-        insert_many(tx, rows)
+        insert_many(tx, side, rows)
     } else {
-        insert_each(tx, rows)
+        insert_each(tx, side, rows)
     }
 }
 
 /// Puts the rows into the table, under the ids that follow the last one used.
-fn insert_all<S: Alter>(tx: &mut Transaction<'_, S>, rows: &[LaneRow]) -> Result<(), Error>
+fn insert_all<S: Alter>(
+    tx: &mut Transaction<'_, S>,
+    side: QueueSide,
+    rows: &[LaneRow],
+) -> Result<(), Error>
     requires inside { IsInside S.Store tx.old.conn }
     requires carried { All IsCarried rows.now }
     ensures step { IsStep S.Store tx.old.conn tx.new.conn result }
     ensures refused { HasCleanDisk (state S.Store tx.new.conn.now) → IfErr result (IsRefused S.Store StoreKind.Queue tx.old.conn.now tx.new.conn.now) }
-    ensures added { HasCleanDisk (state S.Store tx.new.conn.now) → OnOk result ((s : Stock) (figures : List Figures) → length s.lanes ≡ limits.LANES
-        → HoldsQueue (state S.Store tx.old.conn.now).now s figures → HoldsQueue (state S.Store tx.new.conn.now).now (all_added s rows.now) figures) }
+    ensures added { HasCleanDisk (state S.Store tx.new.conn.now) → OnOk result ((others s : Stock) (figures : List Figures) → length s.lanes ≡ limits.LANES
+        → HoldsFor side others (state S.Store tx.old.conn.now).now s figures → HoldsFor side others (state S.Store tx.new.conn.now).now (all_added s rows.now) figures) }
 {
     for block in rows.chunks(MANY) {
-        insert_block(tx, block)?;
+        insert_block(tx, side, block)?;
     }
     Ok(())
 }
@@ -70,6 +85,7 @@ fn insert_all<S: Alter>(tx: &mut Transaction<'_, S>, rows: &[LaneRow]) -> Result
 /// Has one lane drop what it has to for these rows, and counts it.
 fn trim<S: Alter>(
     tx: &mut Transaction<'_, S>,
+    side: QueueSide,
     lanes: &PlainLanes,
     number: usize,
     rows: &[LaneRow],
@@ -81,8 +97,8 @@ fn trim<S: Alter>(
     requires few { lanes.now.last_id + length rows.now ≤ 2 ^ 62 }
     ensures step { IsStep S.Store tx.old.conn tx.new.conn result }
     ensures refused { HasCleanDisk (state S.Store tx.new.conn.now) → IfErr result (IsRefused S.Store StoreKind.Queue tx.old.conn.now tx.new.conn.now) }
-    ensures trimmed { HasCleanDisk (state S.Store tx.new.conn.now) → OnOk result ((raised : Bool)
-        → IsTrimmed (state S.Store tx.old.conn.now).now lanes.now rows.now raised number → IsTrimmed (state S.Store tx.new.conn.now).now lanes.now rows.now raised (number + 1)) }
+    ensures trimmed { HasCleanDisk (state S.Store tx.new.conn.now) → OnOk result ((others : Stock) (raised : Bool)
+        → IsTrimmed side others (state S.Store tx.old.conn.now).now lanes.now rows.now raised number → IsTrimmed side others (state S.Store tx.new.conn.now).now lanes.now rows.now raised (number + 1)) }
 {
     // (a law, for the proof: it does nothing)
     a_lane_keeps_its_latest_rows();
@@ -94,14 +110,15 @@ fn trim<S: Alter>(
         .id_at(number, rows, over - 1)
         .ok_or(Error::InvalidQuery)?;
     let lost = lanes.lost_in(number) + over as u64;
-    take(tx, number, upto)?;
-    note(tx, number, lost, true)?;
+    take(tx, side, number, upto)?;
+    note(tx, side, number, lost, true)?;
     Ok(())
 }
 
 /// Has each lane drop what it has to for these rows.
 fn trim_all<S: Alter>(
     tx: &mut Transaction<'_, S>,
+    side: QueueSide,
     lanes: &PlainLanes,
     rows: &[LaneRow],
 ) -> Result<(), Error>
@@ -111,18 +128,43 @@ fn trim_all<S: Alter>(
     requires few { lanes.now.last_id + length rows.now ≤ 2 ^ 62 }
     ensures step { IsStep S.Store tx.old.conn tx.new.conn result }
     ensures refused { HasCleanDisk (state S.Store tx.new.conn.now) → IfErr result (IsRefused S.Store StoreKind.Queue tx.old.conn.now tx.new.conn.now) }
-    ensures trimmed { HasCleanDisk (state S.Store tx.new.conn.now) → OnOk result ((raised : Bool)
-        → IsTrimmed (state S.Store tx.old.conn.now).now lanes.now rows.now raised 0 → IsTrimmed (state S.Store tx.new.conn.now).now lanes.now rows.now raised limits.LANES) }
+    ensures trimmed { HasCleanDisk (state S.Store tx.new.conn.now) → OnOk result ((others : Stock) (raised : Bool)
+        → IsTrimmed side others (state S.Store tx.old.conn.now).now lanes.now rows.now raised 0 → IsTrimmed side others (state S.Store tx.new.conn.now).now lanes.now rows.now raised limits.LANES) }
 {
     for number in 0..LANES {
-        trim(tx, lanes, number, rows)?;
+        trim(tx, side, lanes, number, rows)?;
     }
     Ok(())
 }
 
-/// Writes what an append changes.
+/// Puts rows into the table of a side, and has its lanes drop what they have to for them.
+fn append_in<S: Alter>(
+    tx: &mut Transaction<'_, S>,
+    side: QueueSide,
+    lanes: &PlainLanes,
+    rows: &[LaneRow],
+) -> Result<(), Error>
+    requires inside { IsInside S.Store tx.old.conn }
+    requires carried { All IsCarried rows.now }
+    requires sound { IsSound lanes.now }
+    requires after { IsSound (with_rows lanes.now rows.now) }
+    requires few { lanes.now.last_id + length rows.now ≤ 2 ^ 62 }
+    ensures step { IsStep S.Store tx.old.conn tx.new.conn result }
+    ensures refused { HasCleanDisk (state S.Store tx.new.conn.now) → IfErr result (IsRefused S.Store StoreKind.Queue tx.old.conn.now tx.new.conn.now) }
+    ensures appended { HasCleanDisk (state S.Store tx.new.conn.now) → OnOk result ((others : Stock)
+        → IsFor side others (state S.Store tx.old.conn.now).now lanes.now → IsFor side others (state S.Store tx.new.conn.now).now (with_rows lanes.now rows.now)) }
+{
+    // (a law, for the proof: it does nothing)
+    a_lane_keeps_its_latest_rows();
+    insert_all(tx, side, rows)?;
+    trim_all(tx, side, lanes, rows)?;
+    Ok(())
+}
+
+/// Writes what an append on one side changes.
 pub(crate) fn write_append<S: Alter>(
     conn: &mut Connection<S>,
+    side: QueueSide,
     lanes: &PlainLanes,
     rows: &[LaneRow],
 ) -> Result<(), Error>
@@ -132,16 +174,45 @@ pub(crate) fn write_append<S: Alter>(
     requires after { IsSound (with_rows lanes.now rows.now) }
     requires few { lanes.now.last_id + length rows.now ≤ 2 ^ 62 }
     ensures idle { conn.new.in_transaction ≡ false }
-    ensures ok { HasCleanDisk (state S.Store conn.new) → Stands (state S.Store conn.old) lanes.now → OnOk result (Stands (state S.Store conn.new) (with_rows lanes.now rows.now)) }
+    ensures ok { HasCleanDisk (state S.Store conn.new) → (others : Stock) → Stands (state S.Store conn.old) (sides_of side lanes.now others)
+        → OnOk result (Stands (state S.Store conn.new) (sides_of side (with_rows lanes.now rows.now) others)) }
     ensures err { HasCleanDisk (state S.Store conn.new) → IsTrue (state S.Store conn.new).is_open → OnErr result (IsTrue (state S.Store conn.old).is_open × ((state S.Store conn.new).committed ≡ (state S.Store conn.old).committed)) }
     ensures refused { HasCleanDisk (state S.Store conn.new) → IfErr result (IsRefused S.Store StoreKind.Queue conn.old conn.new) }
-    ensures survives { Survives (state S.Store conn.old) (state S.Store conn.new) (λ db. Stands (state S.Store conn.old) lanes.now → HoldsStock db (with_rows lanes.now rows.now)) }
+    ensures survives { Survives (state S.Store conn.old) (state S.Store conn.new) (λ db. (others : Stock)
+        → Stands (state S.Store conn.old) (sides_of side lanes.now others) → HoldsPair db (sides_of side (with_rows lanes.now rows.now) others)) }
 {
     prove!(conn.is_autocommit());
     let mut tx = conn.transaction();
-    insert_all(&mut tx, rows)?;
-    trim_all(&mut tx, lanes, rows)?;
-    // (a law, for the proof: it does nothing)
-    a_lane_keeps_its_latest_rows();
+    append_in(&mut tx, side, lanes, rows)?;
+    tx.commit()
+}
+
+/// Writes what an append on both sides changes, in one transaction.
+pub(crate) fn write_both<S: Alter>(
+    conn: &mut Connection<S>,
+    first: &PlainLanes,
+    second: &PlainLanes,
+    rows: &[LaneRow],
+) -> Result<(), Error>
+    requires idle { conn.old.in_transaction ≡ false }
+    requires carried { All IsCarried rows.now }
+    requires first { IsSound first.now }
+    requires second { IsSound second.now }
+    requires first_after { IsSound (with_rows first.now rows.now) }
+    requires second_after { IsSound (with_rows second.now rows.now) }
+    requires few { first.now.last_id + length rows.now ≤ 2 ^ 62 }
+    requires few_too { second.now.last_id + length rows.now ≤ 2 ^ 62 }
+    ensures idle { conn.new.in_transaction ≡ false }
+    ensures ok { HasCleanDisk (state S.Store conn.new) → Stands (state S.Store conn.old) (record { first = first.now; second = second.now })
+        → OnOk result (Stands (state S.Store conn.new) (record { first = with_rows first.now rows.now; second = with_rows second.now rows.now })) }
+    ensures err { HasCleanDisk (state S.Store conn.new) → IsTrue (state S.Store conn.new).is_open → OnErr result (IsTrue (state S.Store conn.old).is_open × ((state S.Store conn.new).committed ≡ (state S.Store conn.old).committed)) }
+    ensures refused { HasCleanDisk (state S.Store conn.new) → IfErr result (IsRefused S.Store StoreKind.Queue conn.old conn.new) }
+    ensures survives { Survives (state S.Store conn.old) (state S.Store conn.new) (λ db. Stands (state S.Store conn.old) (record { first = first.now; second = second.now })
+        → HoldsPair db (record { first = with_rows first.now rows.now; second = with_rows second.now rows.now })) }
+{
+    prove!(conn.is_autocommit());
+    let mut tx = conn.transaction();
+    append_in(&mut tx, QueueSide::First, first, rows)?;
+    append_in(&mut tx, QueueSide::Second, second, rows)?;
     tx.commit()
 }

@@ -19,7 +19,7 @@ fn is_of_rows(table: &Table, kind: StoreKind) -> bool
     ensures found { table.now ≡ rows_with kind table.now.checks → IsTrue result }
 {
     match kind {
-        StoreKind::Queue => is_queue(table),
+        StoreKind::Queue => is_queue(table, "queue", 1),
         StoreKind::Journal => is_journal(table),
         StoreKind::Book => is_control(table),
     }

@@ -7,13 +7,16 @@ ghost use Rattle.sqlite.specs.Order.{Row as SqlRow};
 ghost use Rattle.sqlite.specs.State.{HasCleanDisk, Shown, Survives};
 ghost use Rattle.dnp_store.specs.Refusals.{IsRefused};
 ghost use Rattle.dnp_store.specs.steps.Inside.{IsInside, IsStep};
+ghost use Rattle.dnp_store.specs.PairTables.{IsForm, rows_name};
 ghost use Rattle.dnp_store.specs.QueueTables.{IsForm1};
-ghost use Rattle.dnp_store.specs.steps.Shown.{ShowsCount, ShowsForm1};
+ghost use Rattle.dnp_store.specs.steps.Pairs.{CountsTwo, ReadsPair};
+ghost use Rattle.dnp_store.specs.steps.Shown.{ShowsCount, ShowsForm1, ShowsTwo};
 ghost use Rattle.dnp_store.specs.steps.Stores.{HasForm, HasNumber, HasTables, IsFresh, Reads};
 ghost use Rattle.dnp_store.specs.Tables.{IsCounted, no_schema};
 
-use crate::decoding::form1;
+use crate::decoding::{form1, number_of};
 use crate::fault::Unread;
+use crate::queue_side::QueueSide;
 use crate::store_kind::{StoreKind, rows_text};
 use sqlite::{Alter, Connection, Error, Row, Transaction};
 
@@ -44,6 +47,21 @@ pub(crate) fn read_form<S: Alter>(tx: &mut Transaction<'_, S>) -> Result<(), Unr
     }
 }
 
+/// The number in the only row of a queue's `form`.
+pub(crate) fn read_number<S: Alter>(tx: &mut Transaction<'_, S>) -> Result<u64, Unread>
+    requires inside { IsInside S.Store tx.old.conn }
+    ensures step { IsStep S.Store tx.old.conn tx.new.conn result }
+    ensures open { HasCleanDisk (state S.Store tx.new.conn.now) → OnOk result (IsTrue (state S.Store tx.old.conn.now).is_open) }
+    ensures read { HasCleanDisk (state S.Store tx.new.conn.now) → IfOk result (λ n. Reads StoreKind.Queue (state S.Store tx.old.conn.now) (state S.Store tx.new.conn.now) (λ db. IsForm n (db 0))) }
+    ensures read_pair { HasCleanDisk (state S.Store tx.new.conn.now) → IfOk result (λ n. ReadsPair (state S.Store tx.old.conn.now) (state S.Store tx.new.conn.now) (λ db. IsForm n (db 0))) }
+{
+    let rows = list(tx, "SELECT rowid, number FROM form ORDER BY rowid")?;
+    match number_of(&rows) {
+        Some(number) => Ok(number),
+        None => Err(Unread::Form),
+    }
+}
+
 /// The rows of `sqlite_sequence`: the table and the last id used.
 pub(crate) fn read_counts<S: Alter>(tx: &mut Transaction<'_, S>) -> Result<Vec<Row>, Error>
     requires inside { IsInside S.Store tx.old.conn }
@@ -51,6 +69,8 @@ pub(crate) fn read_counts<S: Alter>(tx: &mut Transaction<'_, S>) -> Result<Vec<R
     ensures open { HasCleanDisk (state S.Store tx.new.conn.now) → OnOk result (IsTrue (state S.Store tx.old.conn.now).is_open) }
     ensures read { HasCleanDisk (state S.Store tx.new.conn.now) → IfOk result (λ rows. (kind : StoreKind) → Reads kind (state S.Store tx.old.conn.now) (state S.Store tx.new.conn.now)
         (λ db. (table : List ℕ) (n : ℕ) → ShowsCount table rows.items n → IsCounted table (db 2) n)) }
+    ensures read_pair { HasCleanDisk (state S.Store tx.new.conn.now) → IfOk result (λ rows. ReadsPair (state S.Store tx.old.conn.now) (state S.Store tx.new.conn.now)
+        (λ db. (n m : ℕ) → ShowsTwo (rows_name QueueSide.First) (rows_name QueueSide.Second) rows.items n m → CountsTwo (db 2) n m)) }
 {
     list(
         tx,

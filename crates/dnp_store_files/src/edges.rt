@@ -96,7 +96,7 @@ fn are_logged<J: JournalStore>(journal: &mut J, alloc: Global) -> Option<bool> {
 /// Whether a new queue of lanes of the greatest capacity takes its events.
 fn of_queue<S: Alter, P: Place<Connection<S>>>(rt: &HostRuntime, place: &P) -> Result<bool, Fault> {
     let conn = place.open(rt, "")?;
-    let (are_queued, conn) = match Queue::create(rt.alloc(), conn, [4_096; 9]) {
+    let (are_queued, conn) = match Queue::create(rt.alloc(), conn, [4_096; 9], [4_096; 9]) {
         Ok(mut queue) => {
             let are_queued = are_queued(&mut queue, rt.alloc());
             (are_queued, queue.into_connection())

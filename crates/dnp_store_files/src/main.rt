@@ -1,16 +1,18 @@
 //! The three stores over databases. Without a word it tries which databases they open on, and whether they take rows at the
 //! ends of their ranges, walks each of them through its calls, in memory and in the files
-//! `queue.db`, `journal.db` and `book.db`, which it makes here, and stops each writing call at each call of its files;
-//! with the word `walk` it walks them in memory alone, and makes a call once more where it ran out of memory, as it does
-//! everywhere; with the word `show` it opens these files, which others may have written, puts a row into each and prints what they
-//! hold; with `time FILE ROWS TURNS` it prints how long a queue in a new file takes. With any other number of words it
-//! does nothing.
+//! `queue.db`, `old.db` (which holds a queue for one centre at first), `journal.db` and `book.db`, which it makes here, and
+//! stops each writing call at each call of its files; with the word `walk` it walks them in memory alone, and makes a call
+//! once more where it ran out of memory, as it does everywhere; with the word `show` it opens `queue.db`, `journal.db` and
+//! `book.db`, which others may have written, puts a row into each and prints what they hold; with the word `migrate` it does
+//! so with `old.db`, after it was brought to the form for two centres; with `time FILE ROWS TURNS` it prints how long a queue
+//! in a new file takes. With any other number of words it does nothing.
 #![tactic(auto)]
 
 mod books;
 mod edges;
 mod forms;
 mod journals;
+mod old;
 mod others;
 mod place;
 mod queues;
@@ -19,6 +21,7 @@ mod stops;
 mod stored;
 mod timing;
 
+use crate::old::Migrating;
 use crate::place::{InFile, InMemory, Place};
 use crate::spoilt::Form;
 use crate::stops::files::Failing;
@@ -94,6 +97,8 @@ enum Task<'a> {
     Walk,
     /// Each is opened, given a row and shown.
     Show,
+    /// A queue for one centre is brought to the form for two, given a row and shown.
+    Migrate,
     /// A queue in this file is timed with so many rows, so many times.
     Time(&'a str, u16, u64),
 }
@@ -113,6 +118,13 @@ const QUEUE: Subject = Subject {
     name: "queue",
     path: "queue.db",
     form: forms::OF_QUEUE,
+};
+
+/// A queue for one centre.
+const OLD_QUEUE: Subject = Subject {
+    name: "queue for one centre",
+    path: "old.db",
+    form: forms::OF_OLD_QUEUE,
 };
 
 /// A journal.
@@ -135,6 +147,7 @@ fn run(rt: &HostRuntime) -> Result<(), Fault> {
     match words.len() {
         1 => do_all(rt),
         2 if words[1].as_str() == "walk" => in_memory(rt, Task::Walk),
+        2 if words[1].as_str() == "migrate" => in_files(rt, Task::Migrate),
         2 => in_files(rt, Task::Show),
         5 => match (words[3].parse::<u16>(), words[4].parse::<u64>()) {
             (Ok(rows), Ok(turns)) => in_files(rt, Task::Time(&words[2], rows, turns)),
@@ -174,8 +187,12 @@ fn with_all<S: Alter, P: Place<Connection<S>>>(
     match task {
         Task::Time(path, rows, turns) => timing::time(rt, place, path, rows, turns),
         Task::Fill => fill(rt, place),
+        Task::Migrate => with_one::<S, P, Migrating<S>>(rt, place, Task::Show, &OLD_QUEUE),
         Task::Try | Task::Walk | Task::Show => {
             with_one::<S, P, Queue<S>>(rt, place, task, &QUEUE)?;
+            if !matches!(task, Task::Show) {
+                with_one::<S, P, Migrating<S>>(rt, place, task, &OLD_QUEUE)?;
+            }
             with_one::<S, P, Journal<S>>(rt, place, task, &JOURNAL)?;
             with_one::<S, P, ControlBook<S>>(rt, place, task, &BOOK)
         }
@@ -193,7 +210,7 @@ fn with_one<S: Alter, P: Place<Connection<S>>, T: Stored<Connection<S>>>(
         Task::Try => try_form::<S, P, T>(rt, place, subject),
         Task::Walk => walk::<Connection<S>, P, T>(rt, place, subject),
         Task::Show => show::<Connection<S>, P, T>(rt, place, subject.path),
-        Task::Fill | Task::Time(_, _, _) => Ok(()),
+        Task::Fill | Task::Migrate | Task::Time(_, _, _) => Ok(()),
     }
 }
 
@@ -233,10 +250,11 @@ fn fill<S: Alter, P: Place<Connection<S>>>(rt: &HostRuntime, place: &P) -> Resul
     let are_full = others::are_full(rt, place)?;
     say(rt, "no id", "after the last", verdict(are_full))?;
     println!(rt;
-        "{}, {}, {}",
+        "{}, {}, {}, {}",
         OpenFault::WrongForm,
         OpenFault::Memory,
-        OpenFault::Device
+        OpenFault::Device,
+        OpenFault::OldForm
     )?;
     Ok(())
 }

@@ -8,12 +8,15 @@ use dnp_store::{Journal, Queue};
 use sqlite::{Alter, Connection, Error};
 use std::alloc::Global;
 
-/// A queue's tables with one row in the first lane, whose id is the last, and a journal's with such a row.
+/// A queue's tables with one row in the first centre's first lane, whose id is the last, and a journal's with such a row.
 const QUEUE: &str = "CREATE TABLE form (number INTEGER NOT NULL);
 CREATE TABLE queue (id INTEGER PRIMARY KEY AUTOINCREMENT, lane INTEGER NOT NULL, point INTEGER NOT NULL, flags INTEGER NOT NULL, value INTEGER NOT NULL, time INTEGER);
 CREATE TABLE lanes (lane INTEGER PRIMARY KEY, cap INTEGER NOT NULL, lost INTEGER NOT NULL, raised INTEGER NOT NULL);
-INSERT INTO form VALUES (1);
+CREATE TABLE queue_b (id INTEGER PRIMARY KEY AUTOINCREMENT, lane INTEGER NOT NULL, point INTEGER NOT NULL, flags INTEGER NOT NULL, value INTEGER NOT NULL, time INTEGER);
+CREATE TABLE lanes_b (lane INTEGER PRIMARY KEY, cap INTEGER NOT NULL, lost INTEGER NOT NULL, raised INTEGER NOT NULL);
+INSERT INTO form VALUES (2);
 INSERT INTO lanes VALUES (0, 2, 0, 0), (1, 2, 0, 0), (2, 2, 0, 0), (3, 2, 0, 0), (4, 2, 0, 0), (5, 2, 0, 0), (6, 2, 0, 0), (7, 2, 0, 0), (8, 2, 0, 0);
+INSERT INTO lanes_b SELECT * FROM lanes;
 INSERT INTO queue VALUES (4611686018427387904, 0, 7, 1, 1, 1000);";
 
 /// The same of a journal.

@@ -24,7 +24,7 @@ pub(crate) fn event(lane: Lane, index: u16) -> LaneRow {
 }
 
 /// Whether the lanes of the events can carry them.
-fn are_carried(rows: &[LaneRow]) -> bool
+pub(crate) fn are_carried(rows: &[LaneRow]) -> bool
     ensures { result ≡ true → All IsCarried rows.now }
 {
     rows.iter().all(|row| is_carried(row))
@@ -130,9 +130,23 @@ fn show_lane<L: Lanes>(rt: &HostRuntime, lanes: &mut L, lane: Lane) -> Result<()
     Ok(())
 }
 
+/// Puts an event into the first lane, and prints the rows of all lanes.
+pub(crate) fn show_all<L: Lanes>(rt: &HostRuntime, lanes: &mut L) -> Result<(), Fault> {
+    for number in 0..9usize {
+        let Some(lane) = Lane::numbered(number) else {
+            return Err(Fault::Store);
+        };
+        if number == 0 {
+            append(lanes, rt.alloc(), &[event(lane, 9)])?;
+        }
+        show_lane(rt, lanes, lane)?;
+    }
+    Ok(())
+}
+
 impl<S: Alter> Stored<Connection<S>> for Queue<S> {
     fn create(alloc: Global, conn: Connection<S>) -> Result<Queue<S>, (OpenFault, Connection<S>)> {
-        Queue::create(alloc, conn, [4; 9])
+        Queue::create(alloc, conn, [4; 9], [4; 9])
     }
 
     fn open(alloc: Global, conn: Connection<S>) -> Result<Queue<S>, (OpenFault, Connection<S>)> {
@@ -168,15 +182,6 @@ impl<S: Alter> Stored<Connection<S>> for Queue<S> {
     }
 
     fn show(&mut self, rt: &HostRuntime) -> Result<(), Fault> {
-        for number in 0..9usize {
-            let Some(lane) = Lane::numbered(number) else {
-                return Err(Fault::Store);
-            };
-            if number == 0 {
-                append(self, rt.alloc(), &[event(lane, 9)])?;
-            }
-            show_lane(rt, self, lane)?;
-        }
-        Ok(())
+        show_all(rt, self)
     }
 }

@@ -6,12 +6,17 @@
 mod books;
 pub(crate) mod files;
 mod journals;
+mod migrations;
+mod pairs;
 mod queues;
 
+use crate::old::Migrating;
 use crate::say;
 use crate::stops::books::BookCall;
 use crate::stops::files::{Device, Image, Left};
 use crate::stops::journals::JournalCall;
+use crate::stops::migrations::MigrateCall;
+use crate::stops::pairs::PairCall;
 use crate::stops::queues::QueueCall;
 use crate::stored::Stored;
 use dnp_eventbuf::StoreFault;
@@ -77,6 +82,11 @@ pub(crate) trait WritingCall<T>: Copy {
 
     /// What the store holds.
     fn content(self, alloc: Global, store: &mut T) -> Option<Content>;
+
+    /// Whether the call was stopped, where it came out so.
+    fn is_stopped(self, outcome: Outcome) -> bool {
+        outcome == Outcome::Failed
+    }
 }
 
 /// A new store with what stands there before the call, as its files were closed.
@@ -194,9 +204,9 @@ fn outlives_stops<C, D: Device<C>, T: Stored<C>, W: WritingCall<T>>(
     for calls in 0..1_000u64 {
         match stop::<C, D, T, W>(alloc, call, &image, calls) {
             Some(Outcome::Done) => return stopped > 0,
-            Some(Outcome::Failed) => stopped = stopped.saturating_add(1),
-            Some(Outcome::Unopened) => {}
             Some(Outcome::Wrong) | None => return false,
+            Some(outcome) if call.is_stopped(outcome) => stopped = stopped.saturating_add(1),
+            Some(_) => {}
         }
     }
     false
@@ -225,6 +235,10 @@ pub(crate) fn stop_all<S: Alter, D: Device<Connection<S>>>(rt: &HostRuntime) -> 
     ] {
         tell::<Connection<S>, D, Queue<S>, QueueCall>(rt, call)?;
     }
+    for call in [PairCall::Both, PairCall::Release] {
+        tell::<Connection<S>, D, Queue<S>, PairCall>(rt, call)?;
+    }
+    tell::<Connection<S>, D, Migrating<S>, MigrateCall>(rt, MigrateCall::Migrate)?;
     tell::<Connection<S>, D, Journal<S>, JournalCall>(rt, JournalCall::Append)?;
     for call in [BookCall::Add, BookCall::Spend, BookCall::Finish] {
         tell::<Connection<S>, D, ControlBook<S>, BookCall>(rt, call)?;

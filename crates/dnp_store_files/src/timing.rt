@@ -99,7 +99,7 @@ pub(crate) fn time<S: Alter, P: Place<Connection<S>>>(
     most: u64,
 ) -> Result<(), Fault> {
     let conn = place.open(rt, path)?;
-    let (spent, conn) = match Queue::create(rt.alloc(), conn, [4_096; 9]) {
+    let (spent, conn) = match Queue::create(rt.alloc(), conn, [4_096; 9], [4_096; 9]) {
         Ok(mut lanes) => {
             let spent = turns(rt, &mut lanes, count, most);
             (spent, lanes.into_connection())

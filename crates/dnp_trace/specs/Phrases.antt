@@ -22,6 +22,7 @@ use Rattle.dnp_appfragment.specs.Control.{ControlBits}
 use Rattle.dnp_appfragment.specs.Fragments.{Asked, Answered}
 use Rattle.dnp_appfragment.specs.Headers.{Head, count_of}
 use Rattle.dnp_appfragment.specs.Meaning.{control_of, request_at, response_at}
+use Rattle.dnp_appfragment.specs.Names.{function_name}
 use Rattle.dnp_appfragment.specs.Table.{function_of, is_response}
 use Rattle.dnp_trace.specs.declared.phrase.TheConstants.{NAMED}
 
@@ -55,20 +56,6 @@ abbrev pub headers_phrase : List Head → List ℕ
 headers_phrase hs = flat_map header_phrase (take NAMED hs) ++ more_phrase (min (length hs - NAMED) (2 ^ 64 - 1))
 
 -- ---- fragments
-
-abbrev pub function_name : Function → List ℕ
-function_name function.Confirm = codes "CONFIRM"
-function_name function.Read = codes "READ"
-function_name function.Write = codes "WRITE"
-function_name function.Select = codes "SELECT"
-function_name function.Operate = codes "OPERATE"
-function_name function.DirectOperate = codes "DIRECT_OPERATE"
-function_name function.DirectOperateNr = codes "DIRECT_OPERATE_NR"
-function_name function.EnableUnsolicited = codes "ENABLE_UNSOLICITED"
-function_name function.DisableUnsolicited = codes "DISABLE_UNSOLICITED"
-function_name function.DelayMeasure = codes "DELAY_MEASURE"
-function_name function.Response = codes "RESPONSE"
-function_name function.UnsolicitedResponse = codes "UNSOLICITED_RESPONSE"
 
 abbrev pub word_if : Bool → List ℕ → List ℕ
 word_if said word = if said then word else []

@@ -1,7 +1,7 @@
 //! What a unit says, in one phrase of the standard's words.
 ghost use Rattle.std.specs.Prelude.{◌≡◌, ◌≤◌, ◌++◌, List, ℕ, length, codes, OnOk};
 ghost use Rattle.dnp_appfragment.specs.Seen.{head};
-ghost use Rattle.dnp_trace.specs.Phrases.{is_all as is_all_objects, header_phrase, more_phrase, headers_phrase, function_name, control_phrase, iin_phrase, request_phrase, response_phrase, body_phrase, coded_phrase, fragment_phrase, part_phrase, headed_phrase, segment_phrase, reply_of as reply_by, reply_name, reply_phrase, asked_phrase, frame_phrase, IsPhrase};
+ghost use Rattle.dnp_trace.specs.Phrases.{is_all as is_all_objects, header_phrase, more_phrase, headers_phrase, control_phrase, iin_phrase, request_phrase, response_phrase, body_phrase, coded_phrase, fragment_phrase, part_phrase, headed_phrase, segment_phrase, reply_of as reply_by, reply_name, reply_phrase, asked_phrase, frame_phrase, IsPhrase};
 ghost use Rattle.dnp_appfragment.specs.Meaning.{request_at, response_at};
 
 use crate::sheet::Sheet;
@@ -171,7 +171,7 @@ fn say_coded(
     let control = Control::read(fragment[0]);
     match function {
         Some(function) => {
-            sheet.word(name_of(function))?;
+            sheet.word(function.name())?;
             say_control(sheet, control)?;
             say_body(sheet, function, fragment)?;
             Ok(())
@@ -182,26 +182,6 @@ fn say_coded(
             say_control(sheet, control)?;
             Ok(())
         }
-    }
-}
-
-/// The standard's name of a function.
-fn name_of(function: Function) -> &'static str
-    ensures { result.now ≡ function_name function }
-{
-    match function {
-        Function::Confirm => "CONFIRM",
-        Function::Read => "READ",
-        Function::Write => "WRITE",
-        Function::Select => "SELECT",
-        Function::Operate => "OPERATE",
-        Function::DirectOperate => "DIRECT_OPERATE",
-        Function::DirectOperateNr => "DIRECT_OPERATE_NR",
-        Function::EnableUnsolicited => "ENABLE_UNSOLICITED",
-        Function::DisableUnsolicited => "DISABLE_UNSOLICITED",
-        Function::DelayMeasure => "DELAY_MEASURE",
-        Function::Response => "RESPONSE",
-        Function::UnsolicitedResponse => "UNSOLICITED_RESPONSE",
     }
 }
 

@@ -144,7 +144,7 @@ impl Assembler {
         }
         let pushed = join(&mut self.octets, segment);
         self.stage = Stage::after(pushed);
-        self.last = copied(segment);
+        refill(&mut self.last, segment);
         pushed
     }
 
@@ -168,6 +168,16 @@ impl Assembler {
             last: copied(self.last.as_slice()),
             octets: copied(self.octets.as_slice()),
         }
+    }
+
+    /// Makes another assembler the same as this one. No new room is made, and of what each has the octets in use alone
+    /// are written.
+    pub fn copy_into(&self, other: &mut Assembler)
+        ensures { other.new ≡ self.now }
+    {
+        other.stage = self.stage;
+        refill(&mut other.last, self.last.as_slice());
+        refill(&mut other.octets, self.octets.as_slice());
     }
 
     /// Some strings, pushed one after the other, make an assembler what this one is: each assembler has a history. It
@@ -217,4 +227,13 @@ fn copied<const N: usize>(octets: &[u8]) -> ArrayVec<u8, N>
     let mut items = ArrayVec::new();
     items.try_extend_from_slice(octets).unwrap();
     items
+}
+
+/// Puts these octets, for which a vector has room, in place of what it had.
+fn refill<const N: usize>(items: &mut ArrayVec<u8, N>, octets: &[u8])
+    requires { length octets.now ≤ N }
+    ensures { items.new.items ≡ octets.now }
+{
+    items.clear();
+    items.try_extend_from_slice(octets).unwrap();
 }

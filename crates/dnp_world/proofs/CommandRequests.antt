@@ -16,7 +16,6 @@ use Rattle.dnp_appfragment.specs.Objects.{IsCommand}
 use Rattle.dnp_appfragment.specs.Table.{form_of, is_response, rules, takes_of}
 use Rattle.dnp_appfragment.specs.Written.{order}
 use Rattle.dnp_appfragment.specs.declared.table.Form.TheVariants as form
-use Rattle.dnp_appfragment.proofs.Places.{any_place}
 use Rattle.dnp_master.specs.Requests.{request_for}
 use Rattle.dnp_master.specs.declared.task.Task.TheVariants.{Select, Operate}
 use Rattle.dnp_world.specs.CommandWidths.{HasWidths}
@@ -100,11 +99,11 @@ operate_octets seq command low h = asked_low seq 4 (order command 0 ∷ []) low 
 pub order_fits : (command : Command) → IsHeaderAt form.Command begin (order command 0)
 unfolding takes_of rules content_of objects
 order_fits (Block index code count on off) =
-    any_place form.Command begin _ (record { object = refl; fits = omega arith; forward = tt; objects = refl }) refl refl
+    record { header = record { object = refl; fits = omega arith; forward = tt; objects = refl }; common = refl; timed = λ relative. absurd (cc) }
 order_fits (Set16 index value) =
-    any_place form.Command begin _ (record { object = refl; fits = omega arith; forward = tt; objects = refl }) refl refl
+    record { header = record { object = refl; fits = omega arith; forward = tt; objects = refl }; common = refl; timed = λ relative. absurd (cc) }
 order_fits (Set32 index value) =
-    any_place form.Command begin _ (record { object = refl; fits = omega arith; forward = tt; objects = refl }) refl refl
+    record { header = record { object = refl; fits = omega arith; forward = tt; objects = refl }; common = refl; timed = λ relative. absurd (cc) }
 
 pub the_command : ReadLaws → (command : Command) → HasWidths command → command_in (order command 0) 0 ≡ Some (command, 0)
 the_command laws command h =

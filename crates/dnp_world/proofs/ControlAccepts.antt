@@ -222,15 +222,16 @@ pub record Finishing (target : ℕ) (commands : List Command) (ends : Ends) : Ty
   pub none : commands ≡ []
   pub leaves : LeavesBook ends.book (next_step target ends)
 
-pub finish_goes : (target now check : ℕ) (entry : Entry) (operates commands : List Command) (operated new : Ends)
+pub finish_goes : ControlLaws → (target now check : ℕ) (entry : Entry) (operates commands : List Command) (operated new : Ends)
     → OperateComesTo target check entry operates operated → GoesOver target now (ChecksAs entry.command check) commands operated new
     → Finishing target commands new
-finish_goes target now check entry operates commands operated new op g =
+finish_goes laws target now check entry operates commands operated new op g =
     let seq : ℕ = operated.link.master.seq in
     let fragments_are : operated.going ++ requests_of (next_step target operated) seq ≡ operated.going =
     ap (λ (s : Step). operated.going ++ requests_of s seq) op.next ∙ append-nil operated.going in
     let quiet : Quiet g.sent commands =
-    confirms_come now (ChecksAs entry.command check) (request_octets (request_for op.seq (task.Operate entry.command))) operated.going operated.station
+    confirms_come laws.is_control now (ChecksAs entry.command check)
+    (request_octets (request_for op.seq (task.Operate entry.command))) operated.going operated.station
     new.station g.sent commands op.confirms op.asked
     (subst (λ (xs : List (List ℕ)). AnswersAll now (ChecksAs entry.command check) xs operated.station new.station g.sent commands) fragments_are
     g.answered) in

@@ -10,7 +10,6 @@ use Rattle.dnp_appfragment.specs.Headers.{Head}
 use Rattle.dnp_appfragment.specs.Meaning.{request_at}
 use Rattle.dnp_appfragment.specs.Written.{order}
 use Rattle.dnp_appfragment.specs.declared.function.Function.TheVariants as function
-use Rattle.dnp_appfragment.proofs.Controls.{octet_of_control}
 use Rattle.dnp_controls.specs.Panel.{Panel}
 use Rattle.dnp_controls.specs.Selecting.{Select, answer, deadline, goes_with}
 use Rattle.dnp_outstation.specs.Calls.{connection_after, performed_for, performed_in, received, with_that}
@@ -27,7 +26,7 @@ use Rattle.dnp_outstation.specs.declared.session.Unsolicited.{Unsolicited}
 use Rattle.dnp_world.specs.CommandWidths.{HasWidths}
 use Rattle.dnp_world.specs.ControlAnswers.{Answers, LeavesRequest, WasAsked, operated_by}
 use Rattle.dnp_world.proofs.CommandRequests.{ReadLaws, order_fits}
-use Rattle.dnp_world.proofs.ControlAnswers.{EndKeeps, ResponseLaw, answer_repeats, asking, asks_case, end_keeps, few_octets, looked, order_repeated, room_for_answer, the_commands, two_octets, whole_bits}
+use Rattle.dnp_world.proofs.ControlAnswers.{ControlLaw, EndKeeps, ResponseLaw, answer_repeats, asking, asks_case, end_keeps, few_octets, looked, order_repeated, room_for_answer, the_commands, two_octets, whole_bits}
 
 -- ---- a request that is carried out
 
@@ -68,15 +67,15 @@ pub record SelectFacts (s : State) (o : Panel) (now seq : ℕ) (command : Comman
   pub answers : Answers command seq (o.check command) octets s.performed [] (connection_after s o now octets)
   pub performs : performed_in s.core o now octets ≡ []
 
-pub select_answers : ReadLaws → ResponseLaw → (s : State) (o : Panel) (now seq : ℕ) (command : Command) → seq < 16 → HasWidths command
+pub select_answers : ReadLaws → ResponseLaw → ControlLaw → (s : State) (o : Panel) (now seq : ℕ) (command : Command) → seq < 16 → HasWidths command
     → s.core.is_open ≡ true → s.core.session.next < 16 → is_last_request s.core.session (asking seq function.Select command) ≡ false
     → 1 ≤ o.most → o.check command < 128 → SelectFacts s o now seq command (asking seq function.Select command)
-select_answers laws law s o now seq command low widths opens number other some few =
+select_answers laws law is_control s o now seq command low widths opens number other some few =
     let q : List ℕ = asking seq function.Select command in
     let t : State = asked s q in
     let headers : List Head = order command 0 ∷ [] in
     let request : Asked = record { control = whole_bits false seq; function = function.Select; headers = headers } in
-    let control_is : control_in q ≡ whole_bits false seq = octet_of_control (whole_bits false seq) low in
+    let control_is : control_in q ≡ whole_bits false seq = is_control (whole_bits false seq) low in
     let looked_is : is_looked_at s.core q ≡ true =
     looked s.core q (whole_bits false seq) opens (two_octets seq function.Select command) (few_octets seq function.Select command) control_is refl refl refl in
     let case_is : case_of s.core q ≡ Asks = asks_case s.core q looked_is refl other refl in
@@ -141,15 +140,15 @@ pub record OperateFacts (s : State) (o : Panel) (now seq : ℕ) (command : Comma
   pub answers : Answers command seq code octets s.performed (operated_by code command) (connection_after s o now octets)
   pub performs : performed_in s.core o now octets ≡ operated_by code command
 
-pub operate_answers : ReadLaws → ResponseLaw → (s : State) (o : Panel) (now seq : ℕ) (command : Command) → seq < 16 → HasWidths command
+pub operate_answers : ReadLaws → ResponseLaw → ControlLaw → (s : State) (o : Panel) (now seq : ℕ) (command : Command) → seq < 16 → HasWidths command
     → s.core.is_open ≡ true → s.core.session.next < 16 → is_last_request s.core.session (asking seq function.Operate command) ≡ false
     → 1 ≤ o.most → o.check command < 128 → OperateFacts s o now seq command (asking seq function.Operate command)
-operate_answers laws law s o now seq command low widths opens number other some few =
+operate_answers laws law is_control s o now seq command low widths opens number other some few =
     let q : List ℕ = asking seq function.Operate command in
     let t : State = asked s q in
     let headers : List Head = order command 0 ∷ [] in
     let request : Asked = record { control = whole_bits false seq; function = function.Operate; headers = headers } in
-    let control_is : control_in q ≡ whole_bits false seq = octet_of_control (whole_bits false seq) low in
+    let control_is : control_in q ≡ whole_bits false seq = is_control (whole_bits false seq) low in
     let looked_is : is_looked_at s.core q ≡ true =
     looked s.core q (whole_bits false seq) opens (two_octets seq function.Operate command) (few_octets seq function.Operate command) control_is refl refl refl in
     let case_is : case_of s.core q ≡ Asks = asks_case s.core q looked_is refl other refl in
@@ -232,11 +231,11 @@ pub record ConfirmFacts (s : State) (o : Panel) (now : ℕ) (last octets : List 
   pub last_is : (connection_after s o now octets).state.core.session.last ≡ s.core.session.last
   pub performs : performed_in s.core o now octets ≡ []
 
-pub confirm_leaves : (s : State) (o : Panel) (now seq : ℕ) (octets : List ℕ) → seq < 16 → WasAsked octets s.core
+pub confirm_leaves : ControlLaw → (s : State) (o : Panel) (now seq : ℕ) (octets : List ℕ) → seq < 16 → WasAsked octets s.core
     → ConfirmFacts s o now octets (request_octets (confirmation seq true))
-confirm_leaves s o now seq octets low was =
+confirm_leaves is_control s o now seq octets low was =
     let q : List ℕ = request_octets (confirmation seq true) in
-    let control_is : control_in q ≡ whole_bits true seq = octet_of_control (whole_bits true seq) low in
+    let control_is : control_in q ≡ whole_bits true seq = is_control (whole_bits true seq) low in
     let uns_is : (control_in q).uns ≡ true = ap (λ c. c.uns) control_is in
     let looked_is : is_looked_at s.core q ≡ true = looked s.core q (whole_bits true seq) was.is_open refl refl control_is refl refl refl in
     by looked_is uns_is (is_number (awaited_number s.core.session (control_in q).uns) (control_in q).seq) refl

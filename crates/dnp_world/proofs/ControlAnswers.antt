@@ -1,5 +1,5 @@
 -- What an outstation answers to the requests of a command, and what the end of its call adds.
-use Rattle.std.proofs.Common.{◌≡◌, ℕ, ◌-◌, ◌<◌, Bool, true, false, not, ◌&&◌, ◌||◌, ◌==◌, if◌then◌else◌, List, [], ◌∷◌, ◌++◌, length, option_to_list, Option, Some, Ok, refl, sym, ap, ◌∙◌, subst, append-nil, arith}
+use Rattle.std.proofs.Common.{◌≡◌, ℕ, ◌+◌, ◌/◌, ◌%◌, ◌-◌, ◌<◌, Bool, true, false, not, ◌&&◌, ◌||◌, ◌==◌, if◌then◌else◌, List, [], ◌∷◌, ◌++◌, length, option_to_list, Option, Some, Ok, refl, sym, ap, ◌∙◌, subst, append-nil, arith}
 use Rattle.std.specs.Prelude.{nat_le, nat_lt}
 use Rattle.std.specs.Option.{option_map}
 use Rattle.std.proofs.lemmas.List.Elements.{All-nil, All-cons}
@@ -7,18 +7,16 @@ use Rattle.dnp_objects.specs.Objects.{objects, content_of}
 use Rattle.dnp_objects.specs.declared.command.Command.{Command}
 use Rattle.dnp_objects.specs.declared.command.Command.TheVariants.{Block, Set16, Set32}
 use Rattle.dnp_objects.specs.declared.limits.TheConstants.{MAX_FRAGMENT}
-use Rattle.dnp_appfragment.specs.Control.{ControlBits, IsControl}
+use Rattle.dnp_appfragment.specs.Control.{ControlBits, IsControl, control_octet}
 use Rattle.dnp_appfragment.specs.Fragments.{Answered, request_octets, response_octets}
 use Rattle.dnp_appfragment.specs.Headers.{Head, AreHeaders, IsHeaderAt, begin}
-use Rattle.dnp_appfragment.specs.Meaning.{response_at}
+use Rattle.dnp_appfragment.specs.Meaning.{control_of, response_at}
 use Rattle.dnp_appfragment.specs.Table.{is_response, rules, takes_of}
 use Rattle.dnp_appfragment.specs.Written.{order}
 use Rattle.dnp_appfragment.specs.declared.function.Function.{Function}
 use Rattle.dnp_appfragment.specs.declared.function.Function.TheVariants as function
 use Rattle.dnp_appfragment.specs.declared.iin.Iin.{Iin}
 use Rattle.dnp_appfragment.specs.declared.table.Form.TheVariants as form
-use Rattle.dnp_appfragment.proofs.Controls.{octet_of_control}
-use Rattle.dnp_appfragment.proofs.Places.{any_place}
 use Rattle.dnp_outstation.specs.Connection.{at_end, case_of, control_in, function_in, has_enabled_rows, is_last_request, is_looked_at, starts, unsolicited_of}
 use Rattle.dnp_outstation.specs.Content.{Content, content_from}
 use Rattle.dnp_outstation.specs.Controls.{commands_in, headers_with, object_in, with_status}
@@ -80,11 +78,11 @@ asks_case c octets looked no_confirm other no_read = rw (looked, no_confirm, oth
 pub order_stands : (command : Command) (code : ℕ) → IsHeaderAt form.Response begin (order command code)
 unfolding takes_of rules content_of objects
 order_stands (Block index code count on off) status =
-    any_place form.Response begin _ (record { object = refl; fits = omega arith; forward = tt; objects = refl }) refl refl
+    record { header = record { object = refl; fits = omega arith; forward = tt; objects = refl }; common = refl; timed = λ relative. absurd (cc) }
 order_stands (Set16 index value) status =
-    any_place form.Response begin _ (record { object = refl; fits = omega arith; forward = tt; objects = refl }) refl refl
+    record { header = record { object = refl; fits = omega arith; forward = tt; objects = refl }; common = refl; timed = λ relative. absurd (cc) }
 order_stands (Set32 index value) status =
-    any_place form.Response begin _ (record { object = refl; fits = omega arith; forward = tt; objects = refl }) refl refl
+    record { header = record { object = refl; fits = omega arith; forward = tt; objects = refl }; common = refl; timed = λ relative. absurd (cc) }
 
 pub the_commands : ReadLaws → (command : Command) → HasWidths command → commands_in (order command 0 ∷ []) ≡ command ∷ []
 the_commands laws command h =
@@ -109,7 +107,11 @@ order_repeated laws code command h =
 
 -- ---- the answer
 
--- what the crate of fragments promises of a response
+-- what the crate of fragments promises of a control octet
+abbrev pub ControlLaw : Type 0
+ControlLaw = (control : ControlBits) → IsControl control → control_of (control_octet control) ≡ control
+
+-- and of a response
 abbrev pub ResponseLaw : Type 0
 ResponseLaw = (answered : Answered) → IsControl answered.control → is_response answered.function ≡ true → AreHeaders form.Response begin answered.headers
     → response_at (response_octets answered) ≡ Ok answered
@@ -146,8 +148,8 @@ pub record EndKeeps (before after : Step) : Type 0 where
 report_uns : (s : State) (content : Content) → s.core.session.next < 16 → uns_in (unsolicited_of s content) ≡ true
 unfolding uns_in
 report_uns s content low =
-    ap (λ (c : ControlBits). c.uns)
-    (octet_of_control (record { fir = true; fin = true; con = true; uns = true; seq = s.core.session.next }) low)
+    let bit : (240 + s.core.session.next) / 16 % 2 ≡ 1 = omega (arith, low) in
+    ap (λ (n : ℕ). n == 1) bit
 
 starting_keeps : (now : ℕ) (step : Step) (content : Content) → step.state.core.session.next < 16 → EndKeeps step (starts step now content)
 starting_keeps now step content low = record {

@@ -29,7 +29,7 @@ use Rattle.dnp_world.specs.ControlAnswers.{AreReports, Awaits, ConfirmsReport, H
 use Rattle.dnp_world.specs.ControlExchanges.{AnswersAll, ChecksAs, Hears, HearsAll}
 use Rattle.dnp_world.specs.Octets.{after, uns_in}
 use Rattle.dnp_world.proofs.CommandRequests.{ReadLaws}
-use Rattle.dnp_world.proofs.ControlAnswers.{ResponseLaw, asking}
+use Rattle.dnp_world.proofs.ControlAnswers.{ControlLaw, ResponseLaw, asking}
 use Rattle.dnp_world.proofs.ControlAnswering.{ConfirmFacts, OperateFacts, SelectFacts, confirm_leaves, operate_answers, select_answers}
 use Rattle.dnp_world.proofs.ControlHearing.{Heard, SameLaw, answer_heard, report_heard}
 
@@ -37,6 +37,7 @@ use Rattle.dnp_world.proofs.ControlHearing.{Heard, SameLaw, answer_heard, report
 pub record ControlLaws : Type 0 where
   pub reads : ReadLaws
   pub response : ResponseLaw
+  pub is_control : ControlLaw
   pub same : SameLaw
 
 abbrev pub AreConfirms : List (List ℕ) → Type 0
@@ -82,7 +83,7 @@ select_comes laws now seq status command s new sent commands low widths few open
     (o, next, later, more, checks, core_is, sent_is, commands_is, (new_is, later_is, more_is)) =
     let q : List ℕ = asking seq function.Select command in
     let facts : SelectFacts s o now seq command q =
-    select_answers laws.reads laws.response s o now seq command low widths opens number other checks.some (rw checks.check few) in
+    select_answers laws.reads laws.response laws.is_control s o now seq command low widths opens number other checks.some (rw checks.check few) in
     let a = facts.answers in
     record {
       sends = record {
@@ -113,13 +114,13 @@ is_new : (octets : List ℕ) (c d : Core) → d ≡ c → IsNewTo octets c → I
 is_new octets c d e new = subst (IsNewTo octets) (sym e) new
 
 -- octets that are new stay so after the confirm of a report
-pub stays_new : (s : State) (o : Panel) (now number : ℕ) (octets : List ℕ) → number < 16 → IsNewTo octets s.core
+pub stays_new : ControlLaw → (s : State) (o : Panel) (now number : ℕ) (octets : List ℕ) → number < 16 → IsNewTo octets s.core
     → IsNewTo octets (connection_after s o now (request_octets (confirmation number true))).state.core
-stays_new s o now number octets four new =
+stays_new law s o now number octets four new =
     let last : List ℕ = s.core.session.request in
     let q : List ℕ = request_octets (confirmation number true) in
     let facts : ConfirmFacts s o now last q =
-    confirm_leaves s o now number last four
+    confirm_leaves law s o now number last four
     (record { is_open = new.is_open; request = refl; holds_none = new.holds_none; number = new.number }) in
     let after : Core = (connection_after s o now q).state.core in
     let asked : WasAsked last after = facts.leaves.asked in
@@ -146,7 +147,7 @@ operate_arrives laws now seq status command s new sent commands low widths few i
     (o, next, later, more, checks, core_is, sent_is, commands_is, (new_is, later_is, more_is)) =
     let q : List ℕ = asking seq function.Operate command in
     let facts : OperateFacts s o now seq command q =
-    operate_answers laws.reads laws.response s o now seq command low widths is.is_open is.number is.other checks.some (rw checks.check few) in
+    operate_answers laws.reads laws.response laws.is_control s o now seq command low widths is.is_open is.number is.other checks.some (rw checks.check few) in
     let a = facts.answers in
     record {
       status = facts.code;
@@ -200,9 +201,9 @@ operate_comes laws now seq status command (f ∷ fs) s new sent commands low wid
     let last : List ℕ = s.core.session.request in
     let facts : ConfirmFacts s o now last f =
     subst (ConfirmFacts s o now last) (sym f_is)
-    (confirm_leaves s o now number last four (record { is_open = is.is_open; request = refl; holds_none = is.holds_none; number = is.number })) in
+    (confirm_leaves laws.is_control s o now number last four (record { is_open = is.is_open; request = refl; holds_none = is.holds_none; number = is.number })) in
     let stays : IsNewTo q (connection_after s o now f).state.core =
-    subst (λ (x : List ℕ). IsNewTo q (connection_after s o now x).state.core) (sym f_is) (stays_new s o now number q four is) in
+    subst (λ (x : List ℕ). IsNewTo q (connection_after s o now x).state.core) (sym f_is) (stays_new laws.is_control s o now number q four is) in
     let h : Operated command seq status new later more =
     operate_comes laws now seq status command fs next new later more low widths few (All-tail ConfirmsReport f fs confirms)
     (is_new q (connection_after s o now f).state.core next.core core_is stays) rest in
@@ -214,17 +215,17 @@ pub record Quiet (sent : List (List ℕ)) (commands : List Command) : Type 0 whe
   pub none : commands ≡ []
   pub reports : AreReports sent
 
-pub confirms_come : (now : ℕ) (IsOutputs : Panel → Type 0) (last : List ℕ) (going : List (List ℕ)) (s new : State) (sent : List (List ℕ))
+pub confirms_come : ControlLaw → (now : ℕ) (IsOutputs : Panel → Type 0) (last : List ℕ) (going : List (List ℕ)) (s new : State) (sent : List (List ℕ))
     (commands : List Command) → AreConfirms going → WasAsked last s.core → AnswersAll now IsOutputs going s new sent commands → Quiet sent commands
-confirms_come now IsOutputs last [] s new sent commands confirms was (new_is, sent_is, commands_is) =
+confirms_come law now IsOutputs last [] s new sent commands confirms was (new_is, sent_is, commands_is) =
     record { none = commands_is; reports = subst AreReports (sym sent_is) no_reports }
-confirms_come now IsOutputs last (f ∷ fs) s new sent commands confirms was
+confirms_come law now IsOutputs last (f ∷ fs) s new sent commands confirms was
     (o, next, later, more, checks, core_is, sent_is, commands_is, rest) =
     let (number, four, f_is) = All-head ConfirmsReport f fs confirms in
     let facts : ConfirmFacts s o now last f =
-    subst (ConfirmFacts s o now last) (sym f_is) (confirm_leaves s o now number last four was) in
+    subst (ConfirmFacts s o now last) (sym f_is) (confirm_leaves law s o now number last four was) in
     let h : Quiet later more =
-    confirms_come now IsOutputs last fs next new later more (All-tail ConfirmsReport f fs confirms)
+    confirms_come law now IsOutputs last fs next new later more (All-tail ConfirmsReport f fs confirms)
     (was_asked last (connection_after s o now f).state.core next.core core_is facts.leaves.asked) rest in
     record {
       none = commands_is ∙ ap (λ (xs : List Command). performed_in s.core o now f ++ xs) h.none ∙ append-nil (performed_in s.core o now f) ∙ facts.performs;

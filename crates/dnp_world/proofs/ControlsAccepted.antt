@@ -193,7 +193,7 @@ module _ (laws : ControlLaws) (on : Link) (target check : ℕ) (entry : Entry) (
   ended_over old operated new a finishes =
       let back = over.back operated new a.after a.view finishes a.taken in
       let f : Finishing target back.commands back.after =
-      finish_goes target back.now check entry a.commands back.commands a.after back.after a.comes back.goes in
+      finish_goes laws target back.now check entry a.commands back.commands a.after back.after a.comes back.goes in
       record {
         after = back.after;
         view = back.view;

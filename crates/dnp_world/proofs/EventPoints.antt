@@ -22,9 +22,10 @@ use Rattle.dnp_world.specs.declared.event.Event.{Event}
 use Rattle.dnp_world.specs.declared.event.Event.TheVariants as event
 use Rattle.dnp_world.specs.declared.event.Place.TheVariants as place
 use Rattle.dnp_world.specs.declared.link_event.LinkEvent.TheVariants as link_event
+use Rattle.dnp_world.specs.steps.MoveLaws.{PointLaws}
 use Rattle.dnp_world.proofs.EventTouches.{Does, does}
 use Rattle.dnp_world.proofs.JoinedHappenings.{moved_all, refused_change, rows_behind}
-use Rattle.dnp_world.proofs.JoinedPoints.{PointLaws, end_points, opened_leaves, received_leaves, ticked_leaves}
+use Rattle.dnp_world.proofs.JoinedPoints.{end_points, opened_leaves, received_leaves, ticked_leaves}
 use Rattle.dnp_world.proofs.ListedAt.{set_here, set_there}
 use Rattle.dnp_world.proofs.SystemCounts.{of_station-at, of_station-other}
 use Rattle.dnp_world.proofs.Touches.{AllHangUp, Call, Called, Ends, HangsUp, Hears, LinkRelays, LinkUsed, Nobody, Opens, Outstation, Reads, Refused, Restarts, Ticks, Touched, Used, Waits, after_call, after_called, after_used, at_only, ends_of, moves_in, moves_of}
@@ -33,15 +34,15 @@ use Rattle.dnp_world.proofs.Touches.{AllHangUp, Call, Called, Ends, HangsUp, Hea
 
 call_points : PointLaws → (s : State) (call : Call) → (after_call s call).core.points ≡ moved_all s.core.points (moves_of call)
 call_points laws s Waits = refl
-call_points laws s (Opens now) = (opened_leaves s now).points_are
+call_points laws s (Opens now) = (opened_leaves laws s now).points_are
 call_points laws s (Hears outputs now fragment) = (received_leaves laws s outputs now fragment).points_are
 call_points laws s (Reads now kind index reading made) =
     let first : Step = record {
       state = record s { core = record s.core { points = changed_of s.core.points kind index reading }; lanes = with_rows s.lanes (option_to_list made) };
       does = record nothing { overwritten = dropped_by s.lanes (option_to_list made) };
     } in
-    end_points (changed_of s.core.points kind index reading) now first refl
-call_points laws s (Ticks now) = (ticked_leaves s now).points_are
+    end_points laws (changed_of s.core.points kind index reading) now first refl
+call_points laws s (Ticks now) = (ticked_leaves laws s now).points_are
 call_points laws s HangsUp = refl
 call_points laws s Restarts = refl
 

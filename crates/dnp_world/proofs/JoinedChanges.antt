@@ -17,7 +17,7 @@ use Rattle.dnp_world.specs.Joined.{Joined, Follows}
 use Rattle.dnp_world.specs.Link.{Link}
 use Rattle.dnp_world.specs.OneLinkEvents.{LinkState, Changes}
 use Rattle.dnp_world.specs.Standing.{Stands}
-use Rattle.dnp_world.proofs.JoinedLaws.{Laws}
+use Rattle.dnp_world.specs.steps.MoveLaws.{MoveLaws}
 use Rattle.dnp_world.proofs.JoinedSteps.{Beside, after_step, beside_of, stays_as}
 
 -- ---- the change
@@ -29,7 +29,7 @@ still_closed now step h closed =
       | inr starts ↦ absurd (both_ways step.state.core.is_open closed starts.is_open)
     ]
 
-change_if : {Sink : Type 0} → Laws → (others : List Row) (s new : LinkState Sink) (l : Link) (kind : Kind) (index : ℕ) (reading : Reading)
+change_if : {Sink : Type 0} → MoveLaws → (others : List Row) (s new : LinkState Sink) (l : Link) (kind : Kind) (index : ℕ) (reading : Reading)
     → (r : Result (Option LaneRow) ChangeFault)
     → answer_of s.outstation.core.points kind index reading ≡ r → Stands l → Joined others s l → Changes r kind index reading s new
     → Follows others (arriving (rows_made r)) [] s.outstation.performed l new
@@ -48,7 +48,7 @@ change_if {Sink = Sink} laws others s new l kind index reading (Ok made) answer 
 change_if {Sink = Sink} laws others s new l kind index reading (Err fault) answer stands j h =
     stays_as others l new s h j
 
-pub change_follows : {Sink : Type 0} → Laws → (others : List Row) (s new : LinkState Sink) (l : Link) (kind : Kind) (index : ℕ)
+pub change_follows : {Sink : Type 0} → MoveLaws → (others : List Row) (s new : LinkState Sink) (l : Link) (kind : Kind) (index : ℕ)
     → (reading : Reading)
     → Stands l → Joined others s l → Changes (answer_of s.outstation.core.points kind index reading) kind index reading s new
     → Follows others (arriving (rows_made (answer_of s.outstation.core.points kind index reading))) [] s.outstation.performed l new

@@ -26,8 +26,8 @@ use Rattle.dnp_world.specs.Moves.{LoseDown, Open, lost_down, opened}
 use Rattle.dnp_world.specs.OneLinkEvents.{LinkState, Steps, ComesDown, ComesUp, HappensOn, opening, outstation_gone, outstation_restarted}
 use Rattle.dnp_world.specs.OutstationSeen.{octets_of, ShowOctets, Simulates}
 use Rattle.dnp_world.specs.Standing.{Stands}
+use Rattle.dnp_world.specs.steps.MoveLaws.{MoveLaws}
 use Rattle.dnp_world.proofs.JoinedChanges.{change_follows}
-use Rattle.dnp_world.proofs.JoinedLaws.{Laws}
 use Rattle.dnp_world.proofs.JoinedMaster.{came_up, asks_follow, tick_follows, master_goes}
 use Rattle.dnp_world.proofs.JoinedPoints.{opened_leaves, ticked_leaves}
 use Rattle.dnp_world.proofs.JoinedSteps.{Beside, after_step, left_behind, plain_step, shows_still, stays_as, moves_before, came_down, with_lines}
@@ -36,7 +36,7 @@ use Rattle.dnp_world.proofs.OutstationSteps.{moves_after, one_move}
 
 -- ---- the front unit of a line
 
-comes_down : {Sink : Type 0} → Laws → (left : LineState → LineState) → CarriesOver left → (panel : Panel) → ShowOctets panel → (others : List Row)
+comes_down : {Sink : Type 0} → MoveLaws → (left : LineState → LineState) → CarriesOver left → (panel : Panel) → ShowOctets panel → (others : List Row)
     (s new : LinkState Sink) (l : Link) → Stands l → Joined others s l → ComesDown panel (left s.channel.down) s new
     → Follows others [] [] s.outstation.performed l new
 comes_down laws left over panel shown others s new l stands j h =
@@ -44,7 +44,7 @@ comes_down laws left over panel shown others s new l stands j h =
     came_down laws panel shown others s new l (left was.down) h.port h.given stands j (heard_port _ was.outstation_port h.port [] h.given h.heard)
     (over was.down was.master_port was.outstation_port h.port s.master.is_open j.going_down h.given h.heard j.down) h.came
 
-comes_up : {Sink : Type 0} → Laws → (left : LineState → LineState) → CarriesOver left → (takes : Sink → List Row → List Row → List Row → Sink → Type 0)
+comes_up : {Sink : Type 0} → MoveLaws → (left : LineState → LineState) → CarriesOver left → (takes : Sink → List Row → List Row → List Row → Sink → Type 0)
     (others : List Row) (s new : LinkState Sink) (l : Link) → Stands l → Joined others s l → ComesUp takes (left s.channel.up) s new
     → Follows others [] [] s.outstation.performed l new
 comes_up laws left over takes others s new l stands j h =
@@ -54,7 +54,7 @@ comes_up laws left over takes others s new l stands j h =
 
 -- ---- the outstation goes
 
-goes_away : {Sink : Type 0} → Laws → (others : List Row) (s new : LinkState Sink) (l : Link) (step : Step) → step.does.send ≡ []
+goes_away : {Sink : Type 0} → MoveLaws → (others : List Row) (s new : LinkState Sink) (l : Link) (step : Step) → step.does.send ≡ []
     → step.does.discarded ≡ []
     → step.state.core.is_open ≡ false → Joined others s l → Simulates s.outstation [] step l
     → new ≡ record s { outstation = step.state; channel = hung_up_at end.Outstation s.channel; left = s.left ++ step.does.overwritten }
@@ -94,21 +94,21 @@ goes_away {Sink = Sink} laws others s new l step silent none closes j sim h =
       performed_is = sim.performed_seen;
     }
 
-hangs_up : {Sink : Type 0} → Laws → (others : List Row) (s new : LinkState Sink) (l : Link) → Joined others s l → new ≡ outstation_gone s
+hangs_up : {Sink : Type 0} → MoveLaws → (others : List Row) (s new : LinkState Sink) (l : Link) → Joined others s l → new ≡ outstation_gone s
     → Follows others [] [] s.outstation.performed l new
 hangs_up {Sink = Sink} laws others s new l j h =
     let step : Step = still (record s.outstation { core = closed s.outstation.core }) in
     let after : List Row → LinkState Sink = λ left. record s { outstation = step.state; channel = hung_up_at end.Outstation s.channel; left = left } in
     goes_away laws others s new l step refl refl refl j (laws.outstation.closes s.outstation l j.outstation) (h ∙ ap after (sym (append-nil s.left)))
 
-restarts : {Sink : Type 0} → Laws → (others : List Row) (s new : LinkState Sink) (l : Link) → Joined others s l
+restarts : {Sink : Type 0} → MoveLaws → (others : List Row) (s new : LinkState Sink) (l : Link) → Joined others s l
     → new ≡ outstation_restarted s → Follows others [] [] s.outstation.performed l new
 restarts laws others s new l j h =
     let step : Step = record { state = restart_of s.outstation false; does = record nothing { overwritten = emptied_of s.outstation false } } in
     goes_away laws others s new l step refl refl refl j (laws.outstation.restarts s.outstation false l j.outstation) h
 
 -- it restarts, and keeps its lanes
-pub restarts_kept : {Sink : Type 0} → Laws → (others : List Row) (s new : LinkState Sink) (l : Link) → Joined others s l
+pub restarts_kept : {Sink : Type 0} → MoveLaws → (others : List Row) (s new : LinkState Sink) (l : Link) → Joined others s l
     → new ≡ record s { outstation = restart_of s.outstation true; channel = hung_up_at end.Outstation s.channel }
     → Follows others [] [] s.outstation.performed l new
 restarts_kept {Sink = Sink} laws others s new l j h =
@@ -118,7 +118,7 @@ restarts_kept {Sink = Sink} laws others s new l j h =
 
 -- ---- both ends are opened
 
-opens : {Sink : Type 0} → Laws → (others : List Row) (s new : LinkState Sink) (l : Link) → Stands l → Joined others s l
+opens : {Sink : Type 0} → MoveLaws → (others : List Row) (s new : LinkState Sink) (l : Link) → Stands l → Joined others s l
     → Steps (opened_of s.outstation s.now) (opening s) new → Follows others [] [] s.outstation.performed l new
 opens {Sink = Sink} laws others s new l stands j h =
     let step : Step = opened_of s.outstation s.now in
@@ -136,13 +136,13 @@ opens {Sink = Sink} laws others s new l stands j h =
     } in
     moves_before others [] [] s.outstation.performed l (opened l) new (one_move l (opened l) (Open refl)) refl refl refl
     (after_step laws.line others s.left [] (opening s) new true (opened l) step
-    (sym (append-nil s.left) ∙ ap (λ (xs : List Row). s.left ++ xs) (sym (opened_leaves s.outstation s.now).none))
+    (sym (append-nil s.left) ∙ ap (λ (xs : List Row). s.left ++ xs) (sym (opened_leaves laws.points s.outstation s.now).none))
     (λ e. absurd (both_ways true e refl)) (λ e. absurd (both_ways true e refl))
     beside (laws.outstation.opens s.outstation s.now l j.outstation stands) h)
 
 -- ---- each event
 
-pub event_follows : {Sink : Type 0} → Laws → (takes : Sink → List Row → List Row → List Row → Sink → Type 0) (panel : Panel)
+pub event_follows : {Sink : Type 0} → MoveLaws → (takes : Sink → List Row → List Row → List Row → Sink → Type 0) (panel : Panel)
     → ShowOctets panel → (others : List Row) (s new : LinkState Sink) (l : Link) (e : LinkEvent)
     → Stands l → Joined others s l → HappensOn takes panel s e new
     → Follows others (arriving (rows_of s.outstation.core.points (point_moves e))) [] s.outstation.performed l new
@@ -182,7 +182,8 @@ event_follows laws takes panel shown others s new l (event.Pass ms) stands j h =
     stays_as others l new _ h (with_lines others s l s.channel.down s.channel.up s.channel.outstation_port s.channel.master_port _ j j.down j.up)
 event_follows laws takes panel shown others s new l (event.Tick end.Master) stands j h = tick_follows laws others s new l j h
 event_follows laws takes panel shown others s new l (event.Tick end.Outstation) stands j h =
-    plain_step laws.line others s new l (tick_of s.outstation s.now) (ticked_leaves s.outstation s.now).none (laws.outstation.silent_ticked s.outstation s.now) j
+    plain_step laws.line others s new l (tick_of s.outstation s.now) (ticked_leaves laws.points s.outstation s.now).none
+    (laws.outstation.silent_ticked s.outstation s.now) j
     (laws.outstation.ticks s.outstation s.now l j.outstation stands) h
 event_follows laws takes panel shown others s new l (event.Restart end.Master) stands j h = master_goes laws others s new l j h
 event_follows laws takes panel shown others s new l (event.Restart end.Outstation) stands j h = restarts laws others s new l j h

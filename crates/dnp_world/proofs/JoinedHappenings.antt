@@ -28,7 +28,8 @@ use Rattle.dnp_world.specs.declared.link_event.LinkEvent.{LinkEvent}
 use Rattle.dnp_world.specs.declared.link_event.LinkEvent.TheVariants as event
 use Rattle.dnp_world.specs.Joined.{point_moves, rows_made_by}
 use Rattle.dnp_world.specs.OneLinkEvents.{LinkState, Steps, ComeDown, ComeUp, Receives, Changes, AsksBy, AsksIfOwn, is_own, HappensOn, opening}
-use Rattle.dnp_world.proofs.JoinedPoints.{PointLaws, Leaves, end_points, received_leaves, ticked_leaves, opened_leaves}
+use Rattle.dnp_world.specs.steps.MoveLaws.{PointLaws}
+use Rattle.dnp_world.proofs.JoinedPoints.{Leaves, end_points, received_leaves, ticked_leaves, opened_leaves}
 
 -- ---- lists of moves of points
 
@@ -146,23 +147,25 @@ asks_if_points : {Sink : Type 0} (s new : LinkState Sink) (task : Task) (own : B
 asks_if_points s new task true h = asks_points s new task (ask_answer s.master task) h
 asks_if_points s new task false h = same_points new s h
 
-changes_points : {Sink : Type 0} (s new : LinkState Sink) (kind : Kind) (index : ℕ) (reading : Reading)
+changes_points : {Sink : Type 0} → PointLaws → (s new : LinkState Sink) (kind : Kind) (index : ℕ) (reading : Reading)
     → (r : Result (Option LaneRow) ChangeFault)
     → answer_of s.outstation.core.points kind index reading ≡ r → Changes r kind index reading s new
     → new.outstation.core.points ≡ changed_of s.outstation.core.points kind index reading
-changes_points s new kind index reading (Ok made) answer h =
+changes_points laws s new kind index reading (Ok made) answer h =
     let after : Database = changed_of s.outstation.core.points kind index reading in
     let first : Step = record {
       state = record s.outstation { core = record s.outstation.core { points = after }; lanes = with_rows s.outstation.lanes (option_to_list made) };
       does = record nothing { overwritten = dropped_by s.outstation.lanes (option_to_list made) };
     } in
-    same_points new _ h.1.after ∙ end_points after s.now first refl
-changes_points s new kind index reading (Err fault) answer h = same_points new s h ∙ sym (refused_change s.outstation.core.points kind index reading fault answer)
+    same_points new _ h.1.after ∙ end_points laws after s.now first refl
+changes_points laws s new kind index reading (Err fault) answer h =
+    same_points new s h ∙ sym (refused_change s.outstation.core.points kind index reading fault answer)
 
 pub event_points : {Sink : Type 0} → PointLaws → (takes : Sink → List Row → List Row → List Row → Sink → Type 0) (panel : Panel) (s new : LinkState Sink)
     → (e : LinkEvent) → HappensOn takes panel s e new
     → new.outstation.core.points ≡ moved_all s.outstation.core.points (point_moves e)
-event_points laws takes panel s new event.Open h = step_points s.outstation.core.points (opening s) new (opened_of s.outstation s.now) (opened_leaves s.outstation s.now) h
+event_points laws takes panel s new event.Open h =
+    step_points s.outstation.core.points (opening s) new (opened_of s.outstation s.now) (opened_leaves laws s.outstation s.now) h
 event_points laws takes panel s new (event.HangUp end.Master) h = same_points new _ h
 event_points laws takes panel s new (event.HangUp end.Outstation) h = same_points new _ h
 event_points laws takes panel s new (event.Deliver way.Down) h = down_points laws panel _ new h.given h.came
@@ -171,10 +174,12 @@ event_points laws takes panel s new (event.Repeat way.Down) h = down_points laws
 event_points laws takes panel s new (event.Repeat way.Up) h = up_points takes _ new h.given h.came
 event_points laws takes panel s new (event.Lose way) h = same_points new _ h
 event_points laws takes panel s new (event.Damage way octets) h = same_points new _ h.after
-event_points laws takes panel s new (event.Change kind index reading) h = changes_points s new kind index reading (answer_of s.outstation.core.points kind index reading) refl h
+event_points laws takes panel s new (event.Change kind index reading) h =
+    changes_points laws s new kind index reading (answer_of s.outstation.core.points kind index reading) refl h
 event_points laws takes panel s new (event.Ask task) h = asks_if_points s new task (is_own task) h
 event_points laws takes panel s new (event.Pass ms) h = same_points new _ h
 event_points laws takes panel s new (event.Tick end.Master) h = same_points new _ h
-event_points laws takes panel s new (event.Tick end.Outstation) h = step_points s.outstation.core.points s new (tick_of s.outstation s.now) (ticked_leaves s.outstation s.now) h
+event_points laws takes panel s new (event.Tick end.Outstation) h =
+    step_points s.outstation.core.points s new (tick_of s.outstation s.now) (ticked_leaves laws s.outstation s.now) h
 event_points laws takes panel s new (event.Restart end.Master) h = same_points new _ h
 event_points laws takes panel s new (event.Restart end.Outstation) h = same_points new _ h

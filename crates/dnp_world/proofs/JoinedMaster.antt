@@ -28,11 +28,11 @@ use Rattle.dnp_world.specs.Octets.{commands_in}
 use Rattle.dnp_world.specs.OneLinkEvents.{LinkState, ComeUp, Receives, Takes, IsAsked, AsksBy, AsksIfOwn, is_own, master_gone}
 use Rattle.dnp_world.specs.OutstationSeen.{down_of, octets_of}
 use Rattle.dnp_world.specs.Standing.{Stands}
+use Rattle.dnp_world.specs.steps.MoveLaws.{LineLaws, MasterLaws, MoveLaws}
 use Rattle.dnp_world.proofs.AskedCommands.{own_asks_none}
-use Rattle.dnp_world.proofs.JoinedLaws.{Laws, MasterLaws}
 use Rattle.dnp_world.proofs.JoinedOctets.{AreOctets, confirms_octets, asked_octets}
 use Rattle.dnp_world.proofs.JoinedSteps.{shows_still, stays_as, moves_before, with_lines}
-use Rattle.dnp_world.proofs.JoinedWays.{LineLaws, Came, IsSamePort, carries_still, carries_sent, carries_cleared, carries_mute, back_all_sent, back_came}
+use Rattle.dnp_world.proofs.JoinedWays.{Came, IsSamePort, carries_still, carries_sent, carries_cleared, carries_mute, back_all_sent, back_came}
 use Rattle.dnp_world.proofs.OutstationSteps.{one_move}
 
 -- ---- what a fragment makes of a master
@@ -130,7 +130,7 @@ after_receiving line takes others s new l octets (Ok t) which quiet m j h =
 after_receiving line takes others s new l octets (Err fault) which quiet m j h =
     stays_as others l new s h j
 
-pub came_up : {Sink : Type 0} → Laws → (takes : Sink → List Row → List Row → List Row → Sink → Type 0) (others : List Row)
+pub came_up : {Sink : Type 0} → MoveLaws → (takes : Sink → List Row → List Row → List Row → Sink → Type 0) (others : List Row)
     → (s new : LinkState Sink) (l : Link)
     (line : LineState) (port : PortState) (given : List (List ℕ))
     → Stands l → (j : Joined others s l) → IsSamePort s.channel.master_port port
@@ -223,7 +223,7 @@ after_asking {Sink = Sink} line laws others s new l task octets low j answer h =
       performed_is = sym (append-nil l.performed);
     }
 
-asks_by : {Sink : Type 0} → Laws → (others : List Row) (s new : LinkState Sink) (l : Link) (task : Task) (r : Result (List ℕ) AskFault)
+asks_by : {Sink : Type 0} → MoveLaws → (others : List Row) (s new : LinkState Sink) (l : Link) (task : Task) (r : Result (List ℕ) AskFault)
     → ask_answer s.master task ≡ r
     → is_own task ≡ true → Joined others s l → AsksBy r task s new → Follows others [] [] s.outstation.performed l new
 asks_by laws others s new l task (Ok octets) answer own j h =
@@ -234,18 +234,18 @@ asks_by laws others s new l task (Ok octets) answer own j h =
     (after_asking laws.line laws.master others s new l task octets (asked_octets s.master.seq task j.number own) j answer h)
 asks_by laws others s new l task (Err fault) answer own j h = stays_as others l new s h j
 
-asks_if : {Sink : Type 0} → Laws → (others : List Row) (s new : LinkState Sink) (l : Link) (task : Task) (own : Bool) → is_own task ≡ own
+asks_if : {Sink : Type 0} → MoveLaws → (others : List Row) (s new : LinkState Sink) (l : Link) (task : Task) (own : Bool) → is_own task ≡ own
     → Joined others s l → AsksIfOwn own task s new → Follows others [] [] s.outstation.performed l new
 asks_if laws others s new l task true own j h = asks_by laws others s new l task (ask_answer s.master task) refl own j h
 asks_if laws others s new l task false own j h = stays_as others l new s h j
 
-pub asks_follow : {Sink : Type 0} → Laws → (others : List Row) (s new : LinkState Sink) (l : Link) (task : Task)
+pub asks_follow : {Sink : Type 0} → MoveLaws → (others : List Row) (s new : LinkState Sink) (l : Link) (task : Task)
     → Joined others s l → AsksIfOwn (is_own task) task s new → Follows others [] [] s.outstation.performed l new
 asks_follow laws others s new l task j h = asks_if laws others s new l task (is_own task) refl j h
 
 -- ---- it closes
 
-pub tick_follows : {Sink : Type 0} → Laws → (others : List Row) (s new : LinkState Sink) (l : Link) → Joined others s l
+pub tick_follows : {Sink : Type 0} → MoveLaws → (others : List Row) (s new : LinkState Sink) (l : Link) → Joined others s l
     → new ≡ record s { master = master.ticked s.master s.now } → Follows others [] [] s.outstation.performed l new
 tick_follows {Sink = Sink} laws others s new l j h =
     let m : master.State = master.ticked s.master s.now in
@@ -284,7 +284,7 @@ tick_follows {Sink = Sink} laws others s new l j h =
     by_open true closed = refl
     by_open false closed = closed
 
-pub master_goes : {Sink : Type 0} → Laws → (others : List Row) (s new : LinkState Sink) (l : Link) → Joined others s l
+pub master_goes : {Sink : Type 0} → MoveLaws → (others : List Row) (s new : LinkState Sink) (l : Link) → Joined others s l
     → new ≡ master_gone s → Follows others [] [] s.outstation.performed l new
 master_goes {Sink = Sink} laws others s new l j h =
     let link : Link = master_hung_up s.master l in

@@ -3,17 +3,9 @@ use Rattle.std.proofs.Common.{◌≡◌, ◌∙◌, ℕ, List, []}
 use Rattle.dnp_controls.specs.Panel.{Panel}
 use Rattle.dnp_pointdb.specs.Database.{Database}
 use Rattle.dnp_outstation.specs.State.{State, Step}
-use Rattle.dnp_outstation.specs.Content.{content_of}
-use Rattle.dnp_outstation.specs.Controls.{content_at}
 use Rattle.dnp_outstation.specs.Connection.{at_end}
 use Rattle.dnp_outstation.specs.Calls.{connection_after, tick_of, opened_of}
-use Rattle.dnp_outstation.specs.Links.{KeepsConnection}
-use Rattle.dnp_outstation.proofs.KeptPoints.{end_points as ends, opened_keeps, received_keeps, ticked_keeps}
-
--- what `dnp_outstation` promises of content
-pub record PointLaws : Type 0 where
-  pub keeps : (s : State) (o : Panel) (now : ℕ) (octets : List ℕ) → KeepsConnection s (content_at s o now octets).state
-  pub keeps_held : (s : State) (o : Panel) (octets : List ℕ) → KeepsConnection s (content_of s o octets).state
+use Rattle.dnp_world.specs.steps.MoveLaws.{PointLaws}
 
 -- the points are still these, and no row is dropped
 pub record Leaves (points : Database) (step : Step) : Type 0 where
@@ -21,17 +13,17 @@ pub record Leaves (points : Database) (step : Step) : Type 0 where
   pub none : step.does.overwritten ≡ []
 
 -- where a row was dropped before, the points still stay
-pub end_points : (points : Database) (now : ℕ) (step : Step) → step.state.core.points ≡ points
+pub end_points : PointLaws → (points : Database) (now : ℕ) (step : Step) → step.state.core.points ≡ points
     → (at_end now step).state.core.points ≡ points
-end_points points now step is = ends now step ∙ is
+end_points laws points now step is = laws.keeps_ended now step ∙ is
 
 pub received_leaves : PointLaws → (s : State) (o : Panel) (now : ℕ) (octets : List ℕ)
     → Leaves s.core.points (connection_after s o now octets)
 received_leaves laws s o now octets =
-    record { points_are = (received_keeps s o now octets).points; none = (received_keeps s o now octets).none }
+    record { points_are = (laws.keeps_received s o now octets).points; none = laws.none_received s o now octets }
 
-pub opened_leaves : (s : State) (now : ℕ) → Leaves s.core.points (opened_of s now)
-opened_leaves s now = record { points_are = (opened_keeps s now).points; none = (opened_keeps s now).none }
+pub opened_leaves : PointLaws → (s : State) (now : ℕ) → Leaves s.core.points (opened_of s now)
+opened_leaves laws s now = record { points_are = (laws.keeps_opened s now).points; none = laws.none_opened s now }
 
-pub ticked_leaves : (s : State) (now : ℕ) → Leaves s.core.points (tick_of s now)
-ticked_leaves s now = record { points_are = (ticked_keeps s now).points; none = (ticked_keeps s now).none }
+pub ticked_leaves : PointLaws → (s : State) (now : ℕ) → Leaves s.core.points (tick_of s now)
+ticked_leaves laws s now = record { points_are = (laws.keeps_ticked s now).points; none = laws.none_ticked s now }

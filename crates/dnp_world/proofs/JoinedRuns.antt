@@ -30,9 +30,9 @@ use Rattle.dnp_world.specs.Lanes.{fresh_link}
 use Rattle.dnp_world.specs.OneLinkEvents.{LinkState, HappensOn, RunsTo, CountsFor, StopsAt, StopsAfter}
 use Rattle.dnp_world.specs.OutstationSeen.{octets_of, ShowOctets, Shows, Simulates}
 use Rattle.dnp_world.specs.Standing.{Stands}
+use Rattle.dnp_world.specs.steps.MoveLaws.{MoveLaws}
 use Rattle.dnp_world.proofs.JoinedEvents.{event_follows}
 use Rattle.dnp_world.proofs.JoinedHappenings.{made_behind, event_points}
-use Rattle.dnp_world.proofs.JoinedLaws.{Laws}
 use Rattle.dnp_world.proofs.JoinedSteps.{left_behind, stays_as, with_lists}
 use Rattle.dnp_world.proofs.Keeping.{moves_stand}
 use Rattle.dnp_world.proofs.OutstationSteps.{moves_after}
@@ -57,7 +57,7 @@ follows_both others first second before l next new f g = record {
 no_octets : ShowOctets no_panel
 no_octets = record { outputs = omega arith; status = λ index low. omega arith }
 
-pub run_follows : {Sink : Type 0} → Laws → (takes : Sink → List Row → List Row → List Row → Sink → Type 0) (others : List Row)
+pub run_follows : {Sink : Type 0} → MoveLaws → (takes : Sink → List Row → List Row → List Row → Sink → Type 0) (others : List Row)
     → (s new : LinkState Sink) (l : Link) (events : List LinkEvent)
     → Stands l → Joined others s l → RunsTo takes s events new
     → Follows others (rows_made_by s.outstation.core.points events) [] s.outstation.performed l new
@@ -75,7 +75,7 @@ run_follows laws takes others s new l (e ∷ events) stands j (next, first, late
     s.outstation.performed l next new f g)
 
 -- one event, whatever the outputs
-pub one_follows : {Sink : Type 0} → Laws → (takes : Sink → List Row → List Row → List Row → Sink → Type 0) (panel : Panel) → ShowOctets panel
+pub one_follows : {Sink : Type 0} → MoveLaws → (takes : Sink → List Row → List Row → List Row → Sink → Type 0) (panel : Panel) → ShowOctets panel
     → (others : List Row) (s new : LinkState Sink) (l : Link) (e : LinkEvent)
     → Stands l → Joined others s l → HappensOn takes panel s e new
     → Follows others (rows_made_by s.outstation.core.points (e ∷ [])) [] s.outstation.performed l new
@@ -85,14 +85,14 @@ one_follows laws takes panel shown others s new l e stands j h =
 
 -- ---- a list that stops
 
-counts_follows : {Sink : Type 0} → Laws → (takes : Sink → List Row → List Row → List Row → Sink → Type 0) (others : List Row)
+counts_follows : {Sink : Type 0} → MoveLaws → (takes : Sink → List Row → List Row → List Row → Sink → Type 0) (others : List Row)
     → (s new : LinkState Sink) (l : Link) (e : LinkEvent)
     → Stands l → Joined others s l → CountsFor takes s e new → Follows others [] [] s.outstation.performed l new
 counts_follows laws takes others s new l (event.Deliver way.Down) stands j h = event_follows laws takes no_panel no_octets others s new l (event.Lose way.Down) stands j h
 counts_follows laws takes others s new l (event.Deliver way.Up) stands j h = event_follows laws takes no_panel no_octets others s new l (event.Lose way.Up) stands j h
 counts_follows laws takes others s new l e stands j h = stays_as others l new s h j
 
-pub stop_follows : {Sink : Type 0} → Laws → (takes : Sink → List Row → List Row → List Row → Sink → Type 0) (keeps : Sink → Sink → Type 0)
+pub stop_follows : {Sink : Type 0} → MoveLaws → (takes : Sink → List Row → List Row → List Row → Sink → Type 0) (keeps : Sink → Sink → Type 0)
     → (others : List Row) (s new : LinkState Sink) (l : Link)
     (e : LinkEvent) → Stands l → Joined others s l → StopsAt takes keeps s e new
     → Follows others [] [] s.outstation.performed l new
@@ -100,7 +100,7 @@ stop_follows laws takes keeps others s new l e stands j h =
     counts_follows laws takes others (record s { sink = h.sink }) new l e stands
     (with_lists others others s l h.sink s.now s.taken s.released s.left j j.taken j.released j.left) h.counts
 
-pub stopped_follows : {Sink : Type 0} → Laws → (takes : Sink → List Row → List Row → List Row → Sink → Type 0)
+pub stopped_follows : {Sink : Type 0} → MoveLaws → (takes : Sink → List Row → List Row → List Row → Sink → Type 0)
     → (keeps : Sink → Sink → Type 0) (others : List Row) (s new : LinkState Sink) (l : Link)
     (events : List LinkEvent) (done : ℕ) → Stands l → Joined others s l → StopsAfter takes keeps s events done new
     → Follows others (rows_made_by s.outstation.core.points (take done events)) [] s.outstation.performed l new

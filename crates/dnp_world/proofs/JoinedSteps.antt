@@ -25,9 +25,9 @@ use Rattle.dnp_world.specs.Moves.{Moves, Done, LoseDown, lost_down}
 use Rattle.dnp_world.specs.OneLinkEvents.{LinkState, Steps, ComeDown}
 use Rattle.dnp_world.specs.OutstationSeen.{down_of, octets_of, ShowOctets, Shows, Simulates}
 use Rattle.dnp_world.specs.Standing.{Stands}
-use Rattle.dnp_world.proofs.JoinedLaws.{Laws}
+use Rattle.dnp_world.specs.steps.MoveLaws.{LineLaws, MoveLaws}
 use Rattle.dnp_world.proofs.JoinedPoints.{received_leaves}
-use Rattle.dnp_world.proofs.JoinedWays.{LineLaws, Came, carries_still, carries_sent, back_all_sent, back_came, IsSamePort}
+use Rattle.dnp_world.proofs.JoinedWays.{Came, carries_still, carries_sent, back_all_sent, back_came, IsSamePort}
 use Rattle.dnp_world.proofs.Keeping.{move_stands}
 use Rattle.dnp_world.proofs.OutstationSteps.{moves_after, one_move}
 
@@ -226,7 +226,7 @@ plain_step line others s new l step none quiet j sim steps =
     (beside_of others s.left s l j) sim steps
 
 -- what the port gives comes to the outstation
-come_down : {Sink : Type 0} → Laws → (panel : Panel) → ShowOctets panel → (others : List Row) (s new : LinkState Sink) (l : Link)
+come_down : {Sink : Type 0} → MoveLaws → (panel : Panel) → ShowOctets panel → (others : List Row) (s new : LinkState Sink) (l : Link)
     → (fragment : List ℕ) (rest : List Down) → Stands l → Joined others s l
     → All (λ octet. octet < 2 ^ 8) fragment → l.down ≡ down_of fragment ∷ rest
     → Steps (connection_after s.outstation panel s.now fragment) s new → Follows others [] [] s.outstation.performed l new
@@ -236,7 +236,8 @@ come_down laws panel shown others s new l fragment rest stands j small down_is s
     (laws.outstation.silent_received s.outstation panel s.now fragment) j
     (laws.outstation.comes s.outstation panel s.now fragment l rest shown small j.outstation stands down_is) steps
 
-pub came_down : {Sink : Type 0} → Laws → (panel : Panel) → ShowOctets panel → (others : List Row) (s new : LinkState Sink) (l : Link) (line : LineState) (port : PortState)
+pub came_down : {Sink : Type 0} → MoveLaws → (panel : Panel) → ShowOctets panel
+    → (others : List Row) (s new : LinkState Sink) (l : Link) (line : LineState) (port : PortState)
     → (given : List (List ℕ))
     → Stands l → (j : Joined others s l) → IsSamePort s.channel.outstation_port port
     → Came line s.channel.master_port port s.master.is_open j.going_down given

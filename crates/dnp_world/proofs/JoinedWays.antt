@@ -11,12 +11,7 @@ use Rattle.dnp_line.specs.Ports.{PortState, moved_on, reset_of}
 use Rattle.dnp_line.specs.Ways.{Way, WayEvent, Send, Deliver, Repeat, Lose, Damage, Clear, SenderReset, WayBack, Happens, Brings, opened_on, AFrame, NoFrame, HearsIfAny, all_sent_on}
 use Rattle.dnp_world.specs.Joined.{Carries}
 use Rattle.dnp_world.specs.Channels.{IsSent, AreSent}
-
--- what `dnp_line` promises
-pub record LineLaws : Type 0 where
-  pub reopened : (old : Way) → AreFacing old.sender old.receiver → Flows (opened_on old) []
-  pub kept : (old new : Way) (event : WayEvent) (rest : List (List ℕ)) → Flows old rest → Happens old event new →
-      (left : List (List ℕ)) × RestMoves old event new rest left × Flows new left
+use Rattle.dnp_world.specs.steps.MoveLaws.{LineLaws}
 
 abbrev pub way_of : LineState → PortState → PortState → Bool → List (List ℕ) → List (List ℕ) → Way
 way_of line sender receiver mute sent given =

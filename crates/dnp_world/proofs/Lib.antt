@@ -34,7 +34,6 @@ pub mod OneLinkArrivals
 pub mod OneLinkRuns
 pub mod JoinedWays
 pub mod JoinedPoints
-pub mod JoinedLaws
 pub mod JoinedSteps
 pub mod JoinedOctets
 pub mod AskedCommands

@@ -18,7 +18,8 @@ use Rattle.dnp_pointdb.specs.declared.state.BlockState.{BlockState}
 use Rattle.dnp_pointdb.specs.declared.state.PointState.{PointState}
 use Rattle.dnp_world.specs.Planned.{HasClassesBelow, HavePlannedPoints, class_of}
 use Rattle.dnp_world.specs.Systems.{System}
-use Rattle.dnp_world.proofs.JoinedPoints.{PointLaws, end_points, opened_leaves, received_leaves, ticked_leaves}
+use Rattle.dnp_world.specs.steps.MoveLaws.{PointLaws}
+use Rattle.dnp_world.proofs.JoinedPoints.{end_points, opened_leaves, received_leaves, ticked_leaves}
 use Rattle.dnp_world.proofs.Touches.{Call, Waits, Opens, Hears, Reads, Ticks, HangsUp, Restarts, Touched, after_call, each_keeps}
 
 -- what the crates of points and of an outstation promise
@@ -98,16 +99,17 @@ restarted_classes laws d kind index = ap (option_map class_in) (laws.restarted d
 -- each call keeps them
 calls_keep : ClassLaws → (s : State) (call : Call) → SameClasses s.core.points (after_call s call).core.points
 calls_keep laws s Waits = λ kind index. refl
-calls_keep laws s (Opens now) = same_points s.core.points _ (opened_leaves s now).points_are
+calls_keep laws s (Opens now) = same_points s.core.points _ (opened_leaves laws.content s now).points_are
 calls_keep laws s (Hears outputs now fragment) = same_points s.core.points _ (received_leaves laws.content s outputs now fragment).points_are
 calls_keep laws s (Reads now kind index reading made) =
     let first : Step = record {
       state = record s { core = record s.core { points = changed_of s.core.points kind index reading }; lanes = with_rows s.lanes (option_to_list made) };
       does = record nothing { overwritten = dropped_by s.lanes (option_to_list made) };
     } in
-    λ k i. same_points (changed_of s.core.points kind index reading) _ (end_points (changed_of s.core.points kind index reading) now first refl) k i
+    λ k i. same_points (changed_of s.core.points kind index reading) _
+    (end_points laws.content (changed_of s.core.points kind index reading) now first refl) k i
     ∙ changed_classes laws s.core.points kind index reading k i
-calls_keep laws s (Ticks now) = same_points s.core.points _ (ticked_leaves s now).points_are
+calls_keep laws s (Ticks now) = same_points s.core.points _ (ticked_leaves laws.content s now).points_are
 calls_keep laws s HangsUp = λ kind index. refl
 calls_keep laws s Restarts = restarted_classes laws s.core.points
 

@@ -1,2 +1,3 @@
 -- Private steps: words of clauses that no caller sees.
 pub mod ControlSteps
+pub mod MoveLaws

@@ -20,6 +20,7 @@ use crate::stopped::stops_for;
 use dnp_concentrator::Cause;
 use dnp_line::{Line, Port};
 use dnp_linkframe::MAX_UNIT;
+use dnp_master::Fragment;
 use dnp_master::laws::what_comes_is_taken_or_passed_over;
 use dnp_objects::Row;
 use dnp_outstation::Actions;
@@ -35,6 +36,12 @@ pub(crate) struct Channel {
     pub up: Line,
     pub outstation_port: Port,
     pub master_port: Port,
+    /// The port to which a unit comes, as it was before: where what the unit completes is refused, the port is that again.
+    /// It is kept, so that no unit makes room for it; between two calls it says nothing.
+    pub before: Port,
+    /// The request that was asked last. It is kept, so that no request makes room for a fragment; once it was sent it says
+    /// nothing.
+    pub request: Fragment,
 }
 
 impl Channel {
@@ -47,6 +54,8 @@ impl Channel {
             up: Line::new(alloc),
             outstation_port: Port::new(outstation, master, false),
             master_port: Port::new(master, outstation, true),
+            before: Port::new(outstation, master, false),
+            request: Fragment::new(),
         }
     }
 
@@ -64,6 +73,8 @@ impl Channel {
             up,
             outstation_port,
             master_port,
+            before: _,
+            request: _,
         } = self;
         down.clear();
         up.clear();
@@ -186,7 +197,8 @@ impl Channel {
     /// Sends a confirm down, if there is one, where there is room for it.
     pub fn confirm(&mut self, confirm: Option<[u8; 2]>)
         requires { FRAGMENT_UNITS ≤ room_of self.old.down }
-        ensures { GoDown (option_to_list confirm) (state_of self.old) (state_of self.new) }
+        ensures down { GoDown (option_to_list confirm) (state_of self.old) (state_of self.new) }
+        ensures before { self.new.before ≡ self.old.before }
     {
         send_confirm(&mut self.down, &mut self.master_port, confirm);
     }
@@ -258,6 +270,7 @@ impl Channel {
         ensures kept { E.honest end.new → OnErr result (E.keeps end.old end.new) }
         ensures lines { OnErr result (state_of self.new ≡ state_of self.old) }
         ensures device { TellsDevice (E.is_stopped end.old) (E.is_stopped end.new) (result ≡ Err Cause.Device) }
+        ensures before { self.new.before ≡ self.old.before }
     {
         self.up.reserve(2 * FRAGMENT_UNITS)?;
         end.receive(actions, alloc, now, self.outstation_port.fragment())?;
@@ -283,15 +296,15 @@ impl Channel {
         ensures lines { OnErr result (state_of self.new ≡ state_of self.old) }
         ensures device { TellsDevice (E.is_stopped end.old) (E.is_stopped end.new) (result ≡ Err Cause.Device) }
     {
-        let kept = self.outstation_port.copy();
         let Some(unit) = self.down.front() else {
             return Ok(false);
         };
+        self.outstation_port.copy_into(&mut self.before);
         let whole = hear(&mut self.outstation_port, unit);
         shows(&self.outstation_port);
         if whole {
             if let Err(cause) = self.answer(actions, alloc, now, end) {
-                self.outstation_port = kept;
+                self.before.copy_into(&mut self.outstation_port);
                 return Err(cause);
             }
         }
@@ -305,6 +318,7 @@ impl Channel {
             → HearsIfAny (front_of (state_of self.old).up) (state_of self.old).master_port (state_of self.new).master_port [] (if result then fragment ∷ [] else []) }
         ensures shown { (fragment : List ℕ) × IsShown self.new.master_port fragment }
         ensures rest { state_of self.new ≡ record (state_of self.old) { master_port = self.new.master_port } }
+        ensures before { self.new.before ≡ self.old.before }
     {
         let whole = match self.up.front() {
             Some(unit) => hear(&mut self.master_port, unit),
@@ -334,6 +348,7 @@ impl Channel {
         ensures lines { OnErr result (state_of self.new ≡ state_of self.old) }
         ensures device { TellsDevice (E.is_stopped end.old) (E.is_stopped end.new) (result ≡ Err Cause.Device) }
         ensures unlisted { OnErr result (dropped.new.items ≡ dropped.old.items) }
+        ensures before { self.new.before ≡ self.old.before }
     {
         what_comes_is_taken_or_passed_over();
         let fragment = self.master_port.fragment();
@@ -370,10 +385,10 @@ impl Channel {
         ensures device { TellsDevice (E.is_stopped end.old) (E.is_stopped end.new) (result ≡ Err Cause.Device) }
         ensures unlisted { OnErr result (dropped.new.items ≡ dropped.old.items) }
     {
-        let kept = self.master_port.copy();
+        self.master_port.copy_into(&mut self.before);
         if self.hear_up() {
             if let Err(cause) = self.take_up(alloc, link, now, end, dropped) {
-                self.master_port = kept;
+                self.before.copy_into(&mut self.master_port);
                 return Err(cause);
             }
         }

@@ -27,8 +27,8 @@ ghost use Rattle.dnp_world.specs.Systems.{System};
 
 use crate::arriving_laws::what_is_sent_arrives;
 use dnp_appfragment::laws::{
-    a_header_holds_what_was_put, what_is_held_is_read, what_is_spelled_is_said,
-    what_is_there_is_said,
+    a_header_holds_what_was_put, octets_say_their_control_and_function, what_is_held_is_read,
+    what_is_spelled_is_said, what_is_there_is_said,
 };
 use dnp_concentrator::laws::commands_are_undone;
 use dnp_controls::laws::ids_go_on;
@@ -50,6 +50,7 @@ pub fn a_quiet_outstation_answers_a_select()
         → (let octets = request_octets (request_for seq (task.Select command)) in
         CanAnswer octets command s o → performed_in s.core o now octets ≡ []) }
 {
+    octets_say_their_control_and_function();
     a_header_holds_what_was_put();
     what_is_held_is_read();
     what_is_there_is_said();
@@ -64,6 +65,7 @@ pub fn a_quiet_outstation_answers_an_operate()
         → (status : ℕ) × Answers command seq status octets s.performed (operated_by status command) (connection_after s o now octets)
         × (performed_in s.core o now octets ≡ operated_by status command)) }
 {
+    octets_say_their_control_and_function();
     a_header_holds_what_was_put();
     what_is_held_is_read();
     what_is_there_is_said();
@@ -76,7 +78,9 @@ pub fn a_confirmed_report_leaves_a_request()
         → LeavesRequest last s.performed (connection_after s o now (request_octets (confirmation seq true))) }
     ensures performs { (s : State) (o : Panel) (now seq : ℕ) (last : List ℕ) → seq < 16 → WasAsked last s.core
         → performed_in s.core o now (request_octets (confirmation seq true)) ≡ [] }
-{}
+{
+    octets_say_their_control_and_function();
+}
 
 /// A master takes the response that repeats the command of its task, and knows its status then. An unsolicited response leaves the
 /// master as it is, and is confirmed as one.
@@ -107,6 +111,7 @@ pub fn an_accepted_control_operates()
         → HasSelected entry selected → GoesOver target now (ChecksAs entry.command check) commands selected operated
         → OperateComesTo target check entry commands operated }
 {
+    octets_say_their_control_and_function();
     a_header_holds_what_was_put();
     what_is_held_is_read();
     what_is_there_is_said();
@@ -123,6 +128,7 @@ pub fn a_clean_control_operates()
     ensures rests { (id status : ℕ) (old new : System) (el : Elsewhere) → IsStanding el old → InStep old → CanGo id old
         → IsRefusedControl id status old new → new.history.operated ≡ old.history.operated }
 {
+    octets_say_their_control_and_function();
     a_header_holds_what_was_put();
     what_is_held_is_read();
     what_is_there_is_said();

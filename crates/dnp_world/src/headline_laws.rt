@@ -32,7 +32,7 @@ use crate::system_laws::{
     other_events_keep_what_stands, what_comes_to_the_centre_keeps_what_stands,
     what_stands_is_shown,
 };
-use dnp_outstation::link_laws::content_leaves_the_connection_alone;
+use dnp_outstation::lane_laws::{a_connection_drops_no_row, a_connection_leaves_the_points_alone};
 
 /// Which rows events make at a substation follows from its points, and from the events: what a list of them makes is what the first
 /// makes, and then what the others make of the points after it.
@@ -40,7 +40,8 @@ pub fn rows_are_made_by_events_alone()
     ensures { (old next : System) (event : Event) (events : List Event) → Happens old event next → (i : ℕ)
         → rows_made_at old (event ∷ events) i ≡ rows_made_at old (event ∷ []) i ++ rows_made_at next events i }
 {
-    content_leaves_the_connection_alone();
+    a_connection_leaves_the_points_alone();
+    a_connection_drops_no_row();
 }
 
 /// What lists of events issue are the commands of their events, and nothing else; also of a list that stops.

@@ -29,6 +29,7 @@ ghost use Rattle.dnp_world.specs.OneLinkEvents.{LinkState, HappensOn, RunsTo, St
 ghost use Rattle.dnp_world.specs.OutstationSeen.{ShowOctets};
 ghost use Rattle.dnp_world.specs.Standing.{Stands};
 ghost use Rattle.dnp_world.specs.SystemStanding.{no_sink};
+ghost use Rattle.dnp_world.specs.steps.MoveLaws.{MoveLaws};
 
 use crate::laws::{lanes_are_moved, link_law};
 use crate::master_laws::{
@@ -40,10 +41,32 @@ use dnp_line::laws::line_law;
 use dnp_master::laws::{
     a_closed_master_is_silent, an_idle_master_asks, what_comes_is_taken_or_passed_over,
 };
+use dnp_outstation::lane_laws::{a_connection_drops_no_row, a_connection_leaves_the_points_alone};
 use dnp_outstation::link_laws::{
     a_closed_outstation_is_silent, an_unsolicited_response_starts_where_none_is_awaited,
-    content_leaves_the_connection_alone,
 };
+
+/// What the moves of a link rest on: the laws of its outstation and of its master, of its points and of its lines.
+fn moves_are_promised()
+    ensures { MoveLaws }
+{
+    outstation::an_opening_is_moves();
+    outstation::what_comes_is_moves();
+    outstation::time_is_moves();
+    outstation::a_change_is_moves();
+    outstation::a_closing_is_moves();
+    a_master_takes_by_moves();
+    a_master_asks_by_a_move();
+    a_master_opens_and_closes_by_moves();
+    line_law();
+    a_closed_outstation_is_silent();
+    an_unsolicited_response_starts_where_none_is_awaited();
+    a_connection_leaves_the_points_alone();
+    a_connection_drops_no_row();
+    a_closed_master_is_silent();
+    an_idle_master_asks();
+    what_comes_is_taken_or_passed_over();
+}
 
 /// Each event of a link is some moves of the link of its law, whatever its outputs show, and so is a list of them, also
 /// one that stops, where there are no outputs. The rows
@@ -62,21 +85,7 @@ pub fn events_are_moves<S: Sink>()
         → Stands l → Joined others s l → StopsAfter S.takes S.keeps s events done new
         → Follows others (rows_made_by s.outstation.core.points (take done events)) [] s.outstation.performed l new }
 {
-    outstation::an_opening_is_moves();
-    outstation::what_comes_is_moves();
-    outstation::time_is_moves();
-    outstation::a_change_is_moves();
-    outstation::a_closing_is_moves();
-    a_master_takes_by_moves();
-    a_master_asks_by_a_move();
-    a_master_opens_and_closes_by_moves();
-    line_law();
-    a_closed_outstation_is_silent();
-    an_unsolicited_response_starts_where_none_is_awaited();
-    content_leaves_the_connection_alone();
-    a_closed_master_is_silent();
-    an_idle_master_asks();
-    what_comes_is_taken_or_passed_over();
+    moves_are_promised();
 }
 
 /// The same of an event of a link whose master gives its rows to no sink of the link's own, and of a restart of its outstation that
@@ -89,21 +98,7 @@ pub fn events_without_a_sink_are_moves()
         → new ≡ record s { outstation = restart_of s.outstation true; channel = hung_up_at end.Outstation s.channel }
         → Follows [] [] [] s.outstation.performed l new }
 {
-    outstation::an_opening_is_moves();
-    outstation::what_comes_is_moves();
-    outstation::time_is_moves();
-    outstation::a_change_is_moves();
-    outstation::a_closing_is_moves();
-    a_master_takes_by_moves();
-    a_master_asks_by_a_move();
-    a_master_opens_and_closes_by_moves();
-    line_law();
-    a_closed_outstation_is_silent();
-    an_unsolicited_response_starts_where_none_is_awaited();
-    content_leaves_the_connection_alone();
-    a_closed_master_is_silent();
-    an_idle_master_asks();
-    what_comes_is_taken_or_passed_over();
+    moves_are_promised();
 }
 
 /// Rows that others append to the lanes are moves too, and what full lanes drop for them has left unconfirmed. It may

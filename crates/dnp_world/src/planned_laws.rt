@@ -26,7 +26,7 @@ use crate::laws::link_law;
 use dnp_concentrator::laws::{each_direction_undoes_the_other, no_event_is_passed_over};
 use dnp_objects::laws::{covered_is_by_counts, equality_is_decided};
 use dnp_objects::{Command, Row};
-use dnp_outstation::link_laws::content_leaves_the_connection_alone;
+use dnp_outstation::lane_laws::{a_connection_drops_no_row, a_connection_leaves_the_points_alone};
 use dnp_pointdb::laws::{
     a_change_is_of_one_point, a_change_makes_what_its_lane_takes, points_are_those_of_the_plan,
 };
@@ -36,7 +36,8 @@ pub fn substations_keep_their_points()
     ensures { (plan : Plan) (old new : System) (event : Event) → Happens old event new → HavePlannedPoints plan old
         → HavePlannedPoints plan new }
 {
-    content_leaves_the_connection_alone();
+    a_connection_leaves_the_points_alone();
+    a_connection_drops_no_row();
     a_change_is_of_one_point();
 }
 
@@ -53,7 +54,8 @@ pub fn what_happens_is_of_the_plan()
     ensures events { (plan : Plan) (s : System) → HappenedAsPlanned plan s → HappenedAsEvents s }
 {
     substations_keep_their_points();
-    content_leaves_the_connection_alone();
+    a_connection_leaves_the_points_alone();
+    a_connection_drops_no_row();
     a_change_is_of_one_point();
     equality_is_decided::<u64, Row>();
     a_change_makes_what_its_lane_takes();

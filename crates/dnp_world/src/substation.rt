@@ -124,49 +124,6 @@ impl Substation {
         if made.is_err() {
             return Ok(());
         }
-        self.change_taken(
-            actions,
-            alloc,
-            now,
-            station,
-            kind,
-            index,
-            reading,
-            overwritten,
-        )
-    }
-
-    /// The same of a reading that the points take.
-    fn change_taken(
-        &mut self,
-        actions: &mut Actions,
-        alloc: Global,
-        now: u64,
-        station: u8,
-        kind: Kind,
-        index: u16,
-        reading: Reading,
-        overwritten: &mut StationList<Row>,
-    ) -> Result<(), Cause>
-        ensures refused { OnOk result (IfErr (answer_of (substation_of self.old).core.points kind index reading) (λ _.
-            (substation_of self.new ≡ substation_of self.old) × (overwritten.new.items ≡ overwritten.old.items))) }
-        ensures numbers { OnOk result (IfOk (answer_of (substation_of self.old).core.points kind index reading) (λ made.
-            IfSome made (λ row. exhausts (substation_of self.old).lanes (row ∷ []) ≡ false))) }
-        ensures done { OnOk result (IfOk (answer_of (substation_of self.old).core.points kind index reading) (λ made.
-            SubstationSteps (change_of (station_of (substation_of self.old)) now kind index reading made) (substation_of self.old).channel
-            (substation_of self.old) (substation_of self.new))) }
-        ensures listed { OnOk result (IfOk (answer_of (substation_of self.old).core.points kind index reading) (λ made.
-            overwritten.new.items ≡ overwritten.old.items
-            ++ at_station station (change_of (station_of (substation_of self.old)) now kind index reading made).does.overwritten)) }
-        ensures stopped { OnErr result (substation_of self.new ≡ substation_of self.old) }
-        ensures unlisted { OnErr result (overwritten.new.items ≡ overwritten.old.items) }
-        ensures device { result ≢ Err Cause.Device }
-        ensures exhausted { result ≡ Err Cause.Exhausted → IfOk (answer_of (substation_of self.old).core.points kind index reading) (λ made.
-            IsTrue (exhausts (substation_of self.old).lanes (option_to_list made))) }
-        ensures enough { 1 ≤ overwritten.old.room → 2 * FRAGMENT_UNITS ≤ room_of self.old.channel.up → result ≡ Err Cause.Memory
-            → IfOk (answer_of (substation_of self.old).core.points kind index reading) (λ made.
-            (has_enabled_rows (station_of (substation_of self.old)) ≡ true) ⊎ (dropped_by (substation_of self.old).lanes (option_to_list made) ≢ [])) }
-    {
         overwritten.reserve(1)?;
         self.channel.up.reserve(2 * FRAGMENT_UNITS)?;
         match self

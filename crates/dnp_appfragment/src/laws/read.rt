@@ -1,15 +1,17 @@
 //! Laws of what is read: the functions of octets say what the grammar says.
-ghost use Rattle.std.specs.Prelude.{◌≡◌, ◌<◌, ◌^◌, ◌↔◌, ℕ, List, Ok, Err, Some, IsSome};
+ghost use Rattle.std.specs.Prelude.{◌≡◌, ◌<◌, ◌^◌, ◌↔◌, ℕ, List, Ok, Err, Some, IsSome, slice_index};
 ghost use Rattle.std.specs.List.{All};
 ghost use Rattle.dnp_objects.specs.Events.{IsEvent};
 ghost use Rattle.dnp_objects.specs.declared.row.Row.{Row};
 ghost use Rattle.dnp_objects.specs.declared.command.Command.{Command};
 ghost use Rattle.dnp_appfragment.specs.declared.fault.AppFault.{AppFault};
+ghost use Rattle.dnp_appfragment.specs.Control.{ControlBits, IsControl, control_octet};
 ghost use Rattle.dnp_appfragment.specs.Fragments.{Asked, Answered, IsRequest, IsResponse};
 ghost use Rattle.dnp_appfragment.specs.Faults.{IsRequestFault, IsResponseFault};
 ghost use Rattle.dnp_appfragment.specs.Headers.{Head, count_of};
-ghost use Rattle.dnp_appfragment.specs.Meaning.{request_at, response_at, row_in, command_in};
+ghost use Rattle.dnp_appfragment.specs.Meaning.{control_of, request_at, response_at, row_in, command_in};
 ghost use Rattle.dnp_appfragment.specs.Objects.{IsRow, IsCommand, HasRows, HasCommands};
+ghost use Rattle.dnp_appfragment.specs.Table.{function_octet};
 
 use dnp_objects::laws::{
     a_read_row_is_an_event, a_relative_row_is_read, octets_are_read_as_one_command,
@@ -30,6 +32,13 @@ pub fn octets_say_a_response()
         → (response_at octets ≡ Ok answered) ↔ IsResponse octets answered }
     ensures fault { (octets : List ℕ) (fault : AppFault) → All (λ octet. octet < 2 ^ 8) octets
         → (response_at octets ≡ Err fault) ↔ IsResponseFault octets fault }
+{}
+
+/// The octet that a control is spelled as says just that control, and a request's second octet is that of its function.
+pub fn octets_say_their_control_and_function()
+    ensures control { (control : ControlBits) → IsControl control → control_of (control_octet control) ≡ control }
+    ensures function { (octets : List ℕ) (asked : Asked) → request_at octets ≡ Ok asked
+        → slice_index octets 1 ≡ function_octet asked.function }
 {}
 
 /// `row_in` and `command_in` give the row and the command that object k of a header is. In a

@@ -17,7 +17,7 @@ use Rattle.sqlite.specs.Steps.{over_memory}
 
 -- they hold nothing, in lanes of these capacities, and are well
 pub record AreNew (capacities : List ℕ) (stores : SqlStores) : Type 0 where
-  pub queue : stores.queue.stock ≡ empty_stock capacities
+  pub queue : stores.queue.sides.first ≡ empty_stock capacities
   pub journal : held_archive over_memory stores.journal ≡ empty_archive
   pub controls : stores.controls.ledger ≡ empty_ledger
   pub orders : stores.orders.ledger ≡ empty_ledger
@@ -34,3 +34,4 @@ abbrev pub unmade_for : OpenFault → ScriptStop
 unmade_for opening.Memory = stop.Fault causes.Memory
 unmade_for opening.Device = stop.Fault causes.Device
 unmade_for opening.WrongForm = stop.Fault causes.Device
+unmade_for opening.OldForm = stop.Fault causes.Device

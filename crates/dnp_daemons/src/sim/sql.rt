@@ -42,18 +42,21 @@ fn unmade(fault: OpenFault) -> ScriptStop
 {
     match fault {
         OpenFault::Memory => ScriptStop::Fault(Cause::Memory),
-        OpenFault::WrongForm | OpenFault::Device => ScriptStop::Fault(Cause::Device),
+        OpenFault::WrongForm | OpenFault::Device | OpenFault::OldForm => {
+            ScriptStop::Fault(Cause::Device)
+        }
     }
 }
 
 impl SqlStores {
-    /// Stores that hold nothing, the queue with lanes of these capacities.
+    /// Stores that hold nothing, the queue with lanes of these capacities for each of two centres, of which the second
+    /// is not served yet.
     fn new(alloc: Global, capacities: [u32; LANES]) -> Result<SqlStores, OpenFault>
         requires { All (λ capacity. (1 ≤ capacity) × (capacity ≤ MAX_CAPACITY)) capacities }
         ensures { IfOk result (AreNew capacities) }
     {
         Ok(SqlStores {
-            queue: Queue::in_memory(alloc, capacities)?,
+            queue: Queue::in_memory(alloc, capacities, capacities)?,
             journal: Journal::in_memory(alloc)?,
             controls: ControlBook::in_memory(alloc)?,
             orders: ControlBook::in_memory(alloc)?,

@@ -23,6 +23,13 @@ pub record ShowsForm1 (rows : List SqlRow) (id : ℤ) : Type 0 where
   pub id_is : column (slice_index_or rows 0 []) 0 ≡ Int id
   pub number : column (slice_index_or rows 0 []) 1 ≡ Int (pos 1)
 
+-- one row, with this number
+pub record ShowsForm (rows : List SqlRow) (n : ℕ) : Type 0 where
+  pub id : ℤ
+  pub one : length rows ≡ 1
+  pub id_is : column (slice_index_or rows 0 []) 0 ≡ Int id
+  pub number : column (slice_index_or rows 0 []) 1 ≡ Int (pos n)
+
 -- ---- `lanes`
 
 pub record ShowsFigures (row : SqlRow) (number : ℕ) (f : Figures) : Type 0 where
@@ -71,6 +78,15 @@ abbrev pub ShowsCount : List ℕ → List SqlRow → ℕ → Type 0
 ShowsCount table rows n =
     ((length rows ≡ 0) × (n ≡ 0))
     ⊎ ((id : ℕ) × (length rows ≡ 1) × ShowsCountOf table (slice_index_or rows 0 []) id n)
+
+-- of two tables, each is counted once at most, under ids that differ, and nothing else is
+abbrev pub ShowsTwo : List ℕ → List ℕ → List SqlRow → ℕ → ℕ → Type 0
+ShowsTwo first second [] n m = (n ≡ 0) × (m ≡ 0)
+ShowsTwo first second (r ∷ []) n m = ((id : ℕ) × ShowsCountOf first r id n × (m ≡ 0)) ⊎ ((id : ℕ) × ShowsCountOf second r id m × (n ≡ 0))
+ShowsTwo first second (r ∷ s ∷ []) n m =
+    ((id : ℕ) × (next : ℕ) × ShowsCountOf first r id n × ShowsCountOf second s next m × (id ≢ next))
+    ⊎ ((id : ℕ) × (next : ℕ) × ShowsCountOf second r id m × ShowsCountOf first s next n × (id ≢ next))
+ShowsTwo first second (r ∷ s ∷ t ∷ rows) n m = ⊥
 
 -- no row notes a greater number for the table of this name
 abbrev pub IsMost : List ℕ → List SqlRow → ℕ → Type 0

@@ -9,7 +9,9 @@ use Rattle.dnp_eventbuf.specs.Stock.{LaneState, Stock, lane_at, added_in, above,
 use Rattle.sqlite.specs.Effect.{Database}
 use Rattle.dnp_eventbuf.specs.Latest.{numbered_for}
 use Rattle.dnp_store.specs.Tables.{or_null}
-use Rattle.dnp_store.specs.QueueTables.{Figures, no_figures, HoldsQueue, is_raised}
+use Rattle.dnp_store.specs.declared.queue_side.QueueSide.{QueueSide}
+use Rattle.dnp_store.specs.QueueTables.{Figures, no_figures, is_raised}
+use Rattle.dnp_store.specs.steps.Pairs.{HoldsFor}
 
 -- a row's cells but its id, after the number of its lane or of its kind, as a statement is given them
 abbrev pub cells_of : ℕ → Event → SqlRow
@@ -57,9 +59,9 @@ any_over s rows zero = false
 any_over s rows (suc number) = any_over s rows number || nat_lt 0 (over s rows number)
 
 -- The rows were put in, and the first lanes have dropped what they had to. Before, the overflow was as raised.
-abbrev pub IsTrimmed : Database → Stock → List LaneRow → Bool → ℕ → Type 0
-IsTrimmed db s rows raised number =
-    (figures : List Figures) × HoldsQueue db (mixed number (all_added s rows) (with_rows s rows)) figures
+abbrev pub IsTrimmed : QueueSide → Stock → Database → Stock → List LaneRow → Bool → ℕ → Type 0
+IsTrimmed side others db s rows raised number =
+    (figures : List Figures) × HoldsFor side others db (mixed number (all_added s rows) (with_rows s rows)) figures
     × (is_raised figures ≡ (raised || any_over s rows number))
 
 -- the rows of each lane up to its number are gone

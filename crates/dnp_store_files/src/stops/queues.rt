@@ -20,13 +20,13 @@ pub(crate) enum QueueCall {
 
 /// What the first lane holds.
 #[derive(Clone, Copy)]
-struct Held {
+pub(crate) struct Held {
     /// The ids of its rows and their indices.
-    rows: &'static [(u64, u16)],
+    pub(crate) rows: &'static [(u64, u16)],
     /// How many rows were dropped.
-    lost: u64,
+    pub(crate) lost: u64,
     /// Whether the overflow stands.
-    raised: bool,
+    pub(crate) raised: bool,
 }
 
 impl QueueCall {
@@ -102,7 +102,7 @@ impl QueueCall {
 }
 
 /// Whether the lanes hold this.
-fn holds<L: Lanes>(lanes: &mut L, alloc: Global, held: &Held) -> Option<bool> {
+pub(crate) fn holds<L: Lanes>(lanes: &mut L, alloc: Global, held: &Held) -> Option<bool> {
     let lane = Lane::numbered(0)?;
     let offered = lanes.offer(alloc, lane, 0, 9).ok()?;
     let is_same = offered

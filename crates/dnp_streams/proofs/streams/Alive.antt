@@ -40,14 +40,6 @@ pub counted_first : {S : Type 0} (opens : Opening S) (receives : Receiving S) (l
 counted_first opens receives life old new from to none served held held' result first b =
     subst (λ (s : Served). Brings opens receives life [] 0 old from s held result new to served held') first b
 
--- right after the opening
-pub alive_first : {S : Type 0} (opens : Opening S) (receives : Receiving S) (life : Life S) (old new : Endpoint S) (session session' : Session)
-    (left held held' : Option (List ℕ)) (waiting : List ℕ) (served : Served)
-    → Brings opens receives life [] 0 old (standing_of Unopened session) none_served held (Ok tt) new (standing_of Idle session') served held' → Gives [] [] waiting
-    → Alive opens receives life 0 old session session' left left held held' waiting served new
-alive_first opens receives life old new session session' left held held' waiting served b gives =
-    record { octets = []; read = Consumes-nil left; heard = []; gives = gives; turns = 0; often = omega arith; brings = b }
-
 -- what the opening brings could not be written
 pub fails_first : {S : Type 0} (opens : Opening S) (receives : Receiving S) (life : Life S) (reads : ℕ) (old new : Endpoint S) (session session' : Session)
     (left held held' : Option (List ℕ)) (served : Served) (fault : NotWritten) → reads ≡ 0
@@ -91,13 +83,6 @@ closes_first opens receives life reads old new session session' left held held' 
       counted = b.counted;
       ends = (refl, refl, λ open_still. absurd (false≢true (sym open_still ∙ output_closed)));
     }
-
--- nothing closed it
-pub alive_open : {S : Type 0} (opens : Opening S) (receives : Receiving S) (life : Life S) (reads : ℕ) (old new : Endpoint S) (session session' : Session)
-    (left left' held held' : Option (List ℕ)) (waiting : List ℕ) (served : Served)
-    → (i : Alive opens receives life reads old session session' left left' held held' waiting served new) → served.closed ≡ false → i.brings.output.closed ≡ false
-alive_open opens receives life reads old new session session' left left' held held' waiting served i open_still =
-    still_open none_served served i.brings.output i.brings.counted open_still
 
 -- It ends here, with nothing owed; memory may have been refused for octets that were read last.
 pub alive_ends : {S : Type 0} (opens : Opening S) (receives : Receiving S) (life : Life S) (reads reads' : ℕ) (old new : Endpoint S) (session session' : Session)

@@ -3,15 +3,6 @@ use Rattle.std.proofs.Common.{◌≡◌, ℕ, ◌≤◌, List, [], ◌∷◌, �
 use Rattle.dnp_streams.specs.declared.stream.change.Change.{Change}
 use Rattle.dnp_streams.specs.streams.Living.{Step, Opened, Came, Waited, Ticked, Changed, Standing, FollowsAll, NeverFalls, changes_in}
 
--- what never falls from one moment on never falls from one before it
-from_before : (m n : ℕ) (steps : List Step) → m ≤ n → NeverFalls n steps → NeverFalls m steps
-from_before m n [] low rest = rest
-from_before m n (Opened moment ∷ steps) low (here, rest) = (omega (arith, low, here), rest)
-from_before m n (Came moment frame ∷ steps) low (here, rest) = (omega (arith, low, here), rest)
-from_before m n (Waited moment ∷ steps) low (here, rest) = (omega (arith, low, here), rest)
-from_before m n (Ticked moment ∷ steps) low (here, rest) = (omega (arith, low, here), rest)
-from_before m n (Changed moment change ∷ steps) low (here, rest) = (omega (arith, low, here), rest)
-
 then_never : (next : Standing) (moment : ℕ) (steps : List Step) → next.now ≡ moment → NeverFalls next.now steps → NeverFalls moment steps
 then_never next moment steps is rest = subst (λ (n : ℕ). NeverFalls n steps) is rest
 

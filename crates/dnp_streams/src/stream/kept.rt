@@ -129,13 +129,15 @@ impl KeptAnswer {
     }
 }
 
-/// What a stream keeps for its steps, so that none of them makes room anew.
+/// What a stream keeps for its steps, so that none of them asks for room again.
 pub(super) struct Kept {
-    /// What the station answers to confirms: mostly nothing. It stands apart, since a place in which there was a fragment
+    /// What the station answers to confirms, and where time passes: mostly nothing. It stands apart, since a place in which there was a fragment
     /// is written over whole where it is emptied, and where it is filled after that.
     pub confirmed: KeptAnswer,
-    /// What it answers to all else.
+    /// What it answers to all else that comes.
     pub answer: KeptAnswer,
+    /// What it answers to changes: nothing, or report after report. So it stands apart too.
+    pub changed: KeptAnswer,
     /// The octets that are sent.
     pub octets: Outgoing,
 }
@@ -146,6 +148,7 @@ impl Drop for Kept {
         let Kept {
             confirmed: _,
             answer: _,
+            changed: _,
             octets: _,
         } = self;
     }
@@ -156,11 +159,13 @@ impl Kept {
     pub fn new(alloc: Global) -> Kept
         ensures confirmed { answer_in result.confirmed ≡ nothing_answered }
         ensures answer { answer_in result.answer ≡ nothing_answered }
+        ensures changed { answer_in result.changed ≡ nothing_answered }
         ensures octets { result.octets.items ≡ [] }
     {
         Kept {
             confirmed: KeptAnswer::new(alloc),
             answer: KeptAnswer::new(alloc),
+            changed: KeptAnswer::new(alloc),
             octets: Outgoing::new(),
         }
     }

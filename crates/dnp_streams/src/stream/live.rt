@@ -53,7 +53,10 @@ fn live<S: Living, R: Waiting, W: Write, C: Clock>(
         (W.contents out.old) (W.contents out.new) served.new result (endpoint (S.state station.new) port.new) }
     ensures noted { IsNoted limits.turns result log.new }
 {
-    match begin(alloc, station, port, clock, session, out, served, log) {
+    let mut kept = Kept::new(alloc);
+    match begin(
+        alloc, station, port, clock, session, &mut kept, out, served, log,
+    ) {
         Ok(()) => {}
         Err(_) => return Err(ServeFault::WriteFailed),
     }
@@ -62,7 +65,6 @@ fn live<S: Living, R: Waiting, W: Write, C: Clock>(
     }
     let mut stream = FrameReader::new();
     let mut frames = Vec::new(alloc);
-    let mut kept = Kept::new(alloc);
     for _ in 0..limits.turns {
         let ms = wait_for(session.now, session.changes, limits.wait_ms);
         match read_frames(reader, ms, &mut stream, &mut frames, log) {

@@ -7,6 +7,7 @@ ghost use Rattle.dnp_streams.specs.steps.Living.{Brings};
 ghost use Rattle.dnp_streams.specs.steps.Outgoing.{OpensTo};
 
 use crate::stream::change::Change;
+use crate::stream::kept::{Kept, KeptAnswer};
 use crate::stream::living::Living;
 use crate::stream::log::{Log, write_noted};
 use crate::stream::outgoing::{Outgoing, put_fragments};
@@ -20,12 +21,14 @@ use std::alloc::Global;
 use std::io::Write;
 use std::rt::Clock;
 
-/// Lets time pass at the station, and counts what that brings. The octets to be sent take the place of what was there.
+/// Lets time pass at the station, and counts what that brings. What it answers, and the octets to be sent, take the place of
+/// what was there.
 fn tick<S: Living>(
     alloc: Global,
     station: &mut S,
     port: &mut Port,
     now: u64,
+    answer: &mut KeptAnswer,
     out: &mut Outgoing,
 ) -> Served
     ensures kept { S.kept station.new ≡ S.kept station.old }
@@ -34,22 +37,24 @@ fn tick<S: Living>(
         (endpoint (S.state station.new) port.new) result out.new.items }
 {
     out.clear();
-    match station.tick(alloc, now) {
-        Ok(answer) => {
-            put_fragments(port, &answer.send, out);
-            Served::of(0, 0, answer.close)
+    match station.tick_into(answer, alloc, now) {
+        Ok(()) => {
+            put_fragments(port, &answer.actions.send, out);
+            Served::of(0, 0, answer.actions.close)
         }
         Err(_) => Served::of(0, 1, false),
     }
 }
 
-/// Makes a change at the station, and counts what that brings. The octets to be sent take the place of what was there.
+/// Makes a change at the station, and counts what that brings. What it answers, and the octets to be sent, take the place of
+/// what was there.
 fn make<S: Living>(
     alloc: Global,
     station: &mut S,
     port: &mut Port,
     now: u64,
     change: &Change,
+    answer: &mut KeptAnswer,
     out: &mut Outgoing,
 ) -> Served
     ensures kept { S.kept station.new ≡ S.kept station.old }
@@ -58,10 +63,10 @@ fn make<S: Living>(
         (endpoint (S.state station.new) port.new) result out.new.items }
 {
     out.clear();
-    match station.change(alloc, now, change) {
-        Ok(answer) => {
-            put_fragments(port, &answer.send, out);
-            Served::of(0, 0, answer.close)
+    match station.change_into(answer, alloc, now, change) {
+        Ok(()) => {
+            put_fragments(port, &answer.actions.send, out);
+            Served::of(0, 0, answer.actions.close)
         }
         Err(_) => Served::of(0, 1, false),
     }
@@ -73,6 +78,7 @@ fn pass_time<S: Living, W: Write>(
     station: &mut S,
     port: &mut Port,
     session: &Session<'_>,
+    kept: &mut Kept,
     out: &mut W,
     served: &mut Served,
     log: &mut Log,
@@ -84,9 +90,9 @@ fn pass_time<S: Living, W: Write>(
         (endpoint (S.state station.new) port.new) (standing_of Idle session.entry.now) served.new (W.contents out.new) }
     ensures noted { MatchResult result (λ _. log.new ≡ log.old) (λ _. log.new ≡ record log.old { write_failed = true }) }
 {
-    let mut octets = Outgoing::new();
-    served.add(tick(alloc, station, port, session.now, &mut octets));
-    write_noted(&octets, out, log)
+    let (answer, octets) = (&mut kept.confirmed, &mut kept.octets);
+    served.add(tick(alloc, station, port, session.now, answer, octets));
+    write_noted(&kept.octets, out, log)
 }
 
 /// Makes the changes that are due, in order, up to one that closes the connection, and writes what each of them brings.
@@ -95,6 +101,7 @@ fn make_due<S: Living, W: Write>(
     station: &mut S,
     port: &mut Port,
     session: &mut Session<'_>,
+    kept: &mut Kept,
     out: &mut W,
     served: &mut Served,
     log: &mut Log,
@@ -108,15 +115,15 @@ fn make_due<S: Living, W: Write>(
     ensures none_due { OnOk result (served.new.closed ≡ false → NoneIsDue session.new.now session.new.changes.now) }
     ensures noted { MatchResult result (λ _. log.new ≡ log.old) (λ _. log.new ≡ record log.old { write_failed = true }) }
 {
-    let mut octets = Outgoing::new();
     served.count_nothing();
     while let Some((change, later)) = session.changes.split_first() {
         if session.now < change.at {
             return Ok(());
         }
         session.changes = later;
-        served.add(make(alloc, station, port, session.now, change, &mut octets));
-        match write_noted(&octets, out, log) {
+        let (answer, octets) = (&mut kept.changed, &mut kept.octets);
+        served.add(make(alloc, station, port, session.now, change, answer, octets));
+        match write_noted(&kept.octets, out, log) {
             Ok(()) => {}
             Err(fault) => return Err(fault),
         }
@@ -133,6 +140,7 @@ pub(super) fn settle<S: Living, W: Write>(
     station: &mut S,
     port: &mut Port,
     session: &mut Session<'_>,
+    kept: &mut Kept,
     out: &mut W,
     served: &mut Served,
     log: &mut Log,
@@ -146,14 +154,14 @@ pub(super) fn settle<S: Living, W: Write>(
     ensures none_due { OnOk result (served.new.closed ≡ false → NoneIsDue session.new.now session.new.changes.now) }
     ensures noted { MatchResult result (λ _. log.new ≡ log.old) (λ _. log.new ≡ record log.old { write_failed = true }) }
 {
-    match pass_time(alloc, station, port, session, out, served, log) {
+    match pass_time(alloc, station, port, session, kept, out, served, log) {
         Ok(()) => {}
         Err(fault) => return Err(fault),
     }
     if served.closed {
         return Ok(());
     }
-    make_due(alloc, station, port, session, out, served, log)
+    make_due(alloc, station, port, session, kept, out, served, log)
 }
 
 /// Opens the station, makes the changes that are due by then, and writes what that brings.
@@ -163,6 +171,7 @@ pub(super) fn begin<S: Living, W: Write, C: Clock>(
     port: &mut Port,
     clock: &C,
     session: &mut Session<'_>,
+    kept: &mut Kept,
     out: &mut W,
     served: &mut Served,
     log: &mut Log,
@@ -175,15 +184,14 @@ pub(super) fn begin<S: Living, W: Write, C: Clock>(
     ensures none_due { OnOk result (served.new.closed ≡ false → NoneIsDue session.new.now session.new.changes.now) }
     ensures noted { MatchResult result (λ _. log.new ≡ log.old) (λ _. log.new ≡ record log.old { write_failed = true }) }
 {
-    let mut octets = Outgoing::new();
     session.now = moment(clock, session.now);
-    served.add(open(alloc, station, port, session.now, &mut octets));
-    match write_noted(&octets, out, log) {
+    served.add(open(alloc, station, port, session.now, &mut kept.octets));
+    match write_noted(&kept.octets, out, log) {
         Ok(()) => {}
         Err(fault) => return Err(fault),
     }
     if served.closed {
         return Ok(());
     }
-    make_due(alloc, station, port, session, out, served, log)
+    make_due(alloc, station, port, session, kept, out, served, log)
 }

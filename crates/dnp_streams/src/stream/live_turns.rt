@@ -28,6 +28,7 @@ fn wait_one<S: Living, W: Write, C: Clock>(
     port: &mut Port,
     clock: &C,
     session: &mut Session<'_>,
+    kept: &mut Kept,
     out: &mut W,
     served: &mut Served,
     log: &mut Log,
@@ -44,7 +45,7 @@ fn wait_one<S: Living, W: Write, C: Clock>(
 {
     session.now = moment(clock, session.now);
     served.count_nothing();
-    settle(alloc, station, port, session, out, served, log)
+    settle(alloc, station, port, session, kept, out, served, log)
 }
 
 /// Hears a frame, and writes what it brings, in the room that is kept; then time passes, and the changes that are due are made.
@@ -79,7 +80,7 @@ fn hear_one<S: Living, W: Write, C: Clock>(
     if served.closed {
         return Ok(());
     }
-    settle(alloc, station, port, session, out, served, log)
+    settle(alloc, station, port, session, kept, out, served, log)
 }
 
 /// Hears the frames that a read brought, up to one that closes the connection, or does what a wait brings where there is
@@ -107,7 +108,7 @@ pub(super) fn go_through<S: Living, W: Write, C: Clock>(
     ensures noted { MatchResult result (λ _. log.new ≡ log.old) (λ _. log.new ≡ record log.old { write_failed = true }) }
 {
     if frames.is_empty() {
-        return wait_one(alloc, station, port, clock, session, out, served, log);
+        return wait_one(alloc, station, port, clock, session, kept, out, served, log);
     }
     served.count_nothing();
     for frame in frames {

@@ -4,6 +4,7 @@ ghost use Rattle.std.specs.Prelude.{◌≡◌};
 ghost use Rattle.dnp_streams.specs.streams.Lives.{told_of};
 
 use crate::stream::change::Change;
+use crate::stream::kept::KeptAnswer;
 use crate::stream::living::Living;
 use crate::stream::outstation::{answer_with, cause_of};
 use crate::stream::station::{Answer, StationFault};
@@ -30,9 +31,41 @@ impl<L: Lanes, O: Outputs> Living for Outstation<L, O> {
         }
     }
 
+    fn tick_into(
+        &mut self,
+        answer: &mut KeptAnswer,
+        alloc: Global,
+        now: u64,
+    ) -> Result<(), StationFault> {
+        match self.tick_into(&mut answer.actions, alloc, now) {
+            Ok(()) => {
+                answer.done();
+                Ok(())
+            }
+            Err(fault) => Err(cause_of(fault)),
+        }
+    }
+
     fn change(&mut self, alloc: Global, now: u64, change: &Change) -> Result<Answer, StationFault> {
         match self.change(alloc, now, change.kind, change.index, change.reading) {
             Ok(actions) => Ok(answer_with(actions)),
+            Err(fault) => Err(change_fault(fault)),
+        }
+    }
+
+    fn change_into(
+        &mut self,
+        answer: &mut KeptAnswer,
+        alloc: Global,
+        now: u64,
+        change: &Change,
+    ) -> Result<(), StationFault> {
+        let (actions, kind) = (&mut answer.actions, change.kind);
+        match self.change_into(actions, alloc, now, kind, change.index, change.reading) {
+            Ok(()) => {
+                answer.done();
+                Ok(())
+            }
             Err(fault) => Err(change_fault(fault)),
         }
     }

@@ -36,6 +36,17 @@ pub enum ServeFault {
     Memory,
 }
 
+impl From<NotWritten> for ServeFault {
+    ghost use Rattle.std.specs.Prelude.{◌≡◌};
+    ghost use Rattle.dnp_streams.specs.declared.stream.serve.ServeFault.TheVariants.{WriteFailed};
+
+    ghost from_gives = { λ _ fault. fault ≡ WriteFailed };
+
+    fn from(_: NotWritten) -> ServeFault {
+        ServeFault::WriteFailed
+    }
+}
+
 /// Opens the station, and writes what that brings. It stands apart with its room, which a stream needs once.
 #[inline(never)]
 fn greet<S: Station, W: Write>(
@@ -100,6 +111,7 @@ fn serve<S: Station, R: Read, W: Write>(
     station: &mut S,
     port: &mut Port,
     now: u64,
+    kept: &mut Kept,
     reader: &mut R,
     out: &mut W,
     turns: u64,
@@ -114,17 +126,13 @@ fn serve<S: Station, R: Read, W: Write>(
     ensures noted { IsNoted turns result log.new }
 {
     let mut served = Served::of(0, 0, false);
-    match greet(alloc, station, port, now, out, &mut served, log) {
-        Ok(()) => {}
-        Err(_) => return Err(ServeFault::WriteFailed),
-    }
+    greet(alloc, station, port, now, out, &mut served, log)?;
     if served.closed {
         return Ok(served);
     }
     let mut stream = FrameReader::new();
     let mut frames = Vec::new(alloc);
     let mut piece = [0; MAX_UNIT];
-    let mut kept = Kept::new(alloc);
     for _ in 0..turns {
         let count = match read_noted(reader, &mut piece, log) {
             Ok(count) => count,
@@ -144,7 +152,7 @@ fn serve<S: Station, R: Read, W: Write>(
             port,
             now,
             &frames,
-            &mut kept,
+            kept,
             out,
             &mut served,
             log,
@@ -179,7 +187,10 @@ pub fn serve_noted<S: Station, R: Read, W: Write>(
         (W.contents out.old) (W.contents out.new) result (endpoint ended port.new) }
     ensures noted { IsNoted turns result log.new }
 {
-    let result = serve(alloc, station, port, now, reader, out, turns, log);
+    let mut kept = Kept::new(alloc);
+    let result = serve(
+        alloc, station, port, now, &mut kept, reader, out, turns, log,
+    );
     if result.is_err() {
         station.hung_up();
     }

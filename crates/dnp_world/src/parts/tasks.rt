@@ -1,6 +1,6 @@
 //! The events of a system that ask tasks, and the commands that are issued and relayed.
 
-ghost use Rattle.std.specs.Prelude.{◌≡◌, ◌⊎◌, ◌≤◌, ◌<◌, ℕ, List, true, IfErr, IfOk, IsErr, ◌≢◌, IsTrue, MatchResult, OnErr, OnOk, Result, Ok, Err, ◌&&◌, Some, is_ok, is_some, slice_get};
+ghost use Rattle.std.specs.Prelude.{◌≡◌, ◌⊎◌, ◌≤◌, ◌<◌, ◌∷◌, [], ℕ, List, length, true, IfErr, IfOk, IsErr, ◌≢◌, IsTrue, MatchResult, OnErr, OnOk, Result, Ok, Err, ◌&&◌, Some, is_ok, is_some, slice_get};
 ghost use Rattle.dnp_appfragment.specs.Fragments.{Asked, IsRequest};
 ghost use Rattle.dnp_concentrator.specs.Mapped.{command_above};
 ghost use Rattle.dnp_concentrator.specs.Relayed.{Tells, asks_book};
@@ -22,12 +22,12 @@ ghost use Rattle.dnp_world.specs.declared.event.Link.TheVariants as link;
 use super::Parts;
 use crate::channel::Channel;
 use crate::event::Link;
-use crate::sending::FRAGMENT_UNITS;
+use crate::sending::{FRAGMENT_UNITS, send};
 use crate::stored::Stored;
 use dnp_concentrator::{Cause, IssueFault, Relayed};
 use dnp_controls::{Book, BookFault};
 use dnp_eventbuf::{JournalStore, Lanes};
-use dnp_master::{AskFault, Fragment, Task};
+use dnp_master::{AskFault, Task};
 use dnp_objects::{Command, Kind};
 use dnp_pointdb::Reading;
 use std::alloc::Global;
@@ -76,16 +76,28 @@ fn cause_of(fault: BookFault) -> Option<Cause>
     }
 }
 
-/// What a master asks goes down the channel. What it refused does nothing.
-fn send_asked(channel: &mut Channel, asked: &Result<Fragment, AskFault>)
+impl Channel {
+    /// Sends the request down that stands in its place, where there is room for it. An empty one is not sent.
+    fn send_request(&mut self)
+        requires { FRAGMENT_UNITS ≤ room_of self.old.down }
+        ensures { 0 < length self.old.request.items → GoDown (self.old.request.items ∷ []) (state_of self.old) (state_of self.new) }
+    {
+        if !self.request.is_empty() {
+            send(&mut self.down, &mut self.master_port, &self.request);
+        }
+    }
+}
+
+/// What a master asks, which stands in the channel's place of a request, goes down the channel. What it refused does nothing.
+fn send_asked(channel: &mut Channel, asked: &Result<(), AskFault>)
     requires { FRAGMENT_UNITS ≤ room_of channel.old.down }
     ensures { (answer : Result (List ℕ) AskFault) (request : Asked)
-        → MatchResult asked.now (λ octets. answer ≡ Ok octets.items) (λ fault. answer ≡ Err fault)
-        → IfOk asked.now (λ octets. IsRequest octets.items request)
+        → MatchResult asked.now (λ _. answer ≡ Ok channel.old.request.items) (λ fault. answer ≡ Err fault)
+        → OnOk asked.now (IsRequest channel.old.request.items request)
         → GoDown (request_of answer) (state_of channel.old) (state_of channel.new) }
 {
     match asked {
-        Ok(request) => channel.send_down(request.as_slice()),
+        Ok(()) => channel.send_request(),
         Err(_) => {}
     }
 }
@@ -137,7 +149,10 @@ impl<Q: Lanes, J: JournalStore, A: Book, B: Book> Parts<Q, J, A, B> {
     {
         let channel = &mut self.substations[usize::from(station)].channel;
         channel.reserve_down()?;
-        let asked = self.concentrator.ask_below(station, self.moment, task);
+        let request = &mut channel.request;
+        let asked = self
+            .concentrator
+            .ask_below_into(request, station, self.moment, task);
         send_asked(channel, &asked);
         Ok(())
     }
@@ -150,7 +165,9 @@ impl<Q: Lanes, J: JournalStore, A: Book, B: Book> Parts<Q, J, A, B> {
         ensures device { TellsDevice (⟦<Self as Stored>⟧.is_stopped self.old) (⟦<Self as Stored>⟧.is_stopped self.new) (result ≡ Err Cause.Device) }
     {
         self.above.reserve_down()?;
-        let asked = self.centre.ask(self.moment, task);
+        let asked = self
+            .centre
+            .ask_into(&mut self.above.request, self.moment, task);
         send_asked(&mut self.above, &asked);
         Ok(())
     }

@@ -13,7 +13,7 @@ use Rattle.dnp_decode.proofs.decoding.decode.Goals as goal
 pub fronts-init : goal.fronts-init
 fronts-init c =
     subst (λ (ls : List Line). SoFar c.args.stream.now 0 ls c.new-ports.result) (sym c.new-lines.ensures.items)
-    (so_far_none c.args.stream.now c.new-ports.result c.new-ports.ensures.empty)
+    (so_far_none c.a_push_goes_on.ensures.idle c.args.stream.now c.new-ports.result c.new-ports.ensures.empty)
 
 pub fronts-preserved : goal.fronts-preserved
 fronts-preserved c =

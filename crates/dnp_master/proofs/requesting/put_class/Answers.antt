@@ -2,7 +2,6 @@ use Rattle.std.proofs.Common.{refl, sym, ◌∙◌, subst}
 use Rattle.dnp_appfragment.specs.Built.{context_of}
 use Rattle.dnp_appfragment.specs.Headers.{Head, IsHeaderAt}
 use Rattle.dnp_appfragment.specs.Table.{form_of}
-use Rattle.dnp_appfragment.proofs.Places.{any_place}
 use Rattle.dnp_master.specs.Requests.{class_header}
 use Rattle.dnp_master.proofs.requesting.put_class.Goals as goal
 
@@ -11,4 +10,4 @@ put-requires-clause-fits c =
     let f = form_of c.args.builder.now.function in
     let before = context_of c.args.builder.now in
     subst (λ (h : Head). IsHeaderAt f before h) (sym c.new-header.ensures.value)
-    (any_place f before (class_header c.args.class) (c.requires.fits (sym c.has.ensures ∙ c.if-has.true)) refl refl)
+    (record { header = c.requires.fits (sym c.has.ensures ∙ c.if-has.true); common = refl; timed = λ relative. absurd (cc) })

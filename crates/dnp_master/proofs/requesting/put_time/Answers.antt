@@ -7,7 +7,6 @@ use Rattle.dnp_appfragment.specs.declared.header.Range.TheVariants as range
 use Rattle.dnp_appfragment.specs.Headers.{Head, head_of, IsHeader, IsHeaderAt}
 use Rattle.dnp_appfragment.specs.Built.{context_of}
 use Rattle.dnp_appfragment.specs.Table.{form_of}
-use Rattle.dnp_appfragment.proofs.Places.{any_place}
 use Rattle.dnp_master.proofs.RequestHeaders.{time_fits}
 use Rattle.dnp_master.proofs.requesting.put_time.Goals as goal
 
@@ -23,4 +22,5 @@ put-requires-clause-fits c =
     let before = context_of c.args.builder.now in
     let here : IsHeader form.Write (made octets) = subst (λ (xs : List ℕ). IsHeader form.Write (made xs)) (sym six) (time_fits c.args.time) in
     subst (λ (h : Head). IsHeaderAt (form_of c.args.builder.now.function) before h) (sym c.new-header.ensures.value)
-    (subst (λ (f : Form). IsHeaderAt f before (made octets)) (sym c.requires.function) (any_place form.Write before (made octets) here refl refl))
+    (subst (λ (f : Form). IsHeaderAt f before (made octets)) (sym c.requires.function)
+    (record { header = here; common = refl; timed = λ relative. absurd (cc) }))

@@ -5,7 +5,7 @@ pub returns-clause-opened : goal.returns-clause-opened
 returns-clause-opened c = opened_order
 
 pub returns-clause-received : goal.returns-clause-received
-returns-clause-received c = received_order
+returns-clause-received c = received_order c.octets_say_their_control_and_function.ensures.function
 
 pub returns-clause-ticked : goal.returns-clause-ticked
 returns-clause-ticked c = ticked_order

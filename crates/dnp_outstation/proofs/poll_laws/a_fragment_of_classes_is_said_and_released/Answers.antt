@@ -17,4 +17,4 @@ pub returns-clause-released : goal.returns-clause-released
 returns-clause-released c = reported_released
 
 pub returns-clause-confirmed : goal.returns-clause-confirmed
-returns-clause-confirmed c = confirms_report
+returns-clause-confirmed c = confirms_report c.octets_say_their_control_and_function.ensures.control

@@ -5,12 +5,14 @@ use Rattle.dnp_outstation.proofs.poll_laws.a_quiet_outstation_offers_its_events.
 
 offer_laws_of : goal.After-commands_are_performed_as_they_are_asked → OfferLaws
 offer_laws_of c = record {
+  is_control = c.octets_say_their_control_and_function.ensures.control;
   is_request = c.what_is_spelled_is_said.ensures.request;
   is_answer = c.a_release_takes_what_the_octets_said.ensures.read;
 }
 
 confirm_laws_of : goal.After-commands_are_performed_as_they_are_asked → ConfirmLaws
 confirm_laws_of c = record {
+  is_control = c.octets_say_their_control_and_function.ensures.control;
   releases = c.a_confirm_releases_what_its_fragment_reported.ensures.solicited;
   only = c.commands_are_performed_as_they_are_asked.ensures.only;
 }
@@ -23,4 +25,4 @@ pub returns-clause-confirmed : goal.returns-clause-confirmed
 returns-clause-confirmed c = releases_rows (confirm_laws_of c)
 
 pub returns-clause-again : goal.returns-clause-again
-returns-clause-again c = comes_again
+returns-clause-again c = comes_again c.octets_say_their_control_and_function.ensures.control

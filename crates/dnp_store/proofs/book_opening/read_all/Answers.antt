@@ -7,6 +7,7 @@ use Rattle.dnp_store.specs.steps.Shown.{ShowsCount}
 use Rattle.dnp_store.specs.steps.BookShown.{EntriesRise, ShowEntries, HoldsEntries}
 use Rattle.dnp_store.specs.declared.store_kind.StoreKind.TheVariants.{Book}
 use Rattle.dnp_store.proofs.BookOpening.{opened, sound_of_rise}
+use Rattle.dnp_store.proofs.Stepping.{step_then, step_as}
 use Rattle.dnp_store.proofs.book_opening.read_all.Goals as goal
 
 pub returns-clause-read : goal.returns-clause-read
@@ -36,3 +37,24 @@ returns-clause-sound g c =
     let last = c.in-Some.last_id in
     let rises : EntriesRise 0 last entries = search rules in
     sound_of_rise last entries rises
+
+pub returns-in_err-counts-clause-step : goal.returns-in_err-counts-clause-step
+returns-in_err-counts-clause-step g c =
+    let here = step_then g.S.Store c.args.tx.now.conn c.read_form.new.tx.conn c.read_counts.new.tx.conn _ _ c.in_ok-read_form.ensures.step
+    c.in_err-counts.ensures.step in
+    record { same_reference = here.same_reference; inside = search rules; kept = here.kept; survives = here.survives }
+
+pub returns-in_err-rows-clause-step : goal.returns-in_err-rows-clause-step
+returns-in_err-rows-clause-step g c =
+    let here = step_then g.S.Store c.args.tx.now.conn c.read_counts.new.tx.conn c.read_controls.new.tx.conn _ _ (step_then g.S.Store c.args.tx.now.conn
+    c.read_form.new.tx.conn c.read_counts.new.tx.conn _ _ c.in_ok-read_form.ensures.step
+    c.in_ok-counts.ensures.step)
+    c.in_err-rows.ensures.step in
+    record { same_reference = here.same_reference; inside = search rules; kept = here.kept; survives = here.survives }
+
+pub returns-clause-step : goal.returns-clause-step
+returns-clause-step g c =
+    step_as g.S.Store c.args.tx.now.conn c.read_controls.new.tx.conn _ _ (step_then g.S.Store c.args.tx.now.conn c.read_counts.new.tx.conn
+    c.read_controls.new.tx.conn _ _ (step_then g.S.Store c.args.tx.now.conn c.read_form.new.tx.conn c.read_counts.new.tx.conn _ _ c.in_ok-read_form.ensures.step
+    c.in_ok-counts.ensures.step)
+    c.in_ok-rows.ensures.step)

@@ -3,6 +3,7 @@ use Rattle.sqlite.specs.State.{HasCleanDisk}
 use Rattle.sqlite.specs.Held.{state}
 use Rattle.sqlite.specs.Effect.{Database, IsDatabase}
 use Rattle.dnp_store.specs.steps.BookShown.{FindsBook}
+use Rattle.dnp_store.proofs.Ending.{survives_undone, kept_undone}
 use Rattle.dnp_store.proofs.book_opening.read_book.Goals as goal
 
 pub returns-clause-read : goal.returns-clause-read
@@ -23,3 +24,31 @@ returns-clause-read g c clean ours =
     let sound : IsDatabase begun.now = subst IsDatabase (sym now_is) (c.is_of_three-ours.ensures.live is_open).0 in
     let schema = ap (λ (d : Database). d.schema) now_is ∙ c.is_of_three-ours.ensures.schema parts.0 in
     subst (λ (d : Database). FindsBook d c.read_all.new.entries.items c.in_ok-found.found.last_id) (now_is ∙ settled) (c.in_ok-found.ensures.read early parts.1 _ _ sound schema)
+
+pub returns-in_err-found-clause-survives : goal.returns-in_err-found-clause-survives
+returns-in_err-found-clause-survives g c =
+    let same : c.drop-tx.new.self.0 ≡ c.conn-1.given.0 = search rules in
+    survives_undone g.S.Store c.args.conn.now c.transaction-tx.result.conn.now c.read_all.new.tx.conn.now c.drop-tx.new.self.0 _
+    c.transaction-tx.ensures.begun same _
+    c.read_all.ensures.step.survives c.drop-tx.ensures.survives
+
+pub returns-in_err-found-clause-same : goal.returns-in_err-found-clause-same
+returns-in_err-found-clause-same g c =
+    let same : c.drop-tx.new.self.0 ≡ c.conn-1.given.0 = search rules in
+    kept_undone g.S.Store c.args.conn.now c.transaction-tx.result.conn.now c.read_all.new.tx.conn.now c.drop-tx.new.self.0 _ c.transaction-tx.ensures.begun
+    same _
+    c.read_all.ensures.step.kept c.drop-tx.ensures.undone c.drop-tx.ensures.survives
+
+pub returns-clause-survives : goal.returns-clause-survives
+returns-clause-survives g c =
+    let same : c.rollback.new.self.0 ≡ c.conn-2-1.given.0 = search rules in
+    survives_undone g.S.Store c.args.conn.now c.transaction-tx.result.conn.now c.read_all.new.tx.conn.now c.rollback.new.self.0 _
+    c.transaction-tx.ensures.begun same _
+    c.read_all.ensures.step.survives c.rollback.ensures.survives
+
+pub returns-clause-same : goal.returns-clause-same
+returns-clause-same g c =
+    let same : c.rollback.new.self.0 ≡ c.conn-2-1.given.0 = search rules in
+    kept_undone g.S.Store c.args.conn.now c.transaction-tx.result.conn.now c.read_all.new.tx.conn.now c.rollback.new.self.0 _ c.transaction-tx.ensures.begun
+    same _
+    c.read_all.ensures.step.kept c.rollback.ensures.undone c.rollback.ensures.survives

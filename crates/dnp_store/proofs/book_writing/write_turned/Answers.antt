@@ -12,6 +12,7 @@ use Rattle.dnp_store.proofs.Statements.{finished, survives_commit}
 use Rattle.dnp_store.proofs.BookStanding.{stands_if}
 use Rattle.dnp_store.specs.declared.store_kind.StoreKind.TheVariants.{Book}
 use Rattle.dnp_store.proofs.Refusing.{refused_inside, by_commit}
+use Rattle.dnp_store.proofs.Ending.{survives_undone, kept_undone, kept_unless}
 use Rattle.dnp_store.proofs.book_writing.write_turned.Goals as goal
 
 abbrev turned : Ledger → ℕ → Control → Ledger
@@ -68,3 +69,25 @@ returns-clause-refused g c clean =
     let early : HasCleanDisk (state g.S.Store mid) = omega (arith, late, c.commit.ensures.survives.clean) in
     by_commit g.S.Store Book c.args.conn.now c.transaction-tx.result.conn.now mid end _ c.commit.result c.transaction-tx.ensures.begun same
     c.turn.ensures.step.survives (c.in_ok-turn.ensures.step.inside early) (c.commit.ensures.err late)
+
+pub returns-in_err-turn-clause-survives : goal.returns-in_err-turn-clause-survives
+returns-in_err-turn-clause-survives g c =
+    let same : c.drop-tx.new.self.0 ≡ c.conn-1.given.0 = search rules in
+    survives_undone g.S.Store c.args.conn.now c.transaction-tx.result.conn.now c.turn.new.tx.conn.now c.drop-tx.new.self.0 _ c.transaction-tx.ensures.begun
+    same _
+    c.turn.ensures.step.survives c.drop-tx.ensures.survives
+
+pub returns-in_err-turn-clause-err : goal.returns-in_err-turn-clause-err
+returns-in_err-turn-clause-err g c clean opened =
+    let same : c.drop-tx.new.self.0 ≡ c.conn-1.given.0 = search rules in
+    let here = kept_undone g.S.Store c.args.conn.now c.transaction-tx.result.conn.now c.turn.new.tx.conn.now c.drop-tx.new.self.0 _
+    c.transaction-tx.ensures.begun same _
+    c.turn.ensures.step.kept c.drop-tx.ensures.undone c.drop-tx.ensures.survives clean opened in
+    search (rules, here)
+
+pub returns-clause-err : goal.returns-clause-err
+returns-clause-err g c clean opened =
+    let same : c.commit.new.self.0 ≡ c.conn-2-1.given.0 = search rules in
+    kept_unless g.S.Store c.args.conn.now c.transaction-tx.result.conn.now c.turn.new.tx.conn.now c.commit.new.self.0 _ c.transaction-tx.ensures.begun same _
+    c.commit.result
+    c.turn.ensures.step.kept c.commit.ensures.err c.commit.ensures.survives clean opened

@@ -7,6 +7,7 @@ use Rattle.dnp_store.specs.steps.Shown.{ShowsCount}
 use Rattle.dnp_store.specs.steps.JournalShown.{Finds, LogsMany}
 use Rattle.dnp_store.specs.declared.store_kind.StoreKind.TheVariants.{Journal}
 use Rattle.dnp_store.proofs.JournalOpening.{opened}
+use Rattle.dnp_store.proofs.Stepping.{step_then, step_as}
 use Rattle.dnp_store.proofs.journal_opening.read_all.Goals as goal
 
 pub returns-clause-read : goal.returns-clause-read
@@ -28,3 +29,24 @@ returns-clause-read g c clean counted f j sound has =
     let found : LogsMany old.now.trees logged.count last = subst (λ (d : Database). LogsMany d.trees logged.count last) same_2 (r3.1 last c.in-Some.ensures.over) in
     subst (λ (n : ℕ). Finds old.now last n) found.many (opened old.now f j found.events last has r1.1
     (subst (λ (d : Database). IsCounted (codes "journal") (d.trees 2) last) same_1 (r2.1 (codes "journal") last shows)) found.logs)
+
+pub returns-in_err-counts-clause-step : goal.returns-in_err-counts-clause-step
+returns-in_err-counts-clause-step g c =
+    let here = step_then g.S.Store c.args.tx.now.conn c.read_form.new.tx.conn c.read_counts.new.tx.conn _ _ c.in_ok-read_form.ensures.step
+    c.in_err-counts.ensures.step in
+    record { same_reference = here.same_reference; inside = search rules; kept = here.kept; survives = here.survives }
+
+pub returns-in_err-logged-clause-step : goal.returns-in_err-logged-clause-step
+returns-in_err-logged-clause-step g c =
+    let here = step_then g.S.Store c.args.tx.now.conn c.read_counts.new.tx.conn c.read_logged.new.tx.conn _ _ (step_then g.S.Store c.args.tx.now.conn
+    c.read_form.new.tx.conn c.read_counts.new.tx.conn _ _ c.in_ok-read_form.ensures.step
+    c.in_ok-counts.ensures.step)
+    c.in_err-logged.ensures.step in
+    record { same_reference = here.same_reference; inside = search rules; kept = here.kept; survives = here.survives }
+
+pub returns-clause-step : goal.returns-clause-step
+returns-clause-step g c =
+    step_as g.S.Store c.args.tx.now.conn c.read_logged.new.tx.conn _ _ (step_then g.S.Store c.args.tx.now.conn c.read_counts.new.tx.conn
+    c.read_logged.new.tx.conn _ _ (step_then g.S.Store c.args.tx.now.conn c.read_form.new.tx.conn c.read_counts.new.tx.conn _ _ c.in_ok-read_form.ensures.step
+    c.in_ok-counts.ensures.step)
+    c.in_ok-logged.ensures.step)

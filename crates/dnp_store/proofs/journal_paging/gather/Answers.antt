@@ -3,13 +3,13 @@ use Rattle.sqlite.specs.State.{HasCleanDisk}
 use Rattle.sqlite.specs.Held.{state}
 use Rattle.sqlite.specs.Effect.{Database, IsDatabase}
 use Rattle.dnp_store.specs.steps.JournalShown.{Gathers}
-use Rattle.dnp_store.proofs.Stepping.{step_then, step_as}
+use Rattle.dnp_store.proofs.Stepping.{step_none, step_then, step_as}
 use Rattle.dnp_store.proofs.JournalPaging.{none_yet}
 use Rattle.dnp_store.proofs.journal_paging.gather.Goals as goal
 
 pub loop-init : goal.loop-init
 loop-init g c = record {
-  step = search rules;
+  step = step_none g.S.Store c.args.tx.now.conn c.requires.inside;
   low = omega arith;
   few = omega arith;
   read = λ clean f j m sound has. (refl, none_yet _);
@@ -41,3 +41,13 @@ returns-then-more-so_far-clause-read g c clean f j m sound has =
     let was = c.loop.invariant.read early f j m sound has in
     let did = c.in_ok-more.ensures.read clean f j m (subst IsDatabase (sym was.0) sound) (ap (λ (d : Database). d.schema) was.0 ∙ has) in
     (did.0 ∙ was.0, was.1)
+
+pub returns-in_err-more-clause-step : goal.returns-in_err-more-clause-step
+returns-in_err-more-clause-step g c =
+    let here = step_then g.S.Store c.args.tx.now.conn c.loop.tx.conn c.read_more.new.tx.conn _ _ c.loop.invariant.step c.in_err-more.ensures.step in
+    record { same_reference = here.same_reference; inside = search rules; kept = here.kept; survives = here.survives }
+
+pub returns-then-more-so_far-clause-step : goal.returns-then-more-so_far-clause-step
+returns-then-more-so_far-clause-step g c =
+    step_as g.S.Store c.args.tx.now.conn c.read_more.new.tx.conn _ _
+    (step_then g.S.Store c.args.tx.now.conn c.loop.tx.conn c.read_more.new.tx.conn _ _ c.loop.invariant.step c.in_ok-more.ensures.step)

@@ -9,7 +9,7 @@ use Rattle.dnp_eventbuf.specs.Archive.{with_events}
 use Rattle.dnp_store.specs.JournalTables.{IsJournal}
 use Rattle.dnp_store.proofs.JournalHolding.{with-append, with-none}
 use Rattle.dnp_store.proofs.Blocks.{parted, all_done}
-use Rattle.dnp_store.proofs.Stepping.{step_then}
+use Rattle.dnp_store.proofs.Stepping.{step_none, step_then}
 use Rattle.dnp_store.specs.declared.store_kind.StoreKind.TheVariants.{Journal}
 use Rattle.dnp_store.proofs.Refusing.{refused_after}
 use Rattle.dnp_store.proofs.journal_writing.insert_all.Goals as goal
@@ -24,7 +24,7 @@ loop-block-init g c =
       done = [];
       parts = sym whole;
       events = subst (AllByRecursion IsEvent) (sym whole) (recursion_from_All IsEvent events c.requires.events);
-      step = search rules;
+      step = step_none g.S.Store c.args.tx.now.conn c.requires.inside;
       added = λ clean a held. subst (IsJournal start.now) (sym (with-none a)) held;
     }
 

@@ -4,8 +4,8 @@ use Rattle.sqlite.specs.State.{HasCleanDisk}
 use Rattle.sqlite.specs.Held.{state}
 use Rattle.dnp_eventbuf.specs.Archive.{with_events}
 use Rattle.dnp_store.specs.JournalTables.{IsJournal}
-use Rattle.dnp_store.proofs.JournalHolding.{with-append}
-use Rattle.dnp_store.proofs.Stepping.{step_then}
+use Rattle.dnp_store.proofs.JournalHolding.{with-append, with-none}
+use Rattle.dnp_store.proofs.Stepping.{step_then, step_none}
 use Rattle.dnp_store.specs.declared.store_kind.StoreKind.TheVariants.{Journal}
 use Rattle.dnp_store.proofs.Refusing.{refused_after}
 use Rattle.dnp_store.proofs.journal_writing.insert_each.Goals as goal
@@ -30,3 +30,17 @@ returns-in_err-insert-clause-refused g c clean =
     let here = refused_after g.S.Store Journal c.args.tx.now.conn.now c.loop-row.tx.conn.now c.insert.new.tx.conn.now _ c.loop-row.invariant.step.survives
     (c.in_err-insert.ensures.refused clean) in
     search (rules, here)
+
+pub returns-in_err-insert-clause-step : goal.returns-in_err-insert-clause-step
+returns-in_err-insert-clause-step g c =
+    let here = step_then g.S.Store c.args.tx.now.conn c.loop-row.tx.conn c.insert.new.tx.conn _ _ c.loop-row.invariant.step
+    c.in_err-insert.ensures.step in
+    record { same_reference = here.same_reference; inside = search rules; kept = here.kept; survives = here.survives }
+
+pub loop-row-init : goal.loop-row-init
+loop-row-init g c =
+    let start = state g.S.Store c.args.tx.now.conn.now in
+    record {
+      step = step_none g.S.Store c.args.tx.now.conn c.requires.inside;
+      added = λ clean a held. subst (IsJournal start.now) (sym (with-none a)) held;
+    }

@@ -1,8 +1,11 @@
-use Rattle.dnp_store.proofs.Once.{one_stock, one_archive, one_ledger}
+use Rattle.dnp_store.proofs.Once.{one_stock, one_archive, one_ledger, one_pair}
 use Rattle.dnp_store.proofs.laws.a_database_holds_one_content.Goals as goal
 
 pub returns-clause-stock : goal.returns-clause-stock
 returns-clause-stock c = one_stock
+
+pub returns-clause-sides : goal.returns-clause-sides
+returns-clause-sides c = one_pair
 
 pub returns-clause-archive : goal.returns-clause-archive
 returns-clause-archive c = one_archive

@@ -1,4 +1,4 @@
-use Rattle.std.proofs.Common.{◌≡◌, List, codes, IsPermutation, arith, sym, ap, subst, ◌∙◌}
+use Rattle.std.proofs.Common.{◌≡◌, List, codes, IsPermutation, arith, refl, sym, ap, subst, ◌∙◌, rules}
 use Rattle.sqlite.specs.State.{HasCleanDisk}
 use Rattle.sqlite.specs.Held.{state}
 use Rattle.sqlite.specs.Order.{Row}
@@ -33,11 +33,11 @@ returns-then-restore_rows-clause-read g c clean counted f q l sound has =
     let restores : Restores 0 rows a b = subst (λ (xs : List Row). Restores 0 xs a b) c.deref-4.ensures.value (c.restore_rows.ensures c.if-restore_rows.true) in
     let r1 = c.in_ok-read_form.ensures.read clean_1 Queue f q l sound has in
     let same_1 : one.now ≡ old.now = r1.0 in
-    let r2 = c.in_ok-figures.ensures.read clean_2 f q l (subst IsDatabase (sym same_1) sound) (ap (λ (d : Database). d.schema) same_1 ∙ has) in
+    let r2 = c.in_ok-figures.ensures.read clean_2 refl f q l (subst IsDatabase (sym same_1) sound) (ap (λ (d : Database). d.schema) same_1 ∙ has) in
     let same_2 : two.now ≡ old.now = r2.0 ∙ same_1 in
     let r3 = c.in_ok-counts.ensures.read clean_3 Queue f q l (subst IsDatabase (sym same_2) sound) (ap (λ (d : Database). d.schema) same_2 ∙ has) in
     let same_3 : three.now ≡ old.now = r3.0 ∙ same_2 in
-    let r4 = c.in_ok-rows.ensures.read clean f q l (subst IsDatabase (sym same_3) sound) (ap (λ (d : Database). d.schema) same_3 ∙ has) in
+    let r4 = c.in_ok-rows.ensures.read clean refl f q l (subst IsDatabase (sym same_3) sound) (ap (λ (d : Database). d.schema) same_3 ∙ has) in
     let put = r4.1 a b begun.nine (λ k low. ap (λ (lane : LaneState). lane.rows) (begun.lanes k low)) restores in
     opened old.now f q l figures a b n has r1.1 nine (subst (λ (d : Database). IsPermutation (figures_rows 0 figures) (d.trees 3)) same_1 r2.1)
     (subst (λ (d : Database). IsCounted (codes "queue") (d.trees 2) n) same_2 (r3.1 (codes "queue") n shows)) begun
@@ -53,3 +53,27 @@ returns-then-restore_rows-clause-step g c =
     let first = step_then g.S.Store old one two _ _ c.in_ok-read_form.ensures.step c.in_ok-figures.ensures.step in
     let second = step_then g.S.Store old two three _ _ first c.in_ok-counts.ensures.step in
     step_as g.S.Store old new _ _ (step_then g.S.Store old three new _ _ second c.in_ok-rows.ensures.step)
+
+pub returns-in_err-figures-clause-step : goal.returns-in_err-figures-clause-step
+returns-in_err-figures-clause-step g c =
+    let here = step_then g.S.Store c.args.tx.now.conn c.read_form.new.tx.conn c.read_figures.new.tx.conn _ _ c.in_ok-read_form.ensures.step
+    c.in_err-figures.ensures.step in
+    record { same_reference = here.same_reference; inside = search rules; kept = here.kept; survives = here.survives }
+
+pub returns-in_err-counts-clause-step : goal.returns-in_err-counts-clause-step
+returns-in_err-counts-clause-step g c =
+    let here = step_then g.S.Store c.args.tx.now.conn c.read_figures.new.tx.conn c.read_counts.new.tx.conn _ _ (step_then g.S.Store c.args.tx.now.conn
+    c.read_form.new.tx.conn c.read_figures.new.tx.conn _ _ c.in_ok-read_form.ensures.step
+    c.in_ok-figures.ensures.step)
+    c.in_err-counts.ensures.step in
+    record { same_reference = here.same_reference; inside = search rules; kept = here.kept; survives = here.survives }
+
+pub returns-in_err-rows-clause-step : goal.returns-in_err-rows-clause-step
+returns-in_err-rows-clause-step g c =
+    let here = step_then g.S.Store c.args.tx.now.conn c.read_counts.new.tx.conn c.read_queued.new.tx.conn _ _ (step_then g.S.Store c.args.tx.now.conn
+    c.read_figures.new.tx.conn c.read_counts.new.tx.conn _ _ (step_then g.S.Store c.args.tx.now.conn c.read_form.new.tx.conn c.read_figures.new.tx.conn _ _
+    c.in_ok-read_form.ensures.step
+    c.in_ok-figures.ensures.step)
+    c.in_ok-counts.ensures.step)
+    c.in_err-rows.ensures.step in
+    record { same_reference = here.same_reference; inside = search rules; kept = here.kept; survives = here.survives }

@@ -4,7 +4,7 @@ use Rattle.sqlite.specs.Held.{state}
 use Rattle.dnp_objects.specs.declared.limits.TheConstants.{LANES}
 use Rattle.dnp_store.specs.steps.Steps.{noted}
 use Rattle.dnp_store.proofs.Releasing.{note_step, lowered_step, none_raised}
-use Rattle.dnp_store.proofs.Stepping.{step_then}
+use Rattle.dnp_store.proofs.Stepping.{step_then, step_none}
 use Rattle.dnp_store.specs.declared.store_kind.StoreKind.TheVariants.{Queue}
 use Rattle.dnp_store.proofs.Refusing.{refused_after}
 use Rattle.dnp_store.proofs.queue_release.lower_all.Goals as goal
@@ -19,19 +19,19 @@ loop-number-preserved g c =
       lowered = λ clean.
           let early : HasCleanDisk mid = omega (arith, c.note.ensures.step.survives.clean) in
           let was = c.loop-number.invariant.lowered early in
-          λ s figures nine same held.
+          λ others s figures nine same held.
           let low : number < LANES = omega arith in
-          let so = was s figures nine same held in
-          let did = c.in_ok-note.ensures.noted clean s so.0 nine so.1 in (
+          let so = was others s figures nine same held in
+          let did = c.in_ok-note.ensures.noted clean others s so.0 nine so.1 in (
             noted so.0 number lost false,
-            note_step new.now s (noted so.0 number lost false) number lost nine low (c.lost_in.ensures ∙ sym (same number low)) did,
+            note_step c.args.side others new.now s (noted so.0 number lost false) number lost nine low (c.lost_in.ensures ∙ sym (same number low)) did,
             λ k k_low. lowered_step so.0 number lost (omega (arith, so.1.lanes.nine)) so.2 k (omega arith),
           );
     }
 
 pub returns-clause-lowered : goal.returns-clause-lowered
-returns-clause-lowered g c clean s figures nine same held =
-    let so = c.loop-number.invariant.lowered clean s figures nine same held in
+returns-clause-lowered g c clean others s figures nine same held =
+    let so = c.loop-number.invariant.lowered clean others s figures nine same held in
     let all : c.loop-number.number ≡ LANES = omega arith in
     (so.0, so.1, none_raised so.0 (λ k low. so.2 k (omega (arith, so.1.lanes.nine))))
 
@@ -40,3 +40,12 @@ returns-in_err-note-clause-refused g c clean =
     let here = refused_after g.S.Store Queue c.args.tx.now.conn.now c.loop-number.tx.conn.now c.note.new.tx.conn.now _ c.loop-number.invariant.step.survives
     (c.in_err-note.ensures.refused clean) in
     search (rules, here)
+
+pub returns-in_err-note-clause-step : goal.returns-in_err-note-clause-step
+returns-in_err-note-clause-step g c =
+    let here = step_then g.S.Store c.args.tx.now.conn c.loop-number.tx.conn c.note.new.tx.conn _ _ c.loop-number.invariant.step
+    c.in_err-note.ensures.step in
+    record { same_reference = here.same_reference; inside = search rules; kept = here.kept; survives = here.survives }
+
+pub loop-number-init : goal.loop-number-init
+loop-number-init g c = record { step = step_none g.S.Store c.args.tx.now.conn c.requires.inside; lowered = λ clean others s figures nine same held. (figures, held, λ k low. absurd (omega arith)) }

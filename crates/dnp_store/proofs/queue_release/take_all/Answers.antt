@@ -2,11 +2,11 @@ use Rattle.std.proofs.Common.{rules, ◌≡◌, ◌<◌, min, length, get_or, ar
 use Rattle.sqlite.specs.State.{HasCleanDisk}
 use Rattle.sqlite.specs.Held.{state}
 use Rattle.dnp_objects.specs.declared.limits.TheConstants.{LANES, MAX_ID}
-use Rattle.dnp_store.specs.QueueTables.{HoldsQueue}
+use Rattle.dnp_store.specs.steps.Pairs.{HoldsFor}
 use Rattle.dnp_store.specs.steps.Steps.{left, mixed}
 use Rattle.dnp_store.proofs.Releasing.{cut_step, nine_left}
 use Rattle.dnp_store.proofs.Trimming.{mixed_high, nine_mixed}
-use Rattle.dnp_store.proofs.Stepping.{step_then}
+use Rattle.dnp_store.proofs.Stepping.{step_then, step_none}
 use Rattle.dnp_store.specs.declared.store_kind.StoreKind.TheVariants.{Queue}
 use Rattle.dnp_store.proofs.Refusing.{refused_after}
 use Rattle.dnp_store.proofs.queue_release.take_all.Goals as goal
@@ -19,19 +19,20 @@ loop-number-preserved g c =
     let s = c.args.lanes.now in
     let upto = c.args.upto.now in
     let sound = c.requires.sound in record {
-      step = step_then g.S.Store c.args.tx.now.conn c.loop-number.tx.conn c.take_some.new.tx.conn _ _ c.loop-number.invariant.step c.in_ok-take_some.ensures.step;
+      step = step_then g.S.Store c.args.tx.now.conn c.loop-number.tx.conn c.take_some.new.tx.conn _ _ c.loop-number.invariant.step
+          c.in_ok-take_some.ensures.step;
       taken = λ clean.
           let early : HasCleanDisk mid = omega (arith, c.take_some.ensures.step.survives.clean) in
           let was = c.loop-number.invariant.taken early in
-          λ figures held.
+          λ others figures held.
           let nine_u : length upto ≡ LANES = search rules in
           let low : number < LANES = omega arith in
           let nine_b = nine_left s upto sound.nine in
           let nine : length (mixed number s (left s upto)).lanes ≡ LANES = nine_mixed number s (left s upto) sound.nine nine_b (omega arith) in
           let same = mixed_high number number s (left s upto) sound.nine nine_b (omega arith) low in
-          let did = c.in_ok-take_some.ensures.taken clean (mixed number s (left s upto)) figures nine same (was figures held) in
-          subst (λ n. HoldsQueue new.now (mixed n s (left s upto)) figures) (sym (add-one number))
-          (cut_step c.a_release_is_lane_by_lane.ensures new.now s upto figures number (min (get_or upto number 0) MAX_ID) sound nine_u low refl did);
+          let did = c.in_ok-take_some.ensures.taken clean others (mixed number s (left s upto)) figures nine same (was others figures held) in
+          subst (λ n. HoldsFor c.args.side others new.now (mixed n s (left s upto)) figures) (sym (add-one number))
+          (cut_step c.a_release_is_lane_by_lane.ensures c.args.side others new.now s upto figures number (min (get_or upto number 0) MAX_ID) sound nine_u low refl did);
     }
 
 pub returns-in_err-take_some-clause-refused : goal.returns-in_err-take_some-clause-refused
@@ -39,3 +40,12 @@ returns-in_err-take_some-clause-refused g c clean =
     let here = refused_after g.S.Store Queue c.args.tx.now.conn.now c.loop-number.tx.conn.now c.take_some.new.tx.conn.now _ c.loop-number.invariant.step.survives
     (c.in_err-take_some.ensures.refused clean) in
     search (rules, here)
+
+pub returns-in_err-take_some-clause-step : goal.returns-in_err-take_some-clause-step
+returns-in_err-take_some-clause-step g c =
+    let here = step_then g.S.Store c.args.tx.now.conn c.loop-number.tx.conn c.take_some.new.tx.conn _ _ c.loop-number.invariant.step
+    c.in_err-take_some.ensures.step in
+    record { same_reference = here.same_reference; inside = search rules; kept = here.kept; survives = here.survives }
+
+pub loop-number-init : goal.loop-number-init
+loop-number-init g c = record { step = step_none g.S.Store c.args.tx.now.conn c.requires.inside; taken = λ clean others figures held. held }

@@ -3,49 +3,60 @@ use Rattle.std.specs.Prelude.{OnOk}
 use Rattle.sqlite.specs.State.{HasCleanDisk, Survives}
 use Rattle.sqlite.specs.Held.{state}
 use Rattle.sqlite.specs.Tree.{Trees}
+use Rattle.dnp_eventbuf.specs.Stock.{Stock}
 use Rattle.dnp_store.specs.steps.Steps.{released}
 use Rattle.dnp_store.specs.Kept.{Stands}
-use Rattle.dnp_store.specs.QueueTables.{IsQueue, HoldsStock}
+use Rattle.dnp_store.specs.PairTables.{IsPair, HoldsPair}
+use Rattle.dnp_store.specs.steps.Pairs.{sides_of}
+use Rattle.dnp_store.proofs.PairSides.{for_of, pair_of}
 use Rattle.dnp_store.proofs.Statements.{finished, survives_commit}
 use Rattle.dnp_store.proofs.Standing.{stands_if}
 use Rattle.dnp_store.specs.declared.store_kind.StoreKind.TheVariants.{Queue}
 use Rattle.dnp_store.proofs.Refusing.{refused_inside, by_commit}
+use Rattle.dnp_store.proofs.Ending.{survives_undone, kept_undone, kept_unless}
 use Rattle.dnp_store.proofs.queue_release.write_release.Goals as goal
 
-done : (g : _) (c : goal.After-conn-2-1 g) → HasCleanDisk (state g.S.Store c.release_in.new.tx.conn.now)
-    → Stands (state g.S.Store c.args.conn.now) c.args.lanes.now
-    → IsQueue (state g.S.Store c.release_in.new.tx.conn.now).now (released c.args.lanes.now c.args.upto.now c.args.lower)
-done g c clean stood =
+-- the lanes on the side, before and after
+done : (g : _) (c : goal.After-conn-2-1 g) → HasCleanDisk (state g.S.Store c.release_in.new.tx.conn.now) → (others : Stock)
+    → Stands (state g.S.Store c.args.conn.now) (sides_of c.args.side c.args.lanes.now others)
+    → IsPair (state g.S.Store c.release_in.new.tx.conn.now).now (sides_of c.args.side (released c.args.lanes.now c.args.upto.now c.args.lower) others)
+done g c clean others stood =
     let old = state g.S.Store c.args.conn.now in
     let begun = state g.S.Store c.transaction-tx.result.conn.now in
+    let new = state g.S.Store c.release_in.new.tx.conn.now in
+    let s = c.args.lanes.now in
     let idle : IsTrue c.is_autocommit.result = c.is_autocommit.ensures.value ∙ ap not c.requires.idle in
     let same : begun.now ≡ old.committed = ap (λ h. (state g.S.Store h).now) c.transaction-tx.ensures.begun
     ∙ c.is_autocommit.ensures.settled idle stood.is_open in
-    c.in_ok-release_in.ensures.released clean (subst (λ d. IsQueue d c.args.lanes.now) (sym same) stood.holds)
+    pair_of c.args.side others (released s c.args.upto.now c.args.lower) new.now (c.in_ok-release_in.ensures.released clean others
+    (for_of c.args.side others s begun.now (subst (λ d. IsPair d (sides_of c.args.side s others)) (sym same) stood.holds)))
 
 pub returns-clause-ok : goal.returns-clause-ok
-returns-clause-ok g c clean stood =
+returns-clause-ok g c clean others stood =
     let mid = state g.S.Store c.release_in.new.tx.conn.now in
     let end = state g.S.Store c.commit.new.self.0 in
-    let b = released c.args.lanes.now c.args.upto.now c.args.lower in
+    let b = sides_of c.args.side (released c.args.lanes.now c.args.upto.now c.args.lower) others in
     let same : c.commit.new.self.0 ≡ c.conn-2-1.given.0 = search rules in
     let late : HasCleanDisk end = subst (λ h. HasCleanDisk (state g.S.Store h)) (sym same) clean in
     let early : HasCleanDisk mid = omega (arith, late, c.commit.ensures.survives.clean) in
     subst (λ h. OnOk c.commit.result (Stands (state g.S.Store h) b)) same
-    (stands_if end b c.commit.result (finished _ _ mid end (λ d. IsQueue d b) c.commit.result (done g c early stood) (c.commit.ensures.ok late)))
+    (stands_if end b c.commit.result (finished _ _ mid end (λ d. IsPair d b) c.commit.result (done g c early others stood) (c.commit.ensures.ok late)))
 
 pub returns-clause-survives : goal.returns-clause-survives
 returns-clause-survives g c =
+    let begun = state g.S.Store c.transaction-tx.result.conn.now in
     let mid = state g.S.Store c.release_in.new.tx.conn.now in
     let end = state g.S.Store c.commit.new.self.0 in
-    let b = released c.args.lanes.now c.args.upto.now c.args.lower in
+    let side = c.args.side in
+    let s = c.args.lanes.now in
     let old = c.args.conn.now in
-    let P = λ (db : Trees). Stands (state g.S.Store old) c.args.lanes.now → HoldsStock db b in
+    let P = λ (db : Trees). (others : Stock) → Stands (state g.S.Store old) (sides_of side s others)
+    → HoldsPair db (sides_of side (released s c.args.upto.now c.args.lower) others) in
     let same : c.commit.new.self.0 ≡ c.conn-2-1.given.0 = search rules in
     subst (λ h. Survives (state g.S.Store old) (state g.S.Store h) P) same
     (survives_commit g.S.Store old c.transaction-tx.result.conn.now mid end P c.transaction-tx.ensures.begun
     c.release_in.ensures.step.survives c.commit.ensures.survives
-    (λ clean stood. (let early : HasCleanDisk mid = omega (arith, clean, c.commit.ensures.survives.clean) in (done g c early stood).holds)))
+    (λ clean others stood. (let early : HasCleanDisk mid = omega (arith, clean, c.commit.ensures.survives.clean) in (done g c early others stood).holds)))
 
 pub returns-in_err-release_in-clause-refused : goal.returns-in_err-release_in-clause-refused
 returns-in_err-release_in-clause-refused g c clean =
@@ -65,3 +76,25 @@ returns-clause-refused g c clean =
     let early : HasCleanDisk (state g.S.Store mid) = omega (arith, late, c.commit.ensures.survives.clean) in
     by_commit g.S.Store Queue c.args.conn.now c.transaction-tx.result.conn.now mid end _ c.commit.result c.transaction-tx.ensures.begun same
     c.release_in.ensures.step.survives (c.in_ok-release_in.ensures.step.inside early) (c.commit.ensures.err late)
+
+pub returns-in_err-release_in-clause-survives : goal.returns-in_err-release_in-clause-survives
+returns-in_err-release_in-clause-survives g c =
+    let same : c.drop-tx.new.self.0 ≡ c.conn-1.given.0 = search rules in
+    survives_undone g.S.Store c.args.conn.now c.transaction-tx.result.conn.now c.release_in.new.tx.conn.now c.drop-tx.new.self.0 _
+    c.transaction-tx.ensures.begun same _
+    c.release_in.ensures.step.survives c.drop-tx.ensures.survives
+
+pub returns-in_err-release_in-clause-err : goal.returns-in_err-release_in-clause-err
+returns-in_err-release_in-clause-err g c clean opened =
+    let same : c.drop-tx.new.self.0 ≡ c.conn-1.given.0 = search rules in
+    let here = kept_undone g.S.Store c.args.conn.now c.transaction-tx.result.conn.now c.release_in.new.tx.conn.now c.drop-tx.new.self.0 _
+    c.transaction-tx.ensures.begun same _
+    c.release_in.ensures.step.kept c.drop-tx.ensures.undone c.drop-tx.ensures.survives clean opened in
+    search (rules, here)
+
+pub returns-clause-err : goal.returns-clause-err
+returns-clause-err g c clean opened =
+    let same : c.commit.new.self.0 ≡ c.conn-2-1.given.0 = search rules in
+    kept_unless g.S.Store c.args.conn.now c.transaction-tx.result.conn.now c.release_in.new.tx.conn.now c.commit.new.self.0 _ c.transaction-tx.ensures.begun
+    same _ c.commit.result
+    c.release_in.ensures.step.kept c.commit.ensures.err c.commit.ensures.survives clean opened

@@ -1,4 +1,4 @@
-use Rattle.std.proofs.Common.{Ok, length-set, map, ap, sym, subst, ◌∙◌, arith, rules, refl}
+use Rattle.std.proofs.Common.{Ok, length-set, map, ap, sym, subst, ◌∙◌, arith, rules, subst₂}
 use Rattle.std.proofs.lemmas.List.{take_all}
 use Rattle.std.proofs.lemmas.List.Elements.{recursion_from_All}
 use Rattle.sqlite.specs.Values.{bound}
@@ -9,9 +9,10 @@ use Rattle.dnp_store.specs.steps.Steps.{cells_of}
 use Rattle.dnp_store.proofs.QueueStatements.{insert_params}
 use Rattle.dnp_store.proofs.Holding.{queued_for}
 use Rattle.dnp_store.proofs.Sixteen.{given_all, given_more}
-use Rattle.dnp_store.proofs.QueueMany.{insert_text_16, holds_16}
+use Rattle.dnp_store.proofs.QueueMany.{holds_16}
 use Rattle.dnp_store.specs.declared.store_kind.StoreKind.TheVariants.{Queue}
-use Rattle.dnp_store.proofs.Refusing.{by_statement}
+use Rattle.dnp_store.specs.Texts.{IsOwn}
+use Rattle.dnp_store.proofs.Refusing.{by_statement, own_insert_16}
 use Rattle.dnp_store.proofs.queue_statements.insert_many.Goals as goal
 
 pub loop-number-preserved : goal.loop-number-preserved
@@ -28,7 +29,7 @@ loop-number-preserved g c =
     }
 
 pub returns-clause-added : goal.returns-clause-added
-returns-clause-added g c clean s figures nine holds =
+returns-clause-added g c clean others s figures nine holds =
     let old = state g.S.Store c.args.tx.now.conn.now in
     let new = state g.S.Store c.execute.new.self.conn.now in
     let early : HasCleanDisk old = omega (arith, c.execute.ensures.survives.clean) in
@@ -40,12 +41,13 @@ returns-clause-added g c clean s figures nine holds =
     let given = given_all (queued_for 0) xs c.loop-number.given
     (ap (map bound) (sym cells) ∙ all.given ∙ ap (map (λ x. insert_params (queued_for 0 x))) rows) in
     let ran = c.in_ok-execute.ensures.runs clean (c.requires.inside early) in
-    holds_16 old new s figures xs c.in_ok-execute.field-0 nine c.requires.sixteen (recursion_from_All IsCarried xs c.requires.carried)
-    (subst (λ ps. Executes insert_text_16 ps old new (Ok c.in_ok-execute.field-0)) (ap bound c.as_flattened.ensures.value ∙ given) ran.0) holds
+    holds_16 c.args.side old new others s figures xs c.in_ok-execute.field-0 nine c.requires.sixteen (recursion_from_All IsCarried xs c.requires.carried)
+    (subst₂ (λ sql ps. Executes sql ps old new (Ok c.in_ok-execute.field-0)) c.insert_16_text.ensures (ap bound c.as_flattened.ensures.value ∙ given) ran.0) holds
 
 pub returns-in_err-execute-clause-refused : goal.returns-in_err-execute-clause-refused
 returns-in_err-execute-clause-refused g c clean =
     let early : HasCleanDisk (state g.S.Store c.args.tx.now.conn.now) = omega (arith, clean, c.execute.ensures.survives.clean) in
-    let here = by_statement g.S.Store Queue c.args.tx.now.conn.now c.execute.new.self.conn.now _ _ _ (1, refl) (c.requires.inside early)
+    let here = by_statement g.S.Store Queue c.args.tx.now.conn.now c.execute.new.self.conn.now _ _ _
+    (subst (IsOwn Queue) (sym c.insert_16_text.ensures) (own_insert_16 c.args.side)) (c.requires.inside early)
     (c.in_err-execute.ensures.runs clean (c.requires.inside early)) in
     search (rules, here)

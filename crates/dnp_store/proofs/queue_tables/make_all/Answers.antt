@@ -4,6 +4,7 @@ use Rattle.sqlite.specs.Held.{state}
 use Rattle.dnp_store.specs.steps.Making.{HasLanes, fresh}
 use Rattle.dnp_store.specs.declared.store_kind.StoreKind.TheVariants.{Queue}
 use Rattle.dnp_store.proofs.Refusing.{refused_after}
+use Rattle.dnp_store.proofs.Stepping.{step_then}
 use Rattle.dnp_store.proofs.queue_tables.make_all.Goals as goal
 
 pub returns-clause-made : goal.returns-clause-made
@@ -40,3 +41,32 @@ returns-in_err-keep_probe-clause-refused g c clean =
     (refused_after g.S.Store Queue c.make_lanes.new.tx.conn.now c.put_lanes.new.tx.conn.now c.keep_probe.new.tx.conn.now _ c.put_lanes.ensures.step.survives
     (c.in_err-keep_probe.ensures.refused clean Queue))) in
     search (rules, here)
+
+pub returns-in_err-make_lanes-clause-step : goal.returns-in_err-make_lanes-clause-step
+returns-in_err-make_lanes-clause-step g c =
+    let here = (step_then g.S.Store c.args.tx.now.conn c.make_tables.new.tx.conn c.make_lanes.new.tx.conn _ _ c.make_tables.ensures.step
+    c.in_err-make_lanes.ensures.step) in
+    record { same_reference = here.same_reference; inside = search rules; kept = here.kept; survives = here.survives }
+
+pub returns-in_err-put_lanes-clause-step : goal.returns-in_err-put_lanes-clause-step
+returns-in_err-put_lanes-clause-step g c =
+    let here = (step_then g.S.Store c.args.tx.now.conn c.make_tables.new.tx.conn c.put_lanes.new.tx.conn _ _ c.make_tables.ensures.step
+    (step_then g.S.Store c.make_tables.new.tx.conn c.make_lanes.new.tx.conn c.put_lanes.new.tx.conn _ _ c.make_lanes.ensures.step
+    c.in_err-put_lanes.ensures.step)) in
+    record { same_reference = here.same_reference; inside = search rules; kept = here.kept; survives = here.survives }
+
+pub returns-in_err-keep_probe-clause-step : goal.returns-in_err-keep_probe-clause-step
+returns-in_err-keep_probe-clause-step g c =
+    let here = (step_then g.S.Store c.args.tx.now.conn c.make_tables.new.tx.conn c.keep_probe.new.tx.conn _ _ c.make_tables.ensures.step
+    (step_then g.S.Store c.make_tables.new.tx.conn c.make_lanes.new.tx.conn c.keep_probe.new.tx.conn _ _ c.make_lanes.ensures.step
+    (step_then g.S.Store c.make_lanes.new.tx.conn c.put_lanes.new.tx.conn c.keep_probe.new.tx.conn _ _ c.put_lanes.ensures.step
+    c.in_err-keep_probe.ensures.step))) in
+    record { same_reference = here.same_reference; inside = search rules; kept = here.kept; survives = here.survives }
+
+pub returns-clause-step : goal.returns-clause-step
+returns-clause-step g c =
+    let here = (step_then g.S.Store c.args.tx.now.conn c.make_tables.new.tx.conn c.keep_probe.new.tx.conn _ _ c.make_tables.ensures.step
+    (step_then g.S.Store c.make_tables.new.tx.conn c.make_lanes.new.tx.conn c.keep_probe.new.tx.conn _ _ c.make_lanes.ensures.step
+    (step_then g.S.Store c.make_lanes.new.tx.conn c.put_lanes.new.tx.conn c.keep_probe.new.tx.conn _ _ c.put_lanes.ensures.step
+    c.in_ok-keep_probe.ensures.step))) in
+    record { same_reference = here.same_reference; inside = here.inside; kept = here.kept; survives = here.survives }

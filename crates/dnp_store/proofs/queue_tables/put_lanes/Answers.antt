@@ -5,7 +5,7 @@ use Rattle.sqlite.specs.Held.{state}
 use Rattle.dnp_objects.specs.declared.limits.TheConstants.{LANES}
 use Rattle.dnp_store.specs.steps.Making.{HasLanes, fresh}
 use Rattle.dnp_store.proofs.Filling.{length_fresh}
-use Rattle.dnp_store.proofs.Stepping.{step_then}
+use Rattle.dnp_store.proofs.Stepping.{step_then, step_none}
 use Rattle.dnp_store.specs.declared.store_kind.StoreKind.TheVariants.{Queue}
 use Rattle.dnp_store.proofs.Refusing.{refused_after}
 use Rattle.dnp_store.proofs.queue_tables.put_lanes.Goals as goal
@@ -35,3 +35,12 @@ returns-in_err-put_lane-clause-refused g c clean =
     let here = refused_after g.S.Store Queue c.args.tx.now.conn.now c.loop-number.tx.conn.now c.put_lane.new.tx.conn.now _ c.loop-number.invariant.step.survives
     (c.in_err-put_lane.ensures.refused clean) in
     search (rules, here)
+
+pub returns-in_err-put_lane-clause-step : goal.returns-in_err-put_lane-clause-step
+returns-in_err-put_lane-clause-step g c =
+    let here = step_then g.S.Store c.args.tx.now.conn c.loop-number.tx.conn c.put_lane.new.tx.conn _ _ c.loop-number.invariant.step
+    c.in_err-put_lane.ensures.step in
+    record { same_reference = here.same_reference; inside = search rules; kept = here.kept; survives = here.survives }
+
+pub loop-number-init : goal.loop-number-init
+loop-number-init g c = record { step = step_none g.S.Store c.args.tx.now.conn c.requires.inside; made = λ clean has. has }

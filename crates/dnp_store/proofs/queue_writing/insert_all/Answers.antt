@@ -5,11 +5,11 @@ use Rattle.sqlite.specs.State.{HasCleanDisk}
 use Rattle.sqlite.specs.Held.{state}
 use Rattle.dnp_objects.specs.declared.lane.LaneRow.{LaneRow}
 use Rattle.dnp_eventbuf.specs.Carried.{IsCarried}
-use Rattle.dnp_store.specs.QueueTables.{HoldsQueue}
+use Rattle.dnp_store.specs.steps.Pairs.{HoldsFor}
 use Rattle.dnp_store.specs.steps.Steps.{all_added}
 use Rattle.dnp_store.proofs.Appending.{added-append, nine_added}
 use Rattle.dnp_store.proofs.Blocks.{parted, all_done}
-use Rattle.dnp_store.proofs.Stepping.{step_then}
+use Rattle.dnp_store.proofs.Stepping.{step_none, step_then}
 use Rattle.dnp_store.specs.declared.store_kind.StoreKind.TheVariants.{Queue}
 use Rattle.dnp_store.proofs.Refusing.{refused_after}
 use Rattle.dnp_store.proofs.queue_writing.insert_all.Goals as goal
@@ -23,8 +23,8 @@ loop-block-init g c =
       done = [];
       parts = sym whole;
       carried = subst (AllByRecursion IsCarried) (sym whole) (recursion_from_All IsCarried rows c.requires.carried);
-      step = search rules;
-      added = λ clean s figures nine held. held;
+      step = step_none g.S.Store c.args.tx.now.conn c.requires.inside;
+      added = λ clean others s figures nine held. held;
     }
 
 pub insert_block-requires : goal.insert_block-requires
@@ -49,18 +49,18 @@ loop-block-preserved g c =
       step = step_then g.S.Store c.args.tx.now.conn c.loop-block.tx.conn c.insert_block.new.tx.conn _ _ so_far.step c.in_ok-insert_block.ensures.step;
       added = λ clean.
           let early : HasCleanDisk mid = omega (arith, c.insert_block.ensures.step.survives.clean) in
-          λ s figures nine held.
-          let did = c.in_ok-insert_block.ensures.added clean (all_added s so_far.done) figures (nine_added s so_far.done ∙ nine)
-          (so_far.added early s figures nine held) in
-          subst (λ t. HoldsQueue new.now t figures) (sym (added-append s so_far.done block)) did;
+          λ others s figures nine held.
+          let did = c.in_ok-insert_block.ensures.added clean others (all_added s so_far.done) figures (nine_added s so_far.done ∙ nine)
+          (so_far.added early others s figures nine held) in
+          subst (λ t. HoldsFor c.args.side others new.now t figures) (sym (added-append s so_far.done block)) did;
     }
 
 pub returns-clause-added : goal.returns-clause-added
-returns-clause-added g c clean s figures nine held =
+returns-clause-added g c clean others s figures nine held =
     let now = state g.S.Store c.loop-block.tx.conn.now in
     let so_far = c.loop-block.invariant in
     let all = all_done c.args.rows.now so_far.done c.loop-block.block-iterator.rest.now so_far.parts (c.in-None.ensures).steps.1.0 in
-    subst (λ xs. HoldsQueue now.now (all_added s xs) figures) all (so_far.added clean s figures nine held)
+    subst (λ xs. HoldsFor c.args.side others now.now (all_added s xs) figures) all (so_far.added clean others s figures nine held)
 
 pub returns-in_err-insert_block-clause-refused : goal.returns-in_err-insert_block-clause-refused
 returns-in_err-insert_block-clause-refused g c clean =

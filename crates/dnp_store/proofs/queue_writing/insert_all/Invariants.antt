@@ -6,7 +6,8 @@ use Rattle.dnp_objects.specs.declared.limits.TheConstants.{LANES}
 use Rattle.dnp_objects.specs.declared.lane.LaneRow.{LaneRow}
 use Rattle.dnp_eventbuf.specs.Carried.{IsCarried}
 use Rattle.dnp_eventbuf.specs.Stock.{Stock}
-use Rattle.dnp_store.specs.QueueTables.{Figures, HoldsQueue}
+use Rattle.dnp_store.specs.QueueTables.{Figures}
+use Rattle.dnp_store.specs.steps.Pairs.{HoldsFor}
 use Rattle.dnp_store.specs.steps.Steps.{all_added}
 use Rattle.dnp_store.proofs.Stepping.{AreSteps}
 use Rattle.dnp_store.proofs.queue_writing.insert_all.Given as goal
@@ -22,6 +23,6 @@ invariant-loop-block g l =
       parts : l.rows ≡ done ++ rest;
       carried : AllByRecursion IsCarried rest;
       step : AreSteps g.S.Store l.fn.tx.conn l.tx.conn;
-      added : HasCleanDisk now → (s : Stock) (figures : List Figures) → length s.lanes ≡ LANES → HoldsQueue old.now s figures
-          → HoldsQueue now.now (all_added s done) figures;
+      added : HasCleanDisk now → (others s : Stock) (figures : List Figures) → length s.lanes ≡ LANES → HoldsFor l.side others old.now s figures
+          → HoldsFor l.side others now.now (all_added s done) figures;
     }

@@ -2,12 +2,12 @@ use Rattle.std.proofs.Common.{rules, ◌≡◌, ◌+◌, ◌++◌, [], ◌∷◌
 use Rattle.std.proofs.lemmas.List.{take_more}
 use Rattle.sqlite.specs.State.{HasCleanDisk}
 use Rattle.sqlite.specs.Held.{state}
-use Rattle.dnp_store.specs.QueueTables.{HoldsQueue}
+use Rattle.dnp_store.specs.steps.Pairs.{HoldsFor}
 use Rattle.dnp_store.specs.steps.Steps.{all_added}
 use Rattle.dnp_store.proofs.Appending.{added-push, nine_added}
 use Rattle.dnp_store.specs.declared.store_kind.StoreKind.TheVariants.{Queue}
 use Rattle.dnp_store.proofs.Refusing.{refused_after}
-use Rattle.dnp_store.proofs.Stepping.{step_then}
+use Rattle.dnp_store.proofs.Stepping.{step_then, step_none}
 use Rattle.dnp_store.proofs.queue_writing.insert_each.Goals as goal
 
 pub loop-x-preserved : goal.loop-x-preserved
@@ -18,11 +18,11 @@ loop-x-preserved g c =
       added = λ clean.
           let early : HasCleanDisk mid = omega (arith, c.insert.ensures.step.survives.clean) in
           let was = c.loop-x.invariant.added early in
-          λ s figures nine held.
+          λ others s figures nine held.
           let before = take c.loop-x.x-index c.args.rows.now in
           let more : take (c.loop-x.x-index + 1) c.args.rows.now ≡ before ++ c.x-item.result ∷ [] = search (rules, take_more) in
-          let did = c.in_ok-insert.ensures.added clean (all_added s before) figures (nine_added s before ∙ nine) (was s figures nine held) in
-          subst (λ t. HoldsQueue new.now t figures) (sym (ap (all_added s) more ∙ added-push s before _)) did;
+          let did = c.in_ok-insert.ensures.added clean others (all_added s before) figures (nine_added s before ∙ nine) (was others s figures nine held) in
+          subst (λ t. HoldsFor c.args.side others new.now t figures) (sym (ap (all_added s) more ∙ added-push s before _)) did;
     }
 
 pub returns-in_err-insert-clause-refused : goal.returns-in_err-insert-clause-refused
@@ -30,3 +30,12 @@ returns-in_err-insert-clause-refused g c clean =
     let here = refused_after g.S.Store Queue c.args.tx.now.conn.now c.loop-x.tx.conn.now c.insert.new.tx.conn.now _ c.loop-x.invariant.step.survives
     (c.in_err-insert.ensures.refused clean) in
     search (rules, here)
+
+pub returns-in_err-insert-clause-step : goal.returns-in_err-insert-clause-step
+returns-in_err-insert-clause-step g c =
+    let here = step_then g.S.Store c.args.tx.now.conn c.loop-x.tx.conn c.insert.new.tx.conn _ _ c.loop-x.invariant.step
+    c.in_err-insert.ensures.step in
+    record { same_reference = here.same_reference; inside = search rules; kept = here.kept; survives = here.survives }
+
+pub loop-x-init : goal.loop-x-init
+loop-x-init g c = record { step = step_none g.S.Store c.args.tx.now.conn c.requires.inside; added = λ clean others s figures nine held. held }

@@ -8,16 +8,17 @@ use Rattle.dnp_store.specs.steps.Steps.{over, cut, IsTrimmed}
 use Rattle.dnp_store.proofs.Trimming.{trimmed_none, trimmed_some, lost_low, id_low}
 use Rattle.dnp_store.specs.declared.store_kind.StoreKind.TheVariants.{Queue}
 use Rattle.dnp_store.proofs.Refusing.{refused_after}
+use Rattle.dnp_store.proofs.Stepping.{step_then}
 use Rattle.dnp_store.proofs.queue_writing.trim.Goals as goal
 
 pub returns-then-over-eq0-clause-trimmed : goal.returns-then-over-eq0-clause-trimmed
-returns-then-over-eq0-clause-trimmed g c clean raised h =
+returns-then-over-eq0-clause-trimmed g c clean others raised h =
     let s = c.args.lanes.now in
     let rows = c.args.rows.now in
     let db = (state g.S.Store c.args.tx.now.conn.now).now in
     let none : over s rows c.args.number ≡ 0 = search rules in
-    subst (λ n. IsTrimmed db s rows raised n) (sym (add-one c.args.number))
-    (trimmed_none c.a_lane_keeps_its_latest_rows.ensures s rows c.args.number c.requires.sound c.requires.number c.requires.after.nine db raised none h)
+    subst (λ n. IsTrimmed c.args.side others db s rows raised n) (sym (add-one c.args.number))
+    (trimmed_none c.a_lane_keeps_its_latest_rows.ensures s rows c.args.number c.requires.sound c.requires.number c.requires.after.nine c.args.side others db raised none h)
 
 pub overflow_add-lost : goal.overflow_add-lost
 overflow_add-lost g c =
@@ -37,7 +38,7 @@ take-requires-clause-upto g c =
     omega (arith, most)
 
 pub returns-clause-trimmed : goal.returns-clause-trimmed
-returns-clause-trimmed g c clean raised h =
+returns-clause-trimmed g c clean others raised h =
     let s = c.args.lanes.now in
     let rows = c.args.rows.now in
     let number = c.args.number in
@@ -52,13 +53,23 @@ returns-clause-trimmed g c clean raised h =
     let there = ap (λ n. option_map (λ (x : Numbered). x.id) (slice_get ((lane_at s number).rows ++ numbered_for number s.last_id rows) (n - 1)))
     (sym c.drops_in-over.ensures) ∙ sym c.id_at.ensures ∙ at in
     let sum : lost ≡ (lane_at s number).lost + over s rows number = omega (arith, c.lost_in.ensures, c.drops_in-over.ensures) in
-    subst (λ n. IsTrimmed new.now s rows raised n) (sym (add-one number))
-    (trimmed_some c.a_lane_keeps_its_latest_rows.ensures s rows number c.requires.sound c.requires.number c.requires.after.nine old.now new.now raised upto lost some there sum
-    (λ t fs nine held. c.in_ok-note.ensures.noted clean (cut t number upto) fs (length-set t.lanes number (above upto (lane_at t number)) ∙ nine)
-    (c.in_ok-take.ensures.cut early t fs nine held)) h)
+    subst (λ n. IsTrimmed c.args.side others new.now s rows raised n) (sym (add-one number))
+    (trimmed_some c.a_lane_keeps_its_latest_rows.ensures s rows number c.requires.sound c.requires.number c.requires.after.nine c.args.side others old.now new.now raised upto lost some there sum
+    (λ t fs nine held. c.in_ok-note.ensures.noted clean others (cut t number upto) fs (length-set t.lanes number (above upto (lane_at t number)) ∙ nine)
+    (c.in_ok-take.ensures.cut early others t fs nine held)) h)
 
 pub returns-in_err-note-clause-refused : goal.returns-in_err-note-clause-refused
 returns-in_err-note-clause-refused g c clean =
     let here = refused_after g.S.Store Queue c.args.tx.now.conn.now c.take.new.tx.conn.now c.note.new.tx.conn.now _ c.take.ensures.step.survives
     (c.in_err-note.ensures.refused clean) in
     search (rules, here)
+
+pub returns-in_err-note-clause-step : goal.returns-in_err-note-clause-step
+returns-in_err-note-clause-step g c =
+    let here = step_then g.S.Store c.args.tx.now.conn c.take.new.tx.conn c.note.new.tx.conn _ _ c.take.ensures.step c.in_err-note.ensures.step in
+    record { same_reference = here.same_reference; inside = search rules; kept = here.kept; survives = here.survives }
+
+pub returns-clause-step : goal.returns-clause-step
+returns-clause-step g c =
+    let here = step_then g.S.Store c.args.tx.now.conn c.take.new.tx.conn c.note.new.tx.conn _ _ c.take.ensures.step c.in_ok-note.ensures.step in
+    record { same_reference = here.same_reference; inside = here.inside; kept = here.kept; survives = here.survives }

@@ -3,6 +3,7 @@ use Rattle.sqlite.specs.State.{HasCleanDisk}
 use Rattle.sqlite.specs.Held.{state}
 use Rattle.dnp_store.specs.steps.Stores.{HasNumber}
 use Rattle.dnp_store.proofs.Refusing.{refused_after}
+use Rattle.dnp_store.proofs.Stepping.{step_then}
 use Rattle.dnp_store.proofs.stores.make_store.Goals as goal
 
 pub returns-clause-made : goal.returns-clause-made
@@ -17,3 +18,15 @@ returns-in_err-keep_probe-clause-refused g c clean =
     c.make_tables.ensures.step.survives
     (c.in_err-keep_probe.ensures.refused clean c.args.kind) in
     search (rules, here)
+
+pub returns-in_err-keep_probe-clause-step : goal.returns-in_err-keep_probe-clause-step
+returns-in_err-keep_probe-clause-step g c =
+    let here = (step_then g.S.Store c.args.tx.now.conn c.make_tables.new.tx.conn c.keep_probe.new.tx.conn _ _ c.make_tables.ensures.step
+    c.in_err-keep_probe.ensures.step) in
+    record { same_reference = here.same_reference; inside = search rules; kept = here.kept; survives = here.survives }
+
+pub returns-clause-step : goal.returns-clause-step
+returns-clause-step g c =
+    let here = (step_then g.S.Store c.args.tx.now.conn c.make_tables.new.tx.conn c.keep_probe.new.tx.conn _ _ c.make_tables.ensures.step
+    c.in_ok-keep_probe.ensures.step) in
+    record { same_reference = here.same_reference; inside = here.inside; kept = here.kept; survives = here.survives }

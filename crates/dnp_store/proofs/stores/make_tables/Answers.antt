@@ -2,6 +2,7 @@ use Rattle.std.proofs.Common.{rules}
 use Rattle.sqlite.specs.Held.{state}
 use Rattle.sqlite.proofs.StateLemmas.{survives_then}
 use Rattle.dnp_store.proofs.Refusing.{refused_after, any_kind}
+use Rattle.dnp_store.proofs.Stepping.{step_then}
 use Rattle.dnp_store.proofs.stores.make_tables.Goals as goal
 
 pub returns-in_err-make_form-clause-refused : goal.returns-in_err-make_form-clause-refused
@@ -24,3 +25,15 @@ returns-clause-refused g c clean =
     (survives_then (state g.S.Store c.args.tx.now.conn.now) (state g.S.Store begun) (state g.S.Store mid) (λ _. ⊥) (λ _. ⊥) (λ _. ⊥)
     (λ _ db none. none) (λ _ db none. none) c.make_form.ensures.step.survives c.make_rows.ensures.step.survives)
     (c.put_number.ensures.refused clean)
+
+pub returns-in_err-make_rows-clause-step : goal.returns-in_err-make_rows-clause-step
+returns-in_err-make_rows-clause-step g c =
+    let here = (step_then g.S.Store c.args.tx.now.conn c.make_form.new.tx.conn c.make_rows.new.tx.conn _ _ c.make_form.ensures.step
+    c.in_err-make_rows.ensures.step) in
+    record { same_reference = here.same_reference; inside = search rules; kept = here.kept; survives = here.survives }
+
+pub returns-clause-step : goal.returns-clause-step
+returns-clause-step g c =
+    (step_then g.S.Store c.args.tx.now.conn c.make_form.new.tx.conn c.put_number.new.tx.conn _ _ c.make_form.ensures.step
+    (step_then g.S.Store c.make_form.new.tx.conn c.make_rows.new.tx.conn c.put_number.new.tx.conn _ _ c.make_rows.ensures.step
+    c.put_number.ensures.step))

@@ -7,6 +7,7 @@ use Rattle.dnp_store.specs.Tables.{no_schema}
 use Rattle.dnp_store.specs.steps.Stores.{HasNumber, IsFresh}
 use Rattle.dnp_store.proofs.Statements.{finished, survives_commit}
 use Rattle.dnp_store.proofs.Refusing.{refused_inside, by_commit}
+use Rattle.dnp_store.proofs.Ending.{survives_undone, kept_undone, kept_unless}
 use Rattle.dnp_store.proofs.stores.write_tables.Goals as goal
 
 done : (g : _) (c : goal.After-conn-2-1 g) → HasCleanDisk (state g.S.Store c.make_store.new.tx.conn.now) → c.args.conn.now.schema ≡ no_schema
@@ -54,3 +55,25 @@ returns-clause-refused g c clean =
     let early : HasCleanDisk (state g.S.Store mid) = omega (arith, late, c.commit.ensures.survives.clean) in
     by_commit g.S.Store c.args.kind c.args.conn.now c.transaction-tx.result.conn.now mid end _ c.commit.result c.transaction-tx.ensures.begun same
     c.make_store.ensures.step.survives (c.in_ok-make_store.ensures.step.inside early) (c.commit.ensures.err late)
+
+pub returns-in_err-make_store-clause-survives : goal.returns-in_err-make_store-clause-survives
+returns-in_err-make_store-clause-survives g c =
+    let same : c.drop-tx.new.self.0 ≡ c.conn-1.given.0 = search rules in
+    survives_undone g.S.Store c.args.conn.now c.transaction-tx.result.conn.now c.make_store.new.tx.conn.now c.drop-tx.new.self.0 _
+    c.transaction-tx.ensures.begun same _
+    c.make_store.ensures.step.survives c.drop-tx.ensures.survives
+
+pub returns-in_err-make_store-clause-err : goal.returns-in_err-make_store-clause-err
+returns-in_err-make_store-clause-err g c clean opened =
+    let same : c.drop-tx.new.self.0 ≡ c.conn-1.given.0 = search rules in
+    let here = kept_undone g.S.Store c.args.conn.now c.transaction-tx.result.conn.now c.make_store.new.tx.conn.now c.drop-tx.new.self.0 _
+    c.transaction-tx.ensures.begun same _
+    c.make_store.ensures.step.kept c.drop-tx.ensures.undone c.drop-tx.ensures.survives clean opened in
+    search (rules, here)
+
+pub returns-clause-err : goal.returns-clause-err
+returns-clause-err g c clean opened =
+    let same : c.commit.new.self.0 ≡ c.conn-2-1.given.0 = search rules in
+    kept_unless g.S.Store c.args.conn.now c.transaction-tx.result.conn.now c.make_store.new.tx.conn.now c.commit.new.self.0 _ c.transaction-tx.ensures.begun
+    same _ c.commit.result
+    c.make_store.ensures.step.kept c.commit.ensures.err c.commit.ensures.survives clean opened

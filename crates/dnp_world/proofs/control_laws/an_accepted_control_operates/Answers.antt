@@ -13,6 +13,7 @@ laws_of c = record {
     is_request = c.what_is_spelled_is_said.ensures.request;
   };
   response = c.what_is_spelled_is_said.ensures.response;
+  is_control = c.octets_say_their_control_and_function.ensures.control;
   same = λ command. (c.equality_is_decided.ensures.commands.decides command command).1 refl;
 }
 

@@ -1,42 +1,12 @@
--- The laws that the body calls are what the lemmas ask for.
+-- Of an event, and of a restart.
 use Rattle.std.specs.Prelude.{[]}
 use Rattle.dnp_world.specs.SystemStanding.{no_sink}
 use Rattle.dnp_world.proofs.JoinedEvents.{restarts_kept}
-use Rattle.dnp_world.proofs.JoinedLaws.{Laws}
 use Rattle.dnp_world.proofs.JoinedRuns.{one_follows}
 use Rattle.dnp_world.proofs.joined_laws.events_without_a_sink_are_moves.Goals as goal
 
-laws_of : goal.After-what_comes_is_taken_or_passed_over → Laws
-laws_of c = record {
-  line = record { reopened = c.line_law.ensures.reopened; kept = c.line_law.ensures.kept };
-  points = record {
-    keeps = c.content_leaves_the_connection_alone.ensures.keeps;
-    keeps_held = c.content_leaves_the_connection_alone.ensures.keeps_held;
-  };
-  outstation = record {
-    opens = c.an_opening_is_moves.ensures;
-    comes = c.what_comes_is_moves.ensures;
-    ticks = c.time_is_moves.ensures;
-    changes = c.a_change_is_moves.ensures.changed;
-    closes = c.a_closing_is_moves.ensures.closed;
-    restarts = c.a_closing_is_moves.ensures.restarted;
-    silent_received = c.a_closed_outstation_is_silent.ensures.received;
-    silent_ticked = c.a_closed_outstation_is_silent.ensures.ticked;
-    ends = c.an_unsolicited_response_starts_where_none_is_awaited.ensures.ends;
-  };
-  master = record {
-    came = c.a_master_takes_by_moves.ensures.came;
-    asks = c.a_master_asks_by_a_move.ensures;
-    asked = c.an_idle_master_asks.ensures;
-    hung_up = c.a_master_opens_and_closes_by_moves.ensures.hung_up;
-    ticked = c.a_master_opens_and_closes_by_moves.ensures.ticked;
-    takes = c.what_comes_is_taken_or_passed_over.ensures;
-    silent_receives = c.a_closed_master_is_silent.ensures.receives;
-  };
-}
-
 pub returns-clause-event : goal.returns-clause-event
-returns-clause-event c = λ panel s new event l shown stands j h. one_follows (laws_of c) no_sink panel shown [] s new l event stands j h
+returns-clause-event c = λ panel s new event l shown stands j h. one_follows c.moves_are_promised.ensures no_sink panel shown [] s new l event stands j h
 
 pub returns-clause-restarted : goal.returns-clause-restarted
-returns-clause-restarted c = λ s new l j h. restarts_kept (laws_of c) [] s new l j h
+returns-clause-restarted c = λ s new l j h. restarts_kept c.moves_are_promised.ensures [] s new l j h

@@ -35,8 +35,13 @@ tests_of c = record {
 class_laws_of : goal.After-points_are_those_of_the_plan → ClassLaws
 class_laws_of c = record {
   content = record {
-    keeps = c.content_leaves_the_connection_alone.ensures.keeps;
-    keeps_held = c.content_leaves_the_connection_alone.ensures.keeps_held;
+    keeps_opened = c.a_connection_leaves_the_points_alone.ensures.opened;
+    keeps_received = c.a_connection_leaves_the_points_alone.ensures.received;
+    keeps_ticked = c.a_connection_leaves_the_points_alone.ensures.ticked;
+    keeps_ended = c.a_connection_leaves_the_points_alone.ensures.ended;
+    none_opened = c.a_connection_drops_no_row.ensures.opened;
+    none_received = c.a_connection_drops_no_row.ensures.received;
+    none_ticked = c.a_connection_drops_no_row.ensures.ticked;
   };
   changed = c.a_change_is_of_one_point.ensures.changed;
   others = c.a_change_is_of_one_point.ensures.others_changed;

@@ -1,9 +1,8 @@
 -- The laws that the body calls are what the lemmas ask for.
 use Rattle.std.specs.Prelude.{[]}
-use Rattle.dnp_world.proofs.JoinedLaws.{MasterLaws}
 use Rattle.dnp_world.proofs.JoinedMaster.{after_asking}
-use Rattle.dnp_world.proofs.JoinedWays.{LineLaws}
 use Rattle.dnp_world.proofs.relay_laws.a_request_goes_by_a_move.Goals as goal
+use Rattle.dnp_world.specs.steps.MoveLaws.{LineLaws, MasterLaws}
 
 line_of : goal.After-what_comes_is_taken_or_passed_over → LineLaws
 line_of c = record { reopened = c.line_law.ensures.reopened; kept = c.line_law.ensures.kept }

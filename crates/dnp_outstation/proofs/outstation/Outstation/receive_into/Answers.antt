@@ -17,21 +17,34 @@ memory_of : {A B : Type 0} (e : StoreFault) (r : Result A Fault) → result_err 
     → (let told : Result B StoreFault = Err e in told) ≡ Err store.Memory
 memory_of e r told failed = let is : e ≡ store.Memory = told_memory e (sym told ∙ ap result_err failed) in cc
 
-pub returns-in_err-receive-clause-asks : goal.returns-in_err-receive-clause-asks
-returns-in_err-receive-clause-asks g c = λ _. c.in_err-receive.ensures.asks refl
+pub returns-clause-asks : goal.returns-clause-asks
+returns-clause-asks g c = record {
+  looked_at = λ e. absurd (cc);
+  unsolicited = λ e. absurd (cc);
+  announced = λ e. absurd (cc);
+  stray = λ e. absurd (cc);
+  again = λ e. absurd (cc);
+  held = λ e. absurd (cc);
+  inside = λ e. absurd (cc);
+}
 
-pub returns-in_err-receive-clause-asks_announced : goal.returns-in_err-receive-clause-asks_announced
-returns-in_err-receive-clause-asks_announced g c = λ _. c.in_err-receive.ensures.asks_announced refl
+pub returns-in_err-receive-clause-asks : goal.returns-in_err-receive-clause-asks
+returns-in_err-receive-clause-asks g c = record {
+  looked_at = λ _. c.in_err-receive.ensures.looked_at refl;
+  unsolicited = λ _. c.in_err-receive.ensures.asks refl;
+  announced = λ _. c.in_err-receive.ensures.asks_announced refl;
+  stray = λ _. c.in_err-receive.ensures.asks_stray refl;
+  again = λ _. c.in_err-receive.ensures.asks_again refl;
+  held = λ _. c.in_err-receive.ensures.asks_held refl;
+  inside = λ _. c.in_err-receive.ensures.asks_inside refl;
+}
 
 pub returns-in_err-receive-clause-memory : goal.returns-in_err-receive-clause-memory
-returns-in_err-receive-clause-memory g c = λ honest failed.
-    c.in_err-receive.ensures.memory honest (memory_of c.in_err-receive.field-0.0 c.from_residual.result (search rules) failed)
-
-pub returns-in_err-receive-clause-memory_named : goal.returns-in_err-receive-clause-memory_named
-returns-in_err-receive-clause-memory_named g c = λ honest failed.
-    c.in_err-receive.ensures.memory_named honest (memory_of c.in_err-receive.field-0.0 c.from_residual.result (search rules) failed)
-
-pub returns-in_err-receive-clause-exhausted_first : goal.returns-in_err-receive-clause-exhausted_first
-returns-in_err-receive-clause-exhausted_first g c = λ honest outputs_honest failed.
-    c.in_err-receive.ensures.exhausted_first honest outputs_honest
-    (memory_of c.in_err-receive.field-0.0 c.from_residual.result (search rules) failed)
+returns-in_err-receive-clause-memory g c = λ honest failed spares.
+    let told = memory_of c.in_err-receive.field-0.0 c.from_residual.result (search rules) failed in
+    record {
+      idle = c.in_err-receive.ensures.memory_idle honest told spares;
+      some = c.in_err-receive.ensures.memory honest told spares;
+      named = c.in_err-receive.ensures.memory_named honest told spares;
+      exhausted_first = λ outputs_honest. c.in_err-receive.ensures.exhausted_first honest outputs_honest told spares;
+    }

@@ -1,4 +1,4 @@
-use Rattle.std.proofs.Common.{sym}
+use Rattle.std.proofs.Common.{sym, ◌∙◌}
 use Rattle.dnp_pointdb.specs.Database.{set_state}
 use Rattle.dnp_pointdb.proofs.Changes.{in_blocks, in_points, read_at, read_refused}
 use Rattle.dnp_pointdb.proofs.bank.Bank.set.Goals as goal
@@ -15,6 +15,7 @@ put-requires-clause-place c = λ d. in_points c.args.self.now c.args.index c.in_
 
 pub returns-clause-after : goal.returns-clause-after
 returns-clause-after c =
+    c.remember.ensures ∙
     read_at (set_state c.args.reading) c.args.self.now c.put.new.self c.args.kind c.args.index c.args.reading c.in_ok-at.at.block c.in_ok-at.at.place
     c.state_at-state.result c.set.result c.in_ok-at.ensures.place c.state_at-state.ensures c.in_ok-at.ensures.in_range
     c.set.ensures c.put.ensures

@@ -68,3 +68,12 @@ returns-in-Err-clause-taken g c clean told =
       taken = sym c.is_taken.ensures ∙ taken;
       late = c.is_lost-lost.ensures.survives;
     })
+
+pub returns-in-Err-clause-same : goal.returns-in-Err-clause-same
+returns-in-Err-clause-same g c clean opened =
+    let early : HasCleanDisk (state g.S.Store c.write_tables.new.conn) = omega (arith, clean, c.is_lost-lost.ensures.survives.clean) in
+    let back = c.is_lost-lost.ensures.same clean opened in
+    back.1 ∙ (c.in-Err.ensures.err early back.0).1
+
+pub returns-in-Err-clause-handed_back : goal.returns-in-Err-clause-handed_back
+returns-in-Err-clause-handed_back g c = (search rules, c.is_lost-lost.ensures.survives.limit ∙ c.write_tables.ensures.survives.limit)

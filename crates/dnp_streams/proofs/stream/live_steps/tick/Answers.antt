@@ -1,5 +1,5 @@
 use Rattle.std.proofs.Common.{ℕ, List, [], refl, sym, ap, subst}
-use Rattle.dnp_streams.specs.streams.Stations.{answer_of}
+use Rattle.dnp_streams.specs.streams.Stations.{answer_in}
 use Rattle.dnp_streams.specs.streams.Spelled.{AreSpelled, sent_frames}
 use Rattle.dnp_streams.specs.streams.Exchanges.{no_output, Opened, Unopened}
 use Rattle.dnp_streams.specs.steps.Outgoing.{ArePut}
@@ -8,7 +8,7 @@ use Rattle.dnp_streams.proofs.stream.live_steps.tick.Goals as goal
 
 pub returns-in-Ok-clause-ticked : goal.returns-in-Ok-clause-ticked
 returns-in-Ok-clause-ticked g c honest =
-    let answer = answer_of c.in-Ok.answer in
+    let answer = answer_in c.tick_into.new.answer in
     let frames = sent_frames c.args.port.now answer.send in
     record {
       output = record { frames = frames; fragments = 0; faults = 0; closed = answer.close };

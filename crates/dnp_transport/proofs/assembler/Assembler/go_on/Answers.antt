@@ -19,13 +19,13 @@ invariant_of-self c =
           inr (sym c.is_first.ensures ∙ w.if-is_first.false, ap (λ (i : Inside). i.octets.items) w.self-inside-is)
     ] in
     let pushed : List (List ℕ) = c.self.invariant.0 in
-    let after : IsAfter pushed s (assembly (stage_after c.join-pushed.result) c.copied-self-inside.result.items c.join-pushed.new.octets.items)
+    let after : IsAfter pushed s (assembly (stage_after c.join-pushed.result) c.refill.new.items.items c.join-pushed.new.octets.items)
     c.join-pushed.result =
     went_on c.self.inside.stage c.self.inside.last.items c.self.inside.octets.items c.args.self.now s
-    c.if-is_first.self-inside.octets.items c.join-pushed.new.octets.items c.copied-self-inside.result.items
+    c.if-is_first.self-inside.octets.items c.join-pushed.new.octets.items c.refill.new.items.items
     c.join-pushed.result c.self.view_is c.requires.sized c.requires.goes_on onto c.join-pushed.ensures
-    c.copied-self-inside.ensures pushed (subst (λ a. Stands pushed a) c.self.view_is c.self.invariant.1) in
-    (s ∷ pushed, subst (λ (u : Stage). Stands (s ∷ pushed) (assembly u c.copied-self-inside.result.items c.join-pushed.new.octets.items)) (sym c.after-self-inside.ensures) after.stands)
+    c.refill.ensures pushed (subst (λ a. Stands pushed a) c.self.view_is c.self.invariant.1) in
+    (s ∷ pushed, subst (λ (u : Stage). Stands (s ∷ pushed) (assembly u c.refill.new.items.items c.join-pushed.new.octets.items)) (sym c.after-self-inside.ensures) after.stands)
 
 pub returns : goal.returns
 returns c =
@@ -38,13 +38,13 @@ returns c =
           inr (sym c.is_first.ensures ∙ w.if-is_first.false, ap (λ (i : Inside). i.octets.items) w.self-inside-is)
     ] in
     let after : (before : List (List ℕ)) → Stands before c.args.self.now
-    → IsAfter before s (assembly (stage_after c.join-pushed.result) c.copied-self-inside.result.items c.join-pushed.new.octets.items) c.join-pushed.result =
+    → IsAfter before s (assembly (stage_after c.join-pushed.result) c.refill.new.items.items c.join-pushed.new.octets.items) c.join-pushed.result =
     went_on c.self.inside.stage c.self.inside.last.items c.self.inside.octets.items c.args.self.now s
-    c.if-is_first.self-inside.octets.items c.join-pushed.new.octets.items c.copied-self-inside.result.items
+    c.if-is_first.self-inside.octets.items c.join-pushed.new.octets.items c.refill.new.items.items
     c.join-pushed.result c.self.view_is c.requires.sized c.requires.goes_on onto c.join-pushed.ensures
-    c.copied-self-inside.ensures in
+    c.refill.ensures in
     record {
       stands = λ before h.
-          subst (λ (u : Stage). Stands (s ∷ before) (assembly u c.copied-self-inside.result.items c.join-pushed.new.octets.items)) (sym c.after-self-inside.ensures) (after before h).stands;
+          subst (λ (u : Stage). Stands (s ∷ before) (assembly u c.refill.new.items.items c.join-pushed.new.octets.items)) (sym c.after-self-inside.ensures) (after before h).stands;
       answers = λ before h. (after before h).answers;
     }

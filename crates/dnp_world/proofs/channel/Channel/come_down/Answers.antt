@@ -1,8 +1,19 @@
 -- The front unit is heard, and what it completes is answered.
 use Rattle.std.proofs.Common.{refl, [], ◌∷◌}
 use Rattle.dnp_world.specs.Channels.{state_of}
+use Rattle.dnp_world.proofs.MasterTakes.{heard_none}
 use Rattle.dnp_world.proofs.OneLinkArrivals.{heard_whole, heard_part}
 use Rattle.dnp_world.proofs.channel.Channel.come_down.Goals as goal
+
+pub returns-in_default-clause-came : goal.returns-in_default-clause-came
+returns-in_default-clause-came g c = λ honest.
+    let old = state_of c.args.self.now in
+    record {
+      port = old.outstation_port;
+      given = [];
+      heard = heard_none old.down old.outstation_port c.in_default.ensures;
+      came = (refl, refl, refl, g.met.E.OutstationEnd.follows_itself _);
+    }
 
 pub returns-in_default-answer-clause-came : goal.returns-in_default-answer-clause-came
 returns-in_default-answer-clause-came g c = λ honest.

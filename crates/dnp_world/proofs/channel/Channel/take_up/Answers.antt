@@ -33,7 +33,7 @@ returns-in-Ok-clause-took g c = λ well.
       c.fragment-fragment.ensures.shown,
       taken_up _ _ _ _ _ made _ _ c.take_in.result a old _ (state_of c.confirm.new.self) c.args.dropped.now.items c.extend_from_slice.new.self.items
           c.take_in.ensures.takes c.in-Ok.is well
-          (ap (λ (line : HeldLine). record old { down = line.state }) c.in_ok-reserve-2.ensures.ok) c.confirm.ensures listed,
+          (ap (λ (line : HeldLine). record old { down = line.state }) c.in_ok-reserve-2.ensures.ok) c.confirm.ensures.down listed,
     )
 
 pub returns-in-Err-clause-took : goal.returns-in-Err-clause-took

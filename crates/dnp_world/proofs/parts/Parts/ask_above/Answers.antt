@@ -18,11 +18,11 @@ returns-clause-done g c = λ well.
     let link = old.centre.link in
     let answer = ask_answer link.master c.args.task in
     let is = state_of c.send_asked.new.channel in
-    let ask = c.ask-asked.ensures in
+    let ask = c.ask_into-asked.ensures in
     rw (← c.self.view_is) (
       down_from (request_of answer) old.above (state_of c.reserve_down.new.self) is c.reserve_down.ensures.same
           (c.send_asked.ensures answer (request_for link.master.seq c.args.task) ask.answer ask.reads),
       ap (λ (m : CentreState). record old { centre = m; above = is })
-          (centre_with archive ledger c.self.inside.centre c.ask-asked.new.self (asking link old.now c.args.task) old.centre.orders ask.link
+          (centre_with archive ledger c.self.inside.centre c.ask_into-asked.new.self (asking link old.now c.args.task) old.centre.orders ask.link
           (ap ledger ask.book) ask.journal ask.indices),
     )

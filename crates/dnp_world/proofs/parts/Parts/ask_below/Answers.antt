@@ -34,8 +34,8 @@ returns-clause-done g c = λ well.
     let first = with_link old station (asking link old.now c.args.task) in
     rw (← c.self.view_is)
     (sends_at station c.from.result (request_of answer) first _ xs was c.send_asked.new.channel refl
-    (concentrator_with stock ledger c.self.inside.concentrator c.ask_below-asked.new.self first.concentrator.core first.concentrator.links
-    c.ask_below-asked.ensures.core c.ask_below-asked.ensures.link c.ask_below-asked.ensures.stores) c.from.ensures
+    (concentrator_with stock ledger c.self.inside.concentrator c.ask_below_into-asked.new.self first.concentrator.core first.concentrator.links
+    c.ask_below_into-asked.ensures.core c.ask_below_into-asked.ensures.link c.ask_below_into-asked.ensures.stores) c.from.ensures
     (rw c.from.ensures (is_there old xs station refl (rw (← c.self.view_is) at c.requires))) c.index_mut.ensures.value
     (down_from (request_of answer) (state_of was.channel) (state_of c.reserve_down.new.self) (state_of c.send_asked.new.channel) c.reserve_down.ensures.same
-    (c.send_asked.ensures answer (request_for link.master.seq c.args.task) c.ask_below-asked.ensures.answer c.ask_below-asked.ensures.reads)))
+    (c.send_asked.ensures answer (request_for link.master.seq c.args.task) c.ask_below_into-asked.ensures.answer c.ask_below_into-asked.ensures.reads)))

@@ -1,0 +1,312 @@
+//! The words of `dnp poll`.
+
+use crate::numbers::number_given;
+use crate::options::HINT;
+use clap::ArgMatches;
+use dnp_daemons::{issue_in, number_in};
+use dnp_master::{Classes, Task};
+use dnp_objects::{Command, MAX_TIME};
+use std::alloc::{AllocError, Global};
+use std::rt::Clock;
+
+/// The highest link address of a station: those above are for all stations, or kept for other uses (IEEE Std 1815-2012,
+/// data link layer: addresses).
+const MAX_STATION: u64 = 65_519;
+
+/// The longest time between two rounds, in milliseconds: a day.
+const MAX_REPEAT: u64 = 86_400_000;
+
+/// The longest time for which a fragment is awaited, in milliseconds: an hour.
+const MAX_TIMEOUT: u64 = 3_600_000;
+
+/// The highest TCP port.
+const MAX_PORT: u64 = 65_535;
+
+/// All classes.
+const ALL: Classes = Classes([true; 4]);
+
+/// What the words of the command line say.
+#[derive(Clone, Copy)]
+pub(crate) struct Words<'a> {
+    /// The outstation's host and port.
+    pub place: &'a str,
+    /// The link address of the master.
+    pub own: u16,
+    /// The link address of the outstation.
+    pub peer: u16,
+    /// The classes to read, if any are.
+    pub classes: Option<Classes>,
+    /// Whether the restart indication is cleared.
+    pub clear_restart: bool,
+    /// The time to set the clock to, if it is set.
+    pub time: Option<u64>,
+    /// The command to select and operate, if there is one.
+    pub command: Option<Command>,
+    /// How long to wait between two rounds, in milliseconds.
+    pub repeat_ms: u64,
+    /// How many rounds there are.
+    pub count: u64,
+    /// Whether fragments are confirmed.
+    pub confirms: bool,
+    /// How long the connection and each fragment is awaited, in milliseconds.
+    pub timeout_ms: u64,
+    /// Whether lines are JSON objects.
+    pub json: bool,
+}
+
+/// Says that the value of an option is wrong, and what it should be.
+fn say_wrong<R: Eprint>(rt: &R, option: &str, name: &str, text: &str, wanted: &str) {
+    let _ = eprintln!(rt;
+        "error: invalid value '{}' for '--{option} <{name}>': {wanted}{HINT}",
+        text.escape_debug()
+    );
+}
+
+/// The classes that these digits name, each once.
+fn classes_in(text: &str) -> Option<Classes> {
+    let mut classes = [false; 4];
+    for digit in text.as_bytes() {
+        let class = usize::from(digit.checked_sub(b'0')?);
+        if class > 3 || classes[class] {
+            return None;
+        }
+        classes[class] = true;
+    }
+    let classes = Classes(classes);
+    if classes.has_some() {
+        Some(classes)
+    } else {
+        None
+    }
+}
+
+/// A time of so many milliseconds, seconds, minutes or hours.
+fn interval_in(text: &str) -> Option<u64> {
+    let (digits, unit) = if let Some(digits) = text.strip_suffix("ms") {
+        (digits, 1)
+    } else if let Some(digits) = text.strip_suffix("s") {
+        (digits, 1_000)
+    } else if let Some(digits) = text.strip_suffix("m") {
+        (digits, 60_000)
+    } else if let Some(digits) = text.strip_suffix("h") {
+        (digits, 3_600_000)
+    } else {
+        return None;
+    };
+    let ms = number_in(digits)?.checked_mul(unit)?;
+    if 0 < ms && ms <= MAX_REPEAT {
+        Some(ms)
+    } else {
+        None
+    }
+}
+
+/// The time that a word names: this machine's, or so many milliseconds since 1970-01-01 00:00 UTC.
+fn time_in<C: Clock>(clock: &C, text: &str) -> Option<u64> {
+    let time = if text == "now" {
+        u64::try_from(clock.since_1970().ok()?.as_millis()).ok()?
+    } else {
+        number_in(text)?
+    };
+    if time <= MAX_TIME { Some(time) } else { None }
+}
+
+/// The command that a text names, as the words of an `issue` line after the substation.
+fn command_in(alloc: Global, text: &str) -> Result<Option<Command>, AllocError> {
+    let line = format!(in alloc; "0 {text}")?;
+    match issue_in(line.as_str(), 1) {
+        Some((_, command)) => Ok(Some(command)),
+        None => Ok(None),
+    }
+}
+
+/// Whether a word says yes or no. Where it says neither, that is printed.
+fn is_yes<R: Eprint>(rt: &R, text: &str) -> Option<bool> {
+    match text {
+        "yes" => Some(true),
+        "no" => Some(false),
+        _ => {
+            say_wrong(rt, "confirm", "WORD", text, "not 'yes' or 'no'");
+            None
+        }
+    }
+}
+
+/// What is read, set and operated.
+#[derive(Clone, Copy)]
+struct Wanted {
+    /// The classes to read.
+    classes: Option<Classes>,
+    /// The time to set the clock to.
+    time: Option<u64>,
+    /// The command.
+    command: Option<Command>,
+}
+
+/// The classes that are to be read, if the words name any. Where they are wrong, that is printed.
+fn classes_given<R: Eprint>(rt: &R, given: &ArgMatches<'_>) -> Option<Option<Classes>> {
+    let Some(text) = given.get_str("classes") else {
+        return Some(None);
+    };
+    let classes = classes_in(text);
+    if classes.is_none() {
+        let wanted = "not digits of 0 to 3, each once";
+        say_wrong(rt, "classes", "DIGITS", text, wanted);
+        return None;
+    }
+    Some(classes)
+}
+
+/// The time to set the clock to, if the words give one. Where it is wrong, that is printed.
+fn time_given<R: Eprint + Clock>(rt: &R, given: &ArgMatches<'_>) -> Option<Option<u64>> {
+    let Some(text) = given.get_str("time") else {
+        return Some(None);
+    };
+    let time = time_in(rt, text);
+    if time.is_none() {
+        let wanted = "not 'now', nor a decimal number below 2^48";
+        say_wrong(rt, "time", "MS", text, wanted);
+        return None;
+    }
+    Some(time)
+}
+
+/// The command that is to be carried out, if the words give one. Where it is wrong, that is printed. An error says that
+/// memory ran out.
+fn command_given<R: AllocGlobal + Eprint>(
+    rt: &R,
+    given: &ArgMatches<'_>,
+) -> Result<Option<Option<Command>>, AllocError> {
+    let Some(text) = given.get_str("operate") else {
+        return Ok(Some(None));
+    };
+    let command = command_in(rt.alloc(), text)?;
+    if command.is_none() {
+        say_wrong(rt, "operate", "COMMAND", text, "no command");
+        return Ok(None);
+    }
+    Ok(Some(command))
+}
+
+/// What the words want read, set and operated: all classes, where they want nothing. Where one is wrong, that is printed.
+fn wanted_given<R: AllocGlobal + Eprint + Clock>(
+    rt: &R,
+    given: &ArgMatches<'_>,
+) -> Result<Option<Wanted>, AllocError> {
+    let Some(command) = command_given(rt, given)? else {
+        return Ok(None);
+    };
+    let (Some(mut classes), Some(time)) = (classes_given(rt, given), time_given(rt, given)) else {
+        return Ok(None);
+    };
+    let is_anything = classes.is_some() || time.is_some() || command.is_some();
+    if !is_anything && !given.get_flag("clear-restart") {
+        classes = Some(ALL);
+    }
+    Ok(Some(Wanted {
+        classes,
+        time,
+        command,
+    }))
+}
+
+/// The host and the port that the words name. Where there is no port, that is printed.
+fn place_given<'a, R: Eprint>(rt: &R, given: &ArgMatches<'a>) -> Option<&'a str> {
+    let text = given.get_str("outstation").unwrap_or("");
+    if let Some((host, port)) = text.rsplit_once(':')
+        && !host.is_empty()
+        && number_in(port).is_some_and(|port| 0 < port && port <= MAX_PORT)
+    {
+        return Some(text);
+    }
+    let _ = eprintln!(rt;
+        "error: invalid value '{}' for '<HOST:PORT>': not a host, a colon, and a port from 1 to {MAX_PORT}{HINT}",
+        text.escape_debug()
+    );
+    None
+}
+
+/// How long to wait between rounds, and how many there are. Where a word is wrong, that is printed.
+fn rounds_given<R: Eprint>(rt: &R, given: &ArgMatches<'_>) -> Option<(u64, u64)> {
+    let Some(text) = given.get_str("repeat") else {
+        if given.get_str("count").is_some() {
+            let _ = eprintln!(rt; "error: '--count <N>' needs '--repeat <TIME>'{HINT}");
+            return None;
+        }
+        return Some((0, 1));
+    };
+    if given.get_str("operate").is_some() {
+        let _ = eprintln!(rt;
+            "error: '--operate <COMMAND>' and '--repeat <TIME>' can't be used together{HINT}"
+        );
+        return None;
+    }
+    let Some(ms) = interval_in(text) else {
+        say_wrong(
+            rt,
+            "repeat",
+            "TIME",
+            text,
+            "not a time as 500ms, 5s, 2m or 1h, a day at most",
+        );
+        return None;
+    };
+    match given.get_str("count") {
+        Some(_) => Some((ms, number_given(rt, given, "count", "N", 1, u64::MAX)?)),
+        None => Some((ms, u64::MAX)),
+    }
+}
+
+/// What the words say, or none where one is wrong, which is printed. An error says that memory ran out.
+pub(crate) fn words_given<'a, R: AllocGlobal + Eprint + Clock>(
+    rt: &R,
+    given: &ArgMatches<'a>,
+) -> Result<Option<Words<'a>>, AllocError> {
+    let Some(wanted) = wanted_given(rt, given)? else {
+        return Ok(None);
+    };
+    Ok(all_given(rt, given, &wanted))
+}
+
+/// What the words say beside what is wanted.
+fn all_given<'a, R: Eprint>(rt: &R, given: &ArgMatches<'a>, wanted: &Wanted) -> Option<Words<'a>> {
+    let place = place_given(rt, given)?;
+    let own = number_given(rt, given, "own", "ADDRESS", 0, MAX_STATION)?;
+    let peer = number_given(rt, given, "peer", "ADDRESS", 0, MAX_STATION)?;
+    let timeout_ms = number_given(rt, given, "timeout", "MS", 1, MAX_TIMEOUT)?;
+    let confirms = is_yes(rt, given.get_str("confirm").unwrap_or(""))?;
+    let (repeat_ms, count) = rounds_given(rt, given)?;
+    Some(Words {
+        place,
+        own: u16::try_from(own).ok()?,
+        peer: u16::try_from(peer).ok()?,
+        classes: wanted.classes,
+        clear_restart: given.get_flag("clear-restart"),
+        time: wanted.time,
+        command: wanted.command,
+        repeat_ms,
+        count,
+        confirms,
+        timeout_ms,
+        json: given.get_flag("json"),
+    })
+}
+
+/// The tasks of a round, in order.
+pub(crate) fn tasks_of(alloc: Global, words: &Words<'_>) -> Result<Vec<Task>, AllocError> {
+    let mut tasks = Vec::new(alloc);
+    if words.clear_restart {
+        tasks.push(Task::ClearRestart)?;
+    }
+    if let Some(time) = words.time {
+        tasks.push(Task::WriteTime(time))?;
+    }
+    if let Some(classes) = words.classes {
+        tasks.push(Task::Poll(classes))?;
+    }
+    if let Some(command) = words.command {
+        tasks.push(Task::Select(command))?;
+        tasks.push(Task::Operate(command))?;
+    }
+    Ok(tasks)
+}

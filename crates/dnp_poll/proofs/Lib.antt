@@ -1,0 +1,3 @@
+-- Lemmas.
+mod Objects
+mod Selecting

@@ -1,0 +1,74 @@
+//! A poll on a stream.
+
+ghost use Rattle.std.specs.Prelude.{◌≡◌};
+
+use crate::poller::{Poller, closing, nothing};
+use crate::show::Show;
+use dnp_concentrator::Relayed;
+use dnp_controls::BookFault;
+use dnp_master::{AskFault, Fragment, Task};
+use dnp_streams::{Answer, Asker, Station, StationFault};
+use std::alloc::Global;
+
+impl<S: Show> Station for Poller<S> {
+    ghost use Rattle.std.specs.Prelude.{⊤};
+    ghost use Rattle.dnp_poll.specs.Polls.{PollSeen, poll_asking, poll_hung_up, poll_opens, poll_receives, poll_seen};
+    ghost use Rattle.dnp_streams.specs.streams.Lives.{lifeless};
+
+    ghost State = { PollSeen S };
+
+    ghost state = { λ p. poll_seen p };
+
+    ghost Kept = { ⊤ };
+
+    ghost kept = { λ _. tt };
+
+    ghost honest = { λ _. ⊤ };
+
+    ghost opens = { poll_opens };
+
+    ghost receives = { poll_receives S.shows };
+
+    ghost asking = { poll_asking };
+
+    ghost life = { lifeless };
+
+    ghost hung_up_of = { poll_hung_up };
+
+    fn opened(&mut self, _alloc: Global, _now: u64) -> Result<Answer, StationFault> {
+        if !self.master.is_open() {
+            self.master.opened();
+        }
+        Ok(nothing())
+    }
+
+    fn receive(&mut self, alloc: Global, now: u64, octets: &[u8]) -> Result<Answer, StationFault> {
+        match self.hear(alloc, now, octets) {
+            Ok(answer) => Ok(answer),
+            Err(fault) => {
+                self.fault = Some(fault);
+                Ok(closing())
+            }
+        }
+    }
+
+    fn hung_up(&mut self) {
+        self.master.hung_up();
+    }
+}
+
+impl<S: Show> Asker for Poller<S> {
+    fn ask(&mut self, now: u64, task: Task) -> Result<Fragment, AskFault> {
+        let request = self.master.ask(now, task)?;
+        self.tasks.task = Some(task);
+        Ok(request)
+    }
+
+    fn relay(&mut self, _alloc: Global, _now: u64) -> Result<Relayed, BookFault> {
+        Ok(Relayed::Nothing)
+    }
+
+    fn idle(&self) -> bool {
+        self.master.idle()
+    }
+}

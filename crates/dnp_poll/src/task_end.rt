@@ -1,0 +1,71 @@
+//! How tasks came out.
+
+use dnp_appfragment::Iin;
+use dnp_master::{Outcome, Task};
+use std::alloc::{AllocError, Global};
+
+/// How a task came out.
+#[derive(Clone, Copy, Debug, PartialEq, Eq)]
+pub struct TaskEnd {
+    /// The task that was asked.
+    pub task: Task,
+    /// What became of it.
+    pub outcome: Outcome,
+    /// The internal indications of the last fragment of its response.
+    pub iin: Iin,
+}
+
+impl TaskEnd {
+    ghost use Rattle.std.specs.Prelude.{◌≡◌};
+    ghost use Rattle.dnp_poll.specs.TaskEnds.{is_done};
+
+    /// Whether the outstation did what was asked: no bit of IIN2 is set, and a command was answered by itself with the status
+    /// SUCCESS.
+    pub fn is_done(&self) -> bool
+        ensures { result ≡ is_done self.now }
+    {
+        let is_accepted = match self.outcome {
+            Outcome::Done(_) => true,
+            Outcome::Control(status) => status.code() == 0,
+            Outcome::Unlike => false,
+        };
+        is_accepted && self.iin.two == 0
+    }
+}
+
+/// The task that was asked last, and how tasks came out.
+pub(crate) struct TaskEnds {
+    /// The task that was asked last.
+    pub task: Option<Task>,
+    /// How tasks came out, in order.
+    pub ends: Vec<TaskEnd>,
+}
+
+impl Drop for TaskEnds {
+    /// One call for whoever lets it go: its parts are looked at here alone.
+    fn drop(self) {
+        let TaskEnds { task: _, ends: _ } = self;
+    }
+}
+
+impl TaskEnds {
+    /// No task was asked.
+    pub fn new(alloc: Global) -> TaskEnds {
+        TaskEnds {
+            task: None,
+            ends: Vec::new(alloc),
+        }
+    }
+
+    /// Makes room for how one task more came out.
+    pub fn make_room(&mut self) -> Result<(), AllocError> {
+        self.ends.try_reserve(1)
+    }
+
+    /// Keeps how the task that was asked last came out, if it did, where there is room.
+    pub fn keep(&mut self, outcome: Option<Outcome>, iin: Iin) {
+        if let (Some(task), Some(outcome)) = (self.task, outcome) {
+            let _kept = self.ends.push(TaskEnd { task, outcome, iin });
+        }
+    }
+}

@@ -1,0 +1,125 @@
+-- What queries show of the tables of one side.
+use Rattle.std.proofs.Common.{◌≡◌, ℕ, pos, List, [], ◌∷◌, codes, false, Some, None, Ok, Err, Result, IfOk, refl, sym, subst, IsPermutation}
+use Rattle.std.specs.Prelude.{Vec}
+use Rattle.std.specs.declared.alloc.Global.{Global}
+use Rattle.std.specs.List.{AllByRecursion}
+use Rattle.sqlite_tied.specs.Compute.{everything}
+use Rattle.sqlite_schema.specs.declared.schema.Constraint.TheVariants.{Datatype}
+use Rattle.sqlite.specs.Command.TheVariants.{Select}
+use Rattle.sqlite.specs.Schema.{Schema}
+use Rattle.sqlite.specs.declared.types.Value.{Value}
+use Rattle.sqlite.specs.Order.{Row}
+use Rattle.sqlite.specs.Effect.{Database, IsDatabase}
+use Rattle.sqlite.specs.Given.{IsPlain}
+use Rattle.sqlite.specs.Listing.{understood, reads_listing}
+use Rattle.sqlite.specs.State.{State, Shown}
+use Rattle.sqlite.proofs.Callers.{command_of}
+use Rattle.dnp_store.specs.declared.queue_side.QueueSide.{QueueSide}
+use Rattle.dnp_store.specs.declared.queue_side.QueueSide.TheVariants.{First, Second}
+use Rattle.dnp_store.specs.declared.store_kind.StoreKind.TheVariants.{Queue}
+use Rattle.dnp_store.specs.Texts.{lanes_select, rows_select}
+use Rattle.dnp_store.specs.Tables.{form_with, sequence}
+use Rattle.dnp_store.specs.QueueTables.{Figures, figures_rows, lanes_columns, queue_columns}
+use Rattle.dnp_store.specs.PairTables.{Checks, IsForm, lanes_tree, pair_schema, rows_tree}
+use Rattle.dnp_store.specs.steps.Pairs.{ReadsPair}
+use Rattle.dnp_store.specs.steps.Shown.{AreNine, ShowNine, ShowsForm}
+use Rattle.dnp_store.specs.steps.Stores.{Reads}
+use Rattle.dnp_store.proofs.Opening.{form_query, form_terms, lanes_terms, query, queue_terms, reads_form_in, reads_lanes, reads_lanes_in}
+use Rattle.dnp_store.proofs.PairSchema.{lanes_of, lanes_read, rows_read, rows_with}
+use Rattle.dnp_store.proofs.Restoring.{PutsBack, reads_queued, reads_queued_in}
+use Rattle.sqlite_schema.specs.Rules.{has_computed}
+use Rattle.dnp_store.proofs.Rows.{IsTyped, form_columns, typed}
+
+-- ---- what the texts are
+
+form_is : (c : Checks)
+    → (command_of (understood (pair_schema c) form_query) ≡ Select (record { lets = []; body = query 0 form_terms }) (codes "rowid" ∷ codes "number" ∷ []))
+    × (reads_listing (pair_schema c) form_query ≡ false)
+unfolding understood everything
+form_is c = (refl, refl)
+
+form_plain : (c : Checks) → IsPlain (understood (pair_schema c) form_query)
+unfolding understood everything
+form_plain c = (refl, refl)
+
+lanes_is : (side : QueueSide) (c : Checks)
+    → (command_of (understood (pair_schema c) (lanes_select side)) ≡ Select (record { lets = []; body = query (lanes_tree side) lanes_terms })
+    (codes "lane" ∷ codes "cap" ∷ codes "lost" ∷ codes "raised" ∷ [])) × (reads_listing (pair_schema c) (lanes_select side) ≡ false)
+unfolding understood everything
+lanes_is First c = (refl, refl)
+lanes_is Second c = (refl, refl)
+
+lanes_plain : (side : QueueSide) (c : Checks) → IsPlain (understood (pair_schema c) (lanes_select side))
+unfolding understood everything
+lanes_plain First c = (refl, refl)
+lanes_plain Second c = (refl, refl)
+
+rows_is : (side : QueueSide) (c : Checks)
+    → (command_of (understood (pair_schema c) (rows_select side)) ≡ Select (record { lets = []; body = query (rows_tree side) queue_terms })
+    (codes "id" ∷ codes "lane" ∷ codes "point" ∷ codes "flags" ∷ codes "value" ∷ codes "time" ∷ [])) × (reads_listing (pair_schema c) (rows_select side) ≡ false)
+unfolding understood everything
+rows_is First c = (refl, refl)
+rows_is Second c = (refl, refl)
+
+rows_plain : (side : QueueSide) (c : Checks) → IsPlain (understood (pair_schema c) (rows_select side))
+unfolding understood everything
+rows_plain First c = (refl, refl)
+rows_plain Second c = (refl, refl)
+
+-- ---- the rows have their tables' columns
+
+module _ (db : Database) (c : Checks) (has : db.schema ≡ pair_schema c) (sound : IsDatabase db) where
+  rules_hold : IsDatabase (record { schema = pair_schema c; trees = db.trees })
+  rules_hold = subst (λ (s : Schema). IsDatabase (record { schema = s; trees = db.trees })) has sound
+
+  pub typed_pair_form : AllByRecursion (IsTyped None form_columns) (db.trees 0)
+  typed_pair_form = typed None form_columns (has_computed (form_with c.form)) (db.trees 0) (rules_hold.obeys.rules Datatype).0
+
+  pub typed_pair_counts : AllByRecursion (IsTyped None sequence.columns) (db.trees 2)
+  typed_pair_counts = typed None sequence.columns (has_computed sequence) (db.trees 2) (rules_hold.obeys.rules Datatype).1.1.0
+
+  pub typed_side_rows : (side : QueueSide) → AllByRecursion (IsTyped (Some 0) queue_columns) (db.trees (rows_tree side))
+  typed_side_rows First = typed (Some 0) queue_columns (has_computed (rows_with First c)) (db.trees 1) (rules_hold.obeys.rules Datatype).1.0
+  typed_side_rows Second = typed (Some 0) queue_columns (has_computed (rows_with Second c)) (db.trees 4) (rules_hold.obeys.rules Datatype).1.1.1.1.0
+
+  pub typed_side_lanes : (side : QueueSide) → AllByRecursion (IsTyped (Some 0) lanes_columns) (db.trees (lanes_tree side))
+  typed_side_lanes First = typed (Some 0) lanes_columns (has_computed (lanes_of First c)) (db.trees 3) (rules_hold.obeys.rules Datatype).1.1.1.0
+  typed_side_lanes Second = typed (Some 0) lanes_columns (has_computed (lanes_of Second c)) (db.trees 5) (rules_hold.obeys.rules Datatype).1.1.1.1.1.0
+
+-- ---- what they show
+
+pub reads_pair_number : (old new : State) (rows : List Row) (n : ℕ) → Shown form_query [] old new rows → ShowsForm rows n
+    → ReadsPair old new (λ db. IsForm n (db 0))
+reads_pair_number old new rows n shown one c sound has =
+    let it = reads_form_in old new rows (pair_schema c) one.id (pos n) (form_is c) (form_plain c) (typed_pair_form old.now c has sound) shown one.one one.id_is
+    one.number has in
+    (it.0, (one.id, it.1))
+
+module _ {E : Type 0} (old new : State) (rows : List Row) where
+  pub lanes_if_first : (side : QueueSide) (r : Result (Vec Figures Global) E) → Shown (lanes_select side) [] old new rows
+      → IfOk r (λ figures. AreNine figures.items) → IfOk r (λ figures. ShowNine rows figures.items)
+      → IfOk r (λ figures. side ≡ First → Reads Queue old new (λ db. IsPermutation (figures_rows 0 figures.items) (db 3)))
+  lanes_if_first side (Ok figures) shown nine shows = λ is.
+      reads_lanes old new rows figures.items (subst (λ s. Shown (lanes_select s) [] old new rows) is shown) nine shows
+  lanes_if_first side (Err e) shown nine shows = tt
+
+  pub lanes_if : (side : QueueSide) (r : Result (Vec Figures Global) E) → Shown (lanes_select side) [] old new rows
+      → IfOk r (λ figures. AreNine figures.items) → IfOk r (λ figures. ShowNine rows figures.items)
+      → IfOk r (λ figures. ReadsPair old new (λ db. IsPermutation (figures_rows 0 figures.items) (db (lanes_tree side))))
+  lanes_if side (Ok figures) shown nine shows = λ c sound has.
+      reads_lanes_in old new rows (pair_schema c) (lanes_tree side) (lanes_select side) figures.items (lanes_is side c) (lanes_plain side c)
+      (lanes_read side old.now.trees) (typed_side_lanes old.now c has sound side) shown nine shows has
+  lanes_if side (Err e) shown nine shows = tt
+
+module _ {E : Type 0} (old new : State) where
+  pub queued_if_first : (side : QueueSide) (r : Result (Vec (List Value) Global) E) → IfOk r (λ rows. Shown (rows_select side) [] old new rows.items)
+      → IfOk r (λ rows. side ≡ First → Reads Queue old new (λ db. PutsBack rows.items (db 1)))
+  queued_if_first side (Ok rows) shown = λ is. reads_queued old new rows.items (subst (λ s. Shown (rows_select s) [] old new rows.items) is shown)
+  queued_if_first side (Err e) shown = tt
+
+  pub queued_if : (side : QueueSide) (r : Result (Vec (List Value) Global) E) → IfOk r (λ rows. Shown (rows_select side) [] old new rows.items)
+      → IfOk r (λ rows. ReadsPair old new (λ db. PutsBack rows.items (db (rows_tree side))))
+  queued_if side (Ok rows) shown = λ c sound has.
+      reads_queued_in old new rows.items (pair_schema c) (rows_tree side) (rows_select side) (rows_is side c) (rows_plain side c)
+      (rows_read side old.now.trees) (typed_side_rows old.now c has sound side) shown has
+  queued_if side (Err e) shown = tt

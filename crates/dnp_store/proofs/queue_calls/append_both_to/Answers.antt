@@ -1,0 +1,60 @@
+use Rattle.std.proofs.Common.{rules, ◌≡◌, false, true, Err, ap, arith}
+use Rattle.sqlite.specs.State.{HasCleanDisk}
+use Rattle.sqlite.specs.Held.{state}
+use Rattle.dnp_eventbuf.specs.Sound.{IsSound}
+use Rattle.dnp_eventbuf.specs.Stock.{exhausts, with_rows}
+use Rattle.dnp_store.proofs.Trimming.{last_rows}
+use Rattle.dnp_store.proofs.Standing.{either_of, kept_standing}
+use Rattle.dnp_store.proofs.Refusing.{lost_if}
+use Rattle.dnp_store.proofs.queue_calls.append_both_to.Goals as goal
+
+pub write_both-requires-clause-first_after : goal.write_both-requires-clause-first_after
+write_both-requires-clause-first_after g c =
+    let fits : exhausts c.args.first.now c.args.rows.now ≡ false = search rules in
+    c.lanes_stay_sound.ensures.appended c.args.first.now c.args.rows.now c.requires.first c.requires.carried fits
+
+pub write_both-requires-clause-few : goal.write_both-requires-clause-few
+write_both-requires-clause-few g c =
+    let fits : exhausts c.args.first.now c.args.rows.now ≡ false = search rules in
+    let after : IsSound (with_rows c.args.first.now c.args.rows.now) =
+    c.lanes_stay_sound.ensures.appended c.args.first.now c.args.rows.now c.requires.first c.requires.carried fits in
+    let last = after.last_id_at_most in
+    omega (arith, last, last_rows c.args.first.now c.args.rows.now)
+
+pub write_both-requires-clause-second_after : goal.write_both-requires-clause-second_after
+write_both-requires-clause-second_after g c =
+    let fits : exhausts c.args.second.now c.args.rows.now ≡ false = search rules in
+    c.lanes_stay_sound.ensures.appended c.args.second.now c.args.rows.now c.requires.second c.requires.carried fits
+
+pub write_both-requires-clause-few_too : goal.write_both-requires-clause-few_too
+write_both-requires-clause-few_too g c =
+    let fits : exhausts c.args.second.now c.args.rows.now ≡ false = search rules in
+    let after : IsSound (with_rows c.args.second.now c.args.rows.now) =
+    c.lanes_stay_sound.ensures.appended c.args.second.now c.args.rows.now c.requires.second c.requires.carried fits in
+    let last = after.last_id_at_most in
+    omega (arith, last, last_rows c.args.second.now c.args.rows.now)
+
+pub returns-in-Err-clause-stands : goal.returns-in-Err-clause-stands
+returns-in-Err-clause-stands g c clean stood other =
+    let early : HasCleanDisk (state g.S.Store c.write_both.new.conn) = omega (arith, clean, c.is_lost-lost.ensures.survives.clean) in
+    kept_standing (state g.S.Store c.args.conn.now) (state g.S.Store c.write_both.new.conn) (state g.S.Store c.is_lost-lost.new.conn) c.is_lost-lost.result
+    c.fault.result (record { first = c.args.first.now; second = c.args.second.now }) c.fault.ensures (λ e. other (ap Err e)) (c.is_lost-lost.ensures.serves clean) (c.is_lost-lost.ensures.same clean)
+    (c.in-Err.ensures.err early) stood
+
+pub returns-in-Err-clause-device : goal.returns-in-Err-clause-device
+returns-in-Err-clause-device g c clean told =
+    let early : HasCleanDisk (state g.S.Store c.write_both.new.conn) = omega (arith, clean, c.is_lost-lost.ensures.survives.clean) in
+    let lost : c.is_lost-lost.result ≡ true = lost_if c.is_lost-lost.result c.fault.result c.fault.ensures told in
+    record { between = c.write_both.new.conn; error = _; refused = c.in-Err.ensures.refused early; lost = c.is_lost-lost.ensures.lost clean lost }
+
+pub returns-in-Err-clause-either : goal.returns-in-Err-clause-either
+returns-in-Err-clause-either g c clean stood db may =
+    let first = c.args.first.now in
+    let second = c.args.second.now in
+    let rows = c.args.rows.now in
+    let old = state g.S.Store c.args.conn.now in
+    let mid = state g.S.Store c.write_both.new.conn in
+    let new = state g.S.Store c.is_lost-lost.new.conn in
+    let early : HasCleanDisk mid = omega (arith, clean, c.is_lost-lost.ensures.survives.clean) in
+    either_of old mid new (record { first = first; second = second }) (record { first = with_rows first rows; second = with_rows second rows }) clean early
+    (g.met.S.Store.settled c.args.conn.now.store) stood c.write_both.ensures.survives c.is_lost-lost.ensures.survives db may

@@ -1,0 +1,48 @@
+use Rattle.std.proofs.Common.{rules, ◌≡◌, false, true, Err, ap, arith}
+use Rattle.sqlite.specs.State.{HasCleanDisk}
+use Rattle.sqlite.specs.Held.{state}
+use Rattle.dnp_eventbuf.specs.Sound.{IsSound}
+use Rattle.dnp_eventbuf.specs.Stock.{exhausts, with_rows}
+use Rattle.dnp_store.specs.steps.Pairs.{sides_of}
+use Rattle.dnp_store.proofs.Trimming.{last_rows}
+use Rattle.dnp_store.proofs.Standing.{either_of, kept_standing}
+use Rattle.dnp_store.proofs.Statements.{survives_as}
+use Rattle.dnp_store.proofs.Refusing.{lost_if}
+use Rattle.dnp_store.proofs.queue_calls.append_to.Goals as goal
+
+pub write_append-requires-clause-after : goal.write_append-requires-clause-after
+write_append-requires-clause-after g c =
+    let fits : exhausts c.args.lanes.now c.args.rows.now ≡ false = search rules in
+    c.lanes_stay_sound.ensures.appended c.args.lanes.now c.args.rows.now c.requires.sound c.requires.carried fits
+
+pub write_append-requires-clause-few : goal.write_append-requires-clause-few
+write_append-requires-clause-few g c =
+    let fits : exhausts c.args.lanes.now c.args.rows.now ≡ false = search rules in
+    let after : IsSound (with_rows c.args.lanes.now c.args.rows.now) =
+    c.lanes_stay_sound.ensures.appended c.args.lanes.now c.args.rows.now c.requires.sound c.requires.carried fits in
+    let last = after.last_id_at_most in
+    omega (arith, last, last_rows c.args.lanes.now c.args.rows.now)
+
+pub returns-in-Err-clause-stands : goal.returns-in-Err-clause-stands
+returns-in-Err-clause-stands g c clean others stood other =
+    let early : HasCleanDisk (state g.S.Store c.write_append.new.conn) = omega (arith, clean, c.is_lost-lost.ensures.survives.clean) in
+    kept_standing (state g.S.Store c.args.conn.now) (state g.S.Store c.write_append.new.conn) (state g.S.Store c.is_lost-lost.new.conn) c.is_lost-lost.result
+    c.fault.result (sides_of c.args.side c.args.lanes.now others) c.fault.ensures (λ e. other (ap Err e)) (c.is_lost-lost.ensures.serves clean) (c.is_lost-lost.ensures.same clean)
+    (c.in-Err.ensures.err early) stood
+
+pub returns-in-Err-clause-device : goal.returns-in-Err-clause-device
+returns-in-Err-clause-device g c clean told =
+    let early : HasCleanDisk (state g.S.Store c.write_append.new.conn) = omega (arith, clean, c.is_lost-lost.ensures.survives.clean) in
+    let lost : c.is_lost-lost.result ≡ true = lost_if c.is_lost-lost.result c.fault.result c.fault.ensures told in
+    record { between = c.write_append.new.conn; error = _; refused = c.in-Err.ensures.refused early; lost = c.is_lost-lost.ensures.lost clean lost }
+
+pub returns-in-Err-clause-either : goal.returns-in-Err-clause-either
+returns-in-Err-clause-either g c clean others stood db may =
+    let s = c.args.lanes.now in
+    let old = state g.S.Store c.args.conn.now in
+    let mid = state g.S.Store c.write_append.new.conn in
+    let new = state g.S.Store c.is_lost-lost.new.conn in
+    let early : HasCleanDisk mid = omega (arith, clean, c.is_lost-lost.ensures.survives.clean) in
+    either_of old mid new (sides_of c.args.side s others) (sides_of c.args.side (with_rows s c.args.rows.now) others) clean early
+    (g.met.S.Store.settled c.args.conn.now.store) stood (survives_as old mid _ _ (λ db made. made others) c.write_append.ensures.survives)
+    c.is_lost-lost.ensures.survives db may

@@ -1,0 +1,56 @@
+use Rattle.std.proofs.Common.{rules, ◌≡◌, ◌&&◌, Bool, true, not, IsTrue, List, arith, refl, sym, ap, subst, ◌∙◌}
+use Rattle.sqlite.specs.State.{HasCleanDisk}
+use Rattle.sqlite.specs.Held.{state}
+use Rattle.sqlite.specs.Effect.{Database, IsDatabase}
+use Rattle.dnp_store.specs.steps.Stored.{IsShown, IsStored}
+use Rattle.dnp_store.proofs.PairOpening.{stored_is}
+use Rattle.dnp_store.proofs.Ending.{survives_undone, kept_undone}
+use Rattle.dnp_store.proofs.queue_opening.read_stored.Goals as goal
+
+pub returns-clause-read : goal.returns-clause-read
+returns-clause-read g c clean =
+    let old = state g.S.Store c.args.conn.now in
+    let begun = state g.S.Store c.transaction-tx.result.conn.now in
+    let mid = state g.S.Store c.read_numbered.new.tx.conn.now in
+    let end = state g.S.Store c.rollback.new.self.0 in
+    let same : c.rollback.new.self.0 ≡ c.conn-2-1.given.0 = search rules in
+    let late : HasCleanDisk end = subst (λ h. HasCleanDisk (state g.S.Store h)) (sym same) clean in
+    let early : HasCleanDisk mid = omega (arith, late, c.rollback.ensures.survives.clean) in
+    let now_is : begun.now ≡ old.now = ap (λ h. (state g.S.Store h).now) c.transaction-tx.ensures.begun in
+    let open_is : begun.is_open ≡ old.is_open = ap (λ h. (state g.S.Store h).is_open) c.transaction-tx.ensures.begun in
+    let is_open : IsTrue old.is_open = subst IsTrue open_is (c.in_ok-stored.ensures.open early) in
+    let idle : IsTrue c.is_autocommit.result = c.is_autocommit.ensures.value ∙ ap not c.requires.idle in
+    let settled : old.now ≡ old.committed = c.is_autocommit.ensures.settled idle is_open in
+    let sound : IsDatabase old.now = (c.is_of_queue-one.ensures.live is_open).0 in
+    let shown : IsShown old.now c.in_ok-stored.stored = subst (λ (d : Database). IsShown d c.in_ok-stored.stored) now_is (c.in_ok-stored.ensures.read early) in
+    let stored : IsStored old.now _ = stored_is old.now c.in_ok-stored.stored c.is_of_queue-one.result c.is_of_pair-pair.result _ sound
+    c.is_of_queue-one.ensures.schema c.is_of_queue-one.ensures.found c.is_of_pair-pair.ensures.schema shown in
+    subst (λ (d : Database). IsStored d c.owned_by.result) settled (subst (IsStored old.now) (sym c.owned_by.ensures) stored)
+
+pub returns-in_err-stored-clause-survives : goal.returns-in_err-stored-clause-survives
+returns-in_err-stored-clause-survives g c =
+    let same : c.drop-tx.new.self.0 ≡ c.conn-1.given.0 = search rules in
+    survives_undone g.S.Store c.args.conn.now c.transaction-tx.result.conn.now c.read_numbered.new.tx.conn.now c.drop-tx.new.self.0 _
+    c.transaction-tx.ensures.begun same _
+    c.read_numbered.ensures.step.survives c.drop-tx.ensures.survives
+
+pub returns-in_err-stored-clause-same : goal.returns-in_err-stored-clause-same
+returns-in_err-stored-clause-same g c =
+    let same : c.drop-tx.new.self.0 ≡ c.conn-1.given.0 = search rules in
+    kept_undone g.S.Store c.args.conn.now c.transaction-tx.result.conn.now c.read_numbered.new.tx.conn.now c.drop-tx.new.self.0 _
+    c.transaction-tx.ensures.begun same _
+    c.read_numbered.ensures.step.kept c.drop-tx.ensures.undone c.drop-tx.ensures.survives
+
+pub returns-clause-survives : goal.returns-clause-survives
+returns-clause-survives g c =
+    let same : c.rollback.new.self.0 ≡ c.conn-2-1.given.0 = search rules in
+    survives_undone g.S.Store c.args.conn.now c.transaction-tx.result.conn.now c.read_numbered.new.tx.conn.now c.rollback.new.self.0 _
+    c.transaction-tx.ensures.begun same _
+    c.read_numbered.ensures.step.survives c.rollback.ensures.survives
+
+pub returns-clause-same : goal.returns-clause-same
+returns-clause-same g c =
+    let same : c.rollback.new.self.0 ≡ c.conn-2-1.given.0 = search rules in
+    kept_undone g.S.Store c.args.conn.now c.transaction-tx.result.conn.now c.read_numbered.new.tx.conn.now c.rollback.new.self.0 _
+    c.transaction-tx.ensures.begun same _
+    c.read_numbered.ensures.step.kept c.rollback.ensures.undone c.rollback.ensures.survives

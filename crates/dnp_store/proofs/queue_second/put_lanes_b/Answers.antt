@@ -1,0 +1,57 @@
+use Rattle.std.proofs.Common.{rules, ◌≡◌, ◌+◌, ◌<◌, ◌++◌, [], ◌∷◌, map, take, length, get_or, arith, sym, ap, subst, ◌∙◌, length-take}
+use Rattle.std.proofs.lemmas.List.{take_all, take_more, map-append}
+use Rattle.sqlite.specs.State.{HasCleanDisk}
+use Rattle.sqlite.specs.Held.{state}
+use Rattle.dnp_objects.specs.declared.limits.TheConstants.{LANES}
+use Rattle.dnp_store.specs.steps.Making.{fresh}
+use Rattle.dnp_store.specs.steps.Seconds.{HasSecond}
+use Rattle.dnp_store.proofs.Filling.{length_fresh}
+use Rattle.dnp_store.proofs.Stepping.{step_then, step_none}
+use Rattle.dnp_store.specs.declared.store_kind.StoreKind.TheVariants.{Queue}
+use Rattle.dnp_store.proofs.Refusing.{refused_after}
+use Rattle.dnp_store.proofs.queue_second.put_lanes_b.Goals as goal
+
+pub loop-number-preserved : goal.loop-number-preserved
+loop-number-preserved g c =
+    let mid = state g.S.Store c.loop-number.tx.conn.now in
+    let new = state g.S.Store c.put_lane_b.new.tx.conn.now in
+    let number = c.loop-number.number in
+    let all = c.args.capacities.now in record {
+      step = step_then g.S.Store c.args.tx.now.conn c.loop-number.tx.conn c.put_lane_b.new.tx.conn _ _ c.loop-number.invariant.step
+          c.in_ok-put_lane_b.ensures.step;
+      made = λ clean.
+          let early : HasCleanDisk mid = omega (arith, c.put_lane_b.ensures.step.survives.clean) in
+          let was = c.loop-number.invariant.made early in
+          λ f q l s has.
+          let nine : length all ≡ LANES = search rules in
+          let low : number < LANES = omega arith in
+          let before = map fresh (take number all) in
+          let at : number ≡ length before = omega (arith, length_fresh (take number all), length-take number all, nine) in
+          let more : map fresh (take (number + 1) all) ≡ before ++ fresh (get_or all number 0) ∷ [] =
+          ap (map fresh) (take_more all number 0 (omega (arith, nine))) ∙ map-append fresh (take number all) (get_or all number 0 ∷ []) in
+          subst (λ fs. HasSecond f q l s fs new.now) (sym more) (c.in_ok-put_lane_b.ensures.made clean f q l s before at (was f q l s has));
+    }
+
+pub returns-clause-made : goal.returns-clause-made
+returns-clause-made g c clean f q l s has =
+    let now = state g.S.Store c.loop-number.tx.conn.now in
+    let all = c.args.capacities.now in
+    let nine : length all ≡ LANES = search rules in
+    let end : c.loop-number.number ≡ LANES = omega arith in
+    subst (λ xs. HasSecond f q l s (map fresh xs) now.now) (take_all c.loop-number.number all (omega (arith, nine)))
+    (c.loop-number.invariant.made clean f q l s has)
+
+pub returns-in_err-put_lane_b-clause-refused : goal.returns-in_err-put_lane_b-clause-refused
+returns-in_err-put_lane_b-clause-refused g c clean =
+    let here = refused_after g.S.Store Queue c.args.tx.now.conn.now c.loop-number.tx.conn.now c.put_lane_b.new.tx.conn.now _ c.loop-number.invariant.step.survives
+    (c.in_err-put_lane_b.ensures.refused clean) in
+    search (rules, here)
+
+pub returns-in_err-put_lane_b-clause-step : goal.returns-in_err-put_lane_b-clause-step
+returns-in_err-put_lane_b-clause-step g c =
+    let here = step_then g.S.Store c.args.tx.now.conn c.loop-number.tx.conn c.put_lane_b.new.tx.conn _ _ c.loop-number.invariant.step
+    c.in_err-put_lane_b.ensures.step in
+    record { same_reference = here.same_reference; inside = search rules; kept = here.kept; survives = here.survives }
+
+pub loop-number-init : goal.loop-number-init
+loop-number-init g c = record { step = step_none g.S.Store c.args.tx.now.conn c.requires.inside; made = λ clean f q l s has. has }

@@ -1,0 +1,53 @@
+-- Words of private steps: the database of a queue for two centres, as a statement for one of them finds and leaves it.
+use Rattle.std.specs.Prelude.{◌≡◌, ℕ, List}
+use Rattle.sqlite.specs.Table.{Table}
+use Rattle.sqlite.specs.Order.{Row as SqlRow}
+use Rattle.sqlite.specs.Tree.{Trees}
+use Rattle.sqlite.specs.Effect.{Database, IsDatabase}
+use Rattle.sqlite.specs.State.{State}
+use Rattle.dnp_eventbuf.specs.Stock.{Stock}
+use Rattle.dnp_store.specs.declared.queue_side.QueueSide.{QueueSide}
+use Rattle.dnp_store.specs.declared.queue_side.QueueSide.TheVariants.{First, Second}
+use Rattle.dnp_store.specs.Tables.{HaveOwnIds, IsCounted, checks_at, counts_of}
+use Rattle.dnp_store.specs.QueueTables.{Figures, is_raised}
+use Rattle.dnp_store.specs.PairTables.{Checks, HoldsOn, HoldsSide, IsForm2, Sides, beside, pair_schema, rows_name}
+
+-- it holds these lanes on this side, with these figures, and others on the other side
+pub record HoldsFor (side : QueueSide) (others : Stock) (db : Database) (s : Stock) (figures : List Figures) : Type 0 where
+  pub checks : Checks
+  pub schema : db.schema ≡ pair_schema checks
+  pub form : IsForm2 (db.trees 0)
+  pub counts : HaveOwnIds (db.trees 2)
+  pub lanes : HoldsOn side db.trees s figures
+  pub rest : HoldsSide (beside side) db.trees others
+
+-- with figures that say whether the overflow stands
+pub record IsFor (side : QueueSide) (others : Stock) (db : Database) (s : Stock) : Type 0 where
+  pub figures : List Figures
+  pub holds : HoldsFor side others db s figures
+  pub overflow : s.overflow ≡ is_raised figures
+
+-- the lanes on this side, and others on the other
+abbrev pub sides_of : QueueSide → Stock → Stock → Sides
+sides_of First s others = record { first = s; second = others }
+sides_of Second s others = record { first = others; second = s }
+
+-- the CHECKs on a queue's tables, which stand in their order
+abbrev pub checks_among : List Table → Checks
+checks_among tables = record {
+  form = checks_at tables 0;
+  queue = checks_at tables 1;
+  lanes = checks_at tables 3;
+  queue_b = checks_at tables 4;
+  lanes_b = checks_at tables 5;
+}
+
+-- a queue's database shows this of its trees, and stays as it was
+abbrev pub ReadsPair : State → State → (Trees → Type 0) → Type 0
+ReadsPair old new P = (c : Checks) → IsDatabase old.now → old.now.schema ≡ pair_schema c → (new.now ≡ old.now) × P old.now.trees
+
+-- these are the last ids used on the two sides, and the rows that say so stand under ids of their own
+pub record CountsTwo (rows : List SqlRow) (n m : ℕ) : Type 0 where
+  pub own : HaveOwnIds rows
+  pub first : IsCounted (rows_name First) (counts_of (rows_name First) rows) n
+  pub second : IsCounted (rows_name Second) (counts_of (rows_name Second) rows) m

@@ -1,0 +1,185 @@
+//! What the calls of a queue do to one side, in the database and in memory, and to both.
+
+ghost use Rattle.std.specs.Prelude.{◌≡◌, ◌≢◌, false, true, IsTrue, [], All, IfOk, IfErr, OnOk, OnErr, Err, ◌||◌};
+ghost use Rattle.sqlite.specs.Held.{state};
+ghost use Rattle.sqlite.specs.State.{HasCleanDisk};
+ghost use Rattle.dnp_eventbuf.specs.Carried.{IsCarried};
+ghost use Rattle.dnp_eventbuf.specs.Sound.{IsSound};
+ghost use Rattle.dnp_eventbuf.specs.Stock.{Stock, with_rows, dropped_by, exhausts, without, all_up_to, without_all, rows_in};
+ghost use Rattle.dnp_store.specs.Kept.{Leaves, LeavesEither, Stands};
+ghost use Rattle.dnp_store.specs.Refusals.{IsLost};
+ghost use Rattle.dnp_store.specs.steps.Pairs.{sides_of};
+
+use crate::fault::{fault, is_lost, memory};
+use crate::queue_release::{lowers, write_release};
+use crate::queue_side::QueueSide;
+use crate::queue_writing::{write_append, write_both};
+use crate::store_kind::StoreKind;
+use dnp_eventbuf::laws::{a_release_is_lane_by_lane, lanes_stay_sound};
+use dnp_eventbuf::{LaneRow, PlainLanes, Upto};
+use dnp_objects::{LANES, MAX_ID, Row, StoreFault};
+use sqlite::{Alter, Connection};
+use std::alloc::Global;
+
+/// Whether a call answered that the device failed.
+pub(crate) fn is_device<Answer>(answer: &Result<Answer, StoreFault>) -> bool
+    ensures device { IsTrue result → answer.now ≡ Err StoreFault.Device }
+    ensures other { result ≡ false → answer.now ≢ Err StoreFault.Device }
+{
+    matches!(answer, Err(StoreFault::Device))
+}
+
+/// Puts rows into the lanes of one side.
+pub(crate) fn append_to<S: Alter>(
+    conn: &mut Connection<S>,
+    side: QueueSide,
+    lanes: &mut PlainLanes,
+    alloc: Global,
+    rows: &[LaneRow],
+) -> Result<Vec<Row>, StoreFault>
+    requires idle { conn.old.in_transaction ≡ false }
+    requires sound { IsSound lanes.old }
+    requires carried { All IsCarried rows.now }
+    ensures sound { IsSound lanes.new }
+    ensures appended { OnOk result (lanes.new ≡ with_rows lanes.old rows.now) }
+    ensures dropped { IfOk result (λ dropped. dropped.items ≡ dropped_by lanes.old rows.now) }
+    ensures kept { OnErr result (lanes.new ≡ lanes.old) }
+    ensures not_exhausted { OnOk result (exhausts lanes.old rows.now ≡ false) }
+    ensures exhausted { IfErr result (λ e. e ≡ StoreFault.Exhausted → IsTrue (exhausts lanes.old rows.now)) }
+    ensures exhausted_first { IfErr result (λ e. e ≡ StoreFault.Memory → exhausts lanes.old rows.now ≡ false) }
+    ensures exhausted_always { IsTrue (exhausts lanes.old rows.now) → (result ≡ Err StoreFault.Exhausted) × (conn.new ≡ conn.old) }
+    ensures idle { conn.new.in_transaction ≡ false }
+    ensures limit { conn.new.step_limit ≡ conn.old.step_limit }
+    ensures clean { HasCleanDisk (state S.Store conn.new) → HasCleanDisk (state S.Store conn.old) }
+    ensures stands { HasCleanDisk (state S.Store conn.new) → (others : Stock) → Stands (state S.Store conn.old) (sides_of side lanes.old others) → (result ≡ Err StoreFault.Device → ⊥) → Stands (state S.Store conn.new) (sides_of side lanes.new others) }
+    ensures either { HasCleanDisk (state S.Store conn.new) → (others : Stock) → Stands (state S.Store conn.old) (sides_of side lanes.old others) → LeavesEither (state S.Store conn.new) (sides_of side lanes.old others) (sides_of side (with_rows lanes.old rows.now) others) }
+    ensures after { HasCleanDisk (state S.Store conn.new) → (others : Stock) → Stands (state S.Store conn.old) (sides_of side lanes.old others) → OnOk result (Leaves (state S.Store conn.new) (sides_of side lanes.new others)) }
+    ensures device { HasCleanDisk (state S.Store conn.new) → result ≡ Err StoreFault.Device → IsLost S.Store StoreKind.Queue conn.old conn.new }
+{
+    // (a law, for the proof: it does nothing)
+    lanes_stay_sound();
+    let count = lanes.drops(rows).ok_or(StoreFault::Exhausted)?;
+    let mut dropped = Vec::with_capacity(alloc, count).map_err(memory)?;
+    if let Err(error) = write_append(conn, side, lanes, rows) {
+        let lost = is_lost(conn, &error);
+        return Err(fault(lost));
+    }
+    lanes.put_all(rows, &mut dropped);
+    Ok(dropped)
+}
+
+/// Puts rows into the lanes of both sides, all or none: what each side drops.
+pub(crate) fn append_both_to<S: Alter>(
+    conn: &mut Connection<S>,
+    first: &mut PlainLanes,
+    second: &mut PlainLanes,
+    alloc: Global,
+    rows: &[LaneRow],
+) -> Result<(Vec<Row>, Vec<Row>), StoreFault>
+    requires idle { conn.old.in_transaction ≡ false }
+    requires first { IsSound first.old }
+    requires second { IsSound second.old }
+    requires carried { All IsCarried rows.now }
+    ensures first { IsSound first.new }
+    ensures second { IsSound second.new }
+    ensures appended { OnOk result (first.new ≡ with_rows first.old rows.now) }
+    ensures appended_too { OnOk result (second.new ≡ with_rows second.old rows.now) }
+    ensures dropped { IfOk result (λ dropped. dropped.0.items ≡ dropped_by first.old rows.now) }
+    ensures dropped_too { IfOk result (λ dropped. dropped.1.items ≡ dropped_by second.old rows.now) }
+    ensures kept { OnErr result (first.new ≡ first.old) }
+    ensures kept_too { OnErr result (second.new ≡ second.old) }
+    ensures not_exhausted { OnOk result (exhausts first.old rows.now || exhausts second.old rows.now ≡ false) }
+    ensures exhausted { IfErr result (λ e. e ≡ StoreFault.Exhausted → IsTrue (exhausts first.old rows.now || exhausts second.old rows.now)) }
+    ensures exhausted_first { IfErr result (λ e. e ≡ StoreFault.Memory → exhausts first.old rows.now || exhausts second.old rows.now ≡ false) }
+    ensures exhausted_always { IsTrue (exhausts first.old rows.now || exhausts second.old rows.now) → (result ≡ Err StoreFault.Exhausted) × (conn.new ≡ conn.old) }
+    ensures idle { conn.new.in_transaction ≡ false }
+    ensures limit { conn.new.step_limit ≡ conn.old.step_limit }
+    ensures clean { HasCleanDisk (state S.Store conn.new) → HasCleanDisk (state S.Store conn.old) }
+    ensures stands { HasCleanDisk (state S.Store conn.new) → Stands (state S.Store conn.old) (record { first = first.old; second = second.old }) → (result ≡ Err StoreFault.Device → ⊥) → Stands (state S.Store conn.new) (record { first = first.new; second = second.new }) }
+    ensures either { HasCleanDisk (state S.Store conn.new) → Stands (state S.Store conn.old) (record { first = first.old; second = second.old }) → LeavesEither (state S.Store conn.new) (record { first = first.old; second = second.old }) (record { first = with_rows first.old rows.now; second = with_rows second.old rows.now }) }
+    ensures after { HasCleanDisk (state S.Store conn.new) → Stands (state S.Store conn.old) (record { first = first.old; second = second.old }) → OnOk result (Leaves (state S.Store conn.new) (record { first = first.new; second = second.new })) }
+    ensures device { HasCleanDisk (state S.Store conn.new) → result ≡ Err StoreFault.Device → IsLost S.Store StoreKind.Queue conn.old conn.new }
+{
+    // (a law, for the proof: it does nothing)
+    lanes_stay_sound();
+    let count = first.drops(rows);
+    let others = second.drops(rows);
+    let count = count.ok_or(StoreFault::Exhausted)?;
+    let others = others.ok_or(StoreFault::Exhausted)?;
+    let mut dropped = Vec::with_capacity(alloc, count).map_err(memory)?;
+    let mut dropped_too = Vec::with_capacity(alloc, others).map_err(memory)?;
+    if let Err(error) = write_both(conn, first, second, rows) {
+        let lost = is_lost(conn, &error);
+        return Err(fault(lost));
+    }
+    first.put_all(rows, &mut dropped);
+    second.put_all(rows, &mut dropped_too);
+    Ok((dropped, dropped_too))
+}
+
+/// Takes the rows of one side with ids up to their lane's number out.
+pub(crate) fn release_from<S: Alter>(
+    conn: &mut Connection<S>,
+    side: QueueSide,
+    lanes: &mut PlainLanes,
+    alloc: Global,
+    upto: &Upto,
+) -> Result<Vec<Row>, StoreFault>
+    requires idle { conn.old.in_transaction ≡ false }
+    requires sound { IsSound lanes.old }
+    ensures sound { IsSound lanes.new }
+    ensures released { OnOk result (lanes.new ≡ without lanes.old upto.now) }
+    ensures taken { IfOk result (λ rows. rows.items ≡ all_up_to lanes.old upto.now) }
+    ensures kept { OnErr result (lanes.new ≡ lanes.old) }
+    ensures named { IfErr result (λ e. e ≢ StoreFault.Exhausted) }
+    ensures idle { conn.new.in_transaction ≡ false }
+    ensures limit { conn.new.step_limit ≡ conn.old.step_limit }
+    ensures clean { HasCleanDisk (state S.Store conn.new) → HasCleanDisk (state S.Store conn.old) }
+    ensures stands { HasCleanDisk (state S.Store conn.new) → (others : Stock) → Stands (state S.Store conn.old) (sides_of side lanes.old others) → (result ≡ Err StoreFault.Device → ⊥) → Stands (state S.Store conn.new) (sides_of side lanes.new others) }
+    ensures either { HasCleanDisk (state S.Store conn.new) → (others : Stock) → Stands (state S.Store conn.old) (sides_of side lanes.old others) → LeavesEither (state S.Store conn.new) (sides_of side lanes.old others) (sides_of side (without lanes.old upto.now) others) }
+    ensures after { HasCleanDisk (state S.Store conn.new) → (others : Stock) → Stands (state S.Store conn.old) (sides_of side lanes.old others) → OnOk result (Leaves (state S.Store conn.new) (sides_of side lanes.new others)) }
+    ensures device { HasCleanDisk (state S.Store conn.new) → result ≡ Err StoreFault.Device → IsLost S.Store StoreKind.Queue conn.old conn.new }
+{
+    let taken = lanes.rows_up_to(alloc, upto).map_err(memory)?;
+    let lower = lowers(lanes, upto);
+    if let Err(error) = write_release(conn, side, lanes, upto, lower) {
+        let lost = is_lost(conn, &error);
+        return Err(fault(lost));
+    }
+    lanes.cut(upto);
+    Ok(taken)
+}
+
+/// Takes all rows of one side out.
+pub(crate) fn empty_of<S: Alter>(
+    conn: &mut Connection<S>,
+    side: QueueSide,
+    lanes: &mut PlainLanes,
+    alloc: Global,
+) -> Result<Vec<Row>, StoreFault>
+    requires idle { conn.old.in_transaction ≡ false }
+    requires sound { IsSound lanes.old }
+    ensures sound { IsSound lanes.new }
+    ensures emptied { OnOk result (lanes.new ≡ without_all lanes.old) }
+    ensures taken { IfOk result (λ rows. rows.items ≡ rows_in lanes.old) }
+    ensures kept { OnErr result (lanes.new ≡ lanes.old) }
+    ensures named { IfErr result (λ e. e ≢ StoreFault.Exhausted) }
+    ensures idle { conn.new.in_transaction ≡ false }
+    ensures limit { conn.new.step_limit ≡ conn.old.step_limit }
+    ensures clean { HasCleanDisk (state S.Store conn.new) → HasCleanDisk (state S.Store conn.old) }
+    ensures stands { HasCleanDisk (state S.Store conn.new) → (others : Stock) → Stands (state S.Store conn.old) (sides_of side lanes.old others) → (result ≡ Err StoreFault.Device → ⊥) → Stands (state S.Store conn.new) (sides_of side lanes.new others) }
+    ensures either { HasCleanDisk (state S.Store conn.new) → (others : Stock) → Stands (state S.Store conn.old) (sides_of side lanes.old others) → LeavesEither (state S.Store conn.new) (sides_of side lanes.old others) (sides_of side (without_all lanes.old) others) }
+    ensures after { HasCleanDisk (state S.Store conn.new) → (others : Stock) → Stands (state S.Store conn.old) (sides_of side lanes.old others) → OnOk result (Leaves (state S.Store conn.new) (sides_of side lanes.new others)) }
+    ensures device { HasCleanDisk (state S.Store conn.new) → result ≡ Err StoreFault.Device → IsLost S.Store StoreKind.Queue conn.old conn.new }
+{
+    // (a law, for the proof: it does nothing)
+    a_release_is_lane_by_lane();
+    let taken = lanes.all_rows(alloc).map_err(memory)?;
+    let lower = lanes.has_overflow();
+    if let Err(error) = write_release(conn, side, lanes, &[MAX_ID; LANES], lower) {
+        let lost = is_lost(conn, &error);
+        return Err(fault(lost));
+    }
+    lanes.clear();
+    Ok(taken)
+}

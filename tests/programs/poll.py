@@ -1,0 +1,357 @@
+#!/usr/bin/env python3
+"""`dnp poll` over localhost: against `dnp outstation`, and against an outstation of another make, written here from the
+tables of IEEE Std 1815-2012, which refuses, is silent, answers nonsense, and looks whether rows were printed before they
+were confirmed. Prints a line 'ok CASE' or 'FAILED CASE' for each case.
+
+    poll.py [DNP]: the program, by default the one that is built
+"""
+import json
+import os
+import select
+import socket
+import struct
+import subprocess
+import sys
+import tempfile
+import threading
+import time
+from pathlib import Path
+
+HERE = Path(__file__).resolve().parent
+DNP = sys.argv[1] if len(sys.argv) > 1 else os.environ.get("DNP", str(HERE.parents[1] / "crates/dnp/out/dnp"))
+MASTER, OUTSTATION = 2, 10
+CON, UNS = 0x20, 0x10
+TIME = 1_795_575_601_000  # 2026-11-25T03:00:01.000Z
+COMMAND = "block 5 3 1 0 0"
+BLOCK = bytes([12, 1, 0x28, 1, 0, 5, 0, 3, 1]) + bytes(9)
+
+
+def check(octets):
+    """The check word: the polynomial of the data link layer, low bits first, complemented."""
+    word = 0
+    for octet in octets:
+        word ^= octet
+        for _ in range(8):
+            word = word >> 1 ^ (0xA6BC if word & 1 else 0)
+    return struct.pack("<H", word ^ 0xFFFF)
+
+
+class Ended(Exception):
+    """The connection has ended."""
+
+
+class Outstation:
+    """An outstation at a port of its own, which serves one connection by `serve`, a function of it, in a thread."""
+
+    def __init__(self, serve):
+        self.listener = socket.create_server(("127.0.0.1", 0))
+        self.place = f"127.0.0.1:{self.listener.getsockname()[1]}"
+        self.serve, self.heard, self.kept, self.number, self.wrong = serve, [], b"", 0, None
+        self.thread = threading.Thread(target=self.run, daemon=True)
+        self.thread.start()
+
+    def run(self):
+        try:
+            self.stream, _ = self.listener.accept()
+            self.stream.settimeout(20)
+            self.serve(self)
+            while True:
+                self.fragment()
+        except Ended:
+            pass
+        except Exception as fault:  # told by the case
+            self.wrong = repr(fault)
+        self.stream.close()
+
+    def read(self, count):
+        while len(self.kept) < count:
+            try:
+                piece = self.stream.recv(65536)
+            except ConnectionError:
+                piece = b""
+            if not piece:
+                raise Ended
+            self.kept += piece
+        octets, self.kept = self.kept[:count], self.kept[count:]
+        return octets
+
+    def fragment(self):
+        """The next fragment that the master sends, which is also kept in `heard`."""
+        fragment, last = b"", False
+        while not last:
+            header = self.read(10)
+            start, length, control, to, of = struct.unpack("<HBBHH", header[:8])
+            assert (start, to, of, control) == (0x6405, OUTSTATION, MASTER, 0xC4), header.hex(" ")
+            user, left = b"", length - 5
+            while len(user) < left:
+                size = min(16, left - len(user))
+                block = self.read(size + 2)
+                assert check(block[:-2]) == block[-2:], block.hex(" ")
+                user += block[:-2]
+            last = user[0] & 0x80
+            fragment += user[1:]
+        self.heard.append(fragment)
+        return fragment
+
+    def send(self, *fragment):
+        octets, fragment = b"", b"".join(fragment)
+        pieces = [fragment[k : k + 249] for k in range(0, len(fragment), 249)]
+        for k, piece in enumerate(pieces):
+            user = bytes([(k == len(pieces) - 1) << 7 | (k == 0) << 6 | self.number]) + piece
+            self.number = (self.number + 1) % 64
+            header = struct.pack("<HBBHH", 0x6405, 5 + len(user), 0x44, MASTER, OUTSTATION)
+            blocks = [user[k : k + 16] for k in range(0, len(user), 16)]
+            octets += b"".join(block + check(block) for block in [header, *blocks])
+        self.stream.sendall(octets)
+
+    def answer(self, sequence, *objects, one=0, two=0, first=True, last=True, bits=0):
+        """A fragment of a response with this sequence number."""
+        control = first << 7 | last << 6 | bits | sequence % 16
+        self.send(bytes([control, 0x82 if bits & UNS else 0x81, one, two]), *objects)
+
+    def functions(self):
+        return [fragment[1] for fragment in self.heard]
+
+
+# 2.2 with an index of two octets, and the present values 30.1 5..6, 10.2 0..1 and 40.1 3
+EVENT = bytes([2, 2, 0x28, 1, 0, 3, 0, 0x81]) + struct.pack("<Q", TIME)[:6]
+VALUES = (bytes([30, 1, 0, 5, 6, 1]) + struct.pack("<i", -5) + b"\x01" + struct.pack("<i", 70_000)
+          + bytes([10, 2, 0, 0, 1, 0x81, 0x01]) + bytes([40, 1, 0, 3, 3, 1]) + struct.pack("<i", 9))
+EVENT_LINES = ["binary 3 1 01 2026-11-25T03:00:01.000Z event"]
+VALUE_LINES = ["analog 5 -5 01 - static", "analog 6 70000 01 - static", "output 0 1 01 - static", "output 1 0 01 - static",
+               "setpoint 3 9 01 - static"]
+
+
+def poll(place, *words, out=subprocess.PIPE):
+    return subprocess.Popen([DNP, "poll", place, *words], stdin=subprocess.DEVNULL, stdout=out, stderr=subprocess.PIPE)
+
+
+def ended(process):
+    out, err = process.communicate(timeout=60)
+    return process.returncode, (out or b"").decode().splitlines(), err.decode().splitlines()
+
+
+def case(name, holds, *seen):
+    print(f"ok {name}" if holds else f"FAILED {name}: {seen}", flush=True)
+    return bool(holds)
+
+
+def against(name, serve, status, lines, says, *words, functions=None):
+    """A poll of an outstation that serves so ends with this status, these lines, and these words on standard error."""
+    station = Outstation(serve)
+    came = ended(poll(station.place, *words))
+    station.thread.join(5)
+    heard = station.functions()
+    good = came[0] == status and came[1] == lines and len(came[2]) == (1 if says else 0)
+    good = good and all(said in came[2][0] for said in says) and station.wrong is None
+    return case(name, good and (functions is None or heard == functions), came, heard, station.wrong)
+
+
+# ---- how outstations serve
+
+def reads_two(printed):
+    """A READ's response in two fragments, each with a confirm; `printed` tells what the poll has printed by then."""
+    def serve(station):
+        sequence = station.fragment()[0] % 16
+        # one that was asked for by nobody's number comes first, and isn't told
+        station.answer(sequence + 5, EVENT, bits=CON)
+        station.answer(sequence, EVENT, one=0x80, bits=CON, last=False)
+        assert station.fragment() == bytes([0xC0 | sequence, 0])
+        assert printed(1) == EVENT_LINES, printed(0)
+        station.answer(sequence + 1, VALUES, one=0x80, bits=CON, first=False)
+        assert station.fragment() == bytes([0xC0 | sequence + 1, 0])
+        assert printed(5) == VALUE_LINES, printed(0)
+    return serve
+
+
+def one_answer(*objects, **bits):
+    def serve(station):
+        station.answer(station.fragment()[0], *objects, **bits)
+    return serve
+
+
+def answers_each(*statuses):
+    """Each of so many commands is answered by itself with this status; none is answered after that."""
+    def serve(station):
+        for status in statuses:
+            fragment = station.fragment()
+            station.answer(fragment[0], fragment[2:-1], bytes([status]))
+    return serve
+
+
+def unasked(station):
+    station.answer(7, EVENT, bits=UNS | CON)
+    fragment = station.fragment()
+    if fragment[1] == 1:
+        confirm = station.fragment()
+    else:
+        fragment, confirm = station.fragment(), fragment
+    assert confirm == bytes([0xC0 | UNS | 7, 0]), confirm.hex(" ")
+    station.answer(fragment[0], one=0x80)
+
+
+def noise(station):
+    station.fragment()
+    station.stream.sendall(b"\x05\x64\x00no frame at all" * 9)
+    station.stream.shutdown(socket.SHUT_WR)
+
+
+def foreign_cases():
+    """Against the outstation of another make."""
+    good = True
+
+    # each row is out before its fragment is confirmed, and all of them are, in order
+    come = b""
+
+    def printed(count):
+        nonlocal come
+        while come.count(b"\n") < count and select.select([process.stdout], [], [], 0)[0]:
+            come += os.read(process.stdout.fileno(), 65536)
+        lines, come = come.decode().splitlines(), b""
+        return lines
+
+    begun = threading.Event()
+
+    def serve(station):
+        begun.wait(10)
+        reads_two(printed)(station)
+
+    station = Outstation(serve)
+    process = poll(station.place)
+    begun.set()
+    came = ended(process)
+    station.thread.join(5)
+    good &= case("rows-are-out-before-they-are-confirmed", came == (0, ["iin 80 00 restart"], []) and station.wrong is None, came, station.wrong)
+
+    # what asks for no confirm gets none, nor does anything with --confirm no
+    read = one_answer(EVENT, VALUES, bits=CON)
+    lines = EVENT_LINES + VALUE_LINES + ["iin 00 00"]
+    good &= against("confirms-what-asks-for-it", read, 0, lines, [], functions=[1, 0])
+    good &= against("confirms-nothing-where-told", read, 0, lines, [], "--confirm", "no", functions=[1])
+    good &= against("prints-and-confirms-what-nobody-asked-for", unasked, 0, [EVENT_LINES[0] + " unsolicited", "iin 80 00 restart"], [])
+    good &= against("reads-the-classes-that-are-named", one_answer(), 0, ["iin 00 00"], [], "--classes", "02", functions=[1])
+    good &= against("sets-the-clock", one_answer(), 0, ["time iin 00 00"], [], "--time", "now", functions=[2])
+
+    # JSON
+    station = Outstation(read)
+    came = ended(poll(station.place, "--json"))
+    objects = [json.loads(line) for line in came[1]]
+    wanted = {"kind": "binary", "index": 3, "value": 1, "flags": "01", "time": TIME, "event": True, "unsolicited": False}
+    good &= case("prints-json", came[0] == 0 and objects[0] == wanted and objects[4]["kind"] == "output"
+                 and objects[-1] == {"task": "poll", "iin": ["00", "00"]}, came)
+
+    # what it refuses
+    good &= against("tells-an-error-bit", one_answer(two=2), 1, ["iin 00 02 object-unknown"], [])
+    nonsense = one_answer(EVENT, bytes([110, 1, 0, 0, 0, 65]), bits=CON)
+    good &= against("refuses-an-answer-out-of-the-grammar", nonsense, 1, [], ["ObjectUnknown at octet 18"], functions=[1])
+    short = lambda station: (station.fragment(), station.send(b"\xc0\x81"))  # noqa: E731
+    good &= against("refuses-a-cut-answer", short, 1, [], ["Short at octet 2"], functions=[1])
+
+    # commands
+    operate = ("--operate", COMMAND)
+    both = ["select 5 SUCCESS", "operate 5 SUCCESS"]
+    good &= against("operates-what-was-selected", answers_each(0, 0), 0, both, [], *operate, functions=[3, 4])
+    good &= against("operates-nothing-that-was-refused", answers_each(4), 1, ["select 5 NOT_SUPPORTED"], [], *operate, functions=[3])
+    other = bytes([12, 1, 0x28, 1, 0, 6, 0, 3, 1]) + bytes(9)
+    good &= against("operates-nothing-that-was-answered-otherwise", one_answer(other), 1, ["select 5 unanswered"], [], *operate, functions=[3])
+    good &= against("tells-a-refused-operate", answers_each(0, 7), 1, [both[0], "operate 5 LOCAL"], [], *operate, functions=[3, 4])
+    patience = ("--timeout", "300")
+    good &= against("selects-once-where-nothing-comes", answers_each(), 3, [], ["no response in 300 ms"], *operate, *patience, functions=[3])
+    good &= against("operates-once-where-nothing-comes", answers_each(0), 3, both[:1],
+                    ["no response in 300 ms", "output 5 may have been operated"], *operate, *patience, functions=[3, 4])
+
+    # silence, noise, an end, and a lost output
+    good &= against("waits-no-longer-than-told", lambda station: None, 3, [], ["no response in 300 ms"], *patience, functions=[1])
+    good &= against("ends-where-the-connection-does", noise, 3, [], ["the connection ended before the answer"])
+    station = Outstation(read)
+    with open("/dev/full", "wb") as full:
+        came = ended(poll(station.place, out=full))
+    station.thread.join(5)
+    good &= case("confirms-nothing-that-is-not-printed", came[0] == 3 and station.functions() == [1], came, station.functions())
+    return good
+
+
+def word_cases():
+    """Words, and no connection."""
+    good = True
+    closed = socket.create_server(("127.0.0.1", 0))
+    place = f"127.0.0.1:{closed.getsockname()[1]}"
+    closed.close()
+    came = ended(poll(place))
+    good &= case("tells-that-nobody-listens", came[0] == 3 and came[1] == [] and len(came[2]) == 1, came)
+    for name, words in {
+        "operate-and-repeat": ["--operate", COMMAND, "--repeat", "1s"],
+        "no-command": ["--operate", "block 5 3"],
+        "class-twice": ["--classes", "11"],
+        "no-time": ["--repeat", "5"],
+        "count-alone": ["--count", "2"],
+        "another-word": ["--confirm", "maybe"],
+        "timeout-of-0": ["--timeout", "0"],
+    }.items():
+        came = ended(poll(place, *words))
+        good &= case(f"refuses-{name}", came[0] == 2 and came[1] == [], came)
+    came = ended(poll("127.0.0.1"))
+    good &= case("refuses-no-port", came[0] == 2 and came[1] == [], came)
+    return good
+
+
+PLAN = """confirm_ms = 5000
+response_ms = 10000
+select_ms = 5000
+retries = 0
+unsolicited = false
+queue = [9, 9, 9, 9, 9, 9, 9, 9, 9]
+[[substation]]
+lanes = [9, 9, 9, 9, 9, 9, 9, 9, 9]
+binary = [1, 1, 1, 1]
+counter = [2]
+analog = [3]
+deadband = [0]
+outputs = 6
+setpoints = 1
+base = [0, 0, 0, 0, 0]
+"""
+
+
+def own_cases():
+    """Against `dnp outstation`."""
+    good = True
+    with tempfile.TemporaryDirectory() as room:
+        Path(room, "plan.toml").write_text(PLAN, encoding="ascii")
+        Path(room, "day.txt").write_text(f"0 change binary 3 1 01 {TIME}\n", encoding="ascii")
+        with socket.create_server(("127.0.0.1", 0)) as taken:
+            port = taken.getsockname()[1]
+        words = ["--plan", "plan.toml", "--station", "0", "--port", str(port), "--replay", "day.txt", "--connections", "6"]
+        station = subprocess.Popen([DNP, "outstation", *words], cwd=room, stdin=subprocess.DEVNULL, stdout=subprocess.DEVNULL)
+        try:
+            place = f"127.0.0.1:{port}"
+            for _ in range(400):
+                if f":{port:04X} 00000000:0000 0A" in Path("/proc/net/tcp").read_text(encoding="ascii"):
+                    break
+                time.sleep(0.05)
+            status, lines, says = ended(poll(place, "--confirm", "no", "--classes", "1"))
+            good &= case("reads-events", (status, lines, says) == (0, EVENT_LINES + ["iin 80 00 restart"], []), status, lines, says)
+            status, lines, says = ended(poll(place, "--clear-restart", "--classes", "1230", "--repeat", "50ms", "--count", "3"))
+            rounds = "\n".join(lines).split("clear-restart iin 00 00")
+            good &= case("keeps-events-that-are-not-confirmed", status == 0 and lines[0] == EVENT_LINES[0], status, lines, says)
+            good &= case("asks-again-on-one-connection", lines.count("clear-restart iin 00 00") == 3
+                         and lines.count(EVENT_LINES[0]) == 1 and lines.count("iin 00 00") == 3, rounds)
+            static = "binary 3 1 01 - static"
+            good &= case("reads-present-values", lines.count(static) == 3 and "counter 0 0 02 - static" in lines, lines)
+            came = ended(poll(place, "--operate", COMMAND))
+            good &= case("operates", came == (0, ["select 5 SUCCESS", "operate 5 SUCCESS"], []), came)
+            came = ended(poll(place, "--operate", "block 9 3 1 0 0"))
+            good &= case("tells-what-is-not-there", came == (1, ["select 9 NOT_SUPPORTED"], []), came)
+            came = ended(poll(place, "--operate", "set16 0 -7"))
+            good &= case("sets", came == (0, ["select 0 SUCCESS", "operate 0 SUCCESS"], []), came)
+            came = ended(poll(place, "--peer", "11", "--timeout", "300"))
+            good &= case("tells-a-wrong-address", came[0] == 3 and "no response in 300 ms" in came[2][0], came)
+        finally:
+            station.kill()
+            station.wait()
+    return good
+
+
+if __name__ == "__main__":
+    results = [foreign_cases(), word_cases(), own_cases()]
+    sys.exit(0 if all(results) else 1)
