@@ -74,6 +74,16 @@ fn fault_of(error: &Error) -> OpenFault {
     }
 }
 
+/// Makes the tables, all or none.
+fn make<S: Alter>(conn: &mut Connection<S>) -> Result<(), Error> {
+    if !conn.is_autocommit() {
+        return Err(Error::InvalidQuery);
+    }
+    let mut tx = conn.transaction();
+    tx.execute_batch(OLD)?;
+    tx.commit()
+}
+
 /// The queue, brought to the form for two, with places for a hundred rows in each of the second centre's lanes.
 fn migrated<S: Alter>(
     alloc: Global,
@@ -91,7 +101,7 @@ impl<S: Alter> Stored<Connection<S>> for Migrating<S> {
         _alloc: Global,
         mut conn: Connection<S>,
     ) -> Result<Migrating<S>, (OpenFault, Connection<S>)> {
-        match conn.execute_batch(OLD) {
+        match make(&mut conn) {
             Ok(()) => Ok(Migrating::Old(conn)),
             Err(error) => Err((fault_of(&error), conn)),
         }
