@@ -23,7 +23,6 @@ pub(crate) struct Knock {
 }
 
 /// Where masters connect.
-#[derive(Drop)]
 pub(crate) struct Door {
     /// What they connect to.
     listener: TcpListener,
@@ -35,6 +34,20 @@ pub(crate) struct Door {
     knock: Cell<Option<Knock>>,
     /// The moment at which it was looked last whether one has come.
     looked: Cell<u64>,
+}
+
+impl Drop for Door {
+    /// One call for whoever lets it go: who still waits is hung up.
+    fn drop(self) {
+        let Door {
+            listener: _,
+            is_open: _,
+            caller,
+            knock: _,
+            looked: _,
+        } = self;
+        let _ = caller.into_inner();
+    }
 }
 
 /// Listens at this address. Nobody who asks whether a master has come waits for one.
