@@ -153,7 +153,7 @@ gone
 # Substations that are not there, silent, send noise, or rows that are not planned: a line each, and the next one is polled
 # printed COUNT: waits until so many rounds are printed
 printed() {
-    while [ "$(wc -l <rounds)" -lt "$1" ] && kill -0 "$concentrating" 2>/dev/null; do sleep 0.01; done
+    while { [ ! -e rounds ] || [ "$(wc -l <rounds)" -lt "$1" ]; } && kill -0 "$concentrating" 2>/dev/null; do sleep 0.01; done
 }
 ms() { echo $(($(date +%s%N) / 1000000)); }
 # fails NAME EVENTS LEAST MOST LINE: substation 0 fails so, in so many milliseconds, and 1 has its events. The time is that of
