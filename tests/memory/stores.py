@@ -11,7 +11,7 @@ from pathlib import Path
 
 TOP = Path(__file__).resolve().parents[2]
 PROGRAM = os.environ.get("STORES", str(TOP / "crates/dnp_store_files/out/dnp_store_files"))
-WANTED = "".join(f"{name} in memory: as it has to be\n" for name in ("queue", "journal", "book"))
+WANTED = "".join(f"{name} in memory: as it has to be\n" for name in ("queue", "queue for one centre", "journal", "book"))
 
 
 def run(number, library, report):

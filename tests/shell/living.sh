@@ -67,10 +67,11 @@ gone 0.8 2.7
 LINES
 talks hangs-up-who-does-not-read <<<deaf
 wait "$served"
-# (two seconds after the last request, and not twice that: from one line of the log to the next)
-tail -n 2 err | cut -d ' ' -f 1 | xargs -I '{}' date -d '{}' +%s%3N | tr '\n' ' ' >times
-read -r asked ended <times
-echo "$((ended - asked >= 1900 && ended - asked < 3700))" >out
+# (two seconds after its last whole frame, and not twice that: not before two seconds after it connected, and by the line of the
+# last request, which is written once the answer before it is sent)
+{ grep ' connected$' err | tail -n 1 && tail -n 2 err; } | cut -d ' ' -f 1 | xargs -I '{}' date -d '{}' +%s%3N | tr '\n' ' ' >times
+read -r connected asked ended <times
+echo "$((ended - connected >= 1900 && ended - asked < 3700))" >out
 judge hangs-up-who-does-not-read-in-time 0 1 0
 grep -v request err >rest
 mv rest err
