@@ -207,8 +207,10 @@ def foreign_cases():
         nonlocal come
         while come.count(b"\n") < count and select.select([process.stdout], [], [], 0)[0]:
             come += os.read(process.stdout.fileno(), 65536)
-        lines, come = come.decode().splitlines(), b""
-        return lines
+        # (what comes after these lines is kept for the end)
+        lines = come.splitlines(keepends=True)
+        come = b"".join(lines[count:])
+        return [line.decode().rstrip("\n") for line in lines[:count]]
 
     begun = threading.Event()
 
@@ -221,7 +223,8 @@ def foreign_cases():
     begun.set()
     # (nobody else reads its output meanwhile)
     station.thread.join(20)
-    came = ended(process)
+    status, lines, said = ended(process)
+    came = status, come.decode().splitlines() + lines, said
     good &= case("rows-are-out-before-they-are-confirmed", came == (0, ["iin 80 00 restart"], []) and station.wrong is None, came, station.wrong)
 
     # what asks for no confirm gets none, nor does anything with --confirm no
