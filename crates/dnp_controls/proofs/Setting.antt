@@ -12,7 +12,7 @@ use Rattle.dnp_controls.specs.declared.limits.TheConstants.{MAX_OUTPUTS}
 use Rattle.dnp_objects.specs.declared.command.Command.{Command}
 use Rattle.dnp_objects.specs.declared.command.Command.TheVariants.{Block, Set16, Set32}
 use Rattle.dnp_controls.specs.Latches.{latch_of, setting_of, value_of}
-use Rattle.dnp_controls.specs.steps.History.{IsInPlace, IsLatchedBy, IsValuedBy, IsLeftBy}
+use Rattle.dnp_controls.specs.steps.History.{IsInPlace, IsValuedBy, IsLeftBy}
 use Rattle.dnp_controls.proofs.Latching.{IsLatchedBy-nothing, IsLatchedBy-push}
 
 -- the last of the values, if there is one

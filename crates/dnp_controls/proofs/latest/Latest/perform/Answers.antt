@@ -1,4 +1,4 @@
-use Rattle.std.proofs.Common.{◌≡◌, ◌∷◌, [], ◌++◌, length, arith}
+use Rattle.std.proofs.Common.{◌≡◌, length, arith}
 use Rattle.dnp_controls.specs.declared.limits.TheConstants.{MAX_OUTPUTS}
 use Rattle.dnp_controls.proofs.Setting.{IsLeftBy-push}
 use Rattle.dnp_controls.proofs.latest.Latest.perform.Goals as goal
