@@ -20,6 +20,7 @@ use crate::tally::{Tally, drops};
 use dnp_objects::{LANES, Lane, LaneRow, MAX_ID, Row, StoreFault};
 use std::alloc::{AllocError, Global};
 use std::marker::Model;
+use std::mem;
 
 /// The most rows that a lane in memory takes.
 pub const MAX_CAPACITY: u32 = 4096;
@@ -203,7 +204,10 @@ impl PlainLanes {
     {
         let count = count_all_up_to(&self.lanes, upto);
         empty_for(alloc, taken, count)?;
-        push_all_up_to(&self.lanes, upto, taken);
+        // (a vector that nobody else knows, so that its length needs no place in memory)
+        let mut rows = mem::replace(taken, Vec::new(alloc));
+        push_all_up_to(&self.lanes, upto, &mut rows);
+        *taken = rows;
         Ok(())
     }
 

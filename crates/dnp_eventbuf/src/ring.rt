@@ -19,6 +19,7 @@ use crate::tally::{Tally, drops};
 use dnp_objects::{LANES, Lane, LaneRow, MAX_ID, Row, StoreFault};
 use std::alloc::{AllocError, Global};
 use std::marker::Model;
+use std::mem;
 
 /// Nine lanes in memory, each a ring, which take their room as they are made and move no row.
 pub struct RingLanes {
@@ -143,7 +144,10 @@ impl RingLanes {
     {
         let count = count_all_up_to(&self.lanes, upto);
         empty_for(alloc, taken, count)?;
-        push_all_up_to(&self.lanes, upto, taken);
+        // (a vector that nobody else knows, so that its length needs no place in memory)
+        let mut rows = mem::replace(taken, Vec::new(alloc));
+        push_all_up_to(&self.lanes, upto, &mut rows);
+        *taken = rows;
         Ok(())
     }
 
