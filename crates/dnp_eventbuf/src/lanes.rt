@@ -112,7 +112,8 @@ pub trait Lanes {
         ensures faults { IfErr result (λ e. IsTrue (may_fault e)) };
 
     /// As `offer`, but the rows come into the caller's `rows`, in place of what was there. A refusal leaves those
-    /// too. So a caller that keeps them asks for memory only where more are offered than ever before, and then once.
+    /// too. So a caller that keeps them asks for memory, over lanes in memory, only where more are offered than ever
+    /// before, and then once.
     fn offer_into(
         &mut self,
         alloc: Global,
@@ -149,7 +150,8 @@ pub trait Lanes {
         ensures faults { IfErr result (λ e. IsTrue (may_fault e)) };
 
     /// As `release`, but the rows come into the caller's `taken`, in place of what was there. A refusal leaves those
-    /// too. So a caller that keeps them asks for memory only where more leave than ever before, and then once.
+    /// too. So a caller that keeps them asks for memory, over lanes in memory, only where more leave than ever before,
+    /// and then once.
     fn release_into(
         &mut self,
         alloc: Global,
