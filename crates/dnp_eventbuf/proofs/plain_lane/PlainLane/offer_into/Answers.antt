@@ -5,7 +5,7 @@ use Rattle.dnp_eventbuf.specs.Stock.{LaneState}
 use Rattle.dnp_eventbuf.proofs.InOrder.{rises_back}
 use Rattle.dnp_eventbuf.proofs.Offers.{Rises}
 use Rattle.dnp_eventbuf.proofs.Over.{filter-none, take-none}
-use Rattle.dnp_eventbuf.proofs.plain_lane.PlainLane.offer.Goals as goal
+use Rattle.dnp_eventbuf.proofs.plain_lane.PlainLane.offer_into.Goals as goal
 
 pub cut-requires-2 : goal.cut-requires-2
 cut-requires-2 c =
@@ -15,4 +15,4 @@ cut-requires-2 c =
 pub returns-then-not-has_over-clause-rows : goal.returns-then-not-has_over-clause-rows
 returns-then-not-has_over-clause-rows c =
     let none : list_any (λ x. nat_lt c.args.after x.id) c.args.self.now.rows ≡ false = sym c.has_over.ensures ∙ c.if-not-has_over.true in
-    c.new.ensures.items ∙ sym (take-none c.args.most _ (filter-none (λ (x : Numbered). nat_lt c.args.after x.id) c.args.self.now.rows none))
+    c.clear.ensures.items ∙ sym (take-none c.args.most _ (filter-none (λ (x : Numbered). nat_lt c.args.after x.id) c.args.self.now.rows none))
