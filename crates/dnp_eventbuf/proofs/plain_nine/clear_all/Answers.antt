@@ -2,7 +2,7 @@ use Rattle.std.proofs.Common.{◌≡◌, length, rules, arith}
 use Rattle.dnp_objects.specs.declared.limits.TheConstants.{LANES}
 use Rattle.dnp_eventbuf.specs.Stock.{emptied}
 use Rattle.dnp_eventbuf.proofs.InPlace.{mapped-step}
-use Rattle.dnp_eventbuf.proofs.plain.clear_all.Goals as goal
+use Rattle.dnp_eventbuf.proofs.plain_nine.clear_all.Goals as goal
 
 pub loop-lane-preserved : goal.loop-lane-preserved
 loop-lane-preserved c =

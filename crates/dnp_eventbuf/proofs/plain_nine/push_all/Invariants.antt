@@ -1,7 +1,7 @@
 -- what was added and what is left make the whole
 use Rattle.std.proofs.Common.{◌≡◌, ◌≤◌, ◌++◌, drop, length}
 use Rattle.dnp_eventbuf.specs.Stock.{lane_rows}
-use Rattle.dnp_eventbuf.proofs.plain.push_all.Given as goal
+use Rattle.dnp_eventbuf.proofs.plain_nine.push_all.Given as goal
 
 abbrev pub invariant-loop-lane : goal.invariant-loop-lane
 invariant-loop-lane l = record {

@@ -1,7 +1,7 @@
 use Rattle.std.proofs.Common.{◌≡◌, length, rules, arith}
 use Rattle.dnp_objects.specs.declared.limits.TheConstants.{LANES}
 use Rattle.dnp_eventbuf.proofs.InPlace.{cut_below-step}
-use Rattle.dnp_eventbuf.proofs.plain.cut_all.Goals as goal
+use Rattle.dnp_eventbuf.proofs.plain_nine.cut_all.Goals as goal
 
 pub loop-k-preserved : goal.loop-k-preserved
 loop-k-preserved c =

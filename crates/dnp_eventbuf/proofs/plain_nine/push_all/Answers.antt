@@ -1,7 +1,7 @@
 use Rattle.std.proofs.Common.{◌≡◌, ◌+◌, ◌<◌, ◌∷◌, [], ◌∙◌, ap, arith, sym, drop, get_or, length, map, add-one, drop-cons}
 use Rattle.dnp_eventbuf.specs.Stock.{LaneState, lane_rows, row_of}
 use Rattle.dnp_eventbuf.proofs.Remaining.{on_err, front_there, whole_there}
-use Rattle.dnp_eventbuf.proofs.plain.push_all.Goals as goal
+use Rattle.dnp_eventbuf.proofs.plain_nine.push_all.Goals as goal
 
 pub returns-in_err-push_all-clause-memory : goal.returns-in_err-push_all-clause-memory
 returns-in_err-push_all-clause-memory c =

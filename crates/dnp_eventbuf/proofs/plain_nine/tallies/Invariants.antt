@@ -1,7 +1,7 @@
 use Rattle.std.proofs.Common.{◌≡◌, map, take, length}
 use Rattle.dnp_objects.specs.declared.limits.TheConstants.{LANES}
 use Rattle.dnp_eventbuf.specs.steps.Tallies.{tally_of}
-use Rattle.dnp_eventbuf.proofs.plain.tallies.Given as goal
+use Rattle.dnp_eventbuf.proofs.plain_nine.tallies.Given as goal
 
 abbrev pub invariant-loop-k : goal.invariant-loop-k
 invariant-loop-k l = record {
