@@ -13,7 +13,6 @@ import time
 from pathlib import Path
 
 from network import DNP, free_port, is_listening
-from substation import check
 
 OUTSTATION, MASTER = 10, 2
 OUTPUTS, SETPOINTS = 6, 3
@@ -34,11 +33,21 @@ outputs = {OUTPUTS}
 setpoints = {SETPOINTS}
 base = [0, 0, 0, 0, 0]
 """
-# so many requests are on their way at once, and come before the memory is looked at
-ROUND, FIRST = 16, 64
+# so many requests are on their way at once; so many requests, and connections, come before the memory is looked at first
+ROUND, FIRST, FIRST_CONNECTIONS = 16, 512, 100
 # how far the resident memory may move, in kilobytes: 100,000 commands would be 1,600
 KILOBYTES = 256
 LATCH_ON, LATCH_OFF = 3, 4
+
+
+def check(octets):
+    """The check word: the polynomial of the data link layer, low bits first, complemented."""
+    word = 0
+    for octet in octets:
+        word ^= octet
+        for _ in range(8):
+            word = word >> 1 ^ (0xA6BC if word & 1 else 0)
+    return struct.pack("<H", word ^ 0xFFFF)
 
 
 def frame(control, to, of, user):
@@ -108,9 +117,9 @@ class Station:
         """The flags that the binary outputs show, by a READ on a new connection."""
         with self.connect() as stream:
             stream.sendall(frame(0xC4, OUTSTATION, MASTER, bytes([0xC0, 0xC0, 1, 10, 2, 6])))
-            objects = bytes([10, 2, 0, 0, OUTPUTS - 1]) + bytes(OUTPUTS)
-            came = whole(stream, len(frame(0x44, MASTER, OUTSTATION, bytes(5) + objects)))
-        return list(came[20 : 20 + OUTPUTS])
+            blocks = whole(stream, len(frame(0x44, MASTER, OUTSTATION, bytes(5 + 7 + OUTPUTS))))[10:]
+        user = b"".join(blocks[k : k + 18][:-2] for k in range(0, len(blocks), 18))
+        return list(user[-OUTPUTS:])
 
 
 def left_by(numbers):
@@ -141,8 +150,9 @@ def over_one(station, requests):
 def over_many(station, requests, connections):
     """Operates over so many connections, and tells what was wrong."""
     each = max(requests // connections, 1)
-    before = station.memory()
-    for _ in range(connections):
+    for number in range(FIRST_CONNECTIONS + connections):
+        if number == FIRST_CONNECTIONS:
+            before = station.memory()
         with station.connect() as stream:
             station.operate(stream, 0, each)
     after = station.memory()
