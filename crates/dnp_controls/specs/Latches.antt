@@ -1,6 +1,6 @@
 -- Definition: what outputs in memory answer and show, by the commands that they performed (IEEE Std 1815-2012, object
--- library: group 10 binary output status, group 12 control relay output block).
-use Rattle.std.specs.Prelude.{ℕ, ◌-◌, Bool, true, false, ◌&&◌, ◌==◌, nat_lt, if◌then◌else◌, List, [], length, Option, Some, None, slice_index_or}
+-- library: group 10 binary output status, group 12 control relay output block, group 41 analog output).
+use Rattle.std.specs.Prelude.{ℕ, ℤ, ◌-◌, Bool, true, false, ◌&&◌, ◌==◌, nat_lt, if◌then◌else◌, List, [], length, Option, Some, None, slice_get, slice_index_or}
 use Rattle.std.specs.List.{filter_map}
 use Rattle.dnp_controls.specs.declared.limits.TheConstants.{MAX_COMMANDS}
 use Rattle.dnp_objects.specs.declared.command.Command.{Command}
@@ -40,6 +40,18 @@ is_latched performed output =
 abbrev pub status_of : List Command → ℕ → ℕ
 status_of performed output = (if is_latched performed output then 0x81 else 0x01)
 
+-- the value that a command gives this setpoint, if it sets it
+abbrev pub setting_of : ℕ → Command → Option ℤ
+setting_of setpoint (Block index code count on off) = None
+setting_of setpoint (Set16 index value) = (if index == setpoint then Some value else None)
+setting_of setpoint (Set32 index value) = (if index == setpoint then Some value else None)
+
+-- the value of the setpoint: that of the last one of the performed commands that set it, if one did
+abbrev pub value_of : List Command → ℕ → Option ℤ
+value_of performed setpoint =
+    let values = filter_map (setting_of setpoint) performed in
+    slice_get values (length values - 1)
+
 -- ---- what is answered
 
 -- outputs in memory: how many binary outputs and how many setpoints there are, and the commands that
@@ -70,7 +82,7 @@ plain_panel state =
       performed = state.performed;
     }
 
--- the one fault of outputs in memory
+-- the one fault of outputs that keep their commands in memory
 abbrev pub wants_memory : StoreFault → Bool
 wants_memory Exhausted = false
 wants_memory Memory = true

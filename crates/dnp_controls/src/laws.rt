@@ -1,16 +1,22 @@
 //! Laws of the words of `specs/`: each function does nothing, and its contract is a law.
 
-ghost use Rattle.std.specs.Prelude.{◌≡◌, ◌≤◌, ◌↔◌, ℕ, true, List, [], ◌∷◌, ◌++◌, Some, None, MatchOption, count_by, length};
+ghost use Rattle.std.specs.Prelude.{◌≡◌, ◌≤◌, ◌↔◌, ℕ, true, false, List, [], ◌∷◌, ◌++◌, Some, None, MatchOption, count_by, length, unwrap_or};
 ghost use Rattle.std.specs.List.{flat_map};
+ghost use Rattle.std.specs.Option.{option_or};
 ghost use Rattle.dnp_objects.specs.declared.command.Command.{Command};
 ghost use Rattle.dnp_objects.specs.Status as status;
 ghost use Rattle.dnp_controls.specs.Book.{Ledger, IsSound, AreNumberedFrom, empty_ledger, entry_of, next_of, is_finished};
+ghost use Rattle.dnp_controls.specs.Latches.{PlainState, latch_of, is_latched, setting_of, value_of};
 ghost use Rattle.dnp_controls.specs.Moves.{Move, AreGranted, after, is_spend_of, IsNext, HasNoNext};
 ghost use Rattle.dnp_controls.specs.Panel.{Request, accepted, performed_after};
 ghost use Rattle.dnp_controls.specs.Selecting.{Select, SelectCall, Operating, Forgetting, standing, MakesNoSelect, GoesWith, IsRunning, HasEnded, answer};
 ghost use Rattle.dnp_controls.specs.declared.book.Entry.{Entry};
 ghost use Rattle.dnp_controls.specs.declared.limits.TheConstants as limits;
 ghost use Rattle.dnp_controls.specs.declared.select.TheConstants as selecting;
+
+use crate::latest_outputs::LatestOutputs;
+use crate::outputs::Outputs;
+use crate::plain_outputs::PlainOutputs;
 
 /// An OPERATE that finds a select is answered SUCCESS exactly where it goes with the select and the
 /// select's timer still runs, TIMEOUT exactly where it goes with it and the timer has ended, and NO_SELECT
@@ -37,6 +43,24 @@ pub fn a_select_serves_once()
 pub fn performed_commands_are_the_accepted_ones()
     ensures { (performed : List Command) (requests : List Request) → performed_after performed requests
         ≡ performed ++ flat_map (λ request. accepted request.check request.commands) requests }
+{}
+
+/// A performed command brings the output that it is for into the state that it orders, and leaves every other output in the
+/// state in which it was. Before the first one no output is latched on, and no setpoint has a value.
+pub fn an_output_keeps_its_latest_state()
+    ensures latched { (performed : List Command) (command : Command) (output : ℕ)
+        → is_latched (performed ++ command ∷ []) output ≡ unwrap_or (latch_of output command) (is_latched performed output) }
+    ensures valued { (performed : List Command) (command : Command) (setpoint : ℕ)
+        → value_of (performed ++ command ∷ []) setpoint ≡ option_or (setting_of setpoint command) (value_of performed setpoint) }
+    ensures first { (output : ℕ) → (is_latched [] output ≡ false) × (value_of [] output ≡ None) }
+{}
+
+/// Outputs that keep their states alone answer, show and perform what those that keep their commands do: after the same
+/// commands nobody can tell the two apart by these.
+pub fn latest_outputs_are_seen_as_plain_ones()
+    ensures panel { ⟦<LatestOutputs as Outputs>⟧.panel ≡ ⟦<PlainOutputs as Outputs>⟧.panel }
+    ensures performs { (old new : PlainState) (commands : List Command)
+        → ⟦<LatestOutputs as Outputs>⟧.performs old commands new ↔ ⟦<PlainOutputs as Outputs>⟧.performs old commands new }
 {}
 
 /// The next entry for a target is the pending one of the least id, where there is one.

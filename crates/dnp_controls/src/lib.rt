@@ -5,16 +5,21 @@
 
 mod book;
 mod code;
+mod latest;
+mod latest_outputs;
 pub mod laws;
 mod limits;
+mod listing;
 mod outputs;
 mod performed;
 mod plain_book;
 mod plain_outputs;
 mod select;
+mod states;
 
 pub use book::{Book, BookFault, Entry, State};
 pub use code::{Operation, obeys_code_rule};
+pub use latest_outputs::LatestOutputs;
 pub use limits::{MAX_COMMANDS, MAX_OUTPUTS, SEQUENCE_NUMBERS, TARGETS};
 pub use outputs::{NoOutputs, Outputs};
 pub use plain_book::PlainBook;

@@ -1,18 +1,13 @@
 //! The commands that outputs in memory performed, and what they left.
 
-ghost use Rattle.std.specs.Prelude.{◌≡◌, ◌≤◌, ◌<◌, ◌+◌, Bool, false, ℕ, [], ◌∷◌, ◌++◌, OnOk, OnErr, length, slice_index_or, unwrap_or};
-ghost use Rattle.dnp_controls.specs.Latches.{latch_of, latch_by, status_of, is_latched};
+ghost use Rattle.std.specs.Prelude.{◌≡◌, ◌≤◌, ◌<◌, ◌+◌, [], ◌∷◌, ◌++◌, OnOk, OnErr};
+ghost use Rattle.dnp_controls.specs.Latches.{status_of};
 ghost use Rattle.dnp_controls.specs.steps.History.{IsInPlace};
 
-use crate::code::Operation;
-use crate::limits::MAX_OUTPUTS;
+use crate::states::{PLACES, set_latch, shown};
 use dnp_objects::Command;
-use dnp_objects::flags::{ONLINE, STATE};
 use std::alloc::{AllocError, Global};
 use std::marker::Model;
-
-/// How many latches there are.
-const LATCHES: usize = MAX_OUTPUTS as usize;
 
 /// Commands that were performed, in order, with the latches that they left.
 #[derive(Debug, Drop)]
@@ -20,7 +15,7 @@ pub(crate) struct Performed {
     /// The commands, in order.
     commands: Vec<Command>,
     /// Whether the binary output of an index is latched on.
-    latched: [bool; LATCHES],
+    latched: [bool; PLACES],
 }
 
 impl Model for Performed {
@@ -42,7 +37,7 @@ impl Performed {
     {
         Performed {
             commands: Vec::new(alloc),
-            latched: [false; LATCHES],
+            latched: [false; PLACES],
         }
     }
 
@@ -57,15 +52,7 @@ impl Performed {
     pub fn status(&self, index: u16) -> u8
         ensures { result ≡ status_of self.now.commands index }
     {
-        let latched = &self.latched;
-        if index >= MAX_OUTPUTS {
-            return ONLINE;
-        }
-        if latched[index as usize] {
-            ONLINE | STATE
-        } else {
-            ONLINE
-        }
+        shown(&self.latched, index)
     }
 
     /// Reserves room for this many commands more. An error says that it ran out of memory.
@@ -86,21 +73,5 @@ impl Performed {
     {
         set_latch(&mut self.latched, command);
         let _ = self.commands.push(command);
-    }
-}
-
-/// Sets the latch that the command is for, if it touches one.
-fn set_latch(latched: &mut [bool], command: Command)
-    requires count { length latched.old ≡ MAX_OUTPUTS }
-    requires in_place { IsInPlace command }
-    ensures { (output : ℕ) → output < MAX_OUTPUTS → slice_index_or latched.new output false ≡ unwrap_or (latch_of output command) (slice_index_or latched.old output false) }
-{
-    let Command::Block { index, code, .. } = command else {
-        return;
-    };
-    match Operation::of(code) {
-        Operation::LatchOn => latched[index as usize] = true,
-        Operation::LatchOff => latched[index as usize] = false,
-        Operation::Nul | Operation::PulseOn | Operation::PulseOff | Operation::Other => {}
     }
 }

@@ -72,7 +72,7 @@ impl PlainOutputs {
 }
 
 /// Whether there is such an output, and a block obeys the code rule.
-fn can_perform(outputs: u16, setpoints: u16, command: &Command) -> bool
+pub(crate) fn can_perform(outputs: u16, setpoints: u16, command: &Command) -> bool
     ensures { result ≡ can_perform outputs setpoints command.now }
 {
     match *command {

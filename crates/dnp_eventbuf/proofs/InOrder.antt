@@ -73,6 +73,10 @@ back_kept upto n rows split = drop-passes (is_over upto) rows n
     (λ k d low lt. over_not_up_to upto (get_or rows k d) (split.0 k d (omega arith) low))
     (λ k d low lt. over_else upto (get_or rows k d) (split.1 k d low lt))
 
+-- a filter keeps no more than there are
+pub few_pass : (p : Numbered → Bool) (rows : List Numbered) → length (filter p rows) ≤ length rows
+few_pass p rows = omega (arith, length-filter_both p (λ y. not (p y)) (λ y. refl) rows)
+
 -- ---- the rows over an id are the last of rows that rise
 
 pub all_over : (upto : ℕ) (x : Numbered) (rows : List Numbered) → Rises (x ∷ rows) → is_over upto x ≡ true → filter (is_over upto) (x ∷ rows) ≡ x ∷ rows

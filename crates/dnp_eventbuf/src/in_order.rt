@@ -1,10 +1,11 @@
 //! Rows whose ids rise, cut at an id, and copied.
 
-ghost use Rattle.std.specs.Prelude.{◌≡◌, ◌≢◌, ◌<◌, ◌+◌, ◌≤◌, ◌++◌, [], IfOk, OnErr, filter, length, map, nat_le, nat_lt, take, vec_capacity, vec_len};
+ghost use Rattle.std.specs.Prelude.{◌≡◌, ◌<◌, ◌+◌, ◌≤◌, ◌++◌, OnOk, OnErr, filter, length, map, nat_le, nat_lt, take, vec_capacity, vec_len};
 ghost use Rattle.std.specs.List.{AllPairs};
 ghost use Rattle.dnp_eventbuf.specs.Stock.{row_of};
 
 use crate::numbered::Numbered;
+use crate::rows::empty_for;
 use dnp_objects::Row;
 use std::alloc::{AllocError, Global};
 
@@ -18,41 +19,38 @@ pub fn cut(rows: &[Numbered], upto: u64) -> (&[Numbered], &[Numbered])
     rows.split_at(count)
 }
 
-/// Room for the first rows of these two runs, at most `most`, and for no other.
-fn room_for_first(
-    alloc: Global,
-    front: &[Numbered],
-    back: &[Numbered],
-    most: usize,
-) -> Result<Vec<Numbered>, AllocError>
-    ensures empty { IfOk result (λ rows. rows.items ≡ []) }
-    ensures len { IfOk result (λ rows. vec_len rows ≡ 0) }
-    ensures room { IfOk result (λ rows. vec_capacity rows ≡ length (take most (front.now ++ back.now))) }
-    ensures memory { OnErr result (take most (front.now ++ back.now) ≢ []) }
+/// Adds the rows, for which there is room.
+fn push_copies(rows: &[Numbered], out: &mut Vec<Numbered>)
+    requires room { vec_len out.old + length rows.now ≤ vec_capacity out.old }
+    ensures rows { out.new.items ≡ out.old.items ++ rows.now }
+    ensures len { vec_len out.new ≡ vec_len out.old + length rows.now }
+    ensures capacity { vec_capacity out.old ≤ vec_capacity out.new }
 {
-    let of_front = most.min(front.len());
-    let of_back = (most - of_front).min(back.len());
-    let room = Vec::with_capacity(alloc, of_front + of_back)?;
-    Ok(room)
+    match out.extend_from_slice(rows) {
+        Ok(()) => {}
+        Err(_) => unreachable!(),
+    }
 }
 
-/// The first rows of these two runs, one after the other, at most `most`. Memory is asked for once, for just
-/// as many.
-pub fn first_of(
+/// The first rows of these two runs, one after the other, at most `most`, in place of what was in `out`. Memory is
+/// asked for once at most, for just as many, where `out` has no room for them.
+pub fn first_into(
     alloc: Global,
     front: &[Numbered],
     back: &[Numbered],
     most: usize,
-) -> Result<Vec<Numbered>, AllocError>
-    ensures rows { IfOk result (λ rows. rows.items ≡ take most (front.now ++ back.now)) }
-    ensures memory { OnErr result (take most (front.now ++ back.now) ≢ []) }
+    out: &mut Vec<Numbered>,
+) -> Result<(), AllocError>
+    ensures rows { OnOk result (out.new.items ≡ take most (front.now ++ back.now)) }
+    ensures kept { OnErr result (out.new.items ≡ out.old.items) }
+    ensures memory { OnErr result (vec_capacity out.old < length (take most (front.now ++ back.now))) }
 {
-    let mut rows = room_for_first(alloc, front, back, most)?;
     let of_front = most.min(front.len());
     let of_back = (most - of_front).min(back.len());
-    rows.extend_from_slice(front.split_at(of_front).0)?;
-    rows.extend_from_slice(back.split_at(of_back).0)?;
-    Ok(rows)
+    empty_for(alloc, out, of_front + of_back)?;
+    push_copies(front.split_at(of_front).0, out);
+    push_copies(back.split_at(of_back).0, out);
+    Ok(())
 }
 
 /// Adds the rows without their ids, for which there is room.

@@ -111,6 +111,32 @@ pub trait Lanes {
         ensures named { IfErr result (λ e. e ≢ StoreFault.Exhausted) }
         ensures faults { IfErr result (λ e. IsTrue (may_fault e)) };
 
+    /// As `offer`, but the rows come into the caller's `rows`, in place of what was there. A refusal leaves those
+    /// too. So a caller that keeps them asks for memory, over lanes in memory, only where more are offered than ever
+    /// before, and then once.
+    fn offer_into(
+        &mut self,
+        alloc: Global,
+        lane: Lane,
+        after: u64,
+        most: usize,
+        rows: &mut Vec<Numbered>,
+    ) -> Result<(), StoreFault>
+        ensures place { place self.new ≡ place self.old }
+        ensures call { IsLanesCall honest is_stopped contents beside self.old self.new result }
+
+        ensures rows { honest self.new → OnOk result (rows.new.items ≡ offered (contents self.old) (lane_number lane) after most) }
+        ensures same { honest self.new → OnOk result (contents self.new ≡ contents self.old) }
+        ensures carried { OnOk result (All (λ x. IsEvent x.row) rows.new.items) }
+        ensures kept { OnErr result (rows.new.items ≡ rows.old.items) }
+        ensures memory { result ≡ Err StoreFault.Memory → asks_memory ≡ false → offered (contents self.old) (lane_number lane) after most ≢ [] }
+        ensures named { IfErr result (λ e. e ≢ StoreFault.Exhausted) }
+        ensures faults { IfErr result (λ e. IsTrue (may_fault e)) }
+    {
+        *rows = self.offer(alloc, lane, after, most)?;
+        Ok(())
+    }
+
     /// Takes out, lane by lane, the rows with ids up to the lane's number in `upto`, and answers them.
     /// The overflow ends if no lane is full then. Memory or Device.
     fn release(&mut self, alloc: Global, upto: &Upto) -> Result<Vec<Row>, StoreFault>
@@ -122,6 +148,29 @@ pub trait Lanes {
         ensures memory { result ≡ Err StoreFault.Memory → asks_memory ≡ false → all_up_to (contents self.old) upto.now ≢ [] }
         ensures named { IfErr result (λ e. e ≢ StoreFault.Exhausted) }
         ensures faults { IfErr result (λ e. IsTrue (may_fault e)) };
+
+    /// As `release`, but the rows come into the caller's `taken`, in place of what was there. A refusal leaves those
+    /// too. So a caller that keeps them asks for memory, over lanes in memory, only where more leave than ever before,
+    /// and then once.
+    fn release_into(
+        &mut self,
+        alloc: Global,
+        upto: &Upto,
+        taken: &mut Rows,
+    ) -> Result<(), StoreFault>
+        ensures place { place self.new ≡ place self.old }
+        ensures call { IsLanesCall honest is_stopped contents beside self.old self.new result }
+
+        ensures released { honest self.new → OnOk result (contents self.new ≡ without (contents self.old) upto.now) }
+        ensures taken { honest self.new → OnOk result (taken.new ≡ all_up_to (contents self.old) upto.now) }
+        ensures kept { OnErr result (taken.new ≡ taken.old) }
+        ensures memory { result ≡ Err StoreFault.Memory → asks_memory ≡ false → all_up_to (contents self.old) upto.now ≢ [] }
+        ensures named { IfErr result (λ e. e ≢ StoreFault.Exhausted) }
+        ensures faults { IfErr result (λ e. IsTrue (may_fault e)) }
+    {
+        *taken = Rows::of(self.release(alloc, upto)?);
+        Ok(())
+    }
 
     /// Takes all rows out, and answers them, lane by lane. The overflow ends; the counts of lost rows
     /// and the last id used stay. Memory or Device.

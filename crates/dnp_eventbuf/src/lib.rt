@@ -15,6 +15,7 @@ mod pair;
 mod plain;
 mod plain_journal;
 mod plain_lane;
+mod plain_nine;
 mod plain_pair;
 mod restore;
 mod ring;

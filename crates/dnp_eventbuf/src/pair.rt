@@ -1,6 +1,6 @@
 //! What lanes for two centres are, however they are kept.
 
-ghost use Rattle.std.specs.Prelude.{◌≡◌, ◌≢◌, ◌<◌, ℕ, Bool, false, IsTrue, OnOk, IfOk, IfErr, [], length, All};
+ghost use Rattle.std.specs.Prelude.{◌≡◌, ◌≢◌, ◌<◌, ℕ, Bool, false, IsTrue, OnOk, OnErr, IfOk, IfErr, [], length, All};
 ghost use Rattle.dnp_objects.specs.Events.{IsEvent};
 ghost use Rattle.dnp_objects.specs.Lanes.{lane_number};
 ghost use Rattle.dnp_eventbuf.specs.Carried.{IsCarried};
@@ -9,6 +9,7 @@ ghost use Rattle.dnp_eventbuf.specs.Sound.{IsSound};
 ghost use Rattle.dnp_eventbuf.specs.Stock.{Stock, lane_at, with_rows, dropped_by, exhausts, offered, without, all_up_to, without_all, rows_in, last_of};
 
 use crate::numbered::{Numbered, Upto};
+use crate::rows::Rows;
 use dnp_objects::{Lane, LaneRow, Row, StoreFault};
 use std::alloc::Global;
 
@@ -98,6 +99,31 @@ pub trait PairLanes {
         ensures named { IfErr result (λ e. e ≢ StoreFault.Exhausted) }
         ensures faults { IfErr result (λ e. IsTrue (may_fault e)) };
 
+    /// `Lanes::offer_into` for this centre.
+    fn offer_into(
+        &mut self,
+        alloc: Global,
+        centre: u8,
+        lane: Lane,
+        after: u64,
+        most: usize,
+        rows: &mut Vec<Numbered>,
+    ) -> Result<(), StoreFault>
+        requires { centre < CENTRES }
+        ensures call { IsSideCall honest is_stopped contents centre self.old self.new result }
+
+        ensures rows { honest self.new → OnOk result (rows.new.items ≡ offered (contents self.old centre) (lane_number lane) after most) }
+        ensures same { honest self.new → OnOk result (contents self.new centre ≡ contents self.old centre) }
+        ensures carried { OnOk result (All (λ x. IsEvent x.row) rows.new.items) }
+        ensures kept { OnErr result (rows.new.items ≡ rows.old.items) }
+        ensures memory { result ≡ Err StoreFault.Memory → asks_memory ≡ false → offered (contents self.old centre) (lane_number lane) after most ≢ [] }
+        ensures named { IfErr result (λ e. e ≢ StoreFault.Exhausted) }
+        ensures faults { IfErr result (λ e. IsTrue (may_fault e)) }
+    {
+        *rows = self.offer(alloc, centre, lane, after, most)?;
+        Ok(())
+    }
+
     /// `Lanes::release` for this centre.
     fn release(&mut self, alloc: Global, centre: u8, upto: &Upto) -> Result<Vec<Row>, StoreFault>
         requires { centre < CENTRES }
@@ -108,6 +134,28 @@ pub trait PairLanes {
         ensures memory { result ≡ Err StoreFault.Memory → asks_memory ≡ false → all_up_to (contents self.old centre) upto.now ≢ [] }
         ensures named { IfErr result (λ e. e ≢ StoreFault.Exhausted) }
         ensures faults { IfErr result (λ e. IsTrue (may_fault e)) };
+
+    /// `Lanes::release_into` for this centre.
+    fn release_into(
+        &mut self,
+        alloc: Global,
+        centre: u8,
+        upto: &Upto,
+        taken: &mut Rows,
+    ) -> Result<(), StoreFault>
+        requires { centre < CENTRES }
+        ensures call { IsSideCall honest is_stopped contents centre self.old self.new result }
+
+        ensures released { honest self.new → OnOk result (contents self.new centre ≡ without (contents self.old centre) upto.now) }
+        ensures taken { honest self.new → OnOk result (taken.new ≡ all_up_to (contents self.old centre) upto.now) }
+        ensures kept { OnErr result (taken.new ≡ taken.old) }
+        ensures memory { result ≡ Err StoreFault.Memory → asks_memory ≡ false → all_up_to (contents self.old centre) upto.now ≢ [] }
+        ensures named { IfErr result (λ e. e ≢ StoreFault.Exhausted) }
+        ensures faults { IfErr result (λ e. IsTrue (may_fault e)) }
+    {
+        *taken = Rows::of(self.release(alloc, centre, upto)?);
+        Ok(())
+    }
 
     /// `Lanes::empty` for this centre.
     fn empty(&mut self, alloc: Global, centre: u8) -> Result<Vec<Row>, StoreFault>

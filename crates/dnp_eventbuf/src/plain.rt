@@ -1,25 +1,25 @@
 //! Lanes in memory.
 
-ghost use Rattle.std.specs.Prelude.{◌≡◌, ◌≢◌, ◌^◌, ◌<◌, ◌≤◌, ◌+◌, ◌-◌, slice_get, option_map, Bool, true, false, IfOk, IfErr, IfSome, IfNone, OnOk, OnErr, IsTrue, All, List, length, map, [], ◌∷◌, ◌++◌, vec_len, vec_capacity, ⊤};
-ghost use Rattle.std.specs.List.{AllPairs, list_any};
+ghost use Rattle.std.specs.Prelude.{◌≡◌, ◌≢◌, ◌^◌, ◌<◌, ◌≤◌, ◌+◌, ◌-◌, slice_get, option_map, false, IfOk, IfSome, IfNone, OnOk, OnErr, IsTrue, All, length, [], ◌++◌, vec_len, vec_capacity, ⊤};
 ghost use Rattle.dnp_objects.specs.Lanes.{lane_number};
 ghost use Rattle.dnp_eventbuf.specs.Carried.{IsCarried};
 ghost use Rattle.dnp_eventbuf.specs.Latest.{numbered_for};
 ghost use Rattle.dnp_eventbuf.specs.Sound.{IsSound};
-ghost use Rattle.dnp_eventbuf.specs.Stock.{Stock, lane_at, is_full, dropped_from, empty_stock, with_row, with_rows, dropped_by, is_past, exhausts, offered, lanes_above, lanes_up_to, emptied, lane_rows, without, all_up_to, without_all, rows_in, last_of};
-ghost use Rattle.dnp_objects.specs.declared.lane.LaneRow.{LaneRow as RowValue};
-ghost use Rattle.dnp_eventbuf.specs.declared.tally.Tally.{Tally as TallyValue};
-ghost use Rattle.dnp_eventbuf.specs.steps.Tallies.{tally_of, tally_at, drops_from};
+ghost use Rattle.dnp_eventbuf.specs.Stock.{Stock, lane_at, is_full, dropped_from, empty_stock, with_row, with_rows, dropped_by, is_past, exhausts, without, all_up_to, without_all, rows_in};
 
 use crate::arriving::{count_for, id_for};
 use crate::lanes::Lanes;
 use crate::numbered::{Numbered, Upto};
 use crate::plain_lane::PlainLane;
+use crate::plain_nine::{
+    any_full, any_full_above, clear_all, count_all_up_to, cut_all, drops_for, push_all,
+    push_all_up_to,
+};
 use crate::rows::{Rows, empty_for};
-use crate::tally::{Tally, drops};
 use dnp_objects::{LANES, Lane, LaneRow, MAX_ID, Row, StoreFault};
 use std::alloc::{AllocError, Global};
 use std::marker::Model;
+use std::mem;
 
 /// The most rows that a lane in memory takes.
 pub const MAX_CAPACITY: u32 = 4096;
@@ -184,8 +184,30 @@ impl PlainLanes {
         ensures memory { OnErr result (all_up_to self.now upto.now ≢ []) }
     {
         let mut taken = Vec::new(alloc);
-        push_all_up_to(&self.lanes, upto, &mut taken)?;
+        self.copy_up_to(alloc, upto, &mut taken)?;
         Ok(taken)
+    }
+
+    /// The same, in place of what was in `taken`. Memory is asked for once at most, for just as many, where `taken`
+    /// has no room for them.
+    pub fn copy_up_to(
+        &self,
+        alloc: Global,
+        upto: &Upto,
+        taken: &mut Vec<Row>,
+    ) -> Result<(), AllocError>
+        ensures sound { IsSound self.now }
+        ensures rows { OnOk result (taken.new.items ≡ all_up_to self.now upto.now) }
+        ensures kept { OnErr result (taken.new.items ≡ taken.old.items) }
+        ensures memory { OnErr result (vec_capacity taken.old < length (all_up_to self.now upto.now)) }
+    {
+        let count = count_all_up_to(&self.lanes, upto);
+        empty_for(alloc, taken, count)?;
+        // (a vector that nobody else knows, so that its length needs no place in memory)
+        let mut rows = mem::replace(taken, Vec::new(alloc));
+        push_all_up_to(&self.lanes, upto, &mut rows);
+        *taken = rows;
+        Ok(())
     }
 
     /// Takes those rows out. The overflow ends if no lane is full then.
@@ -215,109 +237,6 @@ impl PlainLanes {
     {
         clear_all(&mut self.lanes);
         self.overflow = false;
-    }
-}
-
-/// How many rows the lanes drop for these, or `None` where a count of lost rows would pass the limit. Most
-/// appends are of one row, for which one lane is looked at.
-fn drops_for(lanes: &[PlainLane; LANES], rows: &[LaneRow]) -> Option<usize>
-    ensures { result ≡ drops_from 0 (map tally_of lanes.now) rows.now }
-{
-    if let [x] = rows {
-        return drops_one(&lanes[x.lane.number()]);
-    }
-    let mut tallies = tallies(lanes);
-    drops(&mut tallies, rows)
-}
-
-/// How many rows a lane drops for one more.
-fn drops_one(lane: &PlainLane) -> Option<usize>
-    ensures { (tallies : List TallyValue) (x : RowValue) → tally_at tallies (lane_number x.lane) ≡ tally_of lane.now
-        → result ≡ drops_from 0 tallies (x ∷ []) }
-{
-    let tally = lane.tally();
-    if tally.free > 0 {
-        Some(0)
-    } else if tally.lost < MAX_ID {
-        Some(1)
-    } else {
-        None
-    }
-}
-
-/// Each lane's tally.
-fn tallies(lanes: &[PlainLane; LANES]) -> [Tally; LANES]
-    ensures { result ≡ map tally_of lanes.now }
-{
-    let mut tallies = [Tally { free: 0, lost: 0 }; LANES];
-    for (k, lane) in lanes.iter().enumerate() {
-        tallies[k] = lane.tally();
-    }
-    tallies
-}
-
-/// Whether some lane is full.
-fn any_full(lanes: &[PlainLane; LANES]) -> bool
-    ensures { result ≡ list_any is_full lanes.now }
-{
-    lanes.iter().any(|lane| lane.is_full())
-}
-
-/// Whether some lane is full without its rows with ids up to its number.
-fn any_full_above(lanes: &[PlainLane; LANES], upto: &Upto) -> bool
-    ensures { result ≡ list_any is_full (lanes_above lanes.now upto.now) }
-{
-    for k in 0..LANES {
-        if lanes[k].is_full_above(upto[k]) {
-            return true;
-        }
-    }
-    false
-}
-
-/// Adds the rows of each lane with ids up to its number.
-fn push_all_up_to(
-    lanes: &[PlainLane; LANES],
-    upto: &Upto,
-    out: &mut Vec<Row>,
-) -> Result<(), AllocError>
-    requires rising { All (λ lane. AllPairs (λ x y. x.id < y.id) lane.rows) lanes.now }
-    ensures rows { OnOk result (out.new.items ≡ out.old.items ++ lanes_up_to lanes.now upto.now) }
-    ensures memory { OnErr result (lanes_up_to lanes.now upto.now ≢ []) }
-{
-    for k in 0..LANES {
-        lanes[k].push_up_to(upto[k], out)?;
-    }
-    Ok(())
-}
-
-/// Takes the rows of each lane with ids up to its number out.
-fn cut_all(lanes: &mut [PlainLane; LANES], upto: &Upto)
-    requires rising { All (λ lane. AllPairs (λ x y. x.id < y.id) lane.rows) lanes.old }
-    ensures { lanes.new ≡ lanes_above lanes.old upto.now }
-{
-    for k in 0..LANES {
-        lanes[k].cut(upto[k]);
-    }
-}
-
-/// Adds the rows of each lane.
-fn push_all(lanes: &[PlainLane; LANES], out: &mut Vec<Row>) -> Result<(), AllocError>
-    ensures rows { OnOk result (out.new.items ≡ out.old.items ++ lane_rows lanes.now) }
-    ensures memory { OnErr result (lane_rows lanes.now ≢ []) }
-{
-    for lane in lanes {
-        lane.push_all(out)?;
-    }
-    Ok(())
-}
-
-/// Takes all rows out of each lane.
-fn clear_all(lanes: &mut [PlainLane; LANES])
-    ensures { lanes.new ≡ map emptied lanes.old }
-{
-    for lane in lanes {
-        lane.clear();
     }
 }
 
@@ -375,15 +294,40 @@ impl Lanes for PlainLanes {
         after: u64,
         most: usize,
     ) -> Result<Vec<Numbered>, StoreFault> {
-        let lane = &self.lanes[lane.number()];
-        let rows = lane.offer(alloc, after, most).map_err(memory)?;
+        let mut rows = Vec::new(alloc);
+        self.offer_into(alloc, lane, after, most, &mut rows)?;
         Ok(rows)
+    }
+
+    fn offer_into(
+        &mut self,
+        alloc: Global,
+        lane: Lane,
+        after: u64,
+        most: usize,
+        rows: &mut Vec<Numbered>,
+    ) -> Result<(), StoreFault> {
+        let lane = &self.lanes[lane.number()];
+        lane.offer_into(alloc, after, most, rows).map_err(memory)?;
+        Ok(())
     }
 
     fn release(&mut self, alloc: Global, upto: &Upto) -> Result<Vec<Row>, StoreFault> {
         let taken = self.rows_up_to(alloc, upto).map_err(memory)?;
         self.cut(upto);
         Ok(taken)
+    }
+
+    fn release_into(
+        &mut self,
+        alloc: Global,
+        upto: &Upto,
+        taken: &mut Rows,
+    ) -> Result<(), StoreFault> {
+        self.copy_up_to(alloc, upto, &mut taken.items)
+            .map_err(memory)?;
+        self.cut(upto);
+        Ok(())
     }
 
     fn empty(&mut self, alloc: Global) -> Result<Vec<Row>, StoreFault> {

@@ -8,6 +8,7 @@ use crate::lanes::Lanes;
 use crate::numbered::{Numbered, Upto};
 use crate::pair::PairLanes;
 use crate::plain::{MAX_CAPACITY, PlainLanes, memory};
+use crate::rows::Rows;
 use dnp_objects::{LANES, Lane, LaneRow, Row, StoreFault};
 use std::alloc::{AllocError, Global};
 
@@ -97,11 +98,41 @@ impl PairLanes for PlainPair {
         }
     }
 
+    fn offer_into(
+        &mut self,
+        alloc: Global,
+        centre: u8,
+        lane: Lane,
+        after: u64,
+        most: usize,
+        rows: &mut Vec<Numbered>,
+    ) -> Result<(), StoreFault> {
+        if centre == 0 {
+            self.first.offer_into(alloc, lane, after, most, rows)
+        } else {
+            self.second.offer_into(alloc, lane, after, most, rows)
+        }
+    }
+
     fn release(&mut self, alloc: Global, centre: u8, upto: &Upto) -> Result<Vec<Row>, StoreFault> {
         if centre == 0 {
             self.first.release(alloc, upto)
         } else {
             self.second.release(alloc, upto)
+        }
+    }
+
+    fn release_into(
+        &mut self,
+        alloc: Global,
+        centre: u8,
+        upto: &Upto,
+        taken: &mut Rows,
+    ) -> Result<(), StoreFault> {
+        if centre == 0 {
+            self.first.release_into(alloc, upto, taken)
+        } else {
+            self.second.release_into(alloc, upto, taken)
         }
     }
 

@@ -19,6 +19,7 @@ use crate::tally::{Tally, drops};
 use dnp_objects::{LANES, Lane, LaneRow, MAX_ID, Row, StoreFault};
 use std::alloc::{AllocError, Global};
 use std::marker::Model;
+use std::mem;
 
 /// Nine lanes in memory, each a ring, which take their room as they are made and move no row.
 pub struct RingLanes {
@@ -124,8 +125,30 @@ impl RingLanes {
         ensures memory { OnErr result (all_up_to self.now upto.now ≢ []) }
     {
         let mut taken = Vec::new(alloc);
-        push_all_up_to(&self.lanes, upto, &mut taken)?;
+        self.copy_up_to(alloc, upto, &mut taken)?;
         Ok(taken)
+    }
+
+    /// The same, in place of what was in `taken`. Memory is asked for once at most, for just as many, where `taken`
+    /// has no room for them.
+    pub fn copy_up_to(
+        &self,
+        alloc: Global,
+        upto: &Upto,
+        taken: &mut Vec<Row>,
+    ) -> Result<(), AllocError>
+        ensures sound { IsSound self.now }
+        ensures rows { OnOk result (taken.new.items ≡ all_up_to self.now upto.now) }
+        ensures kept { OnErr result (taken.new.items ≡ taken.old.items) }
+        ensures memory { OnErr result (vec_capacity taken.old < length (all_up_to self.now upto.now)) }
+    {
+        let count = count_all_up_to(&self.lanes, upto);
+        empty_for(alloc, taken, count)?;
+        // (a vector that nobody else knows, so that its length needs no place in memory)
+        let mut rows = mem::replace(taken, Vec::new(alloc));
+        push_all_up_to(&self.lanes, upto, &mut rows);
+        *taken = rows;
+        Ok(())
     }
 
     /// Takes those rows out. The overflow ends if no lane is full then.
@@ -203,20 +226,27 @@ fn any_full(lanes: &[RingLane; LANES]) -> bool
     lanes.iter().any(|lane| lane.is_full())
 }
 
-/// Adds the rows of each lane with ids up to its number.
-fn push_all_up_to(
-    lanes: &[RingLane; LANES],
-    upto: &Upto,
-    out: &mut Vec<Row>,
-) -> Result<(), AllocError>
+/// How many rows there are of each lane with ids up to its number.
+fn count_all_up_to(lanes: &[RingLane; LANES], upto: &Upto) -> usize
     requires rising { All (λ lane. AllPairs (λ x y. x.id < y.id) lane.rows) lanes.now }
-    ensures rows { OnOk result (out.new.items ≡ out.old.items ++ lanes_up_to lanes.now upto.now) }
-    ensures memory { OnErr result (lanes_up_to lanes.now upto.now ≢ []) }
+    ensures { result ≡ length (lanes_up_to lanes.now upto.now) }
+{
+    let mut count = 0;
+    for k in 0..LANES {
+        count += lanes[k].count_up_to(upto[k]);
+    }
+    count
+}
+
+/// Adds the rows of each lane with ids up to its number, for which there is room.
+fn push_all_up_to(lanes: &[RingLane; LANES], upto: &Upto, out: &mut Vec<Row>)
+    requires rising { All (λ lane. AllPairs (λ x y. x.id < y.id) lane.rows) lanes.now }
+    requires room { vec_len out.old + length (lanes_up_to lanes.now upto.now) ≤ vec_capacity out.old }
+    ensures { out.new.items ≡ out.old.items ++ lanes_up_to lanes.now upto.now }
 {
     for k in 0..LANES {
-        lanes[k].push_up_to(upto[k], out)?;
+        lanes[k].push_up_to(upto[k], out);
     }
-    Ok(())
 }
 
 /// Takes the rows of each lane with ids up to its number out.
@@ -296,15 +326,40 @@ impl Lanes for RingLanes {
         after: u64,
         most: usize,
     ) -> Result<Vec<Numbered>, StoreFault> {
-        let lane = &self.lanes[lane.number()];
-        let rows = lane.offer(alloc, after, most).map_err(memory)?;
+        let mut rows = Vec::new(alloc);
+        self.offer_into(alloc, lane, after, most, &mut rows)?;
         Ok(rows)
+    }
+
+    fn offer_into(
+        &mut self,
+        alloc: Global,
+        lane: Lane,
+        after: u64,
+        most: usize,
+        rows: &mut Vec<Numbered>,
+    ) -> Result<(), StoreFault> {
+        let lane = &self.lanes[lane.number()];
+        lane.offer_into(alloc, after, most, rows).map_err(memory)?;
+        Ok(())
     }
 
     fn release(&mut self, alloc: Global, upto: &Upto) -> Result<Vec<Row>, StoreFault> {
         let taken = self.rows_up_to(alloc, upto).map_err(memory)?;
         self.cut(upto);
         Ok(taken)
+    }
+
+    fn release_into(
+        &mut self,
+        alloc: Global,
+        upto: &Upto,
+        taken: &mut Rows,
+    ) -> Result<(), StoreFault> {
+        self.copy_up_to(alloc, upto, &mut taken.items)
+            .map_err(memory)?;
+        self.cut(upto);
+        Ok(())
     }
 
     fn empty(&mut self, alloc: Global) -> Result<Vec<Row>, StoreFault> {

@@ -1,11 +1,11 @@
 //! One lane in a ring of memory.
 
-ghost use Rattle.std.specs.Prelude.{◌≡◌, ◌≢◌, ◌-◌, ◌+◌, ◌<◌, ◌≤◌, ◌++◌, IfOk, OnOk, OnErr, [], length, map, nat_lt, vec_len, vec_capacity, filter, take};
+ghost use Rattle.std.specs.Prelude.{◌≡◌, ◌≢◌, ◌-◌, ◌+◌, ◌<◌, ◌≤◌, ◌^◌, ◌++◌, IfOk, OnOk, OnErr, [], length, map, nat_lt, vec_len, vec_capacity, filter, take};
 ghost use Rattle.std.specs.List.{AllPairs, list_any};
 ghost use Rattle.dnp_eventbuf.specs.Stock.{is_full, put_in, dropped_from, empty_lane, emptied, above, up_to, last_of, row_of};
 ghost use Rattle.dnp_eventbuf.specs.steps.Tallies.{tally_of};
 
-use crate::in_order::{cut, first_of, push_rows};
+use crate::in_order::{cut, first_into, push_rows};
 use crate::numbered::Numbered;
 use crate::tally::Tally;
 use circular_buffer::HeapCircularBuffer;
@@ -74,17 +74,26 @@ impl RingLane {
         }
     }
 
-    /// The first rows with an id over `after`, at most `most`. Memory is asked for once, for just as many.
-    pub fn offer(&self, alloc: Global, after: u64, most: usize) -> Result<Vec<Numbered>, AllocError>
+    /// The first rows with an id over `after`, at most `most`, in place of what was in `out`. Memory is asked for once
+    /// at most, for just as many, where `out` has no room for them.
+    pub fn offer_into(
+        &self,
+        alloc: Global,
+        after: u64,
+        most: usize,
+        out: &mut Vec<Numbered>,
+    ) -> Result<(), AllocError>
         requires rising { AllPairs (λ x y. x.id < y.id) self.now.rows }
-        ensures rows { IfOk result (λ rows. rows.items ≡ take most (filter (λ x. nat_lt after x.id) self.now.rows)) }
-        ensures memory { OnErr result (take most (filter (λ x. nat_lt after x.id) self.now.rows) ≢ []) }
+        ensures rows { OnOk result (out.new.items ≡ take most (filter (λ x. nat_lt after x.id) self.now.rows)) }
+        ensures kept { OnErr result (out.new.items ≡ out.old.items) }
+        ensures memory { OnErr result (vec_capacity out.old < length (take most (filter (λ x. nat_lt after x.id) self.now.rows))) }
     {
         if !self.has_over(after) {
-            return Ok(Vec::new(alloc));
+            out.clear();
+            return Ok(());
         }
         let (front, back) = self.rows.as_slices();
-        first_of(alloc, cut(front, after).1, cut(back, after).1, most)
+        first_into(alloc, cut(front, after).1, cut(back, after).1, most, out)
     }
 
     /// Whether a row has an id over this: the last one has, if any.
@@ -104,22 +113,33 @@ impl RingLane {
         cut(front, upto).1.len() + cut(back, upto).1.len()
     }
 
-    /// Adds the rows with ids up to this. Memory is asked for once at most, before any is added.
-    pub fn push_up_to(&self, upto: u64, out: &mut Vec<Row>) -> Result<(), AllocError>
+    /// How many rows have an id up to this.
+    pub fn count_up_to(&self, upto: u64) -> usize
         requires rising { AllPairs (λ x y. x.id < y.id) self.now.rows }
-        ensures rows { OnOk result (out.new.items ≡ out.old.items ++ up_to upto self.now) }
-        ensures memory { OnErr result (up_to upto self.now ≢ []) }
+        ensures count { result ≡ length (up_to upto self.now) }
+        ensures few { result < 2 ^ 32 }
     {
-        if self.rows.is_empty() {
-            return Ok(());
+        if self.len() == 0 {
+            return 0;
         }
         let (front, back) = self.rows.as_slices();
-        let front = cut(front, upto).0;
-        let back = cut(back, upto).0;
-        out.reserve(front.len() + back.len())?;
-        push_rows(front, out);
-        push_rows(back, out);
-        Ok(())
+        cut(front, upto).0.len() + cut(back, upto).0.len()
+    }
+
+    /// Adds the rows with ids up to this, for which there is room.
+    pub fn push_up_to(&self, upto: u64, out: &mut Vec<Row>)
+        requires rising { AllPairs (λ x y. x.id < y.id) self.now.rows }
+        requires room { vec_len out.old + length (up_to upto self.now) ≤ vec_capacity out.old }
+        ensures rows { out.new.items ≡ out.old.items ++ up_to upto self.now }
+        ensures len { vec_len out.new ≡ vec_len out.old + length (up_to upto self.now) }
+        ensures capacity { vec_capacity out.new ≡ vec_capacity out.old }
+    {
+        if self.rows.is_empty() {
+            return;
+        }
+        let (front, back) = self.rows.as_slices();
+        push_rows(cut(front, upto).0, out);
+        push_rows(cut(back, upto).0, out);
     }
 
     /// Adds all rows.

@@ -63,7 +63,7 @@ impl Rows {
 }
 
 /// Lets all rows go, and keeps the memory that they took.
-fn let_go(rows: &mut Vec<Row>)
+fn let_go<T: Drop>(rows: &mut Vec<T>)
     ensures empty { rows.new.items ≡ [] }
     ensures room { vec_capacity rows.new ≡ vec_capacity rows.old }
 {
@@ -72,7 +72,11 @@ fn let_go(rows: &mut Vec<Row>)
 
 /// Empties the rows, with room for so many. Memory is asked for only where that room is missing, and the rows stay
 /// where it is refused.
-pub(crate) fn empty_for(alloc: Global, rows: &mut Vec<Row>, count: usize) -> Result<(), AllocError>
+pub(crate) fn empty_for<T: Drop>(
+    alloc: Global,
+    rows: &mut Vec<T>,
+    count: usize,
+) -> Result<(), AllocError>
     ensures empty { OnOk result (rows.new.items ≡ []) }
     ensures len { OnOk result (vec_len rows.new ≡ 0) }
     ensures room { OnOk result (count ≤ vec_capacity rows.new) }

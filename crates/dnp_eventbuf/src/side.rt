@@ -6,6 +6,7 @@ ghost use Rattle.dnp_eventbuf.specs.Sides.{centre_in, lent_pair, pair_in};
 use crate::lanes::Lanes;
 use crate::numbered::{Numbered, Upto};
 use crate::pair::{CENTRES, PairLanes};
+use crate::rows::Rows;
 use dnp_objects::{Lane, LaneRow, Row, StoreFault};
 use std::alloc::Global;
 
@@ -79,9 +80,31 @@ impl<P: PairLanes> Lanes for Side<'_, P> {
         self.pair.offer(alloc, centre, lane, after, most)
     }
 
+    fn offer_into(
+        &mut self,
+        alloc: Global,
+        lane: Lane,
+        after: u64,
+        most: usize,
+        rows: &mut Vec<Numbered>,
+    ) -> Result<(), StoreFault> {
+        let centre = self.centre();
+        self.pair.offer_into(alloc, centre, lane, after, most, rows)
+    }
+
     fn release(&mut self, alloc: Global, upto: &Upto) -> Result<Vec<Row>, StoreFault> {
         let centre = self.centre();
         self.pair.release(alloc, centre, upto)
+    }
+
+    fn release_into(
+        &mut self,
+        alloc: Global,
+        upto: &Upto,
+        taken: &mut Rows,
+    ) -> Result<(), StoreFault> {
+        let centre = self.centre();
+        self.pair.release_into(alloc, centre, upto, taken)
     }
 
     fn empty(&mut self, alloc: Global) -> Result<Vec<Row>, StoreFault> {

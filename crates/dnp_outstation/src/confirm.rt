@@ -20,10 +20,10 @@ use crate::answer::{Answer, Switches};
 use crate::connection::deadline;
 use crate::ending::write_ending;
 use crate::execute::{execute_after, left, request_in};
+use crate::offer::fetched::Fetched;
 use crate::offer::parts::put_parts;
 use crate::offer::writer::Writer;
 use crate::outstation_core::OutstationCore;
-use crate::rows::Rows;
 use crate::sending::asks_confirm;
 use crate::sequence::SequenceNumber;
 use crate::session::Session;
@@ -39,6 +39,7 @@ fn write_next<L: Lanes, O: Outputs>(
     alloc: Global,
     points: &PointDb,
     lanes: &mut L,
+    fetched: &mut Fetched,
     outputs: &O,
     switches: Switches,
     session: &Session,
@@ -69,6 +70,7 @@ fn write_next<L: Lanes, O: Outputs>(
         alloc,
         points,
         lanes,
+        fetched,
         outputs,
         &Some(released),
         last.stood,
@@ -84,13 +86,11 @@ fn write_next<L: Lanes, O: Outputs>(
 }
 
 impl Session {
-    /// The awaited fragment is confirmed: these rows leave, and the next fragment, if there is one, is sent. Its
-    /// confirm, if it asks for one, is awaited until `ends`.
+    /// The awaited fragment is confirmed: the rows that stand in the actions as discarded already leave, and the next
+    /// fragment, if there is one, is sent. Its confirm, if it asks for one, is awaited until `ends`.
     fn go_on<L: Lanes>(
         &mut self,
         actions: &mut Actions,
-        alloc: Global,
-        discarded: Rows,
         writer: &mut Writer,
         lanes: &mut L,
         next: &Option<Answer>,
@@ -104,17 +104,15 @@ impl Session {
             → s.core.session ≡ confirmed self.old → ends ≡ deadline now s.core.times.confirm_ms
             → goes_on_by s now seq writer.old next.now
             ≡ record { state = with_session s self.new; does = record nothing { send = (actions_of actions.new).send } } }
-        ensures discarded { actions_of actions.new ≡ record nothing { send = (actions_of actions.new).send; discarded = discarded } }
+        ensures discarded { actions_of actions.new ≡ record nothing { send = (actions_of actions.new).send; discarded = actions.old.discarded } }
         ensures room { HasRoom actions.new }
         ensures whole { All (λ fragment. 4 ≤ length fragment) (actions_of actions.new).send }
         ensures keeps { KeepsWhole self.old → KeepsWhole self.new }
     {
         self.confirm();
         match next {
-            Some(answer) => {
-                self.respond_further(actions, alloc, discarded, writer, lanes, answer, seq, ends)
-            }
-            None => actions.set_discarding(alloc, discarded),
+            Some(answer) => self.respond_further(actions, writer, lanes, answer, seq, ends),
+            None => actions.set_discarding(),
         }
     }
 
@@ -164,6 +162,7 @@ impl OutstationCore {
             alloc,
             &self.points,
             lanes,
+            &mut self.fetched,
             outputs,
             switches,
             &self.session,
@@ -173,13 +172,19 @@ impl OutstationCore {
         let is_due = self.is_due(self.announced, self.is_open, free);
         let enabled = self.enabled;
         let released = Some(awaited.upto);
-        let starts = write_ending(&mut self.pushes, alloc, lanes, is_due, enabled, &released)?;
-        let rows = Rows::of(lanes.release(alloc, &awaited.upto)?);
+        let starts = write_ending(
+            &mut self.pushes,
+            alloc,
+            lanes,
+            &mut self.fetched,
+            is_due,
+            enabled,
+            &released,
+        )?;
+        lanes.release_into(alloc, &awaited.upto, &mut actions.discarded)?;
         let ends = deadline(now, self.times.confirm_ms);
         self.session.go_on(
             actions,
-            alloc,
-            rows,
             &mut self.writer,
             lanes,
             &next,
@@ -197,6 +202,7 @@ fn write_held<L: Lanes, O: Outputs>(
     alloc: Global,
     points: &PointDb,
     lanes: &mut L,
+    fetched: &mut Fetched,
     outputs: &O,
     switches: Switches,
     session: &Session,
@@ -215,7 +221,7 @@ fn write_held<L: Lanes, O: Outputs>(
     }
     let octets = session.request.octets();
     let answer = execute_after(
-        writer, alloc, points, lanes, outputs, switches, octets, released,
+        writer, alloc, points, lanes, fetched, outputs, switches, octets, released,
     )?;
     Ok(Some(answer))
 }
@@ -231,13 +237,11 @@ impl Session {
         }
     }
 
-    /// The unsolicited response is confirmed: these rows leave, and the READ that waited, if one did, is
-    /// answered. Its confirm, if it asks for one, is awaited until `ends`.
+    /// The unsolicited response is confirmed: the rows that stand in the actions as discarded already leave, and the
+    /// READ that waited, if one did, is answered. Its confirm, if it asks for one, is awaited until `ends`.
     fn answer_held<L: Lanes>(
         &mut self,
         actions: &mut Actions,
-        alloc: Global,
-        discarded: Rows,
         writer: &mut Writer,
         lanes: &mut L,
         held: &Option<Answer>,
@@ -251,7 +255,7 @@ impl Session {
             → s.core.session ≡ record self.old { unsolicited = None } → ends ≡ deadline now s.core.times.confirm_ms
             → answers_held_by s now writer.old held.now
             ≡ record { state = with_session s self.new; does = record (actions_of actions.new) { discarded = [] } } }
-        ensures discarded { (actions_of actions.new).discarded ≡ discarded }
+        ensures discarded { (actions_of actions.new).discarded ≡ actions.old.discarded }
         ensures room { HasRoom actions.new }
         ensures whole { All (λ fragment. 4 ≤ length fragment) (actions_of actions.new).send }
         ensures keeps { KeepsWhole self.old → KeepsWhole self.new }
@@ -261,10 +265,10 @@ impl Session {
             Some(answer) => {
                 let seq = self.number();
                 self.respond(writer, lanes, answer, seq, ends);
-                actions.set_going_on(alloc, discarded, self.response.octets());
+                actions.set_going_on(self.response.octets());
                 actions.time = answer.time;
             }
-            None => actions.set_discarding(alloc, discarded),
+            None => actions.set_discarding(),
         }
     }
 
@@ -323,6 +327,7 @@ impl OutstationCore {
             alloc,
             &self.points,
             lanes,
+            &mut self.fetched,
             outputs,
             before,
             &self.session,
@@ -332,14 +337,22 @@ impl OutstationCore {
         let free = self.session.is_free_without(&self.writer, &held);
         let is_due = self.is_due(true, self.is_open, free);
         let enabled = after.enabled;
-        let starts = write_ending(&mut self.pushes, alloc, lanes, is_due, enabled, &released)?;
-        let rows = Rows::of(lanes.release(alloc, &response.upto)?);
+        let starts = write_ending(
+            &mut self.pushes,
+            alloc,
+            lanes,
+            &mut self.fetched,
+            is_due,
+            enabled,
+            &released,
+        )?;
+        lanes.release_into(alloc, &response.upto, &mut actions.discarded)?;
         self.announced = true;
         self.restart = after.restart;
         self.enabled = enabled;
         let ends = deadline(now, self.times.confirm_ms);
         self.session
-            .answer_held(actions, alloc, rows, &mut self.writer, lanes, &held, ends);
+            .answer_held(actions, &mut self.writer, lanes, &held, ends);
         self.session.end_call(actions, &mut self.pushes, lanes, starts, self.restart, ends);
         Ok(())
     }

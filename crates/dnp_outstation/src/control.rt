@@ -35,7 +35,6 @@ impl Session {
     fn reply<L: Lanes>(
         &mut self,
         actions: &mut Actions,
-        alloc: Global,
         writer: &mut Writer,
         lanes: &mut L,
         answer: &Option<Answer>,
@@ -57,11 +56,11 @@ impl Session {
         match answer {
             Some(answer) => {
                 self.respond(writer, lanes, answer, seq, ends);
-                actions.set_sending(alloc, self.response.octets());
+                actions.set_sending(self.response.octets());
             }
             None => {
                 self.stay_silent();
-                actions.set_nothing(alloc);
+                actions.set_nothing();
             }
         }
     }
@@ -107,7 +106,15 @@ impl OutstationCore {
         let free = self.session.unsolicited.is_none();
         let is_due = self.is_due(self.announced, self.is_open, free);
         let enabled = self.enabled;
-        let starts = write_ending(&mut self.pushes, alloc, lanes, is_due, enabled, &None)?;
+        let starts = write_ending(
+            &mut self.pushes,
+            alloc,
+            lanes,
+            &mut self.fetched,
+            is_due,
+            enabled,
+            &None,
+        )?;
         let answer = execute_control(
             &mut self.writer,
             alloc,
@@ -122,7 +129,8 @@ impl OutstationCore {
         self.session.take_request(octets);
         let seq = SequenceNumber::of(Control::read(octets[0]));
         let ends = deadline(now, self.times.confirm_ms);
-        self.session.reply(actions, alloc, &mut self.writer, lanes, &answer, seq, ends);
+        self.session
+            .reply(actions, &mut self.writer, lanes, &answer, seq, ends);
         self.session.end_call(actions, &mut self.pushes, lanes, starts, self.restart, ends);
         Ok(())
     }

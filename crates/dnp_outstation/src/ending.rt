@@ -17,6 +17,7 @@ use crate::actions::Actions;
 use crate::answer::Switches;
 use crate::connection::deadline;
 use crate::offer::enabled::put_enabled;
+use crate::offer::fetched::Fetched;
 use crate::offer::writer::Writer;
 use crate::outstation_core::OutstationCore;
 use crate::released::has_enabled_rows;
@@ -30,6 +31,7 @@ pub(crate) fn write_ending<L: Lanes>(
     writer: &mut Writer,
     alloc: Global,
     lanes: &mut L,
+    fetched: &mut Fetched,
     is_due: bool,
     enabled: [bool; 3],
     released: &Option<Upto>,
@@ -45,7 +47,7 @@ pub(crate) fn write_ending<L: Lanes>(
         return Ok(false);
     }
     writer.restart_unsolicited();
-    let _is_last = put_enabled(writer, alloc, lanes, enabled, released)?;
+    let _is_last = put_enabled(writer, alloc, lanes, fetched, enabled, released)?;
     Ok(true)
 }
 
@@ -163,8 +165,16 @@ impl OutstationCore {
     {
         let is_due = self.is_ready();
         let enabled = self.enabled;
-        let starts = write_ending(&mut self.pushes, alloc, lanes, is_due, enabled, &None)?;
-        actions.set_nothing(alloc);
+        let starts = write_ending(
+            &mut self.pushes,
+            alloc,
+            lanes,
+            &mut self.fetched,
+            is_due,
+            enabled,
+            &None,
+        )?;
+        actions.set_nothing();
         self.session.end_call(
             actions,
             &mut self.pushes,

@@ -19,6 +19,7 @@ ghost use Rattle.dnp_outstation.specs.Stores.{IsLook};
 ghost use Rattle.dnp_outstation.specs.Content.{content_of, bits_of, clears_restart, header_bits, write_bits, enabled_after, read_executed, write_executed, switch_executed, delay_executed, time_in, later, time_written};
 
 use crate::answer::{Answer, Switches};
+use crate::offer::fetched::Fetched;
 use crate::offer::inside::are_inside;
 use crate::offer::parts::put_parts;
 use crate::offer::place::Place;
@@ -187,6 +188,7 @@ fn read<L: Lanes, O: Outputs>(
     alloc: Global,
     points: &PointDb,
     lanes: &mut L,
+    fetched: &mut Fetched,
     outputs: &O,
     switches: Switches,
     headers: &Headers<'_>,
@@ -212,6 +214,7 @@ fn read<L: Lanes, O: Outputs>(
         alloc,
         points,
         lanes,
+        fetched,
         outputs,
         released,
         stood,
@@ -297,6 +300,7 @@ pub(crate) fn execute_after<L: Lanes, O: Outputs>(
     alloc: Global,
     points: &PointDb,
     lanes: &mut L,
+    fetched: &mut Fetched,
     outputs: &O,
     switches: Switches,
     octets: &[u8],
@@ -323,6 +327,7 @@ pub(crate) fn execute_after<L: Lanes, O: Outputs>(
             alloc,
             points,
             lanes,
+            fetched,
             outputs,
             switches,
             &request.headers,
@@ -343,6 +348,7 @@ pub(crate) fn execute<L: Lanes, O: Outputs>(
     alloc: Global,
     points: &PointDb,
     lanes: &mut L,
+    fetched: &mut Fetched,
     outputs: &O,
     switches: Switches,
     octets: &[u8],
@@ -357,6 +363,6 @@ pub(crate) fn execute<L: Lanes, O: Outputs>(
     ensures asks_inside { IsErr result → (s : State) → s.core.points ≡ points.now → reads_inside s (O.panel outputs.now) octets.now ≡ true }
 {
     execute_after(
-        writer, alloc, points, lanes, outputs, switches, octets, &None,
+        writer, alloc, points, lanes, fetched, outputs, switches, octets, &None,
     )
 }

@@ -17,6 +17,7 @@ ghost use Rattle.dnp_outstation.specs.Stores.{IsLook};
 use crate::actions::Actions;
 use crate::connection::deadline;
 use crate::ending::write_ending;
+use crate::offer::fetched::Fetched;
 use crate::offer::writer::Writer;
 use crate::outstation_core::OutstationCore;
 use crate::session::Session;
@@ -31,6 +32,7 @@ fn write_opening<L: Lanes>(
     writer: &mut Writer,
     alloc: Global,
     lanes: &mut L,
+    fetched: &mut Fetched,
     is_on: bool,
     announced: bool,
     enabled: [bool; 3],
@@ -47,7 +49,7 @@ fn write_opening<L: Lanes>(
         writer.restart_unsolicited();
         return Ok(true);
     }
-    let starts = write_ending(writer, alloc, lanes, is_on, enabled, &None)?;
+    let starts = write_ending(writer, alloc, lanes, fetched, is_on, enabled, &None)?;
     Ok(starts)
 }
 
@@ -66,7 +68,7 @@ impl Session {
     }
 
     /// Does what the timer of an unsolicited response has come to; answers whether the connection stays open.
-    fn obey(&mut self, actions: &mut Actions, alloc: Global, timer: AtTimer) -> bool
+    fn obey(&mut self, actions: &mut Actions, timer: AtTimer) -> bool
         ensures value { (s : State) → s.core.is_open ≡ true → timed_by s self.old timer
             ≡ record { state = record s { core = record s.core { is_open = result; session = self.new } }; does = actions_of actions.new } }
         ensures room { HasRoom actions.new }
@@ -75,16 +77,16 @@ impl Session {
     {
         match timer {
             AtTimer::Waits => {
-                actions.set_nothing(alloc);
+                actions.set_nothing();
                 true
             }
             AtTimer::Repeats => {
-                actions.set_sending(alloc, self.unsolicited_response.octets());
+                actions.set_sending(self.unsolicited_response.octets());
                 true
             }
             AtTimer::Closes => {
                 self.reset();
-                actions.set_closing(alloc);
+                actions.set_closing();
                 false
             }
         }
@@ -92,14 +94,7 @@ impl Session {
 
     /// Time has passed in an open connection: what its timers come to is put into the actions, in place of what
     /// was there. Answers whether the connection stays open.
-    fn pass_time(
-        &mut self,
-        actions: &mut Actions,
-        alloc: Global,
-        now: u64,
-        confirm_ms: u64,
-        retries: u8,
-    ) -> bool
+    fn pass_time(&mut self, actions: &mut Actions, now: u64, confirm_ms: u64, retries: u8) -> bool
         ensures passed { (s : State) → s.core.session ≡ self.old → s.core.is_open ≡ true → s.core.times.confirm_ms ≡ confirm_ms → s.core.times.retries ≡ retries
             → unsolicited_timer (record s { core = solicited_timer s.core now }) now
             ≡ record { state = record s { core = record s.core { is_open = result; session = self.new } }; does = actions_of actions.new } }
@@ -110,7 +105,7 @@ impl Session {
     {
         self.end_waiting(now);
         let timer = self.time_unsolicited(now, confirm_ms, retries);
-        self.obey(actions, alloc, timer)
+        self.obey(actions, timer)
     }
 }
 
@@ -144,13 +139,14 @@ impl OutstationCore {
             &mut self.pushes,
             alloc,
             lanes,
+            &mut self.fetched,
             self.times.unsolicited,
             self.announced,
             enabled,
         )?;
         self.is_open = true;
         self.session.reset();
-        actions.set_nothing(alloc);
+        actions.set_nothing();
         let ends = deadline(now, self.times.confirm_ms);
         self.session.end_call(actions, &mut self.pushes, lanes, starts, self.restart, ends);
         Ok(())
@@ -192,20 +188,24 @@ impl OutstationCore {
         ensures asks_rows { L.honest lanes.new → IsErr result → has_enabled_rows (state_of self.old (L.contents lanes.old) (O.panel outputs.old)) ≡ true }
     {
         if !self.is_open {
-            actions.set_nothing(alloc);
+            actions.set_nothing();
             return Ok(());
         }
         let is_due = self.is_due(self.announced, self.is_open, self.is_free_at(now));
         let enabled = self.enabled;
-        let starts = write_ending(&mut self.pushes, alloc, lanes, is_due, enabled, &None)?;
-        let ends = deadline(now, self.times.confirm_ms);
-        let is_open = self.session.pass_time(
-            actions,
+        let starts = write_ending(
+            &mut self.pushes,
             alloc,
-            now,
-            self.times.confirm_ms,
-            self.times.retries,
-        );
+            lanes,
+            &mut self.fetched,
+            is_due,
+            enabled,
+            &None,
+        )?;
+        let ends = deadline(now, self.times.confirm_ms);
+        let is_open = self
+            .session
+            .pass_time(actions, now, self.times.confirm_ms, self.times.retries);
         self.is_open = is_open;
         self.session.end_call(actions, &mut self.pushes, lanes, starts, self.restart, ends);
         Ok(())

@@ -2,6 +2,7 @@
 
 pub mod enabled;
 mod events;
+pub mod fetched;
 mod grouping;
 pub mod inside;
 mod next;

@@ -63,14 +63,14 @@ impl OutstationCore {
             → reads_inside (state_of self.old (L.contents lanes.old) (O.panel outputs.old)) (O.panel outputs.old) octets.now ≡ true }
     {
         match self.case(octets) {
-            Case::PassedOver => actions.set_nothing(alloc),
+            Case::PassedOver => actions.set_nothing(),
             Case::Stray => self.end_only(actions, alloc, lanes, now)?,
             Case::Confirms => self.confirm(actions, alloc, lanes, outputs, now)?,
             Case::ConfirmsUnsolicited => {
                 self.confirm_unsolicited(actions, alloc, lanes, outputs, now)?
             }
             Case::Again => self.again(actions, alloc, lanes, now, octets)?,
-            Case::Waits => self.wait(actions, alloc, octets),
+            Case::Waits => self.wait(actions, octets),
             Case::Asks => {
                 if is_control(octets) {
                     self.control(actions, alloc, lanes, outputs, now, octets)?

@@ -56,6 +56,7 @@ impl OutstationCore {
             alloc,
             &self.points,
             lanes,
+            &mut self.fetched,
             outputs,
             switches,
             octets,
@@ -63,7 +64,15 @@ impl OutstationCore {
         let free = self.session.is_free_sent(&self.writer, &answer);
         let is_due = self.is_due(self.announced, self.is_open, free);
         let enabled = answer.switches.enabled;
-        let starts = write_ending(&mut self.pushes, alloc, lanes, is_due, enabled, &None)?;
+        let starts = write_ending(
+            &mut self.pushes,
+            alloc,
+            lanes,
+            &mut self.fetched,
+            is_due,
+            enabled,
+            &None,
+        )?;
         self.restart = answer.switches.restart;
         self.enabled = enabled;
         self.session.new_request(octets);
@@ -75,7 +84,7 @@ impl OutstationCore {
             SequenceNumber::of(Control::read(octets[0])),
             ends,
         );
-        actions.set_sending(alloc, self.session.response.octets());
+        actions.set_sending(self.session.response.octets());
         actions.time = answer.time;
         self.session.end_call(actions, &mut self.pushes, lanes, starts, self.restart, ends);
         Ok(())
@@ -107,17 +116,25 @@ impl OutstationCore {
         let awaits = self.session.awaits_again(&first);
         let is_due = self.is_ready_unless(awaits);
         let enabled = self.enabled;
-        let starts = write_ending(&mut self.pushes, alloc, lanes, is_due, enabled, &None)?;
+        let starts = write_ending(
+            &mut self.pushes,
+            alloc,
+            lanes,
+            &mut self.fetched,
+            is_due,
+            enabled,
+            &None,
+        )?;
         let seq = SequenceNumber::of(Control::read(octets[0]));
         let ends = deadline(now, self.times.confirm_ms);
         self.session.await_again(awaits, seq, &first.upto, ends);
-        actions.set_sending(alloc, self.session.response.octets());
+        actions.set_sending(self.session.response.octets());
         self.session.end_call(actions, &mut self.pushes, lanes, starts, self.restart, ends);
         Ok(())
     }
 
     /// A READ that has to wait for the confirm of an unsolicited response.
-    pub(crate) fn wait(&mut self, actions: &mut Actions, alloc: Global, octets: &[u8])
+    pub(crate) fn wait(&mut self, actions: &mut Actions, octets: &[u8])
         requires some { 2 ≤ length octets.now }
         requires few { length octets.now ≤ MAX_FRAGMENT }
         ensures waits { (lanes : Stock) (p : Panel) (now : ℕ) → let s = state_of self.old lanes p in
@@ -127,6 +144,6 @@ impl OutstationCore {
     {
         self.session.new_request(octets);
         self.session.hold();
-        actions.set_nothing(alloc);
+        actions.set_nothing();
     }
 }

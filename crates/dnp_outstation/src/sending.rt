@@ -13,12 +13,10 @@ use crate::answer::Answer;
 use crate::indications::indications;
 use crate::kept::Kept;
 use crate::offer::writer::Writer;
-use crate::rows::Rows;
 use crate::sequence::SequenceNumber;
 use crate::session::{Awaited, FirstFragment, LastRequest, Reply, Session};
 use dnp_appfragment::{Control, Iin};
 use dnp_eventbuf::{Lanes, Upto};
-use std::alloc::Global;
 
 /// Whether there are rows up to these ids.
 fn has_rows(upto: &Upto) -> bool
@@ -93,21 +91,18 @@ impl Kept {
 }
 
 impl Actions {
-    /// Confirmed rows leave, and the fragment that stands in the writer is sent, with this front.
-    fn set_further(&mut self, alloc: Global, discarded: Rows, writer: &mut Writer, front: Front)
+    /// The confirmed rows that stand here as discarded already leave, and the fragment that stands in the writer is
+    /// sent, with this front.
+    fn set_further(&mut self, writer: &mut Writer, front: Front)
         requires { writer.old.builder.function ≡ function.Response }
         ensures writer { writer.new ≡ writer.old }
         ensures whole { 4 ≤ length (sent_by front writer.old) }
-        ensures value { actions_of self.new ≡ record (sending (sent_by front writer.old)) { discarded = discarded } }
+        ensures value { actions_of self.new ≡ record (sending (sent_by front writer.old)) { discarded = self.old.discarded } }
         ensures room { HasRoom self.new }
     {
         // What is left says that the fragment fits.
         let _left = writer.builder.left();
-        self.set_going_on(
-            alloc,
-            discarded,
-            writer.builder.fragment(front.control, front.iin),
-        );
+        self.set_going_on(writer.builder.fragment(front.control, front.iin));
     }
 }
 
@@ -198,12 +193,11 @@ impl Session {
         self.await_confirm(is_awaited, seq, &writer.upto, ends);
     }
 
-    /// The same as a further fragment of it. Confirmed rows leave before it.
+    /// The same as a further fragment of it. The confirmed rows that stand in the actions as discarded already leave
+    /// before it.
     pub(crate) fn respond_further<L: Lanes>(
         &mut self,
         actions: &mut Actions,
-        alloc: Global,
-        discarded: Rows,
         writer: &mut Writer,
         lanes: &mut L,
         answer: &Answer,
@@ -212,7 +206,7 @@ impl Session {
     )
         requires response { writer.old.builder.function ≡ function.Response }
         requires bits { answer.now.bits < 8 }
-        ensures discarded { actions_of actions.new ≡ record nothing { send = (actions_of actions.new).send; discarded = discarded } }
+        ensures discarded { actions_of actions.new ≡ record nothing { send = (actions_of actions.new).send; discarded = actions.old.discarded } }
         ensures room { HasRoom actions.new }
         ensures same { lanes.new ≡ lanes.old }
         ensures sends { L.honest lanes.new → (s : State) (now : ℕ) → s.lanes ≡ L.contents lanes.new → s.core.restart ≡ answer.now.switches.restart
@@ -224,7 +218,7 @@ impl Session {
         ensures keeps { KeepsWhole self.old → KeepsWhole self.new }
     {
         let front = front_of(writer, lanes, false, seq, answer);
-        actions.set_further(alloc, discarded, writer, front);
+        actions.set_further(writer, front);
         self.went_on(writer, answer, seq, ends);
     }
 }

@@ -9,14 +9,14 @@ ghost use Rattle.dnp_plantext.specs.PlanText.{IsPlanOf, IsRefusedFor};
 
 use crate::plan_text::{PlanTextFault, read_plan};
 use dnp_concentrator::SubPlan;
-use dnp_controls::PlainOutputs;
+use dnp_controls::LatestOutputs;
 use dnp_eventbuf::RingLanes;
 use dnp_outstation::Outstation;
 use dnp_pointdb::{PointDb, Times};
 use std::alloc::{AllocError, Global};
 
-/// An outstation with its lanes and its outputs in memory.
-pub type PlannedOutstation = Outstation<RingLanes, PlainOutputs>;
+/// An outstation with its lanes and its outputs in memory, the states of its outputs alone: it serves for years.
+pub type PlannedOutstation = Outstation<RingLanes, LatestOutputs>;
 
 /// The outstation of a substation, closed as after a restart, with its lanes and its outputs in memory. Refused out of
 /// memory alone.
@@ -30,7 +30,7 @@ fn outstation_of(
 {
     let points = PointDb::new(alloc, substation.points(alloc)?)?;
     let lanes = RingLanes::new(alloc, substation.lanes)?;
-    let outputs = PlainOutputs::new(alloc, substation.outputs, substation.setpoints);
+    let outputs = LatestOutputs::new(substation.outputs, substation.setpoints);
     Ok(Outstation::new(points, lanes, outputs, times))
 }
 

@@ -1,6 +1,6 @@
 //! What outputs answer, show and perform, and which control codes are performed.
 
-use dnp_controls::{Outputs, PlainOutputs, obeys_code_rule};
+use dnp_controls::{LatestOutputs, Outputs, PlainOutputs, obeys_code_rule};
 use dnp_objects::{Command, Status, StoreFault};
 use std::alloc::Global;
 use std::test::Fail;
@@ -42,7 +42,8 @@ fn shows<O: Outputs>(outputs: &O, count: u16, index: u16, flags: u8) -> bool {
 #[test]
 fn an_output_is_latched_until_it_is_unlatched(rt: HostRuntime) -> Result<(), Fail> {
     let mut outputs = PlainOutputs::new(rt.alloc(), 6, 2);
-    assert!(rt; shows(&outputs, 6, 5, 0x01));
+    let mut latest = LatestOutputs::new(6, 2);
+    assert!(rt; shows(&outputs, 6, 5, 0x01) && shows(&latest, 6, 5, 0x01));
     // A command, its status, and what output 5 shows then.
     #[rattlefmt::skip]
     let steps = [
@@ -62,12 +63,15 @@ fn an_output_is_latched_until_it_is_unlatched(rt: HostRuntime) -> Result<(), Fai
             answers(&mut outputs, rt.alloc(), &[command], &[status])?,
             "at {command}"
         );
-        assert!(rt; shows(&outputs, 6, 5, shown), "after {command}");
+        assert!(rt; answers(&mut latest, rt.alloc(), &[command], &[status])?);
+        assert!(rt; shows(&outputs, 6, 5, shown) && shows(&latest, 6, 5, shown));
         if status == Status::SUCCESS {
             assert!(rt; outputs.operated().last() == Some(&command));
         }
     }
     assert!(rt; outputs.operated().len() == 6);
+    assert!(rt; latest.value(0) == Some(70_000) && latest.value(1) == Some(-5));
+    assert!(rt; latest.value(2).is_none());
     Ok(())
 }
 

@@ -16,7 +16,7 @@ use crate::queue_calls::{append_both_to, append_to, empty_of, is_device, release
 use crate::queue_side::QueueSide;
 use crate::store_kind::StoreKind;
 use dnp_eventbuf::{
-    CENTRES, Lane, LaneRow, Lanes, Numbered, PairLanes, PlainLanes, StoreFault, Upto,
+    CENTRES, Lane, LaneRow, Lanes, Numbered, PairLanes, PlainLanes, Rows, StoreFault, Upto,
 };
 use dnp_objects::Row;
 use sqlite::{Alter, Connection};
@@ -206,6 +206,35 @@ impl<S: Alter> PairLanes for Queue<S> {
         }
     }
 
+    fn offer_into(
+        &mut self,
+        alloc: Global,
+        centre: u8,
+        lane: Lane,
+        after: u64,
+        most: usize,
+        rows: &mut Vec<Numbered>,
+    ) -> Result<(), StoreFault>
+        requires { centre < CENTRES }
+        ensures call { IsSideCall (IsHonest S.Store) (λ q. q.stopped) (λ q. side_at q.sides) centre self.old self.new result }
+        ensures rows { OnOk result (rows.new.items ≡ offered (side_at self.old.sides centre) (lane_number lane) after most) }
+        ensures same { self.new ≡ self.old }
+        ensures carried { OnOk result (All (λ x. IsEvent x.row) rows.new.items) }
+        ensures kept { OnErr result (rows.new.items ≡ rows.old.items) }
+        ensures memory { result ≡ Err StoreFault.Memory → offered (side_at self.old.sides centre) (lane_number lane) after most ≢ [] }
+        ensures device { result ≡ Err StoreFault.Device → IsTrue self.old.stopped }
+        ensures named { IfErr result (λ e. e ≢ StoreFault.Exhausted) }
+    {
+        if self.stopped {
+            return Err(StoreFault::Device);
+        }
+        if centre == 0 {
+            self.first.offer_into(alloc, lane, after, most, rows)
+        } else {
+            self.second.offer_into(alloc, lane, after, most, rows)
+        }
+    }
+
     /// What a crash leaves at any exit holds the lanes before or after, and after Ok those after.
     fn release(&mut self, alloc: Global, centre: u8, upto: &Upto) -> Result<Vec<Row>, StoreFault>
         requires { centre < CENTRES }
@@ -244,6 +273,33 @@ impl<S: Alter> PairLanes for Queue<S> {
         };
         self.stopped = is_device(&answer);
         answer
+    }
+
+    /// What a crash leaves at any exit holds the lanes before or after, and after Ok those after.
+    fn release_into(
+        &mut self,
+        alloc: Global,
+        centre: u8,
+        upto: &Upto,
+        taken: &mut Rows,
+    ) -> Result<(), StoreFault>
+        requires { centre < CENTRES }
+        ensures call { IsSideCall (IsHonest S.Store) (λ q. q.stopped) (λ q. side_at q.sides) centre self.old self.new result }
+        ensures released { OnOk result (self.new.sides ≡ with_side self.old.sides centre (without (side_at self.old.sides centre) upto.now)) }
+        ensures taken { OnOk result (taken.new ≡ all_up_to (side_at self.old.sides centre) upto.now) }
+        ensures kept { OnErr result (taken.new ≡ taken.old) }
+        ensures kept_sides { OnErr result (self.new.sides ≡ self.old.sides) }
+        ensures memory { result ≡ Err StoreFault.Memory → true ≡ false → all_up_to (side_at self.old.sides centre) upto.now ≢ [] }
+        ensures named { IfErr result (λ e. e ≢ StoreFault.Exhausted) }
+        ensures owned { self.new.owned ≡ self.old.owned }
+        ensures limit { self.new.conn.step_limit ≡ self.old.conn.step_limit }
+        ensures either { HasCleanDisk (state S.Store self.new.conn) → self.old.stopped ≡ false → IsTrue self.old.owned → LeavesEither (state S.Store self.new.conn) self.old.sides (with_side self.old.sides centre (without (side_at self.old.sides centre) upto.now)) }
+        ensures after { HasCleanDisk (state S.Store self.new.conn) → IsTrue self.old.owned → OnOk result (Leaves (state S.Store self.new.conn) self.new.sides) }
+        ensures untouched { IsTrue self.old.stopped → self.new.conn ≡ self.old.conn }
+        ensures device { HasCleanDisk (state S.Store self.new.conn) → result ≡ Err StoreFault.Device → IsTrue self.old.stopped ⊎ IsLost S.Store StoreKind.Queue self.old.conn self.new.conn }
+    {
+        *taken = Rows::of(PairLanes::release(self, alloc, centre, upto)?);
+        Ok(())
     }
 
     /// What a crash leaves at any exit holds the lanes before or after, and after Ok those after.

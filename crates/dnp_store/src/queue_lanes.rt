@@ -4,7 +4,7 @@ ghost use Rattle.std.specs.Prelude.{true, [], ◌∷◌, ⊤};
 ghost use Rattle.dnp_store.specs.Kept.{IsHonest};
 
 use crate::queue::Queue;
-use dnp_eventbuf::{Lane, LaneRow, Lanes, Numbered, PairLanes, StoreFault, Upto};
+use dnp_eventbuf::{Lane, LaneRow, Lanes, Numbered, PairLanes, Rows, StoreFault, Upto};
 use dnp_objects::Row;
 use sqlite::Alter;
 use std::alloc::Global;
@@ -41,8 +41,28 @@ impl<S: Alter> Lanes for Queue<S> {
         PairLanes::offer(self, alloc, 0, lane, after, most)
     }
 
+    fn offer_into(
+        &mut self,
+        alloc: Global,
+        lane: Lane,
+        after: u64,
+        most: usize,
+        rows: &mut Vec<Numbered>,
+    ) -> Result<(), StoreFault> {
+        PairLanes::offer_into(self, alloc, 0, lane, after, most, rows)
+    }
+
     fn release(&mut self, alloc: Global, upto: &Upto) -> Result<Vec<Row>, StoreFault> {
         PairLanes::release(self, alloc, 0, upto)
+    }
+
+    fn release_into(
+        &mut self,
+        alloc: Global,
+        upto: &Upto,
+        taken: &mut Rows,
+    ) -> Result<(), StoreFault> {
+        PairLanes::release_into(self, alloc, 0, upto, taken)
     }
 
     fn empty(&mut self, alloc: Global) -> Result<Vec<Row>, StoreFault> {

@@ -16,7 +16,7 @@ ghost use Rattle.dnp_streams.specs.declared.octets.TheConstants as octets;
 
 use crate::stream::Station;
 use dnp_concentrator::laws as concentrator;
-use dnp_controls::{Book, NoOutputs, Outputs, PlainOutputs};
+use dnp_controls::{Book, LatestOutputs, NoOutputs, Outputs, PlainOutputs};
 use dnp_line::laws as lines;
 use dnp_linkframe::laws as frames;
 use dnp_transport::laws as segments;
@@ -63,9 +63,11 @@ pub fn an_outstation_comes_out_in_one_way<O: Outputs>()
     ensures receives { ShowOneWay O.panel O.performs → ReceivesOneWay (outstation_receives O.panel O.performs) }
 {}
 
-/// What outputs in memory show after commands comes out in one way. So does what no outputs show.
+/// What outputs in memory show after commands comes out in one way, whether they keep the commands or their states alone. So
+/// does what no outputs show.
 pub fn plain_outputs_show_one_way()
     ensures plain { ShowOneWay ⟦<PlainOutputs as Outputs>⟧.panel ⟦<PlainOutputs as Outputs>⟧.performs }
+    ensures latest { ShowOneWay ⟦<LatestOutputs as Outputs>⟧.panel ⟦<LatestOutputs as Outputs>⟧.performs }
     ensures none { ShowOneWay ⟦<NoOutputs as Outputs>⟧.panel ⟦<NoOutputs as Outputs>⟧.performs }
 {}
 

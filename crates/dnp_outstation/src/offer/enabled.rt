@@ -12,12 +12,13 @@ ghost use Rattle.dnp_outstation.specs.Offer.{pushed};
 ghost use Rattle.dnp_outstation.specs.steps.Putting.{Puts};
 ghost use Rattle.dnp_outstation.specs.Stores.{IsLook};
 
+use crate::offer::fetched::Fetched;
 use crate::offer::place::RowPart;
 use crate::offer::rows::Bounds;
 use crate::offer::wanted::of_class;
 use crate::offer::writer::Writer;
 use dnp_eventbuf::laws::lanes_stay_sound;
-use dnp_eventbuf::{Lanes, StoreFault, Upto};
+use dnp_eventbuf::{Lanes, Numbered, StoreFault, Upto};
 use dnp_objects::LANES;
 use std::alloc::Global;
 
@@ -37,6 +38,7 @@ impl Writer {
         &mut self,
         alloc: Global,
         lanes: &mut L,
+        rows: &mut Vec<Numbered>,
         class: u8,
         is_enabled: bool,
         released: &Option<Upto>,
@@ -64,7 +66,7 @@ impl Writer {
             stood: u64::MAX,
             released,
         };
-        self.put_lanes(alloc, lanes, 0, &part, &bounds)
+        self.put_lanes(alloc, lanes, rows, 0, &part, &bounds)
     }
 
     /// Puts the rows of the enabled classes, as the lanes are after the release, as far as they fit;
@@ -73,6 +75,7 @@ impl Writer {
         &mut self,
         alloc: Global,
         lanes: &mut L,
+        rows: &mut Vec<Numbered>,
         enabled: [bool; 3],
         released: &Option<Upto>,
     ) -> Result<bool, StoreFault>
@@ -85,7 +88,7 @@ impl Writer {
     {
         for class in 0..3_u8 {
             let is_enabled = enabled[usize::from(class)];
-            if !self.put_class(alloc, lanes, class, is_enabled, released)? {
+            if !self.put_class(alloc, lanes, rows, class, is_enabled, released)? {
                 return Ok(false);
             }
         }
@@ -100,6 +103,7 @@ pub(crate) fn put_enabled<L: Lanes>(
     writer: &mut Writer,
     alloc: Global,
     lanes: &mut L,
+    fetched: &mut Fetched,
     enabled: [bool; 3],
     released: &Option<Upto>,
 ) -> Result<bool, StoreFault>
@@ -111,7 +115,10 @@ pub(crate) fn put_enabled<L: Lanes>(
 {
     // Whatever the lanes say without a refusal says that ids rise from 1 on.
     let _raised = lanes.raised();
-    if !writer.put_classes(alloc, lanes, enabled, released)? {
+    let mut rows = fetched.take(alloc);
+    let fit = writer.put_classes(alloc, lanes, &mut rows, enabled, released)?;
+    fetched.keep(rows);
+    if !fit {
         return Ok(false);
     }
     Ok(writer.settle())

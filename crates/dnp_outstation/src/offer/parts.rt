@@ -13,6 +13,7 @@ ghost use Rattle.dnp_outstation.specs.Offer.{offered};
 ghost use Rattle.dnp_outstation.specs.steps.Putting.{Puts, LeavesOpen};
 ghost use Rattle.dnp_outstation.specs.Stores.{IsLook};
 
+use crate::offer::fetched::Fetched;
 use crate::offer::place::Wanted;
 use crate::offer::present::Ask;
 use crate::offer::rows::{Bounds, less};
@@ -20,7 +21,7 @@ use crate::offer::wanted::wanted;
 use crate::offer::writer::Writer;
 use dnp_appfragment::{Header, Headers};
 use dnp_controls::Outputs;
-use dnp_eventbuf::{Lanes, StoreFault, Upto};
+use dnp_eventbuf::{Lanes, Numbered, StoreFault, Upto};
 use dnp_pointdb::PointDb;
 use std::alloc::Global;
 
@@ -41,6 +42,7 @@ impl Writer {
         &mut self,
         alloc: Global,
         lanes: &mut L,
+        rows: &mut Vec<Numbered>,
         from: &Stand<'_, O>,
         at: usize,
         count: u32,
@@ -66,7 +68,7 @@ impl Writer {
                     stood: from.stood,
                     released: from.released,
                 };
-                self.put_lanes(alloc, lanes, at, &part, &bounds)
+                self.put_lanes(alloc, lanes, rows, at, &part, &bounds)
             }
             Wanted::EachGroup => Ok(self.put_each_group(at, from.points, from.outputs, count)),
             Wanted::OneGroup(group, variation, range) => {
@@ -86,6 +88,7 @@ impl Writer {
         &mut self,
         alloc: Global,
         lanes: &mut L,
+        rows: &mut Vec<Numbered>,
         from: &Stand<'_, O>,
         first: usize,
         given: u32,
@@ -104,7 +107,7 @@ impl Writer {
         let mut at = first;
         let mut count = given;
         for header in headers {
-            if !self.put_part(alloc, lanes, from, at, count, &header)? {
+            if !self.put_part(alloc, lanes, rows, from, at, count, &header)? {
                 return Ok(false);
             }
             at += 1;
@@ -122,6 +125,7 @@ pub(crate) fn put_parts<L: Lanes, O: Outputs>(
     alloc: Global,
     points: &PointDb,
     lanes: &mut L,
+    fetched: &mut Fetched,
     outputs: &O,
     released: &Option<Upto>,
     stood: u64,
@@ -143,7 +147,10 @@ pub(crate) fn put_parts<L: Lanes, O: Outputs>(
     let first = writer.place.header;
     let given = writer.place.count;
     let left = headers.after(first);
-    if !writer.put_headers(alloc, lanes, &from, first, given, left)? {
+    let mut rows = fetched.take(alloc);
+    let fit = writer.put_headers(alloc, lanes, &mut rows, &from, first, given, left)?;
+    fetched.keep(rows);
+    if !fit {
         return Ok(false);
     }
     Ok(writer.settle())

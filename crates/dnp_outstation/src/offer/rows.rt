@@ -1,6 +1,6 @@
 //! Rows of lanes that a READ gives.
 
-ghost use Rattle.std.specs.Prelude.{◌≡◌, ◌≤◌, ◌<◌, ◌+◌, ◌*◌, map, fold, filter, take, nat_le, IsTrue, IsSome, is_some, IfOk, IfSome, length, All, List, ℕ};
+ghost use Rattle.std.specs.Prelude.{◌≡◌, ◌≤◌, ◌<◌, ◌+◌, ◌*◌, map, fold, filter, take, nat_le, IsTrue, IsSome, is_some, OnOk, IfOk, IfSome, length, All, List, ℕ};
 ghost use Rattle.std.specs.List.{AllPairs};
 ghost use Rattle.dnp_objects.specs.Events.{IsEvent};
 ghost use Rattle.dnp_objects.specs.Lanes.{lane_number};
@@ -84,26 +84,27 @@ fn keep_stood(rows: &mut Vec<Numbered>, stood: u64)
 }
 
 /// The first rows of a lane that a header of a READ may still give, within its limit, but no more than
-/// so many.
+/// so many, in place of what was in `rows`.
 fn rows_to_give<L: Lanes>(
     lanes: &mut L,
     alloc: Global,
+    rows: &mut Vec<Numbered>,
     lane: Lane,
     bounds: &Bounds<'_>,
     most: Option<usize>,
     few: usize,
-) -> Result<Vec<Numbered>, StoreFault>
-    ensures rows { L.honest lanes.new → IfOk result (λ rows. rows.items
+) -> Result<(), StoreFault>
+    ensures rows { L.honest lanes.new → OnOk result (rows.new.items
         ≡ take few (at_most most (rows_left (after_release (L.contents lanes.new) bounds.now.released.now) bounds.now.stood bounds.now.given.now (lane_number lane)))) }
-    ensures events { IfOk result (λ rows. All (λ x. IsEvent x.row) rows.items) }
-    ensures kinds { L.honest lanes.new → IfOk result (λ rows. All (λ x. x.row.kind ≡ lane.kind) rows.items) }
+    ensures events { OnOk result (All (λ x. IsEvent x.row) rows.new.items) }
+    ensures kinds { L.honest lanes.new → OnOk result (All (λ x. x.row.kind ≡ lane.kind) rows.new.items) }
     ensures look { IsLook L.honest L.is_stopped L.contents L.beside L.place L.asks_memory L.may_fault lanes.old lanes.new result }
 {
     an_offer_after_a_release();
     let over = bounds.over(lane.number());
-    let mut rows = lanes.offer(alloc, lane, over, asked(most, few))?;
-    keep_stood(&mut rows, bounds.stood);
-    Ok(rows)
+    lanes.offer_into(alloc, lane, over, asked(most, few), rows)?;
+    keep_stood(rows, bounds.stood);
+    Ok(())
 }
 
 /// What is left of a header's limit after so many rows.
@@ -162,11 +163,12 @@ impl Writer {
     }
 
     /// Puts the rows of a lane that a header may still give, within its limit, as far as they fit;
-    /// answers how many they are, or nothing where not all of them fit.
+    /// answers how many they are, or nothing where not all of them fit. They are fetched into `rows`.
     fn put_lane<L: Lanes>(
         &mut self,
         alloc: Global,
         lanes: &mut L,
+        rows: &mut Vec<Numbered>,
         header: usize,
         is_open: bool,
         lane: Lane,
@@ -184,7 +186,7 @@ impl Writer {
         ensures look { IsLook L.honest L.is_stopped L.contents L.beside L.place L.asks_memory L.may_fault lanes.old lanes.new result }
     {
         let few = enough(lane.kind, self.builder.left());
-        let rows = rows_to_give(lanes, alloc, lane, bounds, most, few)?;
+        rows_to_give(lanes, alloc, rows, lane, bounds, most, few)?;
         if !self.put_rows(header, is_open, lane.number(), rows.as_slice()) {
             return Ok(None);
         }
@@ -197,6 +199,7 @@ impl Writer {
         &mut self,
         alloc: Global,
         lanes: &mut L,
+        rows: &mut Vec<Numbered>,
         header: usize,
         part: &RowPart,
         bounds: &Bounds<'_>,
@@ -215,6 +218,7 @@ impl Writer {
             let Some(given) = self.put_lane(
                 alloc,
                 lanes,
+                rows,
                 header,
                 part.is_open,
                 *lane,

@@ -8,15 +8,15 @@ use Rattle.dnp_outstation.proofs.OfferParts.{ended_full, ended_last}
 use Rattle.dnp_outstation.proofs.Pushing.{filled_pushed}
 use Rattle.dnp_outstation.proofs.offer.enabled.put_enabled.Goals as goal
 
-pub returns-then-not-branch-clause-pushed : goal.returns-then-not-branch-clause-pushed
-returns-then-not-branch-clause-pushed g c = λ honest empty.
+pub returns-then-not-fit-clause-pushed : goal.returns-then-not-fit-clause-pushed
+returns-then-not-fit-clause-pushed g c = λ honest empty.
     let w = c.args.writer.now in
     let v = c.put_classes.new.self in
     let t : Stock = after_release (g.L.Lanes.contents c.args.lanes.now) c.args.released.now in
     let items : List Marked = mark true (lane_items t (enabled_lanes 0 c.args.enabled)) in
-    let full : c.in_ok-put_classes.field-0 ≡ false = search rules in
+    let full : c.in_ok-fit.fit ≡ false = search rules in
     filled_pushed t c.args.enabled w v false empty (ended_full w v items
-    (subst (λ (fit : Bool). Puts w items fit v) full (rw c.raised-raised.ensures.same at (c.in_ok-put_classes.ensures.written honest))))
+    (subst (λ (fit : Bool). Puts w items fit v) full (rw c.raised-raised.ensures.same at (c.in_ok-fit.ensures.written honest))))
 
 pub returns-clause-pushed : goal.returns-clause-pushed
 returns-clause-pushed g c = λ honest empty.
@@ -24,7 +24,7 @@ returns-clause-pushed g c = λ honest empty.
     let v = c.put_classes.new.self in
     let t : Stock = after_release (g.L.Lanes.contents c.args.lanes.now) c.args.released.now in
     let items : List Marked = mark true (lane_items t (enabled_lanes 0 c.args.enabled)) in
-    let all : c.in_ok-put_classes.field-0 ≡ true = search rules in
+    let all : c.in_ok-fit.fit ≡ true = search rules in
     filled_pushed t c.args.enabled w c.settle.new.self c.settle.result empty
     (ended_last w v c.settle.new.self items c.settle.result
-    (subst (λ (fit : Bool). Puts w items fit v) all (rw c.raised-raised.ensures.same at (c.in_ok-put_classes.ensures.written honest))) c.settle.ensures.written)
+    (subst (λ (fit : Bool). Puts w items fit v) all (rw c.raised-raised.ensures.same at (c.in_ok-fit.ensures.written honest))) c.settle.ensures.written)

@@ -59,18 +59,18 @@ returns-in_err-starts-clause-memory_idle g c = λ honest failed asks p none.
     confirm_reports s o now w writer next goes ready rows
     (ap (λ (x : Step). x.does) (sym (seen_as core c.args.self.now old o p now w (sym c.self.view_is) c.in-Some.is)) ∙ none)
 
-pub returns-in_err-release-clause-memory_idle : goal.returns-in_err-release-clause-memory_idle
-returns-in_err-release-clause-memory_idle g c = λ honest failed asks p none.
+pub returns-in_err-release_into-clause-memory_idle : goal.returns-in_err-release_into-clause-memory_idle
+returns-in_err-release_into-clause-memory_idle g c = λ honest failed asks p none.
     let o = g.O.Outputs.panel c.args.outputs.now in
     let old = g.L.Lanes.contents c.args.lanes.now in
     let now = c.args.now in
     let w = c.in-Some.awaited in
     let core = core_in c.self.inside in
     let s : State = state_of core old p in
-    let written = c.in_err-release.ensures.call.held honest in
+    let written = c.in_err-release_into.ensures.call.held honest in
     let read = c.in_ok-starts.ensures.look.held written in
     let to_old : g.L.Lanes.contents c.write_ending.new.lanes ≡ old = c.in_ok-starts.ensures.look.same written ∙ c.in_ok-next.ensures.look.same read in
-    let some = subst (λ (t : Stock). all_up_to t w.upto ≢ []) to_old (c.in_err-release.ensures.memory (search rules) asks) in
+    let some = subst (λ (t : Stock). all_up_to t w.upto ≢ []) to_old (c.in_err-release_into.ensures.memory (search rules) asks) in
     confirm_releases s o now w some
     (ap (λ (x : Step). x.does) (sym (seen_as core c.args.self.now old o p now w (sym c.self.view_is) c.in-Some.is)) ∙ none)
 
@@ -89,15 +89,15 @@ returns-clause-confirmed g c = λ honest p.
     let confirming = λ (k : Core). let t = state_of k old p in at_end now (with_that t t.core.session.awaited (on_confirm t o now)) in
     let gone = subst (λ l. g.L.Lanes.honest l) c.end_call.ensures.same honest in
     let released = subst (λ l. g.L.Lanes.honest l) c.go_on.ensures.same gone in
-    let written = c.in_ok-release.ensures.call.held released in
+    let written = c.in_ok-release_into.ensures.call.held released in
     let read = c.in_ok-starts.ensures.look.held written in
     let to_old = c.in_ok-starts.ensures.look.same written ∙ c.in_ok-next.ensures.look.same read in
-    let to_release = ap g.L.Lanes.contents (c.end_call.ensures.same ∙ c.go_on.ensures.same) ∙ c.in_ok-release.ensures.released released in
+    let to_release = ap g.L.Lanes.contents (c.end_call.ensures.same ∙ c.go_on.ensures.same) ∙ c.in_ok-release_into.ensures.released released in
     let lanes_is : new ≡ without old w.upto = to_release ∙ ap (λ (t : Stock). without t w.upto) to_old in
     let lanes_here : new ≡ without (g.L.Lanes.contents c.write_next.new.lanes) w.upto =
     to_release ∙ ap (λ (t : Stock). without t w.upto) (c.in_ok-starts.ensures.look.same written) in
-    let rows_is : c.of-rows.result ≡ all_up_to old w.upto =
-    c.of-rows.ensures ∙ c.in_ok-release.ensures.taken released ∙ ap (λ (t : Stock). all_up_to t w.upto) to_old in
+    let rows_is : c.release_into.new.taken ≡ all_up_to old w.upto =
+    c.in_ok-release_into.ensures.taken released ∙ ap (λ (t : Stock). all_up_to t w.upto) to_old in
     let restart_is = ap (λ (k : Core). k.restart) c.self.view_is ∙ ap (λ (x : Switches). x.restart) (sym c.switches-switches.ensures) in
     let further = c.go_on.ensures.goes gone after now (ap g.L.Lanes.contents c.end_call.ensures.same)
     (restart_by c.switches-switches.result core.restart next restart_is c.in_ok-next.ensures.switches) refl c.deadline-ends.ensures in
@@ -110,14 +110,14 @@ returns-clause-confirmed g c = λ honest p.
     let free = c.is_free_after-free.ensures step.state.core now seq session_is in
     ap confirming (sym c.self.view_is)
     ∙ ap (λ (x : Option Awaited). at_end now (with_that s x (on_confirm s o now))) c.in-Some.is
-    ∙ ap (at_end now) (confirmed_step s o now w (confirmed core.session) new sent c.of-rows.result (actions_of c.go_on.new.actions) refl lanes_is goes rows_is c.go_on.ensures.discarded)
+    ∙ ap (at_end now) (confirmed_step s o now w (confirmed core.session) new sent c.release_into.new.taken (actions_of c.go_on.new.actions) refl lanes_is goes rows_is c.go_on.ensures.discarded)
     ∙ c.in_ok-starts.ensures.ends written now step lanes_here refl (c.is_due-is_due.ensures.value step.state.core refl refl refl free)
     ∙ c.end_call.ensures.ended honest step.state now refl refl refl c.deadline-ends.ensures
 
-pub returns-in_err-release-clause-memory : goal.returns-in_err-release-clause-memory
-returns-in_err-release-clause-memory g c = λ honest failed asks none.
-    let written = c.in_err-release.ensures.call.held honest in
+pub returns-in_err-release_into-clause-memory : goal.returns-in_err-release_into-clause-memory
+returns-in_err-release_into-clause-memory g c = λ honest failed asks none.
+    let written = c.in_err-release_into.ensures.call.held honest in
     let read = c.in_ok-starts.ensures.look.held written in
     let empty : rows_in (g.L.Lanes.contents c.write_ending.new.lanes) ≡ [] =
     ap rows_in (c.in_ok-starts.ensures.look.same written ∙ c.in_ok-next.ensures.look.same read) ∙ none in
-    released_is_there (g.L.Lanes.contents c.write_ending.new.lanes) c.in-Some.awaited.upto (c.in_err-release.ensures.memory (search rules) asks) empty
+    released_is_there (g.L.Lanes.contents c.write_ending.new.lanes) c.in-Some.awaited.upto (c.in_err-release_into.ensures.memory (search rules) asks) empty

@@ -14,13 +14,13 @@ use Rattle.dnp_outstation.proofs.HeldRead.{with_switches, held_switched, held_st
 use Rattle.dnp_outstation.proofs.NoRows.{released_is_there}
 use Rattle.dnp_outstation.proofs.outstation_core.OutstationCore.confirm_unsolicited.Goals as goal
 
-pub returns-in_err-release-clause-memory : goal.returns-in_err-release-clause-memory
-returns-in_err-release-clause-memory g c = λ honest failed asks none.
-    let written = c.in_err-release.ensures.call.held honest in
+pub returns-in_err-release_into-clause-memory : goal.returns-in_err-release_into-clause-memory
+returns-in_err-release_into-clause-memory g c = λ honest failed asks none.
+    let written = c.in_err-release_into.ensures.call.held honest in
     let read = c.in_ok-starts.ensures.look.held written in
     let empty : rows_in (g.L.Lanes.contents c.write_ending.new.lanes) ≡ [] =
     ap rows_in (c.in_ok-starts.ensures.look.same written ∙ c.in_ok-held.ensures.look.same read) ∙ none in
-    released_is_there (g.L.Lanes.contents c.write_ending.new.lanes) c.in-Some.response.upto (c.in_err-release.ensures.memory (search rules) asks) empty
+    released_is_there (g.L.Lanes.contents c.write_ending.new.lanes) c.in-Some.response.upto (c.in_err-release_into.ensures.memory (search rules) asks) empty
 
 pub returns-clause-confirmed : goal.returns-clause-confirmed
 returns-clause-confirmed g c = λ honest p.
@@ -39,15 +39,15 @@ returns-clause-confirmed g c = λ honest p.
     let after : State = with_switches (behind new) c.switched_by-after.result in
     let gone = subst (λ l. g.L.Lanes.honest l) c.end_call.ensures.same honest in
     let released = subst (λ l. g.L.Lanes.honest l) c.answer_held.ensures.same gone in
-    let written = c.in_ok-release.ensures.call.held released in
+    let written = c.in_ok-release_into.ensures.call.held released in
     let read = c.in_ok-starts.ensures.look.held written in
     let to_old = c.in_ok-starts.ensures.look.same written ∙ c.in_ok-held.ensures.look.same read in
-    let to_release = ap g.L.Lanes.contents (c.end_call.ensures.same ∙ c.answer_held.ensures.same) ∙ c.in_ok-release.ensures.released released in
+    let to_release = ap g.L.Lanes.contents (c.end_call.ensures.same ∙ c.answer_held.ensures.same) ∙ c.in_ok-release_into.ensures.released released in
     let lanes_is : new ≡ without old w.upto = to_release ∙ ap (λ (t : Stock). without t w.upto) to_old in
     let lanes_here : new ≡ without (g.L.Lanes.contents c.write_held.new.lanes) w.upto =
     to_release ∙ ap (λ (t : Stock). without t w.upto) (c.in_ok-starts.ensures.look.same written) in
-    let rows_is : c.of-rows.result ≡ all_up_to old w.upto =
-    c.of-rows.ensures ∙ c.in_ok-release.ensures.taken released ∙ ap (λ (t : Stock). all_up_to t w.upto) to_old in
+    let rows_is : c.release_into.new.taken ≡ all_up_to old w.upto =
+    c.in_ok-release_into.ensures.taken released ∙ ap (λ (t : Stock). all_up_to t w.upto) to_old in
     let before_is : before ≡ record { restart = core.restart; enabled = core.enabled } =
     c.switches-before.ensures ∙ ap (λ (k : Core). let x : Switches = record { restart = k.restart; enabled = k.enabled } in x) (sym c.self.view_is) in
     let read_by : answers_held (behind new) o now core.session.last ≡ answers_held_by (behind new) now writer held =

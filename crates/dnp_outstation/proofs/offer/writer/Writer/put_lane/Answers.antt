@@ -19,22 +19,22 @@ returns-then-not-put_rows-clause-written g c = λ honest more.
     (rows_left (after_release (g.L.Lanes.contents c.rows_to_give.new.lanes) bounds.released.now) bounds.stood bounds.given.now number) in
     let full : c.put_rows.result ≡ false = search rules in
     lane_full c.args.self.now c.put_rows.new.self c.put_rows.result c.args.is_open c.args.header number c.number.result _ all c.as_slice.result.now more
-    c.number.ensures.value (c.as_slice.ensures.value ∙ c.in_ok-rows.ensures.rows honest) c.put_rows.ensures.written full
+    c.number.ensures.value (c.as_slice.ensures.value ∙ c.in_ok-rows_to_give.ensures.rows honest) c.put_rows.ensures.written full
 
 -- the rows that the header may still give of the lane
-abbrev left_of : (g : Over) → goal.After-drop-rows-2 g → List Numbered
+abbrev left_of : (g : Over) → goal.After-len g → List Numbered
 left_of g c =
     let bounds = c.args.bounds.now in
     at_most c.args.most
     (rows_left (after_release (g.L.Lanes.contents c.rows_to_give.new.lanes) bounds.released.now) bounds.stood bounds.given.now (lane_number c.args.lane))
 
 -- those that are put are all of them
-are_all : (g : Over) (c : goal.After-drop-rows-2 g) → g.L.Lanes.honest c.rows_to_give.new.lanes → c.as_slice.result.now ≡ left_of g c
+are_all : (g : Over) (c : goal.After-len g) → g.L.Lanes.honest c.rows_to_give.new.lanes → c.as_slice.result.now ≡ left_of g c
 are_all g c honest =
     let put' : IsTrue true = search rules in
     all_asked c.args.lane.kind c.args.self.now.builder c.enough-few.result c.left.result (left_of g c) c.as_slice.result.now
-    (subst (All (λ (x : Numbered). x.row.kind ≡ c.args.lane.kind)) (sym c.as_slice.ensures.value) (c.in_ok-rows.ensures.kinds honest))
-    (c.as_slice.ensures.value ∙ c.in_ok-rows.ensures.rows honest) c.enough-few.ensures.enough c.left.ensures (c.if-not-put_rows.ensures.room put')
+    (subst (All (λ (x : Numbered). x.row.kind ≡ c.args.lane.kind)) (sym c.as_slice.ensures.value) (c.in_ok-rows_to_give.ensures.kinds honest))
+    (c.as_slice.ensures.value ∙ c.in_ok-rows_to_give.ensures.rows honest) c.enough-few.ensures.enough c.left.ensures (c.if-not-put_rows.ensures.room put')
 
 pub returns-clause-written : goal.returns-clause-written
 returns-clause-written g c = λ honest.
