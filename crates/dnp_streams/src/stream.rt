@@ -9,6 +9,7 @@ mod below;
 mod centre;
 mod change;
 mod clocked;
+mod course;
 mod kept;
 mod live;
 mod live_steps;

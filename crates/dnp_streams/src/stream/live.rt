@@ -7,6 +7,7 @@ ghost use Rattle.dnp_streams.specs.streams.Stations.{endpoint};
 ghost use Rattle.dnp_streams.specs.streams.Serving.{IsLeft, IsNoted};
 ghost use Rattle.dnp_streams.specs.streams.Living.{Lives};
 
+use crate::stream::course::Course;
 use crate::stream::kept::Kept;
 use crate::stream::live_steps::begin;
 use crate::stream::live_turns::{go_through, read_frames};
@@ -37,48 +38,41 @@ fn live<S: Living, R: Waiting, W: Write, C: Clock>(
     station: &mut S,
     port: &mut Port,
     clock: &C,
-    session: &mut Session<'_>,
+    course: &mut Course<'_>,
     reader: &mut R,
     out: &mut W,
     limits: Limits,
-    served: &mut Served,
-    log: &mut Log,
 ) -> Result<(), ServeFault>
-    requires none { served.old ≡ none_served }
-    requires log { log.old ≡ new_log }
+    requires none { course.old.served ≡ none_served }
+    requires log { course.old.log ≡ new_log }
     ensures kept { S.kept station.new ≡ S.kept station.old }
     ensures held { S.honest station.new → S.honest station.old }
-    ensures lives { S.honest station.new → Lives S.opens S.receives S.life log.new.reads (endpoint (S.state station.old) port.old)
-        session.old session.new (R.Read.remaining reader.old) (R.Read.remaining reader.new)
-        (W.contents out.old) (W.contents out.new) served.new result (endpoint (S.state station.new) port.new) }
-    ensures noted { IsNoted limits.turns result log.new }
+    ensures lives { S.honest station.new → Lives S.opens S.receives S.life course.new.log.reads (endpoint (S.state station.old) port.old)
+        course.old.session course.new.session (R.Read.remaining reader.old) (R.Read.remaining reader.new)
+        (W.contents out.old) (W.contents out.new) course.new.served result (endpoint (S.state station.new) port.new) }
+    ensures noted { IsNoted limits.turns result course.new.log }
 {
-    let mut kept = Kept::new(alloc);
-    match begin(
-        alloc, station, port, clock, session, &mut kept, out, served, log,
-    ) {
+    match begin(alloc, station, port, clock, course, out) {
         Ok(()) => {}
         Err(_) => return Err(ServeFault::WriteFailed),
     }
-    if served.closed {
+    if course.served.closed {
         return Ok(());
     }
     let mut stream = FrameReader::new();
     let mut frames = Vec::new(alloc);
     for _ in 0..limits.turns {
-        let ms = wait_for(session.now, session.changes, limits.wait_ms);
-        match read_frames(reader, ms, &mut stream, &mut frames, log) {
+        let ms = wait_for(course.session.now, course.session.changes, limits.wait_ms);
+        match read_frames(reader, ms, &mut stream, &mut frames, &mut course.log) {
             Ok(true) => {}
             Ok(false) => return Ok(()),
             Err(fault) => return Err(fault),
         }
-        match go_through(
-            alloc, station, port, clock, session, &frames, &mut kept, out, served, log,
-        ) {
+        match go_through(alloc, station, port, clock, course, &frames, out) {
             Ok(()) => {}
             Err(_) => return Err(ServeFault::WriteFailed),
         }
-        if served.closed {
+        if course.served.closed {
             return Ok(());
         }
     }
@@ -120,21 +114,29 @@ pub fn live_stream<S: Living, R: Waiting, W: Write, C: Clock>(
         (W.contents out.old) (W.contents out.new) result.served result.result (endpoint ended port.new) }
     ensures noted { IsNoted limits.turns result.result log.new }
 {
-    let mut served = Served::of(0, 0, false);
+    let mut course = Course {
+        session: *session,
+        kept: Kept::new(alloc),
+        served: Served::of(0, 0, false),
+        log: *log,
+    };
     let result = live(
         alloc,
         station,
         port,
         clock,
-        session,
+        &mut course,
         reader,
         out,
         limits,
-        &mut served,
-        log,
     );
     if result.is_err() {
         station.hung_up();
     }
-    Lived { served, result }
+    *session = course.session;
+    *log = course.log;
+    Lived {
+        served: course.served,
+        result,
+    }
 }

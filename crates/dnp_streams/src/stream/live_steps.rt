@@ -7,12 +7,12 @@ ghost use Rattle.dnp_streams.specs.steps.Living.{Brings};
 ghost use Rattle.dnp_streams.specs.steps.Outgoing.{OpensTo};
 
 use crate::stream::change::Change;
-use crate::stream::kept::{Kept, KeptAnswer};
+use crate::stream::course::Course;
+use crate::stream::kept::KeptAnswer;
 use crate::stream::living::Living;
-use crate::stream::log::{Log, write_noted};
+use crate::stream::log::write_noted;
 use crate::stream::outgoing::{Outgoing, put_fragments};
 use crate::stream::served::Served;
-use crate::stream::session::Session;
 use crate::stream::step::open;
 use crate::stream::waiting::moment;
 use crate::writing::NotWritten;
@@ -77,22 +77,22 @@ fn pass_time<S: Living, W: Write>(
     alloc: Global,
     station: &mut S,
     port: &mut Port,
-    session: &Session<'_>,
-    kept: &mut Kept,
+    course: &mut Course<'_>,
     out: &mut W,
-    served: &mut Served,
-    log: &mut Log,
 ) -> Result<(), NotWritten>
     ensures kept { S.kept station.new ≡ S.kept station.old }
     ensures held { S.honest station.new → S.honest station.old }
     ensures passed { S.honest station.new → Brings S.opens S.receives S.life [] 0
-        (endpoint (S.state station.old) port.old) (standing_of Owing session.entry.now) served.old (W.contents out.old) result
-        (endpoint (S.state station.new) port.new) (standing_of Idle session.entry.now) served.new (W.contents out.new) }
-    ensures noted { MatchResult result (λ _. log.new ≡ log.old) (λ _. log.new ≡ record log.old { write_failed = true }) }
+        (endpoint (S.state station.old) port.old) (standing_of Owing course.old.session) course.old.served (W.contents out.old) result
+        (endpoint (S.state station.new) port.new) (standing_of Idle course.new.session) course.new.served (W.contents out.new) }
+    ensures noted { MatchResult result (λ _. course.new.log ≡ course.old.log) (λ _. course.new.log ≡ record course.old.log { write_failed = true }) }
 {
-    let (answer, octets) = (&mut kept.confirmed, &mut kept.octets);
-    served.add(tick(alloc, station, port, session.now, answer, octets));
-    write_noted(&kept.octets, out, log)
+    let now = course.session.now;
+    let (answer, octets) = (&mut course.kept.confirmed, &mut course.kept.octets);
+    course
+        .served
+        .add(tick(alloc, station, port, now, answer, octets));
+    write_noted(&course.kept.octets, out, &mut course.log)
 }
 
 /// Makes the changes that are due, in order, up to one that closes the connection, and writes what each of them brings.
@@ -100,34 +100,34 @@ fn make_due<S: Living, W: Write>(
     alloc: Global,
     station: &mut S,
     port: &mut Port,
-    session: &mut Session<'_>,
-    kept: &mut Kept,
+    course: &mut Course<'_>,
     out: &mut W,
-    served: &mut Served,
-    log: &mut Log,
 ) -> Result<(), NotWritten>
-    requires { served.old.closed ≡ false }
+    requires { course.old.served.closed ≡ false }
     ensures kept { S.kept station.new ≡ S.kept station.old }
     ensures held { S.honest station.new → S.honest station.old }
     ensures made { S.honest station.new → Brings S.opens S.receives S.life [] 0
-        (endpoint (S.state station.old) port.old) (standing_of Idle session.old) served.old (W.contents out.old) result
-        (endpoint (S.state station.new) port.new) (standing_of Idle session.new) served.new (W.contents out.new) }
-    ensures none_due { OnOk result (served.new.closed ≡ false → NoneIsDue session.new.now session.new.changes.now) }
-    ensures noted { MatchResult result (λ _. log.new ≡ log.old) (λ _. log.new ≡ record log.old { write_failed = true }) }
+        (endpoint (S.state station.old) port.old) (standing_of Idle course.old.session) course.old.served (W.contents out.old) result
+        (endpoint (S.state station.new) port.new) (standing_of Idle course.new.session) course.new.served (W.contents out.new) }
+    ensures none_due { OnOk result (course.new.served.closed ≡ false → NoneIsDue course.new.session.now course.new.session.changes.now) }
+    ensures noted { MatchResult result (λ _. course.new.log ≡ course.old.log) (λ _. course.new.log ≡ record course.old.log { write_failed = true }) }
 {
-    served.count_nothing();
-    while let Some((change, later)) = session.changes.split_first() {
-        if session.now < change.at {
+    course.served.count_nothing();
+    while let Some((change, later)) = course.session.changes.split_first() {
+        let now = course.session.now;
+        if now < change.at {
             return Ok(());
         }
-        session.changes = later;
-        let (answer, octets) = (&mut kept.changed, &mut kept.octets);
-        served.add(make(alloc, station, port, session.now, change, answer, octets));
-        match write_noted(&kept.octets, out, log) {
+        course.session.changes = later;
+        let (answer, octets) = (&mut course.kept.changed, &mut course.kept.octets);
+        course
+            .served
+            .add(make(alloc, station, port, now, change, answer, octets));
+        match write_noted(&course.kept.octets, out, &mut course.log) {
             Ok(()) => {}
             Err(fault) => return Err(fault),
         }
-        if served.closed {
+        if course.served.closed {
             return Ok(());
         }
     }
@@ -139,29 +139,26 @@ pub(super) fn settle<S: Living, W: Write>(
     alloc: Global,
     station: &mut S,
     port: &mut Port,
-    session: &mut Session<'_>,
-    kept: &mut Kept,
+    course: &mut Course<'_>,
     out: &mut W,
-    served: &mut Served,
-    log: &mut Log,
 ) -> Result<(), NotWritten>
-    requires { served.old.closed ≡ false }
+    requires { course.old.served.closed ≡ false }
     ensures kept { S.kept station.new ≡ S.kept station.old }
     ensures held { S.honest station.new → S.honest station.old }
     ensures settled { S.honest station.new → Brings S.opens S.receives S.life [] 0
-        (endpoint (S.state station.old) port.old) (standing_of Owing session.old) served.old (W.contents out.old) result
-        (endpoint (S.state station.new) port.new) (standing_of Idle session.new) served.new (W.contents out.new) }
-    ensures none_due { OnOk result (served.new.closed ≡ false → NoneIsDue session.new.now session.new.changes.now) }
-    ensures noted { MatchResult result (λ _. log.new ≡ log.old) (λ _. log.new ≡ record log.old { write_failed = true }) }
+        (endpoint (S.state station.old) port.old) (standing_of Owing course.old.session) course.old.served (W.contents out.old) result
+        (endpoint (S.state station.new) port.new) (standing_of Idle course.new.session) course.new.served (W.contents out.new) }
+    ensures none_due { OnOk result (course.new.served.closed ≡ false → NoneIsDue course.new.session.now course.new.session.changes.now) }
+    ensures noted { MatchResult result (λ _. course.new.log ≡ course.old.log) (λ _. course.new.log ≡ record course.old.log { write_failed = true }) }
 {
-    match pass_time(alloc, station, port, session, kept, out, served, log) {
+    match pass_time(alloc, station, port, course, out) {
         Ok(()) => {}
         Err(fault) => return Err(fault),
     }
-    if served.closed {
+    if course.served.closed {
         return Ok(());
     }
-    make_due(alloc, station, port, session, kept, out, served, log)
+    make_due(alloc, station, port, course, out)
 }
 
 /// Opens the station, makes the changes that are due by then, and writes what that brings.
@@ -170,28 +167,28 @@ pub(super) fn begin<S: Living, W: Write, C: Clock>(
     station: &mut S,
     port: &mut Port,
     clock: &C,
-    session: &mut Session<'_>,
-    kept: &mut Kept,
+    course: &mut Course<'_>,
     out: &mut W,
-    served: &mut Served,
-    log: &mut Log,
 ) -> Result<(), NotWritten>
     ensures kept { S.kept station.new ≡ S.kept station.old }
     ensures held { S.honest station.new → S.honest station.old }
     ensures begun { S.honest station.new → Brings S.opens S.receives S.life [] 0
-        (endpoint (S.state station.old) port.old) (standing_of Unopened session.old) served.old (W.contents out.old) result
-        (endpoint (S.state station.new) port.new) (standing_of Idle session.new) served.new (W.contents out.new) }
-    ensures none_due { OnOk result (served.new.closed ≡ false → NoneIsDue session.new.now session.new.changes.now) }
-    ensures noted { MatchResult result (λ _. log.new ≡ log.old) (λ _. log.new ≡ record log.old { write_failed = true }) }
+        (endpoint (S.state station.old) port.old) (standing_of Unopened course.old.session) course.old.served (W.contents out.old) result
+        (endpoint (S.state station.new) port.new) (standing_of Idle course.new.session) course.new.served (W.contents out.new) }
+    ensures none_due { OnOk result (course.new.served.closed ≡ false → NoneIsDue course.new.session.now course.new.session.changes.now) }
+    ensures noted { MatchResult result (λ _. course.new.log ≡ course.old.log) (λ _. course.new.log ≡ record course.old.log { write_failed = true }) }
 {
-    session.now = moment(clock, session.now);
-    served.add(open(alloc, station, port, session.now, &mut kept.octets));
-    match write_noted(&kept.octets, out, log) {
+    course.session.now = moment(clock, course.session.now);
+    let now = course.session.now;
+    course
+        .served
+        .add(open(alloc, station, port, now, &mut course.kept.octets));
+    match write_noted(&course.kept.octets, out, &mut course.log) {
         Ok(()) => {}
         Err(fault) => return Err(fault),
     }
-    if served.closed {
+    if course.served.closed {
         return Ok(());
     }
-    make_due(alloc, station, port, session, kept, out, served, log)
+    make_due(alloc, station, port, course, out)
 }

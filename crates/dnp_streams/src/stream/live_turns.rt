@@ -5,13 +5,11 @@ ghost use Rattle.dnp_streams.specs.streams.Stations.{endpoint};
 ghost use Rattle.dnp_streams.specs.streams.Living.{NoneIsDue, Idle, standing_of};
 ghost use Rattle.dnp_streams.specs.steps.Living.{Brings, GoesThrough, HasRead, IsFramesNoted};
 
-use crate::stream::kept::Kept;
+use crate::stream::course::Course;
 use crate::stream::live_steps::settle;
 use crate::stream::living::Living;
 use crate::stream::log::{Log, write_noted};
 use crate::stream::serve::ServeFault;
-use crate::stream::served::Served;
-use crate::stream::session::Session;
 use crate::stream::step::hear;
 use crate::stream::waiting::{Came, Waiting, moment, read_waiting};
 use crate::writing::NotWritten;
@@ -27,25 +25,22 @@ fn wait_one<S: Living, W: Write, C: Clock>(
     station: &mut S,
     port: &mut Port,
     clock: &C,
-    session: &mut Session<'_>,
-    kept: &mut Kept,
+    course: &mut Course<'_>,
     out: &mut W,
-    served: &mut Served,
-    log: &mut Log,
 ) -> Result<(), NotWritten>
-    requires open { served.old.closed ≡ false }
-    requires idle { NoneIsDue session.old.now session.old.changes.now }
+    requires open { course.old.served.closed ≡ false }
+    requires idle { NoneIsDue course.old.session.now course.old.session.changes.now }
     ensures kept { S.kept station.new ≡ S.kept station.old }
     ensures held { S.honest station.new → S.honest station.old }
     ensures waited { S.honest station.new → Brings S.opens S.receives S.life [] 1
-        (endpoint (S.state station.old) port.old) (standing_of Idle session.old) served.old (W.contents out.old) result
-        (endpoint (S.state station.new) port.new) (standing_of Idle session.new) served.new (W.contents out.new) }
-    ensures none_due { OnOk result (served.new.closed ≡ false → NoneIsDue session.new.now session.new.changes.now) }
-    ensures noted { MatchResult result (λ _. log.new ≡ log.old) (λ _. log.new ≡ record log.old { write_failed = true }) }
+        (endpoint (S.state station.old) port.old) (standing_of Idle course.old.session) course.old.served (W.contents out.old) result
+        (endpoint (S.state station.new) port.new) (standing_of Idle course.new.session) course.new.served (W.contents out.new) }
+    ensures none_due { OnOk result (course.new.served.closed ≡ false → NoneIsDue course.new.session.now course.new.session.changes.now) }
+    ensures noted { MatchResult result (λ _. course.new.log ≡ course.old.log) (λ _. course.new.log ≡ record course.old.log { write_failed = true }) }
 {
-    session.now = moment(clock, session.now);
-    served.count_nothing();
-    settle(alloc, station, port, session, kept, out, served, log)
+    course.session.now = moment(clock, course.session.now);
+    course.served.count_nothing();
+    settle(alloc, station, port, course, out)
 }
 
 /// Hears a frame, and writes what it brings, in the room that is kept; then time passes, and the changes that are due are made.
@@ -54,33 +49,33 @@ fn hear_one<S: Living, W: Write, C: Clock>(
     station: &mut S,
     port: &mut Port,
     clock: &C,
-    session: &mut Session<'_>,
+    course: &mut Course<'_>,
     frame: &Frame,
-    kept: &mut Kept,
     out: &mut W,
-    served: &mut Served,
-    log: &mut Log,
 ) -> Result<(), NotWritten>
-    requires open { served.old.closed ≡ false }
-    requires idle { NoneIsDue session.old.now session.old.changes.now }
+    requires open { course.old.served.closed ≡ false }
+    requires idle { NoneIsDue course.old.session.now course.old.session.changes.now }
     ensures kept { S.kept station.new ≡ S.kept station.old }
     ensures held { S.honest station.new → S.honest station.old }
     ensures heard { S.honest station.new → GoesThrough S.opens S.receives S.life
-        (endpoint (S.state station.old) port.old) session.old served.old (W.contents out.old) (frame.now ∷ []) result
-        (endpoint (S.state station.new) port.new) session.new served.new (W.contents out.new) }
-    ensures none_due { OnOk result (served.new.closed ≡ false → NoneIsDue session.new.now session.new.changes.now) }
-    ensures noted { MatchResult result (λ _. log.new ≡ log.old) (λ _. log.new ≡ record log.old { write_failed = true }) }
+        (endpoint (S.state station.old) port.old) course.old.session course.old.served (W.contents out.old) (frame.now ∷ []) result
+        (endpoint (S.state station.new) port.new) course.new.session course.new.served (W.contents out.new) }
+    ensures none_due { OnOk result (course.new.served.closed ≡ false → NoneIsDue course.new.session.now course.new.session.changes.now) }
+    ensures noted { MatchResult result (λ _. course.new.log ≡ course.old.log) (λ _. course.new.log ≡ record course.old.log { write_failed = true }) }
 {
-    session.now = moment(clock, session.now);
-    served.add(hear(alloc, station, port, session.now, frame, kept));
-    match write_noted(&kept.octets, out, log) {
+    course.session.now = moment(clock, course.session.now);
+    let now = course.session.now;
+    course
+        .served
+        .add(hear(alloc, station, port, now, frame, &mut course.kept));
+    match write_noted(&course.kept.octets, out, &mut course.log) {
         Ok(()) => {}
         Err(fault) => return Err(fault),
     }
-    if served.closed {
+    if course.served.closed {
         return Ok(());
     }
-    settle(alloc, station, port, session, kept, out, served, log)
+    settle(alloc, station, port, course, out)
 }
 
 /// Hears the frames that a read brought, up to one that closes the connection, or does what a wait brings where there is
@@ -90,35 +85,30 @@ pub(super) fn go_through<S: Living, W: Write, C: Clock>(
     station: &mut S,
     port: &mut Port,
     clock: &C,
-    session: &mut Session<'_>,
+    course: &mut Course<'_>,
     frames: &[Frame],
-    kept: &mut Kept,
     out: &mut W,
-    served: &mut Served,
-    log: &mut Log,
 ) -> Result<(), NotWritten>
-    requires open { served.old.closed ≡ false }
-    requires idle { NoneIsDue session.old.now session.old.changes.now }
+    requires open { course.old.served.closed ≡ false }
+    requires idle { NoneIsDue course.old.session.now course.old.session.changes.now }
     ensures kept { S.kept station.new ≡ S.kept station.old }
     ensures held { S.honest station.new → S.honest station.old }
     ensures heard { S.honest station.new → GoesThrough S.opens S.receives S.life
-        (endpoint (S.state station.old) port.old) session.old served.old (W.contents out.old) frames.now result
-        (endpoint (S.state station.new) port.new) session.new served.new (W.contents out.new) }
-    ensures none_due { OnOk result (served.new.closed ≡ false → NoneIsDue session.new.now session.new.changes.now) }
-    ensures noted { MatchResult result (λ _. log.new ≡ log.old) (λ _. log.new ≡ record log.old { write_failed = true }) }
+        (endpoint (S.state station.old) port.old) course.old.session course.old.served (W.contents out.old) frames.now result
+        (endpoint (S.state station.new) port.new) course.new.session course.new.served (W.contents out.new) }
+    ensures none_due { OnOk result (course.new.served.closed ≡ false → NoneIsDue course.new.session.now course.new.session.changes.now) }
+    ensures noted { MatchResult result (λ _. course.new.log ≡ course.old.log) (λ _. course.new.log ≡ record course.old.log { write_failed = true }) }
 {
     if frames.is_empty() {
-        return wait_one(alloc, station, port, clock, session, kept, out, served, log);
+        return wait_one(alloc, station, port, clock, course, out);
     }
-    served.count_nothing();
+    course.served.count_nothing();
     for frame in frames {
-        match hear_one(
-            alloc, station, port, clock, session, frame, kept, out, served, log,
-        ) {
+        match hear_one(alloc, station, port, clock, course, frame, out) {
             Ok(()) => {}
             Err(fault) => return Err(fault),
         }
-        if served.closed {
+        if course.served.closed {
             return Ok(());
         }
     }

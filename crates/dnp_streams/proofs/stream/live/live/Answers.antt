@@ -13,11 +13,11 @@ returns-in-Err-clause-lives g c honest =
     (ap (λ (l : Log). l.reads) c.in-Err.ensures.noted ∙ ap (λ (l : Log). l.reads) c.requires.log)
     (counted_first _ _ _ _ _ _ _ _ _ _ _ _ c.requires.none (c.in-Err.ensures.begun honest))
 
-pub returns-then-served-clause-lives : goal.returns-then-served-clause-lives
-returns-then-served-clause-lives g c honest =
+pub returns-then-course-clause-lives : goal.returns-then-course-clause-lives
+returns-then-course-clause-lives g c honest =
     closes_first _ _ _ _ _ _ _ _ _ _ _ _
     (ap (λ (l : Log). l.reads) c.in-Ok.ensures.noted ∙ ap (λ (l : Log). l.reads) c.requires.log)
-    (counted_first _ _ _ _ _ _ _ _ _ _ _ _ c.requires.none (c.in-Ok.ensures.begun honest)) c.if-served.true
+    (counted_first _ _ _ _ _ _ _ _ _ _ _ _ c.requires.none (c.in-Ok.ensures.begun honest)) c.if-course.true
 
 pub returns-in-Ok-false-clause-lives : goal.returns-in-Ok-false-clause-lives
 returns-in-Ok-false-clause-lives g c honest =
@@ -35,7 +35,7 @@ pub returns-in-Err-read_frames-clause-lives : goal.returns-in-Err-read_frames-cl
 returns-in-Err-read_frames-clause-lives g c honest =
     let i = c.loop.invariant.4 honest in
     let once : c.read_frames.new.log.reads ≡ c.loop.counter + 1 =
-    noted_once c.in-Err-read_frames.fault c.loop.log c.read_frames.new.log c.in-Err-read_frames.ensures.noted ∙ ap (λ (l : Log). l.reads + 1) c.loop.invariant.1 in
+    noted_once c.in-Err-read_frames.fault c.loop.course.log c.read_frames.new.log c.in-Err-read_frames.ensures.noted ∙ ap (λ (l : Log). l.reads + 1) c.loop.invariant.1 in
     let few : c.read_frames.new.log.reads ≤ c.loop.counter + 1 = omega (arith, once) in
     alive_unread _ _ _ c.loop.counter _ _ _ _ _ _ _ _ _ _ c.loop.stream c.read_frames.new.stream c.read_frames.new.frames.items _ c.in-Err-read_frames.fault
     i c.loop.invariant.0 c.loop.invariant.2 c.in-Err-read_frames.ensures.read few
@@ -50,15 +50,15 @@ returns-in-Err-go_through-clause-lives g c honest =
     c.in-Ok-true.ensures.read in
     let given =
     subst (λ (fs : List Frame). Gives (i.octets ++ piece) (i.heard ++ fs) c.read_frames.new.stream) (sym c.deref.ensures.value) (gives i.octets i.heard i.gives) in
-    let once : c.go_through.new.log.reads ≡ c.loop.counter + 1 =
+    let once : c.go_through.new.course.log.reads ≡ c.loop.counter + 1 =
     ap (λ (l : Log). l.reads) c.in-Err-go_through.ensures.noted ∙ ap (λ (l : Log). l.reads) c.in-Ok-true.ensures.noted
     ∙ ap (λ (l : Log). l.reads + 1) c.loop.invariant.1 in
-    let few : c.go_through.new.log.reads ≤ c.loop.counter + 1 = omega (arith, once) in
+    let few : c.go_through.new.course.log.reads ≤ c.loop.counter + 1 = omega (arith, once) in
     alive_fails _ _ _ c.loop.counter _ _ _ _ _ _ _ _ _ _ _ _ _ _ _ piece c.deref.result.now _ _ c.in-Err-go_through.field-0 i c.loop.invariant.0 last few given
     (c.in-Err-go_through.ensures.heard honest)
 
-pub returns-then-served-2-clause-lives : goal.returns-then-served-2-clause-lives
-returns-then-served-2-clause-lives g c honest =
+pub returns-then-course-2-clause-lives : goal.returns-then-course-2-clause-lives
+returns-then-course-2-clause-lives g c honest =
     let i = c.loop.invariant.4 (c.go_through.ensures.held honest) in
     let left = g.R.Read.remaining c.loop.reader in
     let left' = g.R.Read.remaining c.read_frames.new.reader in
@@ -67,18 +67,18 @@ returns-then-served-2-clause-lives g c honest =
     c.in-Ok-true.ensures.read in
     let given =
     subst (λ (fs : List Frame). Gives (i.octets ++ piece) (i.heard ++ fs) c.read_frames.new.stream) (sym c.deref.ensures.value) (gives i.octets i.heard i.gives) in
-    let once : c.go_through.new.log.reads ≡ c.loop.counter + 1 =
+    let once : c.go_through.new.course.log.reads ≡ c.loop.counter + 1 =
     ap (λ (l : Log). l.reads) c.in-Ok-go_through.ensures.noted ∙ ap (λ (l : Log). l.reads) c.in-Ok-true.ensures.noted
     ∙ ap (λ (l : Log). l.reads + 1) c.loop.invariant.1 in
-    let few : c.go_through.new.log.reads ≤ c.loop.counter + 1 = omega (arith, once) in
+    let few : c.go_through.new.course.log.reads ≤ c.loop.counter + 1 = omega (arith, once) in
     alive_closes _ _ _ c.loop.counter _ _ _ _ _ _ _ _ _ _ _ _ _ _ _ piece c.deref.result.now _ _ i c.loop.invariant.0 last few given
-    (c.in-Ok-go_through.ensures.heard honest) c.if-served-2.true
+    (c.in-Ok-go_through.ensures.heard honest) c.if-course-2.true
 
 pub loop-preserved : goal.loop-preserved
 loop-preserved g c = (
-  c.if-served-2.false,
+  c.if-course-2.false,
   c.in-Ok-go_through.ensures.noted ∙ c.in-Ok-true.ensures.noted ∙ ap (λ (l : Log). record l { reads = l.reads + 1 }) c.loop.invariant.1,
-  c.in-Ok-go_through.ensures.none_due c.if-served-2.false,
+  c.in-Ok-go_through.ensures.none_due c.if-course-2.false,
   λ honest. c.loop.invariant.3 (c.go_through.ensures.held honest),
   λ honest.
       let i = c.loop.invariant.4 (c.go_through.ensures.held honest) in
@@ -90,7 +90,7 @@ loop-preserved g c = (
       let given =
       subst (λ (fs : List Frame). Gives (i.octets ++ piece) (i.heard ++ fs) c.read_frames.new.stream) (sym c.deref.ensures.value) (gives i.octets i.heard i.gives) in
       alive_on _ _ _ c.loop.counter _ _ _ _ _ _ _ _ _ _ _ _ _ _ piece c.deref.result.now _ _ i c.loop.invariant.0 last given
-      (c.in-Ok-go_through.ensures.heard honest) c.if-served-2.false,
+      (c.in-Ok-go_through.ensures.heard honest) c.if-course-2.false,
   c.go_through.ensures.kept ∙ c.loop.invariant.5,
 )
 

@@ -8,27 +8,27 @@ pub returns-in-Err-clause-heard : goal.returns-in-Err-clause-heard
 returns-in-Err-clause-heard g c honest =
     let t = c.hear.ensures.heard honest in
     goes_no_further _ _ _ c.args.frame.now _ _ _ _ _ _ _ _ _
-    (brings_one _ _ _ (Came c.moment-session.result c.args.frame.now) _ _ _ _ _ _ _ _ _ t.output
-    (c.moment-session.ensures, record { idle = refl; none_due = c.requires.idle }, refl) t.hearing (c.add.ensures t.output t.counted)
+    (brings_one _ _ _ (Came c.moment-course.result c.args.frame.now) _ _ _ _ _ _ _ _ _ t.output
+    (c.moment-course.ensures, record { idle = refl; none_due = c.requires.idle }, refl) t.hearing (c.add.ensures t.output t.counted)
     (whole_or_part (Err c.in-Err.fault) t.output.frames c.hear.new.kept.octets.items c.deref.result.now _ _ t.spelled c.deref.ensures.0
     c.in-Err.ensures.whole c.in-Err.ensures.part)) tt
 
-pub returns-then-served-clause-heard : goal.returns-then-served-clause-heard
-returns-then-served-clause-heard g c honest =
+pub returns-then-course-clause-heard : goal.returns-then-course-clause-heard
+returns-then-course-clause-heard g c honest =
     let t = c.hear.ensures.heard honest in
     goes_no_further _ _ _ c.args.frame.now _ _ _ _ _ _ _ _ _
-    (brings_one _ _ _ (Came c.moment-session.result c.args.frame.now) _ _ _ _ _ _ _ _ _ t.output
-    (c.moment-session.ensures, record { idle = refl; none_due = c.requires.idle }, refl) t.hearing (c.add.ensures t.output t.counted)
+    (brings_one _ _ _ (Came c.moment-course.result c.args.frame.now) _ _ _ _ _ _ _ _ _ t.output
+    (c.moment-course.ensures, record { idle = refl; none_due = c.requires.idle }, refl) t.hearing (c.add.ensures t.output t.counted)
     (whole_or_part (Ok tt) t.output.frames c.hear.new.kept.octets.items c.deref.result.now _ _ t.spelled c.deref.ensures.0
-    c.in-Ok.ensures.whole c.in-Ok.ensures.part)) c.if-served.true
+    c.in-Ok.ensures.whole c.in-Ok.ensures.part)) c.if-course.true
 
 pub returns-clause-heard : goal.returns-clause-heard
 returns-clause-heard g c honest =
     let t = c.hear.ensures.heard (c.settle.ensures.held honest) in
-    goes_one _ _ _ c.args.frame.now _ _ _ c.args.session.now (record { now = c.moment-session.result; changes = c.args.session.now.changes }) c.settle.new.session
+    goes_one _ _ _ c.args.frame.now _ _ _ c.args.course.now.session (record { now = c.moment-course.result; changes = c.args.course.now.session.changes }) c.settle.new.course.session
     _ _ _ _ _ _ _ _
-    (brings_one _ _ _ (Came c.moment-session.result c.args.frame.now) _ _ _ _ _ _ _ _ _ t.output
-    (c.moment-session.ensures, record { idle = refl; none_due = c.requires.idle }, refl) t.hearing (c.add.ensures t.output t.counted)
+    (brings_one _ _ _ (Came c.moment-course.result c.args.frame.now) _ _ _ _ _ _ _ _ _ t.output
+    (c.moment-course.ensures, record { idle = refl; none_due = c.requires.idle }, refl) t.hearing (c.add.ensures t.output t.counted)
     (whole_or_part (Ok tt) t.output.frames c.hear.new.kept.octets.items c.deref.result.now _ _ t.spelled c.deref.ensures.0
     c.in-Ok.ensures.whole c.in-Ok.ensures.part))
-    c.if-served.false (c.settle.ensures.settled honest)
+    c.if-course.false (c.settle.ensures.settled honest)

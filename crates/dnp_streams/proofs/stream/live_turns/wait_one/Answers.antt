@@ -9,5 +9,5 @@ pub returns-clause-waited : goal.returns-clause-waited
 returns-clause-waited g c honest =
     let counted = c.count_nothing.ensures in
     brings_then _ _ _ _ _ _ _ _ _ _ _ _ _ _ _ _ _ _ _ _ _
-    (brings_wait _ _ _ c.moment-session.result _ _ _ _ _ c.moment-session.ensures record { idle = refl; none_due = c.requires.idle } counted)
+    (brings_wait _ _ _ c.moment-course.result _ _ _ _ _ c.moment-course.ensures record { idle = refl; none_due = c.requires.idle } counted)
     (open_as_before _ _ counted c.requires.open) (c.settle.ensures.settled honest)
