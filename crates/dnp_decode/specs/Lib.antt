@@ -1,5 +1,6 @@
 -- Definitions, by which contracts promise.
 pub mod FragmentLines
 pub mod FrameLines
+pub mod Names
 pub mod StreamLines
 pub mod steps

@@ -1,5 +1,8 @@
 //! The standard's names of functions, and those of faults, and where a frame's faults lie.
 
+ghost use Rattle.std.specs.Prelude.{◌≡◌};
+ghost use Rattle.dnp_decode.specs.Names as spec;
+
 use dnp_appfragment::AppFault;
 use dnp_linkframe::FrameFault;
 use dnp_objects::Command;
@@ -33,7 +36,9 @@ pub(crate) fn link_function(control: u8) -> &'static str {
 }
 
 /// The name of the fault of a fragment.
-pub fn fault_name(fault: AppFault) -> &'static str {
+pub fn fault_name(fault: AppFault) -> &'static str
+    ensures { result.now ≡ spec.fault_name fault }
+{
     match fault {
         AppFault::Short => "Short",
         AppFault::FunctionUnknown => "FunctionUnknown",

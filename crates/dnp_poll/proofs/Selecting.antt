@@ -33,5 +33,5 @@ moved {S} law shows old new now octets answer command (Passed a read unheeded af
 
 pub stands_by_success : {S : Type 0} → SelectsBySuccess → (shows : S → List ShownRow → S → Type 0) → StandsBySuccess shows
 stands_by_success law shows old new now octets answer command (Heard h) is = moved law shows old new now octets answer command h is
-stands_by_success {S} law shows old new now octets answer command (Unheard after said) is =
+stands_by_success {S} law shows old new now octets answer command (Unheard fault stops after said) is =
     inl (sym (ap (λ (p : PollSeen S). p.master.selected) after) ∙ is)

@@ -1,28 +1,56 @@
 -- Definition: a master that shows the rows of each answer, as a stream sees it (IEEE Std 1815-2012, application layer: the master's side
 -- of a transaction, confirmation).
-use Rattle.std.specs.Prelude.{◌≡◌, ℕ, Bool, true, false, if◌then◌else◌, List, [], length, None, Ok, Err, option_to_list}
+use Rattle.std.specs.Prelude.{◌≡◌, ◌⊎◌, ℕ, Bool, true, false, not, ◌&&◌, if◌then◌else◌, List, [], ◌++◌, length, Option, Some, None, Ok, Err, option_to_list}
 use Rattle.dnp_appfragment.specs.Fragments.{Answered}
 use Rattle.dnp_appfragment.specs.Meaning.{response_at}
+use Rattle.dnp_appfragment.specs.declared.fault.AppFault.{AppFault}
 use Rattle.dnp_concentrator.specs.declared.relayed.Relayed.{Relayed}
 use Rattle.dnp_concentrator.specs.declared.relayed.Relayed.TheVariants.{Nothing}
+use Rattle.dnp_decode.specs.FragmentLines.{IsFaultPlace}
 use Rattle.dnp_master.specs.Calls.{Taking, ask_answer, asking, follow_of, is_awaited}
 use Rattle.dnp_master.specs.State.{State, closed, is_idle, opened}
 use Rattle.dnp_master.specs.declared.fault.AskFault.{AskFault}
 use Rattle.dnp_master.specs.declared.task.Task.{Task}
 use Rattle.dnp_poll.specs.Rows.{rows_in}
+use Rattle.dnp_poll.specs.TaskEnds.{end_of}
+use Rattle.dnp_poll.specs.declared.fault.PollFault.{PollFault}
+use Rattle.dnp_poll.specs.declared.fault.PollFault.TheVariants as stopped
 use Rattle.dnp_poll.specs.declared.poller.Poller.{Poller}
 use Rattle.dnp_poll.specs.declared.rows.ShownRow.{ShownRow}
+use Rattle.dnp_poll.specs.declared.task_end.TaskEnd.{TaskEnd}
 use Rattle.dnp_streams.specs.streams.Dialogues.{Asking}
 use Rattle.dnp_streams.specs.streams.Stations.{Answer, Opening, Receiving}
 
--- its master, whether it confirms, and what shows the rows
 pub record PollSeen (S : Type 0) : Type 0 where
   pub master : State
+  -- whether it confirms
   pub confirms : Bool
+  -- what shows the rows
   pub sink : S
+  -- the task that was asked last
+  pub asked : Option Task
+  -- how tasks came out, since it was made or was told to forget it
+  pub ends : List TaskEnd
+  -- why it stopped last, if it ever did
+  pub fault : Option PollFault
 
 abbrev pub poll_seen : {S : Type 0} → Poller S → PollSeen S
-poll_seen p = record { master = p.master; confirms = p.confirms; sink = p.sink }
+poll_seen p = record {
+  master = p.master;
+  confirms = p.confirms;
+  sink = p.sink;
+  asked = p.tasks.task;
+  ends = p.tasks.ends.items;
+  fault = p.fault;
+}
+
+-- with something else that shows the rows
+abbrev pub with_sink : {S : Type 0} → Poller S → S → Poller S
+with_sink p sink = record p { sink = sink }
+
+-- a response is awaited
+abbrev pub is_awaiting : State → Bool
+is_awaiting s = s.is_open && not (is_idle s)
 
 -- ---- what it answers
 
@@ -46,23 +74,36 @@ answer_to confirms answered taking = record {
 -- ---- what comes
 
 -- A fragment came that is a response. Where it is the next one of the response that is awaited, or one that nobody asked for, its rows were
--- shown, all of them and in order, and the master went on; then alone is it confirmed. Any other one is passed over.
+-- shown, all of them and in order, and the master went on; then alone is it confirmed, and it is kept how the task came out that it ended, if
+-- it did. Any other one is passed over.
 pub data HearsPoll {S : Type 0} (shows : S → List ShownRow → S → Type 0) (old : PollSeen S) (now : ℕ) (octets : List ℕ)
     (answer : Answer) (new : PollSeen S) : Type 0 where
   Taken : (answered : Answered) → response_at octets ≡ Ok answered → is_awaited old.master answered ≡ true
       → shows old.sink (rows_in answered) new.sink
-      → new ≡ record old { master = (follow_of old.master now answered).state; sink = new.sink }
+      → new ≡ record old {
+        master = (follow_of old.master now answered).state;
+        sink = new.sink;
+        ends = old.ends ++ end_of old.asked (follow_of old.master now answered).outcome answered.iin;
+      }
       → answer ≡ answer_to old.confirms answered (follow_of old.master now answered)
       → HearsPoll shows old now octets answer new
   Passed : (answered : Answered) → response_at octets ≡ Ok answered → is_awaited old.master answered ≡ false
       → new ≡ old → answer ≡ nothing_said → HearsPoll shows old now octets answer new
 
+-- Why a fragment stops it: it is no response, or one that is awaited, and its rows could not be shown, or memory ran out.
+pub data Stops {S : Type 0} (old : PollSeen S) (octets : List ℕ) (fault : PollFault) : Type 0 where
+  NoResponse : (why : AppFault) (place : ℕ) → response_at octets ≡ Err why → IsFaultPlace why octets place → fault ≡ stopped.Answer why place
+      → Stops old octets fault
+  Unshown : (answered : Answered) → response_at octets ≡ Ok answered → is_awaited old.master answered ≡ true
+      → (fault ≡ stopped.NotShown) ⊎ (fault ≡ stopped.Memory) → Stops old octets fault
+
 -- A fragment came. One that is no response, or whose rows couldn't be shown, is not confirmed, changes nothing of the master, and closes
--- the connection.
+-- the connection; why is kept.
 pub data ReceivesPoll {S : Type 0} (shows : S → List ShownRow → S → Type 0) (old : PollSeen S) (now : ℕ) (octets : List ℕ)
     (answer : Answer) (new : PollSeen S) : Type 0 where
   Heard : HearsPoll shows old now octets answer new → ReceivesPoll shows old now octets answer new
-  Unheard : new ≡ record old { sink = new.sink } → answer ≡ closing → ReceivesPoll shows old now octets answer new
+  Unheard : (fault : PollFault) → Stops old octets fault → new ≡ record old { sink = new.sink; fault = Some fault } → answer ≡ closing
+      → ReceivesPoll shows old now octets answer new
 
 -- it refuses nothing of what comes
 abbrev pub poll_receives : {S : Type 0} → (S → List ShownRow → S → Type 0) → Receiving (PollSeen S)
@@ -88,10 +129,10 @@ poll_hung_up s = record s { master = closed s.master }
 -- ---- what it asks
 
 -- A task is asked as the master asks it: so an OPERATE is asked after the select of the same command alone, that was answered SUCCESS, and
--- nothing stands selected after it.
+-- nothing stands selected after it. It is the task that was asked last then.
 pub record AsksPoll {S : Type 0} (old : PollSeen S) (now : ℕ) (task : Task) (request : List ℕ) (new : PollSeen S) : Type 0 where
   pub asked : ask_answer old.master task ≡ Ok request
-  pub after : new ≡ record old { master = asking old.master now task }
+  pub after : new ≡ record old { master = asking old.master now task; asked = Some task }
 
 -- it is refused
 abbrev pub RefusesPoll : {S : Type 0} → PollSeen S → Task → AskFault → Type 0

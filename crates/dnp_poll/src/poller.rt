@@ -1,12 +1,14 @@
 //! A master that shows the rows of each answer.
 
-ghost use Rattle.std.specs.Prelude.{◌≡◌, ◌<◌, [], ◌∷◌, ℕ, List, All, Err, IfErr, IfOk, None, OnErr, OnOk, true, false, if◌then◌else◌, length, option_to_list};
+ghost use Rattle.std.specs.Borrow.{Lends, sem};
+ghost use Rattle.std.specs.Prelude.{◌≡◌, ◌<◌, ◌⊎◌, [], ◌∷◌, ℕ, List, All, IfErr, IfOk, None, OnErr, OnOk, true, false, if◌then◌else◌, length, option_to_list};
 ghost use Rattle.dnp_appfragment.specs.Meaning.{response_at};
 ghost use Rattle.dnp_appfragment.specs.Whole.{response as answered};
-ghost use Rattle.dnp_decode.specs.FragmentLines.{IsFaultPlace};
 ghost use Rattle.dnp_master.specs.Calls.{is_awaited};
 ghost use Rattle.dnp_outstation.specs.Station.{sent_of};
-ghost use Rattle.dnp_poll.specs.Polls.{HearsPoll, closing as closing_said, nothing_said, poll_seen};
+ghost use Rattle.dnp_poll.specs.Polls.{HearsPoll, Stops, closing as closing_said, is_awaiting, nothing_said, poll_seen, with_sink};
+ghost use Rattle.dnp_poll.specs.contracts.poller.Poller.{the_row};
+ghost use Rattle.dnp_poll.specs.declared.fault.PollFault.TheVariants as stopped;
 ghost use Rattle.dnp_streams.specs.streams.Stations.{answer_of};
 
 use crate::fault::PollFault;
@@ -33,7 +35,7 @@ pub struct Poller<S> {
     pub(crate) sink: S,
     /// The task that was asked last, and how tasks came out.
     pub(crate) tasks: TaskEnds,
-    /// Why it stopped, if it did.
+    /// Why it stopped last, if it ever did.
     pub(crate) fault: Option<PollFault>,
 }
 
@@ -107,6 +109,9 @@ impl<S: Show> Poller<S> {
         ensures unselected { (poll_seen result).master.selected ≡ None }
         ensures confirms { (poll_seen result).confirms ≡ confirms }
         ensures sink { (poll_seen result).sink ≡ sink }
+        ensures asked { (poll_seen result).asked ≡ None }
+        ensures ends { (poll_seen result).ends ≡ [] }
+        ensures fault { (poll_seen result).fault ≡ None }
     {
         let times = Times {
             confirm_ms: 0,
@@ -125,34 +130,45 @@ impl<S: Show> Poller<S> {
     }
 
     /// What shows the rows.
-    pub fn sink(&mut self) -> &mut S {
+    pub fn sink(&mut self) -> &mut S
+        ensures* writes_back { sem 𝓛 (Lends (the_row S.row) S.row self.entry result (with_sink self.old)) }
+        ensures value { result.now ≡ (poll_seen self.old).sink }
+    {
         &mut self.sink
     }
 
     /// How tasks came out, in the order in which they were asked.
-    pub fn ends(&self) -> &[TaskEnd] {
+    pub fn ends(&self) -> &[TaskEnd]
+        ensures { result.now ≡ (poll_seen self.now).ends }
+    {
         self.tasks.ends.as_slice()
     }
 
     /// Forgets how tasks came out.
     pub fn forget_ends(&mut self)
-        ensures { poll_seen self.new ≡ poll_seen self.old }
+        ensures { poll_seen self.new ≡ record (poll_seen self.old) { ends = [] } }
     {
         self.tasks.ends.clear();
     }
 
     /// The task that was asked last.
-    pub fn asked(&self) -> Option<Task> {
+    pub fn asked(&self) -> Option<Task>
+        ensures { result ≡ (poll_seen self.now).asked }
+    {
         self.tasks.task
     }
 
     /// Whether a response is awaited.
-    pub fn is_awaiting(&self) -> bool {
+    pub fn is_awaiting(&self) -> bool
+        ensures { result ≡ is_awaiting (poll_seen self.now).master }
+    {
         self.master.is_open() && !self.master.idle()
     }
 
-    /// Why it stopped, if it did.
-    pub fn fault(&self) -> Option<PollFault> {
+    /// Why it stopped last, if it ever did.
+    pub fn fault(&self) -> Option<PollFault>
+        ensures { result ≡ (poll_seen self.now).fault }
+    {
         self.fault
     }
 
@@ -167,6 +183,7 @@ impl<S: Show> Poller<S> {
         ensures heard { (octets : List ℕ) → response_at octets ≡ Ok (answered response.now)
             → IfOk result (λ answer. HearsPoll S.shows (poll_seen self.old) now octets (answer_of answer) (poll_seen self.new)) }
         ensures unheard { OnErr result (poll_seen self.new ≡ record (poll_seen self.old) { sink = (poll_seen self.new).sink }) }
+        ensures named { IfErr result (λ fault. (fault ≡ stopped.NotShown) ⊎ (fault ≡ stopped.Memory)) }
         ensures some { IfOk result (λ answer. All (λ fragment. 0 < length fragment) (answer_of answer).send) }
     {
         self.tasks.make_room()?;
@@ -193,6 +210,7 @@ impl<S: Show> Poller<S> {
     ) -> Result<Answer, PollFault>
         ensures heard { IfOk result (λ answer. HearsPoll S.shows (poll_seen self.old) now octets.now (answer_of answer) (poll_seen self.new)) }
         ensures unheard { OnErr result (poll_seen self.new ≡ record (poll_seen self.old) { sink = (poll_seen self.new).sink }) }
+        ensures stops { IfErr result (Stops (poll_seen self.old) octets.now) }
         ensures some { IfOk result (λ answer. All (λ fragment. 0 < length fragment) (answer_of answer).send) }
     {
         let response = match read_response(octets) {

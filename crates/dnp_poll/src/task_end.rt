@@ -1,5 +1,8 @@
 //! How tasks came out.
 
+ghost use Rattle.std.specs.Prelude.{◌≡◌, ◌<◌, ◌≤◌, [], ◌++◌, None, OnErr, OnOk, vec_capacity, vec_len};
+ghost use Rattle.dnp_poll.specs.TaskEnds.{end_of};
+
 use dnp_appfragment::Iin;
 use dnp_master::{Outcome, Task};
 use std::alloc::{AllocError, Global};
@@ -50,20 +53,32 @@ impl Drop for TaskEnds {
 
 impl TaskEnds {
     /// No task was asked.
-    pub fn new(alloc: Global) -> TaskEnds {
+    pub fn new(alloc: Global) -> TaskEnds
+        ensures task { result.task ≡ None }
+        ensures ends { result.ends.items ≡ [] }
+    {
         TaskEnds {
             task: None,
             ends: Vec::new(alloc),
         }
     }
 
-    /// Makes room for how one task more came out.
-    pub fn make_room(&mut self) -> Result<(), AllocError> {
+    /// Makes room for how one task more came out. It is out of memory only where there is no room.
+    pub fn make_room(&mut self) -> Result<(), AllocError>
+        ensures task { self.new.task ≡ self.old.task }
+        ensures ends { self.new.ends.items ≡ self.old.ends.items }
+        ensures room { OnOk result (vec_len self.new.ends < vec_capacity self.new.ends) }
+        ensures full { OnErr result (vec_capacity self.old.ends ≤ vec_len self.old.ends) }
+    {
         self.ends.try_reserve(1)
     }
 
-    /// Keeps how the task that was asked last came out, if it did, where there is room.
-    pub fn keep(&mut self, outcome: Option<Outcome>, iin: Iin) {
+    /// Keeps how the task that was asked last came out, if it did.
+    pub fn keep(&mut self, outcome: Option<Outcome>, iin: Iin)
+        requires { vec_len self.old.ends < vec_capacity self.old.ends }
+        ensures task { self.new.task ≡ self.old.task }
+        ensures ends { self.new.ends.items ≡ self.old.ends.items ++ end_of self.old.task outcome iin }
+    {
         if let (Some(task), Some(outcome)) = (self.task, outcome) {
             let _kept = self.ends.push(TaskEnd { task, outcome, iin });
         }
