@@ -1,5 +1,5 @@
 -- What a book's connection leaves.
-use Rattle.std.proofs.Common.{IsTrue, ◌≡◌, ◌⊎◌, Ok, Err, Result}
+use Rattle.std.proofs.Common.{inl, IsTrue, ◌≡◌, ◌⊎◌, Ok, Err, Result}
 use Rattle.std.specs.Prelude.{OnOk}
 use Rattle.sqlite.specs.Tree.{Trees}
 use Rattle.sqlite.specs.declared.error.Error.{Error}
@@ -24,3 +24,8 @@ pub either_of : (old mid new : State) (book next : Ledger) (P : Trees → Type 0
     → Survives old mid P → Survives mid new (λ _. ⊥) → (db : Trees) → new.may_leave db → HoldsBook db book ⊎ HoldsBook db next
 either_of old mid new book next P commits clean early settled stands =
     leaves_either old mid new (λ db. HoldsBook db book) (λ db. HoldsBook db next) P commits clean early settled stands.is_open stands.holds.holds
+
+-- where nothing was written, what stood is left, whatever was to come
+pub leaves_before : (s : State) (book next : Ledger) → ((db : Trees) → IsTrue s.is_open → s.may_leave db → db ≡ s.committed.trees) → Stands s book → (db : Trees)
+    → s.may_leave db → HoldsBook db book ⊎ HoldsBook db next
+leaves_before s book next settled stands db may = inl (leaves_last s book settled stands db may)

@@ -68,3 +68,8 @@ on_trees a b turn trees h =
     let none : Checks = record { form = []; queue = []; lanes = []; queue_b = []; lanes_b = [] } in
     let db : Database = record { schema = pair_schema none; trees = trees } in
     (turn db (record { checks = none; schema = refl; holds = h })).holds
+
+-- where nothing was written, what stood is left, whatever was to come
+pub leaves_before : (s : State) (before next : Sides) → ((db : Trees) → IsTrue s.is_open → s.may_leave db → db ≡ s.committed.trees) → Stands s before
+    → (db : Trees) → s.may_leave db → HoldsPair db before ⊎ HoldsPair db next
+leaves_before s before next settled stands db may = inl (leaves_last s before settled stands db may)
