@@ -18,7 +18,7 @@ stands_if new b (Ok _) h = record { is_open = h.0; holds = h.1 }
 stands_if new b (Err _) h = tt
 
 -- nothing happens, and nothing more is left
-pub survives_itself : (s : State) → Survives s s (λ _. ⊥)
+pub survives_itself : {P : Trees → Type 0} (s : State) → Survives s s P
 survives_itself s = record {
   clean = omega arith;
   shield = λ h. h;

@@ -19,7 +19,7 @@ use dnp_eventbuf::laws::{a_release_is_lane_by_lane, lanes_stay_sound};
 use dnp_eventbuf::{LaneRow, PlainLanes, Upto};
 use dnp_objects::{LANES, MAX_ID, Row, StoreFault};
 use sqlite::{Alter, Connection};
-use std::alloc::Global;
+use std::alloc::{AllocError, Global};
 
 /// Whether a call answered that the device failed.
 pub(crate) fn is_device<Answer>(answer: &Result<Answer, StoreFault>) -> bool
@@ -42,6 +42,16 @@ fn room_for(lanes: &PlainLanes, alloc: Global, rows: &[LaneRow]) -> Result<Vec<R
     Vec::with_capacity(alloc, count).map_err(memory)
 }
 
+/// Room for this many rows, and for that many.
+fn two_rooms(alloc: Global, count: usize, others: usize) -> Result<(Vec<Row>, Vec<Row>), AllocError>
+    ensures { IfOk result (λ rooms. (rooms.0.items ≡ []) × (vec_len rooms.0 + count ≤ vec_capacity rooms.0)
+        × (rooms.1.items ≡ []) × (vec_len rooms.1 + others ≤ vec_capacity rooms.1)) }
+{
+    let room = Vec::with_capacity(alloc, count)?;
+    let room_too = Vec::with_capacity(alloc, others)?;
+    Ok((room, room_too))
+}
+
 /// Room for the rows that the lanes of each side drop for these.
 fn rooms_for(
     first: &PlainLanes,
@@ -49,10 +59,9 @@ fn rooms_for(
     alloc: Global,
     rows: &[LaneRow],
 ) -> Result<(Vec<Row>, Vec<Row>), StoreFault>
-    ensures room { IfOk result (λ rooms. (rooms.0.items ≡ []) × (vec_len rooms.0 + length (dropped_by first.now rows.now) ≤ vec_capacity rooms.0)) }
-    ensures room_too { IfOk result (λ rooms. (rooms.1.items ≡ []) × (vec_len rooms.1 + length (dropped_by second.now rows.now) ≤ vec_capacity rooms.1)) }
-    ensures fits { OnOk result (exhausts first.now rows.now ≡ false) }
-    ensures fits_too { OnOk result (exhausts second.now rows.now ≡ false) }
+    ensures room { IfOk result (λ rooms. (rooms.0.items ≡ []) × (vec_len rooms.0 + length (dropped_by first.now rows.now) ≤ vec_capacity rooms.0)
+        × (rooms.1.items ≡ []) × (vec_len rooms.1 + length (dropped_by second.now rows.now) ≤ vec_capacity rooms.1)) }
+    ensures fits { OnOk result ((exhausts first.now rows.now ≡ false) × (exhausts second.now rows.now ≡ false)) }
     ensures exhausted { IfErr result (λ e. e ≡ StoreFault.Exhausted → IsTrue (exhausts first.now rows.now || exhausts second.now rows.now)) }
     ensures exhausted_first { IfErr result (λ e. e ≡ StoreFault.Memory → exhausts first.now rows.now || exhausts second.now rows.now ≡ false) }
     ensures exhausted_always { IsTrue (exhausts first.now rows.now || exhausts second.now rows.now) → result ≡ Err StoreFault.Exhausted }
@@ -60,9 +69,7 @@ fn rooms_for(
 {
     let count = first.drops(rows).ok_or(StoreFault::Exhausted)?;
     let others = second.drops(rows).ok_or(StoreFault::Exhausted)?;
-    let room = Vec::with_capacity(alloc, count).map_err(memory)?;
-    let room_too = Vec::with_capacity(alloc, others).map_err(memory)?;
-    Ok((room, room_too))
+    two_rooms(alloc, count, others).map_err(memory)
 }
 
 /// Puts rows into the lanes of one side.

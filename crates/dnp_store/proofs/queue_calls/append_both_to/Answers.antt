@@ -11,23 +11,23 @@ use Rattle.dnp_store.proofs.queue_calls.append_both_to.Goals as goal
 
 pub write_both-requires-clause-first_after : goal.write_both-requires-clause-first_after
 write_both-requires-clause-first_after g c =
-    c.lanes_stay_sound.ensures.appended c.args.first.now c.args.rows.now c.requires.first c.requires.carried c.in_ok-dropped.ensures.fits
+    c.lanes_stay_sound.ensures.appended c.args.first.now c.args.rows.now c.requires.first c.requires.carried c.in_ok-dropped.ensures.fits.0
 
 pub write_both-requires-clause-few : goal.write_both-requires-clause-few
 write_both-requires-clause-few g c =
     let after : IsSound (with_rows c.args.first.now c.args.rows.now) =
-    c.lanes_stay_sound.ensures.appended c.args.first.now c.args.rows.now c.requires.first c.requires.carried c.in_ok-dropped.ensures.fits in
+    c.lanes_stay_sound.ensures.appended c.args.first.now c.args.rows.now c.requires.first c.requires.carried c.in_ok-dropped.ensures.fits.0 in
     let last = after.last_id_at_most in
     omega (arith, last, last_rows c.args.first.now c.args.rows.now)
 
 pub write_both-requires-clause-second_after : goal.write_both-requires-clause-second_after
 write_both-requires-clause-second_after g c =
-    c.lanes_stay_sound.ensures.appended c.args.second.now c.args.rows.now c.requires.second c.requires.carried c.in_ok-dropped.ensures.fits_too
+    c.lanes_stay_sound.ensures.appended c.args.second.now c.args.rows.now c.requires.second c.requires.carried c.in_ok-dropped.ensures.fits.1
 
 pub write_both-requires-clause-few_too : goal.write_both-requires-clause-few_too
 write_both-requires-clause-few_too g c =
     let after : IsSound (with_rows c.args.second.now c.args.rows.now) =
-    c.lanes_stay_sound.ensures.appended c.args.second.now c.args.rows.now c.requires.second c.requires.carried c.in_ok-dropped.ensures.fits_too in
+    c.lanes_stay_sound.ensures.appended c.args.second.now c.args.rows.now c.requires.second c.requires.carried c.in_ok-dropped.ensures.fits.1 in
     let last = after.last_id_at_most in
     omega (arith, last, last_rows c.args.second.now c.args.rows.now)
 
@@ -80,3 +80,11 @@ returns-clause-either g c clean stood db may =
 pub returns-clause-after : goal.returns-clause-after
 returns-clause-after g c clean stood =
     leaves_last (state g.S.Store c.write_both.new.conn) _ (g.met.S.Store.settled c.write_both.new.conn.store) (written g c clean stood)
+
+pub returns-in-Err-clause-clean : goal.returns-in-Err-clause-clean
+returns-in-Err-clause-clean g c clean =
+    let early : HasCleanDisk (state g.S.Store c.write_both.new.conn) = omega (arith, clean, c.is_lost-lost.ensures.survives.clean) in
+    omega (arith, early, c.write_both.ensures.survives.clean)
+
+pub returns-clause-clean : goal.returns-clause-clean
+returns-clause-clean g c clean = omega (arith, clean, c.write_both.ensures.survives.clean)

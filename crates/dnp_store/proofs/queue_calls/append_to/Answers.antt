@@ -69,3 +69,11 @@ returns-clause-either g c clean others stood db may =
 pub returns-clause-after : goal.returns-clause-after
 returns-clause-after g c clean others stood =
     leaves_last (state g.S.Store c.write_append.new.conn) _ (g.met.S.Store.settled c.write_append.new.conn.store) (written g c clean others stood)
+
+pub returns-in-Err-clause-clean : goal.returns-in-Err-clause-clean
+returns-in-Err-clause-clean g c clean =
+    let early : HasCleanDisk (state g.S.Store c.write_append.new.conn) = omega (arith, clean, c.is_lost-lost.ensures.survives.clean) in
+    omega (arith, early, c.write_append.ensures.survives.clean)
+
+pub returns-clause-clean : goal.returns-clause-clean
+returns-clause-clean g c clean = omega (arith, clean, c.write_append.ensures.survives.clean)

@@ -79,3 +79,11 @@ returns-in-Err-clause-device g c clean told =
 pub returns-in_err-taken-clause-either : goal.returns-in_err-taken-clause-either
 returns-in_err-taken-clause-either g c clean others stood =
     leaves_before (state g.S.Store c.args.conn.now) _ _ (g.met.S.Store.settled c.args.conn.now.store) stood
+
+pub returns-in-Err-clause-clean : goal.returns-in-Err-clause-clean
+returns-in-Err-clause-clean g c clean =
+    let early : HasCleanDisk (state g.S.Store c.write_release.new.conn) = omega (arith, clean, c.is_lost-lost.ensures.survives.clean) in
+    omega (arith, early, c.write_release.ensures.survives.clean)
+
+pub returns-clause-clean : goal.returns-clause-clean
+returns-clause-clean g c clean = omega (arith, clean, c.write_release.ensures.survives.clean)

@@ -63,3 +63,11 @@ pub returns-clause-after : goal.returns-clause-after
 returns-clause-after g c clean others stood =
     leaves_last (state g.S.Store c.write_release.new.conn) _ (g.met.S.Store.settled c.write_release.new.conn.store)
     (returns-clause-stands g c clean others stood (λ none. absurd cc))
+
+pub returns-in-Err-clause-clean : goal.returns-in-Err-clause-clean
+returns-in-Err-clause-clean g c clean =
+    let early : HasCleanDisk (state g.S.Store c.write_release.new.conn) = omega (arith, clean, c.is_lost-lost.ensures.survives.clean) in
+    omega (arith, early, c.write_release.ensures.survives.clean)
+
+pub returns-clause-clean : goal.returns-clause-clean
+returns-clause-clean g c clean = omega (arith, clean, c.write_release.ensures.survives.clean)
