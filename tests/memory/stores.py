@@ -2,8 +2,7 @@
 """stores.py LIBRARY STEP: the stores in SQL databases in memory, each taken through all its calls (crates/dnp_store_files, with the
 word 'walk'), with one request for memory refused in each run: the first, then the one STEP behind it, and so on until there is
 none. The call that was refused is made once more, and answered Memory before: so the same lines come, whichever it was. All
-memory is given back. What looks at the queue for one centre once it is migrated is not asked again, so where its memory is refused its line
-may say WRONG, in few of the runs. LIBRARY is refuse.c, compiled."""
+memory is given back. LIBRARY is refuse.c, compiled."""
 import os
 import subprocess
 import sys
@@ -12,7 +11,6 @@ from pathlib import Path
 
 TOP = Path(__file__).resolve().parents[2]
 PROGRAM = os.environ.get("STORES", str(TOP / "crates/dnp_store_files/out/dnp_store_files"))
-UNSEEN = "queue for one centre in memory: WRONG\n"
 WANTED = "".join(f"{name} in memory: as it has to be\n" for name in ("queue", "queue for one centre", "journal", "book"))
 
 
@@ -34,19 +32,14 @@ def main():
         status, printed, count, kept = run(0, library, report)
         wrong = [] if (status, printed, kept) == (0, WANTED, 0) else [f"nothing refused: status {status}, {kept} blocks, {printed!r}"]
         # (the first ones are those of the words of the command line, without which nothing is walked)
-        words, tried, unseen = 0, 0, 0
+        words, tried = 0, 0
         for number in range(1, count + 1, step):
             status, printed, _, kept = run(number, library, report)
             tried += 1
-            if UNSEEN in printed:
-                unseen += 1
-                printed = printed.replace(UNSEEN, UNSEEN.replace("WRONG", "as it has to be"))
             if printed != WANTED and number < 20 and not printed.startswith("queue"):
                 words += 1
             elif (status, printed, kept) != (0, WANTED, 0):
                 wrong.append(f"request {number} refused: status {status}, {kept} blocks, {printed!r}")
-        if unseen * 30 > tried:
-            wrong.append(f"the queue for one centre is wrong in {unseen} runs")
     for it in wrong[:20]:
         print(f"    {it}")
     print(f"{'FAILED' if wrong else 'ok'} refused-memory:stores ({count} requests, {tried} of them refused, {words} of them for the words)")

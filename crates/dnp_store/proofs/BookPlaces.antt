@@ -1,17 +1,16 @@
 -- Entries by their places, and what is so of the entries of a book at all times.
-use Rattle.std.proofs.Common.{◌≡◌, ◌≢◌, ℕ, zero, suc, ◌+◌, ◌<◌, ◌≤◌, ◌==◌, nat_le, nat_lt, List, [], ◌∷◌, ◌++◌, set, get_or, length, drop, filter, take, Option, None, Some, Bool, true, false, cond, inl, inr, refl, sym, ap, subst, ◌∙◌, arith, length-append, length-drop}
+use Rattle.std.proofs.Common.{◌≡◌, ◌≢◌, ℕ, zero, suc, ◌+◌, ◌<◌, ◌≤◌, ◌==◌, ◌&&◌, nat_le, nat_lt, List, [], ◌∷◌, ◌++◌, set, get_or, length, drop, filter, take, Option, None, Some, Bool, true, false, cond, inl, inr, refl, sym, ap, subst, ◌∙◌, arith, length-append, length-drop}
 use Rattle.std.specs.Prelude.{All, IsSome, option_map}
 use Rattle.std.specs.List.{AllByRecursion}
 use Rattle.std.specs.List.Sorted.{IsNonDecreasingBy, IsPartitionPoint}
 use Rattle.std.proofs.lemmas.Bool.{cases_lt}
 use Rattle.std.proofs.lemmas.Bool.Decides.{nat_tests}
-use Rattle.std.proofs.lemmas.List.{length-map, take-append-le}
-use Rattle.std.proofs.lemmas.List.Elements.{recursion_from_All}
+use Rattle.std.proofs.Math.Seq.{take-add}
+use Rattle.std.proofs.lemmas.List.{length-map, take-append-drop, take-append-le, take-map}
+use Rattle.std.proofs.lemmas.List.Elements.{All-append, All-head, All-map, All-tail, recursion_from_All}
 use Rattle.dnp_controls.specs.declared.book.Entry.{Entry}
 use Rattle.dnp_controls.specs.declared.book.State.{State as Control}
-use Rattle.dnp_controls.specs.Book.{Ledger, IsSound, entry_of, in_state, is_pending}
-use Rattle.dnp_controls.proofs.Numbered.{past-more, past-in_state}
-use Rattle.dnp_eventbuf.proofs.InOrder.{drop-passes}
+use Rattle.dnp_controls.specs.Book.{Ledger, IsSound, entry_of, in_state, is_pending, next_of}
 use Rattle.dnp_store.specs.BookKept.{IsPast}
 use Rattle.dnp_store.proofs.Tests.{is_same, is_other}
 use Rattle.dnp_store.proofs.BookUpdates.{Rising, first_low, rest_rise, same_over, in_its_state}
@@ -45,12 +44,18 @@ id_low book id sound there = go (entry_of book.entries id) refl there
         subst (λ (n : ℕ). n ≤ book.last_id) (named book.entries id e is)
         (low book.entries e (recursion_from_All (λ (x : Entry). x.id ≤ book.last_id) book.entries sound.up_to_last) is)
 
-pub there_of : (es : List Entry) (id : ℕ) (r : Option Control) → r ≡ option_map (λ (e : Entry). e.state) (entry_of es id) → IsSome r → IsSome (entry_of es id)
+there_of : (es : List Entry) (id : ℕ) (r : Option Control) → r ≡ option_map (λ (e : Entry). e.state) (entry_of es id) → IsSome r → IsSome (entry_of es id)
 there_of es id r is some = go (entry_of es id) (subst IsSome is some)
   where
     go : (o : Option Entry) → IsSome (option_map (λ (e : Entry). e.state) o) → IsSome o
     go None h = absurd cc
     go (Some e) h = refl
+
+-- likewise where the entries were looked at as they are lent
+pub there_in : (shown es : List Entry) (id : ℕ) (r : Option Control) (s : Control) → shown ≡ es
+    → r ≡ option_map (λ (e : Entry). e.state) (entry_of shown id) → r ≡ Some s → IsSome (entry_of es id)
+there_in shown es id r s same is some =
+    there_of es id r (is ∙ ap (λ xs. option_map (λ (e : Entry). e.state) (entry_of xs id)) same) (subst IsSome (sym some) refl)
 
 -- ---- an id and its place
 
@@ -110,11 +115,24 @@ not_over from e h = grind (arith, nat_tests)
 is_over : (from : ℕ) (e : Entry) → nat_le e.id from ≡ false → nat_lt from e.id ≡ true
 is_over from e h = grind (arith, nat_tests)
 
+-- where the first k entries don't pass and all others do, these are what a filter keeps
+kept_from : (p : Entry → Bool) (es : List Entry) (k : ℕ) → IsPartitionPoint (λ e. p e ≡ false) (λ e. p e ≡ true) es k → drop k es ≡ filter p es
+kept_from p [] zero split = refl
+kept_from p [] (suc k) split = refl
+kept_from p (e ∷ es) zero split =
+    let here : p e ≡ true = split.1 0 e (omega arith) (omega arith) in
+    rw here (ap (λ l. e ∷ l) (kept_from p es zero (λ j d len low. absurd (omega arith), λ j d more len. split.1 (suc j) d (omega arith) (omega arith))))
+kept_from p (e ∷ es) (suc k) split =
+    let here : p e ≡ false = split.0 0 e (omega arith) (omega arith) in
+    rw here (kept_from p es k (λ j d len low. split.0 (suc j) d (omega arith) (omega arith), λ j d more len. split.1 (suc j) d (omega arith) (omega arith)))
+
 pub over_kept : (es : List Entry) (from k : ℕ) → IsPartitionPoint (λ (e : Entry). nat_le e.id from ≡ true) (λ (e : Entry). nat_le e.id from ≡ false) es k
     → drop k es ≡ filter (λ (e : Entry). nat_lt from e.id) es
 over_kept es from k split =
-    drop-passes (λ (e : Entry). nat_lt from e.id) es k (λ j d low len. not_over from (get_or es j d) (split.0 j d (omega arith) low))
-    (λ j d more len. is_over from (get_or es j d) (split.1 j d more len))
+    kept_from (λ (e : Entry). nat_lt from e.id) es k (
+      λ j d len low. not_over from (get_or es j d) (split.0 j d len low),
+      λ j d more len. is_over from (get_or es j d) (split.1 j d more len),
+    )
 
 -- ---- those that are past pending
 
@@ -127,18 +145,42 @@ past_push es first e h = record {
   none = subst (λ (xs : List Entry). All (λ (x : Entry). is_pending x.state ≡ false) xs) (sym (take-append-le first es (e ∷ []) h.within)) h.none;
 }
 
+-- an entry that comes into another state stays past pending
+still_past : (e : Entry) (id : ℕ) (s : Control) → is_pending s ≡ false → is_pending e.state ≡ false
+    → is_pending (cond (e.id == id) (in_its_state e s) e).state ≡ false
+still_past e id s done past = go (e.id == id)
+  where
+    go : (b : Bool) → is_pending (cond b (in_its_state e s) e).state ≡ false
+    go true = done
+    go false = past
+
 pub past_turned : (es : List Entry) (first id : ℕ) (s : Control) → is_pending s ≡ false → IsPast es first → IsPast (in_state es id s) first
 past_turned es first id s done h = record {
   within = (let within = h.within in omega (
     arith,
     length-map es (λ (e : Entry). cond (e.id == id) (in_its_state e s) e),
   ));
-  none = past-in_state es first id s done h.none;
+  none = (let turn = λ (e : Entry). cond (e.id == id) (in_its_state e s) e in
+      subst (λ (xs : List Entry). All (λ (x : Entry). is_pending x.state ≡ false) xs) (sym (take-map turn first es))
+      (All-map (λ (x : Entry). is_pending x.state ≡ false) turn (take first es)
+      (λ k d low. still_past (get_or (take first es) k d) id s done (h.none k d low))));
 }
 
 pub past_on : (es : List Entry) (first more : ℕ) → IsPast es first → more ≤ length (drop first es)
     → All (λ (x : Entry). is_pending x.state ≡ false) (take more (drop first es)) → IsPast es (first + more)
 past_on es first more h low then = record {
   within = (let within = h.within in omega (arith, length-drop first es));
-  none = past-more es first more h.none then;
+  none = subst (λ (xs : List Entry). All (λ (x : Entry). is_pending x.state ≡ false) xs) (sym (take-add first more es))
+      (All-append (λ (x : Entry). is_pending x.state ≡ false) (take first es) (take more (drop first es)) h.none then);
 }
+
+-- the next pending entry comes after those that are past
+next_past : (front rest : List Entry) (target : ℕ) → All (λ (x : Entry). is_pending x.state ≡ false) front → next_of (front ++ rest) target ≡ next_of rest target
+next_past [] rest target past = refl
+next_past (e ∷ front) rest target past =
+    ap (λ b. cond (b && e.target == target) (Some e) (next_of (front ++ rest) target)) (All-head (λ (x : Entry). is_pending x.state ≡ false) e front past)
+    ∙ next_past front rest target (All-tail (λ (x : Entry). is_pending x.state ≡ false) e front past)
+
+pub next_after : (es : List Entry) (first target : ℕ) → All (λ (x : Entry). is_pending x.state ≡ false) (take first es)
+    → next_of (drop first es) target ≡ next_of es target
+next_after es first target past = sym (next_past (take first es) (drop first es) target past) ∙ ap (λ xs. next_of xs target) (take-append-drop first es)

@@ -1,12 +1,18 @@
 -- What a book's connection leaves.
-use Rattle.std.proofs.Common.{IsTrue, ◌≡◌, ◌⊎◌, Ok, Err, Result}
+use Rattle.std.proofs.Common.{inl, IsTrue, ◌≡◌, ◌⊎◌, false, Ok, Err, Result, refl, subst}
 use Rattle.std.specs.Prelude.{OnOk}
 use Rattle.sqlite.specs.Tree.{Trees}
 use Rattle.sqlite.specs.declared.error.Error.{Error}
 use Rattle.sqlite.specs.State.{State, HasCleanDisk, Survives}
-use Rattle.dnp_controls.specs.Book.{Ledger}
+use Rattle.sqlite_trees.specs.declared.store.Store.{Ghosts}
+use Rattle.sqlite.specs.Held.{state}
+use Rattle.dnp_controls.specs.declared.book.BookFault.{BookFault}
+use Rattle.dnp_controls.specs.declared.book.BookFault.TheVariants as fault
+use Rattle.dnp_controls.specs.Book.{Ledger, IsSound}
+use Rattle.dnp_controls.specs.Calls.{IsBookCall}
 use Rattle.dnp_store.specs.BookTables.{HoldsBook, IsBook}
-use Rattle.dnp_store.specs.BookKept.{Stands}
+use Rattle.dnp_store.specs.BookKept.{Kept, IsHonest, Stands}
+use Rattle.dnp_store.proofs.Calling.{call_refused, call_stopped}
 use Rattle.dnp_store.proofs.Statements.{leaves_committed, leaves_either}
 
 pub stands_if : (new : State) (book : Ledger) (r : Result (Unit {0}) Error) → OnOk r (IsTrue new.is_open × IsBook new.committed book) → OnOk r (Stands new book)
@@ -24,3 +30,24 @@ pub either_of : (old mid new : State) (book next : Ledger) (P : Trees → Type 0
     → Survives old mid P → Survives mid new (λ _. ⊥) → (db : Trees) → new.may_leave db → HoldsBook db book ⊎ HoldsBook db next
 either_of old mid new book next P commits clean early settled stands =
     leaves_either old mid new (λ db. HoldsBook db book) (λ db. HoldsBook db next) P commits clean early settled stands.is_open stands.holds.holds
+
+-- where nothing was written, what stood is left, whatever was to come
+pub leaves_before : (s : State) (book next : Ledger) → ((db : Trees) → IsTrue s.is_open → s.may_leave db → db ≡ s.committed.trees) → Stands s book → (db : Trees)
+    → s.may_leave db → HoldsBook db book ⊎ HoldsBook db next
+leaves_before s book next settled stands db may = inl (leaves_last s book settled stands db may)
+
+-- what is so of a book is so as it is seen
+module _ {S : Type 0} (g : Ghosts S) (inside seen : Kept S) (is : inside ≡ seen) where
+  pub seen_stands : (inside.stopped ≡ false → IsTrue inside.owned → HasCleanDisk (state g inside.conn) → Stands (state g inside.conn) inside.ledger)
+      → seen.stopped ≡ false → IsTrue seen.owned → HasCleanDisk (state g seen.conn) → Stands (state g seen.conn) seen.ledger
+  seen_stands = subst (λ (k : Kept S). k.stopped ≡ false → IsTrue k.owned → HasCleanDisk (state g k.conn) → Stands (state g k.conn) k.ledger) is
+
+  pub seen_stopped : {Answer : Type 0} → IsSound inside.ledger → IsTrue inside.stopped
+      → IsBookCall {Answer = Answer} (IsHonest g) (λ b. b.stopped) (λ b. b.ledger) seen seen (Err fault.Device)
+  seen_stopped sound stopped =
+      call_stopped seen (λ h. h.1) (λ h. subst (λ (k : Kept S). IsSound k.ledger) is sound) refl tt (subst (λ (k : Kept S). IsTrue k.stopped) is stopped)
+
+  pub seen_refused : {Answer : Type 0} (e : BookFault) → (e ≡ fault.Device → ⊥) → IsSound inside.ledger → inside.stopped ≡ false
+      → IsBookCall {Answer = Answer} (IsHonest g) (λ b. b.stopped) (λ b. b.ledger) seen seen (Err e)
+  seen_refused e other sound serves =
+      call_refused seen e other (subst (λ (k : Kept S). k.stopped ≡ false) is serves) (λ h. subst (λ (k : Kept S). IsSound k.ledger) is sound) refl tt

@@ -12,9 +12,10 @@ refilled new old len is same =
     ∙ take_all (length new) new (omega arith)
 
 -- one of them came into a state in the loan
-pub turned_is : (new items : List Entry) (len last id : ℕ) (s : Control) → len ≡ length items → new ≡ in_state items id s
+pub turned_is : (new lent items : List Entry) (len last id : ℕ) (s : Control) → len ≡ length items → lent ≡ items → new ≡ in_state lent id s
     → ◌≡◌ {A = Ledger} (record { entries = in_state items id s; last_id = last })
     (record { entries = take len (new ++ drop (length new) items); last_id = last })
-turned_is new items len last id s full is =
+turned_is new lent items len last id s full same turned =
+    let is : new ≡ in_state items id s = turned ∙ ap (λ es. in_state es id s) same in
     let long : length new ≡ length items = ap length is ∙ length-map items _ in
     ap (λ es. record { entries = es; last_id = last }) (sym (refilled new items len full long ∙ is))

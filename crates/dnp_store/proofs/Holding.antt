@@ -4,9 +4,10 @@ use Rattle.std.specs.Prelude.{slice_index_or}
 use Rattle.std.specs.List.{AllByRecursion}
 use Rattle.sqlite.specs.Order.{Row as SqlRow}
 use Rattle.sqlite.specs.Tree.{Trees}
-use Rattle.dnp_objects.specs.declared.limits.TheConstants.{LANES}
+use Rattle.dnp_objects.specs.declared.limits.TheConstants.{KINDS, LANES}
 use Rattle.dnp_objects.specs.declared.row.Kind.{Kind}
 use Rattle.dnp_objects.specs.declared.row.Kind.TheVariants.{Binary, Counter, Analog}
+use Rattle.dnp_objects.specs.declared.lane.Lane.{Lane}
 use Rattle.dnp_objects.specs.declared.lane.LaneRow.{LaneRow}
 use Rattle.dnp_objects.specs.Lanes.{lane_number, kind_number}
 use Rattle.dnp_eventbuf.specs.Carried.{IsCarried}
@@ -85,7 +86,15 @@ cut_else number upto other (x ∷ xs) apart = go (x.lane == number) (nat_le x.id
     go false true ea rest = cons_lane other x _ xs rest
     go false false ea rest = cons_lane other x _ xs rest
 
--- ---- numbers of kinds
+-- ---- numbers of kinds and of lanes
+
+pub kind_low : (kind : Kind) → kind_number kind < KINDS
+kind_low Binary = omega arith
+kind_low Counter = omega arith
+kind_low Analog = omega arith
+
+pub lane_low : (lane : Lane) → lane_number lane < LANES
+lane_low lane = omega (arith, kind_low lane.kind, lane.at_most_3)
 
 pub kind_is : (c : ℕ) (kind : Kind) → kind_in (3 * c + kind_number kind) ≡ kind
 kind_is zero Binary = refl

@@ -30,7 +30,7 @@ use Rattle.dnp_store.specs.declared.store_kind.StoreKind.TheVariants.{Queue, Jou
 use Rattle.dnp_store.specs.steps.Stores.{name_of, columns_of, rows_with, more_with, schema_for}
 use Rattle.dnp_store.proofs.Statements.{at_table, written}
 use Rattle.dnp_store.proofs.Counting as counting
-use Rattle.dnp_store.proofs.Counting.{PutsAt, PutsAll, PutsIn, PutsAllIn, puts_at, puts_all_at, next_id}
+use Rattle.dnp_store.proofs.Counting.{PutsAt, PutsIn, PutsAllIn, puts_at, next_id}
 use Rattle.dnp_store.proofs.Recounting.{named_alone}
 use Rattle.dnp_store.proofs.IdRows.{IsUnder}
 
@@ -110,17 +110,3 @@ inserts kind f r m old new text params source rest from n next count is plain so
     let did = inserts_in name 1 (columns_of kind) r (schema_for kind f r m) (listed kind f r m) (quiet kind f r m) (λ t. tt) refl (λ e. absurd (omega arith)) old new text params
     source rest from n next count is plain sources casts has (named_alone name (old.now.trees 2) n counted) next_is low h in
     (did.0, puts_at name old.now.trees rest n new.now.trees counted did.1)
-
-pub inserts_all : (kind : StoreKind) (f r m : List Term) (old new : State) (text : List ℕ) (params : Row) (rests : List Row) (from : Source) (n next count : ℕ)
-    → command_of (understood (schema_for kind f r m) text) ≡ Insert 1 from → IsPlain (understood (schema_for kind f r m) text)
-    → ((rows : List Row) → Sourced old.step_limit (record { schema = schema_for kind f r m; trees = old.now.trees })
-    (stamped (rows_with kind r) params) from (Ok rows)
-    → map (λ s. cast_row (rows_with kind r) (drop 0 s)) rows ≡ map (λ r. Null ∷ r) rests)
-    → 0 < length rests → old.now.schema ≡ schema_for kind f r m → IsCounted (name_of kind) (old.now.trees 2) n
-    → AllByRecursion (IsUnder n) (old.now.trees 1) → next_rowid (old.now.trees 1) ≡ pos next → next ≤ n + 1 → Executes text params old new (Ok count)
-    → (new.now.schema ≡ schema_for kind f r m) × PutsAll (name_of kind) old.now.trees rests n new.now.trees
-inserts_all kind f r m old new text params rests from n next count is plain sources some has counted under next_is low h =
-    let name = name_of kind in
-    let did = inserts_all_in name 1 (columns_of kind) r (schema_for kind f r m) (listed kind f r m) (quiet kind f r m) (λ t. tt) refl (λ e. absurd (omega arith)) old new text
-    params rests from n next count is plain sources some has (named_alone name (old.now.trees 2) n counted) under next_is low h in
-    (did.0, puts_all_at name old.now.trees rests n new.now.trees counted did.1)

@@ -24,6 +24,7 @@ use Rattle.dnp_eventbuf.specs.declared.numbered.Numbered.{Numbered}
 use Rattle.dnp_eventbuf.specs.Archive.{Archive, IsSoundArchive, numbered, with_events}
 use Rattle.dnp_store.specs.QueueTables.{Queued, queued_row, queued_cells, event_of, kind_in, IsForm1}
 use Rattle.dnp_store.specs.JournalTables.{HoldsArchive, IsJournal, IsLogged, archive_in, event_in}
+use Rattle.dnp_store.proofs.Holding.{kind_low}
 use Rattle.dnp_store.proofs.IdRows as id_rows
 use Rattle.dnp_store.proofs.Counting.{PutsAt}
 use Rattle.dnp_store.proofs.JournalStatements.{insert_text, inserts}
@@ -40,11 +41,6 @@ pub kind_is : (kind : Kind) → kind_in (kind_number kind) ≡ kind
 kind_is Binary = refl
 kind_is Counter = refl
 kind_is Analog = refl
-
-pub kind_low : (kind : Kind) → kind_number kind < 3
-kind_low Binary = omega arith
-kind_low Counter = omega arith
-kind_low Analog = omega arith
 
 event_is : (id : ℕ) (row : Event) → event_of (logged_for id row) ≡ record { id = id; row = row }
 event_is id row =

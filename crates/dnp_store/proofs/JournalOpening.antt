@@ -17,7 +17,8 @@ use Rattle.dnp_store.specs.steps.JournalShown.{ShowsEvent, ShowEvents, AreInOrde
 use Rattle.dnp_store.specs.declared.store_kind.StoreKind.TheVariants.{Journal}
 use Rattle.dnp_store.proofs.Rows.{IsTyped, typed_rows, queue_row, queued_of}
 use Rattle.dnp_store.proofs.Opening.{shown_by, queue_terms}
-use Rattle.dnp_store.proofs.JournalHolding.{kind_is, kind_low}
+use Rattle.dnp_store.proofs.Holding.{kind_low}
+use Rattle.dnp_store.proofs.JournalHolding.{kind_is}
 
 -- ---- rows have their tables' columns
 

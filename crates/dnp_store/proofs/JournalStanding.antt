@@ -1,5 +1,5 @@
 -- What a journal's connection leaves.
-use Rattle.std.proofs.Common.{inl, inr, IsTrue, ◌≡◌, ◌⊎◌, ◌≤◌, ℕ, Bool, true, false, cond, List, [], ◌∷◌, length, filter, take, nat_lt, min, Ok, Err, Result, sym, ap, subst, ◌∙◌, arith}
+use Rattle.std.proofs.Common.{inl, inr, IsTrue, ◌≡◌, ◌⊎◌, ◌≤◌, ℕ, Bool, true, false, cond, List, [], ◌∷◌, length, filter, take, nat_lt, min, Ok, Err, Result, refl, sym, ap, subst, ◌∙◌, arith}
 use Rattle.std.proofs.Math.Seq.{take-nil}
 use Rattle.std.proofs.lemmas.Bool.{cases_lt}
 use Rattle.std.proofs.lemmas.List.{take_all}
@@ -12,10 +12,14 @@ use Rattle.std.specs.Prelude.{OnOk}
 use Rattle.sqlite.specs.Tree.{Trees}
 use Rattle.sqlite.specs.declared.error.Error.{Error}
 use Rattle.sqlite.specs.State.{State, HasCleanDisk, Survives}
+use Rattle.dnp_objects.specs.declared.store.StoreFault.{StoreFault}
+use Rattle.dnp_objects.specs.declared.store.StoreFault.TheVariants as fault
 use Rattle.dnp_eventbuf.specs.Archive.{Archive, IsSoundArchive, rows_over}
+use Rattle.dnp_eventbuf.specs.SinkCalls.{IsJournalCall, IsSinkCall}
 use Rattle.dnp_store.specs.JournalTables.{HoldsArchive, IsJournal, archive_in}
 use Rattle.dnp_store.specs.steps.JournalShown.{Finds}
 use Rattle.dnp_store.specs.JournalKept.{Kept, Keeps, IsHonest, Stands, archive_of, held_archive}
+use Rattle.dnp_store.proofs.Calling.{call_refused, call_stopped}
 use Rattle.dnp_store.proofs.Statements.{leaves_committed, leaves_either}
 use Rattle.sqlite_trees.specs.declared.store.Store.{Ghosts}
 use Rattle.sqlite.specs.Held.{Held, state}
@@ -37,6 +41,31 @@ pub either_of : (old mid new : State) (a : Archive) (next : Archive → Archive)
 either_of old mid new a next clean early settled stands =
     leaves_either old mid new (λ db. HoldsArchive db a) (λ db. HoldsArchive db (next a)) (λ db. (b : Archive) → Stands old b → HoldsArchive db (next b))
     (λ db made. made a stands) clean early settled stands.is_open stands.holds.holds
+
+-- where nothing was written, what stood is left, whatever was to come
+pub leaves_before : (s : State) (a next : Archive) → ((db : Trees) → IsTrue s.is_open → s.may_leave db → db ≡ s.committed.trees) → Stands s a
+    → (db : Trees) → s.may_leave db → HoldsArchive db a ⊎ HoldsArchive db next
+leaves_before s a next settled stands db may = inl (leaves_last s a settled stands db may)
+
+-- what is so of a journal is so as it is seen
+module _ {S : Type 0} (g : Ghosts S) (inside seen : Kept S) (is : inside ≡ seen) where
+  pub seen_stands : (inside.stopped ≡ false → IsTrue inside.owned → HasCleanDisk (state g inside.conn) → Stands (state g inside.conn) (held_archive g inside))
+      → seen.stopped ≡ false → IsTrue seen.owned → HasCleanDisk (state g seen.conn) → Stands (state g seen.conn) (held_archive g seen)
+  seen_stands = subst (λ (k : Kept S). k.stopped ≡ false → IsTrue k.owned → HasCleanDisk (state g k.conn) → Stands (state g k.conn) (held_archive g k)) is
+
+  pub sink_stopped : {Answer : Type 0} → IsTrue inside.stopped
+      → IsSinkCall {Answer = Answer} (IsHonest g) (λ j. j.stopped) (λ old new. held_archive g new ≡ held_archive g old) seen seen (Err fault.Device)
+  sink_stopped stopped = call_stopped seen (λ h. h.1) (λ h. tt) refl tt (subst (λ (k : Kept S). IsTrue k.stopped) is stopped)
+
+  pub sink_refused : {Answer : Type 0} (e : StoreFault) → (e ≡ fault.Device → ⊥) → inside.stopped ≡ false
+      → IsSinkCall {Answer = Answer} (IsHonest g) (λ j. j.stopped) (λ old new. held_archive g new ≡ held_archive g old) seen seen (Err e)
+  sink_refused e other serves = call_refused seen e other (subst (λ (k : Kept S). k.stopped ≡ false) is serves) (λ h. tt) refl tt
+
+  pub journal_stopped : {Answer : Type 0} → IsTrue inside.stopped
+      → IsJournalCall {Answer = Answer} (IsHonest g) (λ j. j.stopped) (held_archive g) seen seen (Err fault.Device)
+  journal_stopped stopped =
+      let told = subst (λ (k : Kept S). IsTrue k.stopped) is stopped in
+      call_stopped seen (λ h. h.1) (λ h. let serves = h.1 in absurd cc) refl tt told
 
 -- ---- what is held is what the trees tell
 

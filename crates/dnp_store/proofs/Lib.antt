@@ -13,6 +13,7 @@ pub mod Holding
 pub mod QueueSteps
 pub mod Appending
 pub mod Trimming
+pub mod Calling
 pub mod Standing
 pub mod Refusing
 pub mod Releasing

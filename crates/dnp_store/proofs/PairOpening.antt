@@ -26,14 +26,7 @@ both_of true true is = (refl, refl)
 both_of true false is = absurd cc
 both_of false b is = absurd cc
 
--- the one form is not the other
-pub no_pair : (db : Database) (f q l : List Term) (c : Checks) → db.schema ≡ queue_schema f q l → db.schema ≡ pair_schema c → ⊥
-no_pair db f q l c one pair =
-    let long : length db.schema.tables ≡ 4 = ap (λ (s : Schema). length s.tables) one in
-    let other : length db.schema.tables ≡ 6 = ap (λ (s : Schema). length s.tables) pair in
-    omega (arith, long, other)
-
--- nor is its number the other's
+-- the number of the one form is not the other's
 pub no_number : (rows : List Row) (n : ℕ) → n ≡ 1 → IsForm n rows → IsForm 2 rows → ⊥
 no_number rows n is one two =
     let same : (Int one.0 ∷ Int (pos n) ∷ []) ∷ [] ≡ (Int two.0 ∷ Int (pos 2) ∷ []) ∷ [] = sym one.1 ∙ two.1 in

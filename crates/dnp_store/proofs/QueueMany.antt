@@ -14,7 +14,6 @@ use Rattle.dnp_objects.specs.declared.limits.TheConstants.{LANES}
 use Rattle.dnp_objects.specs.declared.lane.LaneRow.{LaneRow}
 use Rattle.dnp_eventbuf.specs.Carried.{IsCarried}
 use Rattle.dnp_eventbuf.specs.Stock.{Stock}
-use Rattle.dnp_eventbuf.proofs.LaneNumbers.{lane_number-low}
 use Rattle.dnp_store.specs.Texts.{rows_insert_16}
 use Rattle.dnp_store.specs.QueueTables.{queue_columns, Queued, queued_cells, Figures}
 use Rattle.dnp_store.specs.PairTables.{Checks, IsForm2, pair_schema, rows_name, rows_tree}
@@ -28,7 +27,7 @@ use Rattle.dnp_store.proofs.Counting.{PutsAll}
 use Rattle.dnp_store.proofs.Sixteen as sixteen
 use Rattle.dnp_store.proofs.Sixteen.{terms_16, params_of, rests_of}
 use Rattle.dnp_store.proofs.QueueStatements.{whole_cells, insert_casts}
-use Rattle.dnp_store.proofs.Holding.{HoldsUnder, queued_for, put}
+use Rattle.dnp_store.proofs.Holding.{HoldsUnder, lane_low, queued_for, put}
 use Rattle.dnp_store.proofs.Appending.{nine_added}
 
 abbrev pub insert_text_16 : QueueSide → List ℕ
@@ -52,11 +51,11 @@ all_put : (name : List ℕ) (x : LaneRow) (xs : List LaneRow) (db now : Trees) (
     → length s.lanes ≡ LANES → AllByRecursion IsCarried (x ∷ xs) → PutsAll name db (rests_of (queued_all (x ∷ xs))) s.last_id now
     → HoldsUnder name now (all_added s (x ∷ xs)) fs
 all_put name x [] db now s fs h nine carried puts =
-    put name db now s fs x h nine (lane_number-low x.lane) carried.0 (record { table = puts.table; count = puts.count; others = puts.others })
+    put name db now s fs x h nine (lane_low x.lane) carried.0 (record { table = puts.table; count = puts.count; others = puts.others })
 all_put name x (y ∷ ys) db now s fs h nine carried puts =
     let rest = whole_cells (queued_for 0 x) in
     let mid = sixteen.mid_of name db rest s.last_id in
-    let one = put name db mid s fs x h nine (lane_number-low x.lane) carried.0 (sixteen.puts_one name db rest s.last_id) in
+    let one = put name db mid s fs x h nine (lane_low x.lane) carried.0 (sixteen.puts_one name db rest s.last_id) in
     all_put name y ys mid now (added s x) fs one (nine_added s (x ∷ []) ∙ nine) carried.1
     (sixteen.puts_more name db rest s.last_id (rests_of (queued_all (y ∷ ys))) now puts)
 

@@ -18,7 +18,7 @@ stands_if new b (Ok _) h = record { is_open = h.0; holds = h.1 }
 stands_if new b (Err _) h = tt
 
 -- nothing happens, and nothing more is left
-pub survives_itself : (s : State) → Survives s s (λ _. ⊥)
+pub survives_itself : {P : Trees → Type 0} (s : State) → Survives s s P
 survives_itself s = record {
   clean = omega arith;
   shield = λ h. h;
@@ -68,3 +68,8 @@ on_trees a b turn trees h =
     let none : Checks = record { form = []; queue = []; lanes = []; queue_b = []; lanes_b = [] } in
     let db : Database = record { schema = pair_schema none; trees = trees } in
     (turn db (record { checks = none; schema = refl; holds = h })).holds
+
+-- where nothing was written, what stood is left, whatever was to come
+pub leaves_before : (s : State) (before next : Sides) → ((db : Trees) → IsTrue s.is_open → s.may_leave db → db ≡ s.committed.trees) → Stands s before
+    → (db : Trees) → s.may_leave db → HoldsPair db before ⊎ HoldsPair db next
+leaves_before s before next settled stands db may = inl (leaves_last s before settled stands db may)

@@ -9,11 +9,8 @@ use Rattle.std.proofs.lemmas.Grind.{elements}
 use Rattle.std.proofs.lemmas.List.{get_or-set_same, get_or-set_other}
 use Rattle.sqlite.specs.Tree.{IsAscending}
 use Rattle.sqlite.specs.Effect.{Database}
-use Rattle.dnp_objects.specs.declared.limits.TheConstants.{KINDS, LANES, MAX_ID}
-use Rattle.dnp_objects.specs.Lanes.{lane_number, kind_number}
-use Rattle.dnp_objects.specs.declared.row.Kind.{Kind}
-use Rattle.dnp_objects.specs.declared.row.Kind.TheVariants.{Binary, Counter, Analog}
-use Rattle.dnp_objects.specs.declared.lane.Lane.{Lane}
+use Rattle.dnp_objects.specs.declared.limits.TheConstants.{LANES, MAX_ID}
+use Rattle.dnp_objects.specs.Lanes.{lane_number}
 use Rattle.dnp_objects.specs.declared.lane.LaneRow.{LaneRow}
 use Rattle.dnp_eventbuf.specs.declared.numbered.Numbered.{Numbered}
 use Rattle.dnp_eventbuf.specs.Latest.{numbered_for}
@@ -26,7 +23,7 @@ use Rattle.dnp_store.specs.PairTables.{lanes_tree, rows_name, rows_tree}
 use Rattle.dnp_store.specs.steps.Pairs.{HoldsFor, IsFor}
 use Rattle.dnp_store.specs.steps.Steps.{all_added, mixed, over, any_over, cut, counted, noted, IsTrimmed}
 use Rattle.dnp_store.proofs.Appending.{KeepsRows, behind, lane_added, nine_added, last_added, overflow_is}
-use Rattle.dnp_store.proofs.Holding.{same_stock}
+use Rattle.dnp_store.proofs.Holding.{lane_low, same_stock}
 
 -- ---- rows above an id
 
@@ -267,14 +264,6 @@ pub last_rows : (s : Stock) (xs : List LaneRow) → (with_rows s xs).last_id ≡
 last_rows s [] = omega arith
 last_rows s (x ∷ xs) = let h = last_rows (with_row s x) xs in omega (arith, h)
 
-low_kind : (kind : Kind) → kind_number kind < KINDS
-low_kind Binary = omega arith
-low_kind Counter = omega arith
-low_kind Analog = omega arith
-
-low_number : (lane : Lane) → lane_number lane < LANES
-low_number lane = omega (arith, low_kind lane.kind, lane.at_most_3)
-
 -- the rows are put in, and then the lanes drop what they have to
 pub appended : KeepsRows → (side : QueueSide) (others : Stock) (old mid new : Database) (s : Stock) (rows : List LaneRow) → IsSound s
     → IsSound (with_rows s rows) → IsFor side others old s
@@ -289,4 +278,4 @@ appended keeps side others old mid new s rows sound after h puts trims =
     let end = trims s.overflow (begun side others mid s rows fs sound.nine after.nine (last_rows s rows ∙ sym (last_added s rows)) h.overflow held) in
     let all = same_queue side others new (mixed LANES (all_added s rows) b) b end.0 end.1
     (λ k low. sym (mixed_low LANES k (all_added s rows) b (nine_added s rows ∙ sound.nine) after.nine (omega arith) low)) refl in
-    record { figures = end.0; holds = all; overflow = overflow_is keeps s rows sound (λ x. low_number x.lane) ∙ sym end.2 }
+    record { figures = end.0; holds = all; overflow = overflow_is keeps s rows sound (λ x. lane_low x.lane) ∙ sym end.2 }

@@ -158,25 +158,27 @@ impl<S: Alter> PairLanes for Queue<S> {
         if self.stopped {
             return Err(StoreFault::Device);
         }
-        let answer = if centre == 0 {
-            append_to(
+        if centre == 0 {
+            let answer = append_to(
                 &mut self.conn,
                 QueueSide::First,
                 &mut self.first,
                 alloc,
                 rows,
-            )
+            );
+            self.stopped = is_device(&answer);
+            answer
         } else {
-            append_to(
+            let answer = append_to(
                 &mut self.conn,
                 QueueSide::Second,
                 &mut self.second,
                 alloc,
                 rows,
-            )
-        };
-        self.stopped = is_device(&answer);
-        answer
+            );
+            self.stopped = is_device(&answer);
+            answer
+        }
     }
 
     fn offer(
@@ -254,25 +256,27 @@ impl<S: Alter> PairLanes for Queue<S> {
         if self.stopped {
             return Err(StoreFault::Device);
         }
-        let answer = if centre == 0 {
-            release_from(
+        if centre == 0 {
+            let answer = release_from(
                 &mut self.conn,
                 QueueSide::First,
                 &mut self.first,
                 alloc,
                 upto,
-            )
+            );
+            self.stopped = is_device(&answer);
+            answer
         } else {
-            release_from(
+            let answer = release_from(
                 &mut self.conn,
                 QueueSide::Second,
                 &mut self.second,
                 alloc,
                 upto,
-            )
-        };
-        self.stopped = is_device(&answer);
-        answer
+            );
+            self.stopped = is_device(&answer);
+            answer
+        }
     }
 
     /// What a crash leaves at any exit holds the lanes before or after, and after Ok those after.
@@ -321,13 +325,15 @@ impl<S: Alter> PairLanes for Queue<S> {
         if self.stopped {
             return Err(StoreFault::Device);
         }
-        let answer = if centre == 0 {
-            empty_of(&mut self.conn, QueueSide::First, &mut self.first, alloc)
+        if centre == 0 {
+            let answer = empty_of(&mut self.conn, QueueSide::First, &mut self.first, alloc);
+            self.stopped = is_device(&answer);
+            answer
         } else {
-            empty_of(&mut self.conn, QueueSide::Second, &mut self.second, alloc)
-        };
-        self.stopped = is_device(&answer);
-        answer
+            let answer = empty_of(&mut self.conn, QueueSide::Second, &mut self.second, alloc);
+            self.stopped = is_device(&answer);
+            answer
+        }
     }
 
     fn len(&mut self, centre: u8, lane: Lane) -> u32 {

@@ -1,6 +1,6 @@
 //! What the calls of a queue do to one side, in the database and in memory, and to both.
 
-ghost use Rattle.std.specs.Prelude.{◌≡◌, ◌≢◌, false, true, IsTrue, [], All, IfOk, IfErr, OnOk, OnErr, Err, ◌||◌};
+ghost use Rattle.std.specs.Prelude.{◌≡◌, ◌≢◌, ◌≤◌, ◌+◌, false, true, IsTrue, [], All, IfOk, IfErr, OnOk, OnErr, Err, ◌||◌, length, vec_len, vec_capacity};
 ghost use Rattle.sqlite.specs.Held.{state};
 ghost use Rattle.sqlite.specs.State.{HasCleanDisk};
 ghost use Rattle.dnp_eventbuf.specs.Carried.{IsCarried};
@@ -19,7 +19,7 @@ use dnp_eventbuf::laws::{a_release_is_lane_by_lane, lanes_stay_sound};
 use dnp_eventbuf::{LaneRow, PlainLanes, Upto};
 use dnp_objects::{LANES, MAX_ID, Row, StoreFault};
 use sqlite::{Alter, Connection};
-use std::alloc::Global;
+use std::alloc::{AllocError, Global};
 
 /// Whether a call answered that the device failed.
 pub(crate) fn is_device<Answer>(answer: &Result<Answer, StoreFault>) -> bool
@@ -27,6 +27,49 @@ pub(crate) fn is_device<Answer>(answer: &Result<Answer, StoreFault>) -> bool
     ensures other { result ≡ false → answer.now ≢ Err StoreFault.Device }
 {
     matches!(answer, Err(StoreFault::Device))
+}
+
+/// Room for the rows that lanes drop for these.
+fn room_for(lanes: &PlainLanes, alloc: Global, rows: &[LaneRow]) -> Result<Vec<Row>, StoreFault>
+    ensures room { IfOk result (λ room. (room.items ≡ []) × (vec_len room + length (dropped_by lanes.now rows.now) ≤ vec_capacity room)) }
+    ensures fits { OnOk result (exhausts lanes.now rows.now ≡ false) }
+    ensures exhausted { IfErr result (λ e. e ≡ StoreFault.Exhausted → IsTrue (exhausts lanes.now rows.now)) }
+    ensures exhausted_first { IfErr result (λ e. e ≡ StoreFault.Memory → exhausts lanes.now rows.now ≡ false) }
+    ensures exhausted_always { IsTrue (exhausts lanes.now rows.now) → result ≡ Err StoreFault.Exhausted }
+    ensures named { IfErr result (λ e. e ≢ StoreFault.Device) }
+{
+    let count = lanes.drops(rows).ok_or(StoreFault::Exhausted)?;
+    Vec::with_capacity(alloc, count).map_err(memory)
+}
+
+/// Room for this many rows, and for that many.
+fn two_rooms(alloc: Global, count: usize, others: usize) -> Result<(Vec<Row>, Vec<Row>), AllocError>
+    ensures { IfOk result (λ rooms. (rooms.0.items ≡ []) × (vec_len rooms.0 + count ≤ vec_capacity rooms.0)
+        × (rooms.1.items ≡ []) × (vec_len rooms.1 + others ≤ vec_capacity rooms.1)) }
+{
+    let room = Vec::with_capacity(alloc, count)?;
+    let room_too = Vec::with_capacity(alloc, others)?;
+    Ok((room, room_too))
+}
+
+/// Room for the rows that the lanes of each side drop for these.
+fn rooms_for(
+    first: &PlainLanes,
+    second: &PlainLanes,
+    alloc: Global,
+    rows: &[LaneRow],
+) -> Result<(Vec<Row>, Vec<Row>), StoreFault>
+    ensures room { IfOk result (λ rooms. (rooms.0.items ≡ []) × (vec_len rooms.0 + length (dropped_by first.now rows.now) ≤ vec_capacity rooms.0)
+        × (rooms.1.items ≡ []) × (vec_len rooms.1 + length (dropped_by second.now rows.now) ≤ vec_capacity rooms.1)) }
+    ensures fits { OnOk result ((exhausts first.now rows.now ≡ false) × (exhausts second.now rows.now ≡ false)) }
+    ensures exhausted { IfErr result (λ e. e ≡ StoreFault.Exhausted → IsTrue (exhausts first.now rows.now || exhausts second.now rows.now)) }
+    ensures exhausted_first { IfErr result (λ e. e ≡ StoreFault.Memory → exhausts first.now rows.now || exhausts second.now rows.now ≡ false) }
+    ensures exhausted_always { IsTrue (exhausts first.now rows.now || exhausts second.now rows.now) → result ≡ Err StoreFault.Exhausted }
+    ensures named { IfErr result (λ e. e ≢ StoreFault.Device) }
+{
+    let count = first.drops(rows).ok_or(StoreFault::Exhausted)?;
+    let others = second.drops(rows).ok_or(StoreFault::Exhausted)?;
+    two_rooms(alloc, count, others).map_err(memory)
 }
 
 /// Puts rows into the lanes of one side.
@@ -58,8 +101,7 @@ pub(crate) fn append_to<S: Alter>(
 {
     // (a law, for the proof: it does nothing)
     lanes_stay_sound();
-    let count = lanes.drops(rows).ok_or(StoreFault::Exhausted)?;
-    let mut dropped = Vec::with_capacity(alloc, count).map_err(memory)?;
+    let mut dropped = room_for(lanes, alloc, rows)?;
     if let Err(error) = write_append(conn, side, lanes, rows) {
         let lost = is_lost(conn, &error);
         return Err(fault(lost));
@@ -102,12 +144,7 @@ pub(crate) fn append_both_to<S: Alter>(
 {
     // (a law, for the proof: it does nothing)
     lanes_stay_sound();
-    let count = first.drops(rows);
-    let others = second.drops(rows);
-    let count = count.ok_or(StoreFault::Exhausted)?;
-    let others = others.ok_or(StoreFault::Exhausted)?;
-    let mut dropped = Vec::with_capacity(alloc, count).map_err(memory)?;
-    let mut dropped_too = Vec::with_capacity(alloc, others).map_err(memory)?;
+    let (mut dropped, mut dropped_too) = rooms_for(first, second, alloc, rows)?;
     if let Err(error) = write_both(conn, first, second, rows) {
         let lost = is_lost(conn, &error);
         return Err(fault(lost));

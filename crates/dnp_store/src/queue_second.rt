@@ -83,7 +83,7 @@ fn put_lanes_b<S: Alter>(
     Ok(())
 }
 
-/// Numbers the form anew.
+/// Gives the form its new number.
 fn number_second<S: Alter>(
     tx: &mut Transaction<'_, S>,
     capacities: &[u32; LANES],
@@ -98,7 +98,7 @@ fn number_second<S: Alter>(
     Ok(())
 }
 
-/// Makes the tables for the second centre beside those of a queue for one, with empty lanes, numbers the form anew, and
+/// Makes the tables for the second centre beside those of a queue for one, with empty lanes, gives the form its new number, and
 /// has the connection ready to be asked.
 pub(crate) fn make_second<S: Alter>(
     tx: &mut Transaction<'_, S>,

@@ -1,9 +1,13 @@
 //! A queue of the form for one centre, as an earlier release made it, which is brought to the form for two as it is opened.
 
+ghost use Rattle.std.specs.Prelude.{All};
+ghost use Rattle.dnp_eventbuf.specs.Carried.{IsCarried};
+
 use crate::Fault;
 use crate::queues::{are_carried, event, show_all};
 use crate::stored::Stored;
-use dnp_eventbuf::{Lane, Lanes, PairLanes, Side};
+use dnp_eventbuf::{Lane, LaneRow, Lanes, Numbered, PairLanes, Side, StoreFault};
+use dnp_objects::Row;
 use dnp_store::{OpenFault, Queue};
 use sqlite::{Alter, Connection, Error};
 use std::alloc::Global;
@@ -24,10 +28,36 @@ pub(crate) enum Migrating<S: Alter> {
     Now(Queue<S>, bool),
 }
 
+/// The rows of a lane for the first centre, once more where that ran out of memory.
+fn offered<P: PairLanes>(
+    pair: &mut P,
+    alloc: Global,
+    lane: Lane,
+) -> Result<Vec<Numbered>, StoreFault> {
+    match pair.offer(alloc, 0, lane, 0, 9) {
+        Err(StoreFault::Memory) => pair.offer(alloc, 0, lane, 0, 9),
+        answer => answer,
+    }
+}
+
+/// Appends rows for both centres, once more where that ran out of memory: what each of them drops.
+fn appended<P: PairLanes>(
+    pair: &mut P,
+    alloc: Global,
+    rows: &[LaneRow],
+) -> Result<(Vec<Row>, Vec<Row>), StoreFault>
+    requires { All IsCarried rows.now }
+{
+    match pair.append_both(alloc, rows) {
+        Err(StoreFault::Memory) => pair.append_both(alloc, rows),
+        answer => answer,
+    }
+}
+
 /// Whether the lanes for the first centre hold the row of the tables, and those for the second are empty.
 pub(crate) fn holds_its_rows<P: PairLanes>(pair: &mut P, alloc: Global) -> Option<bool> {
     let lane = Lane::numbered(0)?;
-    let rows = pair.offer(alloc, 0, lane, 0, 9).ok()?;
+    let rows = offered(pair, alloc, lane).ok()?;
     let is_there = rows
         .iter()
         .map(|x| (x.id, x.row.index))
@@ -61,7 +91,7 @@ fn goes_on<P: PairLanes>(pair: &mut P, alloc: Global) -> Option<bool> {
     if !are_carried(&rows) {
         return None;
     }
-    let (first, second) = pair.append_both(alloc, &rows).ok()?;
+    let (first, second) = appended(pair, alloc, &rows).ok()?;
     let is_dropped = first.len() == 1 && first[0].index == 11 && second.is_empty();
     Some(is_dropped && pair.last(0, lane) == 3 && pair.last(1, lane) == 1)
 }

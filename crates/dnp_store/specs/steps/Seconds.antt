@@ -26,7 +26,7 @@ pub record HasSecond (f q l : List Term) (s : Stock) (fs : List Figures) (db : D
   pub empty : db.trees 4 ≡ []
   pub filled : db.trees 5 ≡ figures_rows 0 fs
 
--- and the form is numbered anew
+-- and the form has its new number
 pub record IsSecond (f q l : List Term) (sides : Sides) (db : Database) : Type 0 where
   pub schema : db.schema ≡ pair_schema (with_second f q l)
   pub holds : HoldsPair db.trees sides

@@ -15,6 +15,14 @@ use Rattle.dnp_store.proofs.Refusing.{refused_inside, by_commit}
 use Rattle.dnp_store.proofs.Ending.{survives_undone, kept_undone, kept_unless}
 use Rattle.dnp_store.proofs.book_writing.write_turned.Goals as goal
 
+-- the connection that the commit leaves is handed back
+committed : (g : _) (c : goal.After-conn-2-1 g) → c.commit.new.self.0 ≡ c.conn-2-1.given.0
+committed g c = search rules
+
+-- the connection that was undone is handed back
+undone : (g : _) (c : goal.After-conn-1 g) → c.drop-tx.new.self.0 ≡ c.conn-1.given.0
+undone g c = search rules
+
 abbrev turned : Ledger → ℕ → Control → Ledger
 turned a id s = record a { entries = in_state a.entries id s }
 
@@ -33,7 +41,7 @@ returns-clause-ok g c clean a sound there stood =
     let mid = state g.S.Store c.turn.new.tx.conn.now in
     let end = state g.S.Store c.commit.new.self.0 in
     let b = turned a c.args.id c.args.control in
-    let same : c.commit.new.self.0 ≡ c.conn-2-1.given.0 = search rules in
+    let same = committed g c in
     let late : HasCleanDisk end = subst (λ h. HasCleanDisk (state g.S.Store h)) (sym same) clean in
     let early : HasCleanDisk mid = omega (arith, late, c.commit.ensures.survives.clean) in
     subst (λ h. OnOk c.commit.result (Stands (state g.S.Store h) b)) same
@@ -45,7 +53,7 @@ returns-clause-survives g c =
     let end = state g.S.Store c.commit.new.self.0 in
     let old = c.args.conn.now in
     let P = λ (db : Trees). (a : Ledger) → IsSound a → IsSome (entry_of a.entries c.args.id) → Stands (state g.S.Store old) a → HoldsBook db (turned a c.args.id c.args.control) in
-    let same : c.commit.new.self.0 ≡ c.conn-2-1.given.0 = search rules in
+    let same = committed g c in
     subst (λ h. Survives (state g.S.Store old) (state g.S.Store h) P) same
     (survives_commit g.S.Store old c.transaction-tx.result.conn.now mid end P c.transaction-tx.ensures.begun
     c.turn.ensures.step.survives c.commit.ensures.survives
@@ -53,7 +61,7 @@ returns-clause-survives g c =
 
 pub returns-in_err-turn-clause-refused : goal.returns-in_err-turn-clause-refused
 returns-in_err-turn-clause-refused g c clean =
-    let same : c.drop-tx.new.self.0 ≡ c.conn-1.given.0 = search rules in
+    let same = undone g c in
     let late : HasCleanDisk (state g.S.Store c.drop-tx.new.self.0) = subst (λ h. HasCleanDisk (state g.S.Store h)) (sym same) clean in
     let early : HasCleanDisk (state g.S.Store c.turn.new.tx.conn.now) = omega (arith, late, c.drop-tx.ensures.survives.clean) in
     let here = refused_inside g.S.Store Book c.args.conn.now c.transaction-tx.result.conn.now c.turn.new.tx.conn.now c.drop-tx.new.self.0 _ _
@@ -64,7 +72,7 @@ pub returns-clause-refused : goal.returns-clause-refused
 returns-clause-refused g c clean =
     let mid = c.turn.new.tx.conn.now in
     let end = c.commit.new.self.0 in
-    let same : end ≡ c.conn-2-1.given.0 = search rules in
+    let same = committed g c in
     let late : HasCleanDisk (state g.S.Store end) = subst (λ h. HasCleanDisk (state g.S.Store h)) (sym same) clean in
     let early : HasCleanDisk (state g.S.Store mid) = omega (arith, late, c.commit.ensures.survives.clean) in
     by_commit g.S.Store Book c.args.conn.now c.transaction-tx.result.conn.now mid end _ c.commit.result c.transaction-tx.ensures.begun same
@@ -72,14 +80,14 @@ returns-clause-refused g c clean =
 
 pub returns-in_err-turn-clause-survives : goal.returns-in_err-turn-clause-survives
 returns-in_err-turn-clause-survives g c =
-    let same : c.drop-tx.new.self.0 ≡ c.conn-1.given.0 = search rules in
+    let same = undone g c in
     survives_undone g.S.Store c.args.conn.now c.transaction-tx.result.conn.now c.turn.new.tx.conn.now c.drop-tx.new.self.0 _ c.transaction-tx.ensures.begun
     same _
     c.turn.ensures.step.survives c.drop-tx.ensures.survives
 
 pub returns-in_err-turn-clause-err : goal.returns-in_err-turn-clause-err
 returns-in_err-turn-clause-err g c clean opened =
-    let same : c.drop-tx.new.self.0 ≡ c.conn-1.given.0 = search rules in
+    let same = undone g c in
     let here = kept_undone g.S.Store c.args.conn.now c.transaction-tx.result.conn.now c.turn.new.tx.conn.now c.drop-tx.new.self.0 _
     c.transaction-tx.ensures.begun same _
     c.turn.ensures.step.kept c.drop-tx.ensures.undone c.drop-tx.ensures.survives clean opened in
@@ -87,7 +95,7 @@ returns-in_err-turn-clause-err g c clean opened =
 
 pub returns-clause-err : goal.returns-clause-err
 returns-clause-err g c clean opened =
-    let same : c.commit.new.self.0 ≡ c.conn-2-1.given.0 = search rules in
+    let same = committed g c in
     kept_unless g.S.Store c.args.conn.now c.transaction-tx.result.conn.now c.turn.new.tx.conn.now c.commit.new.self.0 _ c.transaction-tx.ensures.begun same _
     c.commit.result
     c.turn.ensures.step.kept c.commit.ensures.err c.commit.ensures.survives clean opened

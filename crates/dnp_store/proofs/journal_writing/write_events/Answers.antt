@@ -13,6 +13,14 @@ use Rattle.dnp_store.proofs.Refusing.{refused_inside, by_commit}
 use Rattle.dnp_store.proofs.Ending.{survives_undone, kept_undone, kept_unless}
 use Rattle.dnp_store.proofs.journal_writing.write_events.Goals as goal
 
+-- the connection that the commit leaves is handed back
+committed : (g : _) (c : goal.After-conn-2-1 g) → c.commit.new.self.0 ≡ c.conn-2-1.given.0
+committed g c = search rules
+
+-- the connection that was undone is handed back
+undone : (g : _) (c : goal.After-conn-1 g) → c.drop-tx.new.self.0 ≡ c.conn-1.given.0
+undone g c = search rules
+
 done : (g : _) (c : goal.After-conn-2-1 g) (a : Archive) → HasCleanDisk (state g.S.Store c.insert_all.new.tx.conn.now)
     → Stands (state g.S.Store c.args.conn.now) a → IsJournal (state g.S.Store c.insert_all.new.tx.conn.now).now (with_events a c.args.events.now)
 done g c a clean stood =
@@ -28,7 +36,7 @@ returns-clause-ok g c clean a stood =
     let mid = state g.S.Store c.insert_all.new.tx.conn.now in
     let end = state g.S.Store c.commit.new.self.0 in
     let b = with_events a c.args.events.now in
-    let same : c.commit.new.self.0 ≡ c.conn-2-1.given.0 = search rules in
+    let same = committed g c in
     let late : HasCleanDisk end = subst (λ h. HasCleanDisk (state g.S.Store h)) (sym same) clean in
     let early : HasCleanDisk mid = omega (arith, late, c.commit.ensures.survives.clean) in
     subst (λ h. OnOk c.commit.result (Stands (state g.S.Store h) b)) same
@@ -40,7 +48,7 @@ returns-clause-survives g c =
     let end = state g.S.Store c.commit.new.self.0 in
     let old = c.args.conn.now in
     let P = λ (db : Trees). (a : Archive) → Stands (state g.S.Store old) a → HoldsArchive db (with_events a c.args.events.now) in
-    let same : c.commit.new.self.0 ≡ c.conn-2-1.given.0 = search rules in
+    let same = committed g c in
     subst (λ h. Survives (state g.S.Store old) (state g.S.Store h) P) same
     (survives_commit g.S.Store old c.transaction-tx.result.conn.now mid end P c.transaction-tx.ensures.begun
     c.insert_all.ensures.step.survives c.commit.ensures.survives
@@ -48,7 +56,7 @@ returns-clause-survives g c =
 
 pub returns-in_err-insert_all-clause-refused : goal.returns-in_err-insert_all-clause-refused
 returns-in_err-insert_all-clause-refused g c clean =
-    let same : c.drop-tx.new.self.0 ≡ c.conn-1.given.0 = search rules in
+    let same = undone g c in
     let late : HasCleanDisk (state g.S.Store c.drop-tx.new.self.0) = subst (λ h. HasCleanDisk (state g.S.Store h)) (sym same) clean in
     let early : HasCleanDisk (state g.S.Store c.insert_all.new.tx.conn.now) = omega (arith, late, c.drop-tx.ensures.survives.clean) in
     let here = refused_inside g.S.Store Journal c.args.conn.now c.transaction-tx.result.conn.now c.insert_all.new.tx.conn.now c.drop-tx.new.self.0 _ _
@@ -59,7 +67,7 @@ pub returns-clause-refused : goal.returns-clause-refused
 returns-clause-refused g c clean =
     let mid = c.insert_all.new.tx.conn.now in
     let end = c.commit.new.self.0 in
-    let same : end ≡ c.conn-2-1.given.0 = search rules in
+    let same = committed g c in
     let late : HasCleanDisk (state g.S.Store end) = subst (λ h. HasCleanDisk (state g.S.Store h)) (sym same) clean in
     let early : HasCleanDisk (state g.S.Store mid) = omega (arith, late, c.commit.ensures.survives.clean) in
     by_commit g.S.Store Journal c.args.conn.now c.transaction-tx.result.conn.now mid end _ c.commit.result c.transaction-tx.ensures.begun same
@@ -67,14 +75,14 @@ returns-clause-refused g c clean =
 
 pub returns-in_err-insert_all-clause-survives : goal.returns-in_err-insert_all-clause-survives
 returns-in_err-insert_all-clause-survives g c =
-    let same : c.drop-tx.new.self.0 ≡ c.conn-1.given.0 = search rules in
+    let same = undone g c in
     survives_undone g.S.Store c.args.conn.now c.transaction-tx.result.conn.now c.insert_all.new.tx.conn.now c.drop-tx.new.self.0 _
     c.transaction-tx.ensures.begun same _
     c.insert_all.ensures.step.survives c.drop-tx.ensures.survives
 
 pub returns-in_err-insert_all-clause-err : goal.returns-in_err-insert_all-clause-err
 returns-in_err-insert_all-clause-err g c clean opened =
-    let same : c.drop-tx.new.self.0 ≡ c.conn-1.given.0 = search rules in
+    let same = undone g c in
     let here = kept_undone g.S.Store c.args.conn.now c.transaction-tx.result.conn.now c.insert_all.new.tx.conn.now c.drop-tx.new.self.0 _
     c.transaction-tx.ensures.begun same _
     c.insert_all.ensures.step.kept c.drop-tx.ensures.undone c.drop-tx.ensures.survives clean opened in
@@ -82,7 +90,7 @@ returns-in_err-insert_all-clause-err g c clean opened =
 
 pub returns-clause-err : goal.returns-clause-err
 returns-clause-err g c clean opened =
-    let same : c.commit.new.self.0 ≡ c.conn-2-1.given.0 = search rules in
+    let same = committed g c in
     kept_unless g.S.Store c.args.conn.now c.transaction-tx.result.conn.now c.insert_all.new.tx.conn.now c.commit.new.self.0 _ c.transaction-tx.ensures.begun
     same _ c.commit.result
     c.insert_all.ensures.step.kept c.commit.ensures.err c.commit.ensures.survives clean opened

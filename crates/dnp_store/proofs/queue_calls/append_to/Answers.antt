@@ -1,25 +1,24 @@
-use Rattle.std.proofs.Common.{rules, ◌≡◌, false, true, Err, ap, arith}
+use Rattle.std.proofs.Common.{inr, ◌≡◌, true, Err, ap, arith, subst, sym}
 use Rattle.sqlite.specs.State.{HasCleanDisk}
 use Rattle.sqlite.specs.Held.{state}
 use Rattle.dnp_eventbuf.specs.Sound.{IsSound}
-use Rattle.dnp_eventbuf.specs.Stock.{exhausts, with_rows}
+use Rattle.dnp_eventbuf.specs.Stock.{Stock, with_rows}
+use Rattle.dnp_store.specs.Kept.{Stands}
 use Rattle.dnp_store.specs.steps.Pairs.{sides_of}
 use Rattle.dnp_store.proofs.Trimming.{last_rows}
-use Rattle.dnp_store.proofs.Standing.{either_of, kept_standing}
+use Rattle.dnp_store.proofs.Standing.{either_of, kept_standing, leaves_before, leaves_last}
 use Rattle.dnp_store.proofs.Statements.{survives_as}
 use Rattle.dnp_store.proofs.Refusing.{lost_if}
 use Rattle.dnp_store.proofs.queue_calls.append_to.Goals as goal
 
 pub write_append-requires-clause-after : goal.write_append-requires-clause-after
 write_append-requires-clause-after g c =
-    let fits : exhausts c.args.lanes.now c.args.rows.now ≡ false = search rules in
-    c.lanes_stay_sound.ensures.appended c.args.lanes.now c.args.rows.now c.requires.sound c.requires.carried fits
+    c.lanes_stay_sound.ensures.appended c.args.lanes.now c.args.rows.now c.requires.sound c.requires.carried c.in_ok-dropped.ensures.fits
 
 pub write_append-requires-clause-few : goal.write_append-requires-clause-few
 write_append-requires-clause-few g c =
-    let fits : exhausts c.args.lanes.now c.args.rows.now ≡ false = search rules in
     let after : IsSound (with_rows c.args.lanes.now c.args.rows.now) =
-    c.lanes_stay_sound.ensures.appended c.args.lanes.now c.args.rows.now c.requires.sound c.requires.carried fits in
+    c.lanes_stay_sound.ensures.appended c.args.lanes.now c.args.rows.now c.requires.sound c.requires.carried c.in_ok-dropped.ensures.fits in
     let last = after.last_id_at_most in
     omega (arith, last, last_rows c.args.lanes.now c.args.rows.now)
 
@@ -46,3 +45,35 @@ returns-in-Err-clause-either g c clean others stood db may =
     either_of old mid new (sides_of c.args.side s others) (sides_of c.args.side (with_rows s c.args.rows.now) others) clean early
     (g.met.S.Store.settled c.args.conn.now.store) stood (survives_as old mid _ _ (λ db made. made others) c.write_append.ensures.survives)
     c.is_lost-lost.ensures.survives db may
+
+pub returns-in_err-dropped-clause-either : goal.returns-in_err-dropped-clause-either
+returns-in_err-dropped-clause-either g c clean others stood =
+    leaves_before (state g.S.Store c.args.conn.now) _ _ (g.met.S.Store.settled c.args.conn.now.store) stood
+
+-- what was written holds the rows too
+written : (g : _) (c : goal.After-put_all g) → HasCleanDisk (state g.S.Store c.write_append.new.conn) → (others : Stock)
+    → Stands (state g.S.Store c.args.conn.now) (sides_of c.args.side c.args.lanes.now others)
+    → Stands (state g.S.Store c.write_append.new.conn) (sides_of c.args.side c.put_all.new.self others)
+written g c clean others stood =
+    subst (λ (t : Stock). Stands (state g.S.Store c.write_append.new.conn) (sides_of c.args.side t others)) (sym c.put_all.ensures.with)
+    (c.in_default.ensures.ok clean others stood)
+
+pub returns-clause-stands : goal.returns-clause-stands
+returns-clause-stands g c clean others stood other = written g c clean others stood
+
+pub returns-clause-either : goal.returns-clause-either
+returns-clause-either g c clean others stood db may =
+    inr (leaves_last (state g.S.Store c.write_append.new.conn) _ (g.met.S.Store.settled c.write_append.new.conn.store)
+    (c.in_default.ensures.ok clean others stood) db may)
+
+pub returns-clause-after : goal.returns-clause-after
+returns-clause-after g c clean others stood =
+    leaves_last (state g.S.Store c.write_append.new.conn) _ (g.met.S.Store.settled c.write_append.new.conn.store) (written g c clean others stood)
+
+pub returns-in-Err-clause-clean : goal.returns-in-Err-clause-clean
+returns-in-Err-clause-clean g c clean =
+    let early : HasCleanDisk (state g.S.Store c.write_append.new.conn) = omega (arith, clean, c.is_lost-lost.ensures.survives.clean) in
+    omega (arith, early, c.write_append.ensures.survives.clean)
+
+pub returns-clause-clean : goal.returns-clause-clean
+returns-clause-clean g c clean = omega (arith, clean, c.write_append.ensures.survives.clean)

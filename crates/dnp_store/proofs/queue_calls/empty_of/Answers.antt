@@ -6,7 +6,7 @@ use Rattle.dnp_store.specs.Kept.{Stands, Leaves}
 use Rattle.dnp_store.specs.PairTables.{HoldsPair, IsPair}
 use Rattle.dnp_store.specs.steps.Pairs.{sides_of}
 use Rattle.dnp_store.specs.steps.Steps.{released}
-use Rattle.dnp_store.proofs.Standing.{either_of, kept_standing, leaves_last}
+use Rattle.dnp_store.proofs.Standing.{either_of, kept_standing, leaves_before, leaves_last}
 use Rattle.dnp_store.proofs.Statements.{survives_as}
 use Rattle.dnp_store.proofs.Releasing.{all_left_of, all_left_in, nine_most, all_most}
 use Rattle.dnp_store.proofs.Refusing.{lost_if}
@@ -75,3 +75,15 @@ returns-in-Err-clause-device g c clean told =
     let early : HasCleanDisk (state g.S.Store c.write_release.new.conn) = omega (arith, clean, c.is_lost-lost.ensures.survives.clean) in
     let lost : c.is_lost-lost.result ≡ true = lost_if c.is_lost-lost.result c.fault.result c.fault.ensures told in
     record { between = c.write_release.new.conn; error = _; refused = c.in-Err.ensures.refused early; lost = c.is_lost-lost.ensures.lost clean lost }
+
+pub returns-in_err-taken-clause-either : goal.returns-in_err-taken-clause-either
+returns-in_err-taken-clause-either g c clean others stood =
+    leaves_before (state g.S.Store c.args.conn.now) _ _ (g.met.S.Store.settled c.args.conn.now.store) stood
+
+pub returns-in-Err-clause-clean : goal.returns-in-Err-clause-clean
+returns-in-Err-clause-clean g c clean =
+    let early : HasCleanDisk (state g.S.Store c.write_release.new.conn) = omega (arith, clean, c.is_lost-lost.ensures.survives.clean) in
+    omega (arith, early, c.write_release.ensures.survives.clean)
+
+pub returns-clause-clean : goal.returns-clause-clean
+returns-clause-clean g c clean = omega (arith, clean, c.write_release.ensures.survives.clean)

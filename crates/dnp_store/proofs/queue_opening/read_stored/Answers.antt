@@ -7,13 +7,21 @@ use Rattle.dnp_store.proofs.PairOpening.{stored_is}
 use Rattle.dnp_store.proofs.Ending.{survives_undone, kept_undone}
 use Rattle.dnp_store.proofs.queue_opening.read_stored.Goals as goal
 
+-- the connection that was rolled back is handed back
+rolled : (g : _) (c : goal.After-conn-2-1 g) → c.rollback.new.self.0 ≡ c.conn-2-1.given.0
+rolled g c = search rules
+
+-- the connection that was undone is handed back
+undone : (g : _) (c : goal.After-conn-1 g) → c.drop-tx.new.self.0 ≡ c.conn-1.given.0
+undone g c = search rules
+
 pub returns-clause-read : goal.returns-clause-read
 returns-clause-read g c clean =
     let old = state g.S.Store c.args.conn.now in
     let begun = state g.S.Store c.transaction-tx.result.conn.now in
     let mid = state g.S.Store c.read_numbered.new.tx.conn.now in
     let end = state g.S.Store c.rollback.new.self.0 in
-    let same : c.rollback.new.self.0 ≡ c.conn-2-1.given.0 = search rules in
+    let same = rolled g c in
     let late : HasCleanDisk end = subst (λ h. HasCleanDisk (state g.S.Store h)) (sym same) clean in
     let early : HasCleanDisk mid = omega (arith, late, c.rollback.ensures.survives.clean) in
     let now_is : begun.now ≡ old.now = ap (λ h. (state g.S.Store h).now) c.transaction-tx.ensures.begun in
@@ -29,28 +37,28 @@ returns-clause-read g c clean =
 
 pub returns-in_err-stored-clause-survives : goal.returns-in_err-stored-clause-survives
 returns-in_err-stored-clause-survives g c =
-    let same : c.drop-tx.new.self.0 ≡ c.conn-1.given.0 = search rules in
+    let same = undone g c in
     survives_undone g.S.Store c.args.conn.now c.transaction-tx.result.conn.now c.read_numbered.new.tx.conn.now c.drop-tx.new.self.0 _
     c.transaction-tx.ensures.begun same _
     c.read_numbered.ensures.step.survives c.drop-tx.ensures.survives
 
 pub returns-in_err-stored-clause-same : goal.returns-in_err-stored-clause-same
 returns-in_err-stored-clause-same g c =
-    let same : c.drop-tx.new.self.0 ≡ c.conn-1.given.0 = search rules in
+    let same = undone g c in
     kept_undone g.S.Store c.args.conn.now c.transaction-tx.result.conn.now c.read_numbered.new.tx.conn.now c.drop-tx.new.self.0 _
     c.transaction-tx.ensures.begun same _
     c.read_numbered.ensures.step.kept c.drop-tx.ensures.undone c.drop-tx.ensures.survives
 
 pub returns-clause-survives : goal.returns-clause-survives
 returns-clause-survives g c =
-    let same : c.rollback.new.self.0 ≡ c.conn-2-1.given.0 = search rules in
+    let same = rolled g c in
     survives_undone g.S.Store c.args.conn.now c.transaction-tx.result.conn.now c.read_numbered.new.tx.conn.now c.rollback.new.self.0 _
     c.transaction-tx.ensures.begun same _
     c.read_numbered.ensures.step.survives c.rollback.ensures.survives
 
 pub returns-clause-same : goal.returns-clause-same
 returns-clause-same g c =
-    let same : c.rollback.new.self.0 ≡ c.conn-2-1.given.0 = search rules in
+    let same = rolled g c in
     kept_undone g.S.Store c.args.conn.now c.transaction-tx.result.conn.now c.read_numbered.new.tx.conn.now c.rollback.new.self.0 _
     c.transaction-tx.ensures.begun same _
     c.read_numbered.ensures.step.kept c.rollback.ensures.undone c.rollback.ensures.survives

@@ -20,6 +20,18 @@ use Rattle.dnp_store.proofs.Ending.{survives_undone, kept_undone, kept_unless}
 use Rattle.dnp_store.proofs.Stepping.{step_then}
 use Rattle.dnp_store.proofs.queue_tables.write_tables.Goals as goal
 
+-- the connection that the commit leaves is handed back
+committed : (g : _) (c : goal.After-conn-2-1 g) → c.commit.new.self.0 ≡ c.conn-2-1.given.0
+committed g c = search rules
+
+-- the connection that was undone is handed back
+undone : (g : _) (c : goal.After-conn-1 g) → c.drop-tx.new.self.0 ≡ c.conn-1.given.0
+undone g c = search rules
+
+-- likewise that after the second step
+undone_too : (g : _) (c : goal.After-conn-in_err-make_second-1 g) → c.drop-tx-in_err-make_second.new.self.0 ≡ c.conn-in_err-make_second-1.given.0
+undone_too g c = search rules
+
 abbrev empties : List ℕ → List ℕ → Sides
 empties first second = migrated (empty_stock first) second
 
@@ -44,7 +56,7 @@ returns-clause-ok g c clean stood =
     let mid = state g.S.Store c.make_second.new.tx.conn.now in
     let end = state g.S.Store c.commit.new.self.0 in
     let b = empties c.args.first.now c.args.second.now in
-    let same : c.commit.new.self.0 ≡ c.conn-2-1.given.0 = search rules in
+    let same = committed g c in
     let late : HasCleanDisk end = subst (λ h. HasCleanDisk (state g.S.Store h)) (sym same) clean in
     let early : HasCleanDisk mid = omega (arith, late, c.commit.ensures.survives.clean) in
     subst (λ h. OnOk c.commit.result (Stands (state g.S.Store h) b)) same
@@ -59,7 +71,7 @@ returns-clause-survives g c =
     let b = empties c.args.first.now c.args.second.now in
     let old = c.args.conn.now in
     let P = λ (db : Trees). c.args.conn.now.schema ≡ no_schema → HoldsPair db b in
-    let same : c.commit.new.self.0 ≡ c.conn-2-1.given.0 = search rules in
+    let same = committed g c in
     subst (λ h. Survives (state g.S.Store old) (state g.S.Store h) P) same
     (survives_commit g.S.Store old c.transaction-tx.result.conn.now mid end P c.transaction-tx.ensures.begun
     (survives_then begun first mid (λ _. ⊥) (λ _. ⊥) (λ _. ⊥) (λ _ db none. none) (λ _ db none. none) c.make_all.ensures.step.survives
@@ -70,7 +82,7 @@ pub returns-clause-schema : goal.returns-clause-schema
 returns-clause-schema g c clean none =
     let mid = state g.S.Store c.make_second.new.tx.conn.now in
     let end = state g.S.Store c.commit.new.self.0 in
-    let same : c.commit.new.self.0 ≡ c.conn-2-1.given.0 = search rules in
+    let same = committed g c in
     let late : HasCleanDisk end = subst (λ h. HasCleanDisk (state g.S.Store h)) (sym same) clean in
     let early : HasCleanDisk mid = omega (arith, late, c.commit.ensures.survives.clean) in
     subst (λ h. OnOk c.commit.result ((state g.S.Store h).committed.schema ≡ made_pair)) same
@@ -78,7 +90,7 @@ returns-clause-schema g c clean none =
 
 pub returns-in_err-make_all-clause-refused : goal.returns-in_err-make_all-clause-refused
 returns-in_err-make_all-clause-refused g c clean =
-    let same : c.drop-tx.new.self.0 ≡ c.conn-1.given.0 = search rules in
+    let same = undone g c in
     let late : HasCleanDisk (state g.S.Store c.drop-tx.new.self.0) = subst (λ h. HasCleanDisk (state g.S.Store h)) (sym same) clean in
     let early : HasCleanDisk (state g.S.Store c.make_all.new.tx.conn.now) = omega (arith, late, c.drop-tx.ensures.survives.clean) in
     let here = refused_inside g.S.Store Queue c.args.conn.now c.transaction-tx.result.conn.now c.make_all.new.tx.conn.now c.drop-tx.new.self.0 _ _
@@ -90,7 +102,7 @@ returns-clause-refused g c clean =
     let begun = c.transaction-tx.result.conn.now in
     let mid = c.make_second.new.tx.conn.now in
     let end = c.commit.new.self.0 in
-    let same : end ≡ c.conn-2-1.given.0 = search rules in
+    let same = committed g c in
     let late : HasCleanDisk (state g.S.Store end) = subst (λ h. HasCleanDisk (state g.S.Store h)) (sym same) clean in
     let early : HasCleanDisk (state g.S.Store mid) = omega (arith, late, c.commit.ensures.survives.clean) in
     by_commit g.S.Store Queue c.args.conn.now begun mid end _ c.commit.result c.transaction-tx.ensures.begun same
@@ -102,7 +114,7 @@ pub returns-in_err-make_second-clause-refused : goal.returns-in_err-make_second-
 returns-in_err-make_second-clause-refused g c clean =
     let begun = c.transaction-tx.result.conn.now in
     let end = c.drop-tx-in_err-make_second.new.self.0 in
-    let same : end ≡ c.conn-in_err-make_second-1.given.0 = search rules in
+    let same = undone_too g c in
     let late : HasCleanDisk (state g.S.Store end) = subst (λ h. HasCleanDisk (state g.S.Store h)) (sym same) clean in
     let early : HasCleanDisk (state g.S.Store c.make_second.new.tx.conn.now) = omega (arith, late, c.drop-tx-in_err-make_second.ensures.survives.clean) in
     let here = refused_inside g.S.Store Queue c.args.conn.now begun c.make_second.new.tx.conn.now end _ _ c.transaction-tx.ensures.begun same
@@ -112,14 +124,14 @@ returns-in_err-make_second-clause-refused g c clean =
 
 pub returns-in_err-make_all-clause-survives : goal.returns-in_err-make_all-clause-survives
 returns-in_err-make_all-clause-survives g c =
-    let same : c.drop-tx.new.self.0 ≡ c.conn-1.given.0 = search rules in
+    let same = undone g c in
     survives_undone g.S.Store c.args.conn.now c.transaction-tx.result.conn.now c.make_all.new.tx.conn.now c.drop-tx.new.self.0 _
     c.transaction-tx.ensures.begun same _
     c.make_all.ensures.step.survives c.drop-tx.ensures.survives
 
 pub returns-in_err-make_all-clause-err : goal.returns-in_err-make_all-clause-err
 returns-in_err-make_all-clause-err g c clean opened =
-    let same : c.drop-tx.new.self.0 ≡ c.conn-1.given.0 = search rules in
+    let same = undone g c in
     let here = kept_undone g.S.Store c.args.conn.now c.transaction-tx.result.conn.now c.make_all.new.tx.conn.now c.drop-tx.new.self.0 _
     c.transaction-tx.ensures.begun same _
     c.make_all.ensures.step.kept c.drop-tx.ensures.undone c.drop-tx.ensures.survives clean opened in
@@ -127,7 +139,7 @@ returns-in_err-make_all-clause-err g c clean opened =
 
 pub returns-in_err-make_second-clause-survives : goal.returns-in_err-make_second-clause-survives
 returns-in_err-make_second-clause-survives g c =
-    let same : c.drop-tx-in_err-make_second.new.self.0 ≡ c.conn-in_err-make_second-1.given.0 = search rules in
+    let same = undone_too g c in
     let both = step_then g.S.Store c.transaction-tx.result.conn c.make_all.new.tx.conn c.make_second.new.tx.conn _ _ c.make_all.ensures.step
     c.make_second.ensures.step in
     survives_undone g.S.Store c.args.conn.now c.transaction-tx.result.conn.now c.make_second.new.tx.conn.now c.drop-tx-in_err-make_second.new.self.0 _
@@ -136,7 +148,7 @@ returns-in_err-make_second-clause-survives g c =
 
 pub returns-in_err-make_second-clause-err : goal.returns-in_err-make_second-clause-err
 returns-in_err-make_second-clause-err g c clean opened =
-    let same : c.drop-tx-in_err-make_second.new.self.0 ≡ c.conn-in_err-make_second-1.given.0 = search rules in
+    let same = undone_too g c in
     let both = step_then g.S.Store c.transaction-tx.result.conn c.make_all.new.tx.conn c.make_second.new.tx.conn _ _ c.make_all.ensures.step
     c.make_second.ensures.step in
     let here = kept_undone g.S.Store c.args.conn.now c.transaction-tx.result.conn.now c.make_second.new.tx.conn.now c.drop-tx-in_err-make_second.new.self.0 _
@@ -146,7 +158,7 @@ returns-in_err-make_second-clause-err g c clean opened =
 
 pub returns-clause-err : goal.returns-clause-err
 returns-clause-err g c clean opened =
-    let same : c.commit.new.self.0 ≡ c.conn-2-1.given.0 = search rules in
+    let same = committed g c in
     let both = step_then g.S.Store c.transaction-tx.result.conn c.make_all.new.tx.conn c.make_second.new.tx.conn _ _ c.make_all.ensures.step
     c.make_second.ensures.step in
     kept_unless g.S.Store c.args.conn.now c.transaction-tx.result.conn.now c.make_second.new.tx.conn.now c.commit.new.self.0 _ c.transaction-tx.ensures.begun

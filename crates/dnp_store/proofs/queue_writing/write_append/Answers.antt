@@ -15,6 +15,14 @@ use Rattle.dnp_store.proofs.Refusing.{refused_inside, by_commit}
 use Rattle.dnp_store.proofs.Ending.{survives_undone, kept_undone, kept_unless}
 use Rattle.dnp_store.proofs.queue_writing.write_append.Goals as goal
 
+-- the connection that the commit leaves is handed back
+committed : (g : _) (c : goal.After-conn-2-1 g) → c.commit.new.self.0 ≡ c.conn-2-1.given.0
+committed g c = search rules
+
+-- the connection that was undone is handed back
+undone : (g : _) (c : goal.After-conn-1 g) → c.drop-tx.new.self.0 ≡ c.conn-1.given.0
+undone g c = search rules
+
 -- the lanes on the side, before and after
 done : (g : _) (c : goal.After-conn-2-1 g) → HasCleanDisk (state g.S.Store c.append_in.new.tx.conn.now) → (others : Stock)
     → Stands (state g.S.Store c.args.conn.now) (sides_of c.args.side c.args.lanes.now others)
@@ -35,7 +43,7 @@ returns-clause-ok g c clean others stood =
     let mid = state g.S.Store c.append_in.new.tx.conn.now in
     let end = state g.S.Store c.commit.new.self.0 in
     let b = sides_of c.args.side (with_rows c.args.lanes.now c.args.rows.now) others in
-    let same : c.commit.new.self.0 ≡ c.conn-2-1.given.0 = search rules in
+    let same = committed g c in
     let late : HasCleanDisk end = subst (λ h. HasCleanDisk (state g.S.Store h)) (sym same) clean in
     let early : HasCleanDisk mid = omega (arith, late, c.commit.ensures.survives.clean) in
     subst (λ h. OnOk c.commit.result (Stands (state g.S.Store h) b)) same
@@ -51,7 +59,7 @@ returns-clause-survives g c =
     let old = c.args.conn.now in
     let P = λ (db : Trees). (others : Stock) → Stands (state g.S.Store old) (sides_of side s others)
     → HoldsPair db (sides_of side (with_rows s c.args.rows.now) others) in
-    let same : c.commit.new.self.0 ≡ c.conn-2-1.given.0 = search rules in
+    let same = committed g c in
     subst (λ h. Survives (state g.S.Store old) (state g.S.Store h) P) same
     (survives_commit g.S.Store old c.transaction-tx.result.conn.now mid end P c.transaction-tx.ensures.begun
     c.append_in.ensures.step.survives c.commit.ensures.survives
@@ -59,7 +67,7 @@ returns-clause-survives g c =
 
 pub returns-in_err-append_in-clause-refused : goal.returns-in_err-append_in-clause-refused
 returns-in_err-append_in-clause-refused g c clean =
-    let same : c.drop-tx.new.self.0 ≡ c.conn-1.given.0 = search rules in
+    let same = undone g c in
     let late : HasCleanDisk (state g.S.Store c.drop-tx.new.self.0) = subst (λ h. HasCleanDisk (state g.S.Store h)) (sym same) clean in
     let early : HasCleanDisk (state g.S.Store c.append_in.new.tx.conn.now) = omega (arith, late, c.drop-tx.ensures.survives.clean) in
     let here = refused_inside g.S.Store Queue c.args.conn.now c.transaction-tx.result.conn.now c.append_in.new.tx.conn.now c.drop-tx.new.self.0 _ _
@@ -70,7 +78,7 @@ pub returns-clause-refused : goal.returns-clause-refused
 returns-clause-refused g c clean =
     let mid = c.append_in.new.tx.conn.now in
     let end = c.commit.new.self.0 in
-    let same : end ≡ c.conn-2-1.given.0 = search rules in
+    let same = committed g c in
     let late : HasCleanDisk (state g.S.Store end) = subst (λ h. HasCleanDisk (state g.S.Store h)) (sym same) clean in
     let early : HasCleanDisk (state g.S.Store mid) = omega (arith, late, c.commit.ensures.survives.clean) in
     by_commit g.S.Store Queue c.args.conn.now c.transaction-tx.result.conn.now mid end _ c.commit.result c.transaction-tx.ensures.begun same
@@ -78,14 +86,14 @@ returns-clause-refused g c clean =
 
 pub returns-in_err-append_in-clause-survives : goal.returns-in_err-append_in-clause-survives
 returns-in_err-append_in-clause-survives g c =
-    let same : c.drop-tx.new.self.0 ≡ c.conn-1.given.0 = search rules in
+    let same = undone g c in
     survives_undone g.S.Store c.args.conn.now c.transaction-tx.result.conn.now c.append_in.new.tx.conn.now c.drop-tx.new.self.0 _
     c.transaction-tx.ensures.begun same _
     c.append_in.ensures.step.survives c.drop-tx.ensures.survives
 
 pub returns-in_err-append_in-clause-err : goal.returns-in_err-append_in-clause-err
 returns-in_err-append_in-clause-err g c clean opened =
-    let same : c.drop-tx.new.self.0 ≡ c.conn-1.given.0 = search rules in
+    let same = undone g c in
     let here = kept_undone g.S.Store c.args.conn.now c.transaction-tx.result.conn.now c.append_in.new.tx.conn.now c.drop-tx.new.self.0 _
     c.transaction-tx.ensures.begun same _
     c.append_in.ensures.step.kept c.drop-tx.ensures.undone c.drop-tx.ensures.survives clean opened in
@@ -93,7 +101,7 @@ returns-in_err-append_in-clause-err g c clean opened =
 
 pub returns-clause-err : goal.returns-clause-err
 returns-clause-err g c clean opened =
-    let same : c.commit.new.self.0 ≡ c.conn-2-1.given.0 = search rules in
+    let same = committed g c in
     kept_unless g.S.Store c.args.conn.now c.transaction-tx.result.conn.now c.append_in.new.tx.conn.now c.commit.new.self.0 _ c.transaction-tx.ensures.begun
     same _ c.commit.result
     c.append_in.ensures.step.kept c.commit.ensures.err c.commit.ensures.survives clean opened

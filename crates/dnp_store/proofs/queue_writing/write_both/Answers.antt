@@ -17,6 +17,18 @@ use Rattle.dnp_store.proofs.Ending.{survives_undone, kept_undone, kept_unless}
 use Rattle.dnp_store.proofs.Stepping.{step_then}
 use Rattle.dnp_store.proofs.queue_writing.write_both.Goals as goal
 
+-- the connection that the commit leaves is handed back
+committed : (g : _) (c : goal.After-conn-2-1 g) → c.commit.new.self.0 ≡ c.conn-2-1.given.0
+committed g c = search rules
+
+-- the connection that was undone is handed back
+undone : (g : _) (c : goal.After-conn-1 g) → c.drop-tx.new.self.0 ≡ c.conn-1.given.0
+undone g c = search rules
+
+-- likewise that after the second step
+undone_too : (g : _) (c : goal.After-conn-in_err-append_in-2-1 g) → c.drop-tx-in_err-append_in-2.new.self.0 ≡ c.conn-in_err-append_in-2-1.given.0
+undone_too g c = search rules
+
 abbrev before : Stock → Stock → Sides
 before first second = record { first = first; second = second }
 
@@ -46,7 +58,7 @@ returns-clause-ok g c clean stood =
     let mid = state g.S.Store c.append_in-2.new.tx.conn.now in
     let end = state g.S.Store c.commit.new.self.0 in
     let b = before (with_rows c.args.first.now c.args.rows.now) (with_rows c.args.second.now c.args.rows.now) in
-    let same : c.commit.new.self.0 ≡ c.conn-2-1.given.0 = search rules in
+    let same = committed g c in
     let late : HasCleanDisk end = subst (λ h. HasCleanDisk (state g.S.Store h)) (sym same) clean in
     let early : HasCleanDisk mid = omega (arith, late, c.commit.ensures.survives.clean) in
     subst (λ h. OnOk c.commit.result (Stands (state g.S.Store h) b)) same
@@ -61,7 +73,7 @@ returns-clause-survives g c =
     let old = c.args.conn.now in
     let P = λ (db : Trees). Stands (state g.S.Store old) (before c.args.first.now c.args.second.now)
     → HoldsPair db (before (with_rows c.args.first.now c.args.rows.now) (with_rows c.args.second.now c.args.rows.now)) in
-    let same : c.commit.new.self.0 ≡ c.conn-2-1.given.0 = search rules in
+    let same = committed g c in
     subst (λ h. Survives (state g.S.Store old) (state g.S.Store h) P) same
     (survives_commit g.S.Store old c.transaction-tx.result.conn.now mid end P c.transaction-tx.ensures.begun
     (survives_then begun first mid (λ _. ⊥) (λ _. ⊥) (λ _. ⊥) (λ _ db none. none) (λ _ db none. none) c.append_in.ensures.step.survives
@@ -70,7 +82,7 @@ returns-clause-survives g c =
 
 pub returns-in_err-append_in-clause-refused : goal.returns-in_err-append_in-clause-refused
 returns-in_err-append_in-clause-refused g c clean =
-    let same : c.drop-tx.new.self.0 ≡ c.conn-1.given.0 = search rules in
+    let same = undone g c in
     let late : HasCleanDisk (state g.S.Store c.drop-tx.new.self.0) = subst (λ h. HasCleanDisk (state g.S.Store h)) (sym same) clean in
     let early : HasCleanDisk (state g.S.Store c.append_in.new.tx.conn.now) = omega (arith, late, c.drop-tx.ensures.survives.clean) in
     let here = refused_inside g.S.Store Queue c.args.conn.now c.transaction-tx.result.conn.now c.append_in.new.tx.conn.now c.drop-tx.new.self.0 _ _
@@ -81,7 +93,7 @@ pub returns-clause-refused : goal.returns-clause-refused
 returns-clause-refused g c clean =
     let mid = c.append_in-2.new.tx.conn.now in
     let end = c.commit.new.self.0 in
-    let same : end ≡ c.conn-2-1.given.0 = search rules in
+    let same = committed g c in
     let late : HasCleanDisk (state g.S.Store end) = subst (λ h. HasCleanDisk (state g.S.Store h)) (sym same) clean in
     let early : HasCleanDisk (state g.S.Store mid) = omega (arith, late, c.commit.ensures.survives.clean) in
     by_commit g.S.Store Queue c.args.conn.now c.transaction-tx.result.conn.now mid end _ c.commit.result c.transaction-tx.ensures.begun same
@@ -92,7 +104,7 @@ returns-clause-refused g c clean =
 pub returns-in_err-append_in-2-clause-refused : goal.returns-in_err-append_in-2-clause-refused
 returns-in_err-append_in-2-clause-refused g c clean =
     let begun = c.transaction-tx.result.conn.now in
-    let same : c.drop-tx-in_err-append_in-2.new.self.0 ≡ c.conn-in_err-append_in-2-1.given.0 = search rules in
+    let same = undone_too g c in
     let late : HasCleanDisk (state g.S.Store c.drop-tx-in_err-append_in-2.new.self.0) = subst (λ h. HasCleanDisk (state g.S.Store h)) (sym same) clean in
     let early : HasCleanDisk (state g.S.Store c.append_in-2.new.tx.conn.now) = omega (arith, late, c.drop-tx-in_err-append_in-2.ensures.survives.clean) in
     let here = refused_inside g.S.Store Queue c.args.conn.now begun c.append_in-2.new.tx.conn.now c.drop-tx-in_err-append_in-2.new.self.0 _ _
@@ -103,14 +115,14 @@ returns-in_err-append_in-2-clause-refused g c clean =
 
 pub returns-in_err-append_in-clause-survives : goal.returns-in_err-append_in-clause-survives
 returns-in_err-append_in-clause-survives g c =
-    let same : c.drop-tx.new.self.0 ≡ c.conn-1.given.0 = search rules in
+    let same = undone g c in
     survives_undone g.S.Store c.args.conn.now c.transaction-tx.result.conn.now c.append_in.new.tx.conn.now c.drop-tx.new.self.0 _
     c.transaction-tx.ensures.begun same _
     c.append_in.ensures.step.survives c.drop-tx.ensures.survives
 
 pub returns-in_err-append_in-clause-err : goal.returns-in_err-append_in-clause-err
 returns-in_err-append_in-clause-err g c clean opened =
-    let same : c.drop-tx.new.self.0 ≡ c.conn-1.given.0 = search rules in
+    let same = undone g c in
     let here = kept_undone g.S.Store c.args.conn.now c.transaction-tx.result.conn.now c.append_in.new.tx.conn.now c.drop-tx.new.self.0 _
     c.transaction-tx.ensures.begun same _
     c.append_in.ensures.step.kept c.drop-tx.ensures.undone c.drop-tx.ensures.survives clean opened in
@@ -118,7 +130,7 @@ returns-in_err-append_in-clause-err g c clean opened =
 
 pub returns-in_err-append_in-2-clause-survives : goal.returns-in_err-append_in-2-clause-survives
 returns-in_err-append_in-2-clause-survives g c =
-    let same : c.drop-tx-in_err-append_in-2.new.self.0 ≡ c.conn-in_err-append_in-2-1.given.0 = search rules in
+    let same = undone_too g c in
     let both = step_then g.S.Store c.transaction-tx.result.conn c.append_in.new.tx.conn c.append_in-2.new.tx.conn _ _ c.append_in.ensures.step
     c.append_in-2.ensures.step in
     survives_undone g.S.Store c.args.conn.now c.transaction-tx.result.conn.now c.append_in-2.new.tx.conn.now c.drop-tx-in_err-append_in-2.new.self.0 _
@@ -127,7 +139,7 @@ returns-in_err-append_in-2-clause-survives g c =
 
 pub returns-in_err-append_in-2-clause-err : goal.returns-in_err-append_in-2-clause-err
 returns-in_err-append_in-2-clause-err g c clean opened =
-    let same : c.drop-tx-in_err-append_in-2.new.self.0 ≡ c.conn-in_err-append_in-2-1.given.0 = search rules in
+    let same = undone_too g c in
     let both = step_then g.S.Store c.transaction-tx.result.conn c.append_in.new.tx.conn c.append_in-2.new.tx.conn _ _ c.append_in.ensures.step
     c.append_in-2.ensures.step in
     let here = kept_undone g.S.Store c.args.conn.now c.transaction-tx.result.conn.now c.append_in-2.new.tx.conn.now c.drop-tx-in_err-append_in-2.new.self.0 _
@@ -137,7 +149,7 @@ returns-in_err-append_in-2-clause-err g c clean opened =
 
 pub returns-clause-err : goal.returns-clause-err
 returns-clause-err g c clean opened =
-    let same : c.commit.new.self.0 ≡ c.conn-2-1.given.0 = search rules in
+    let same = committed g c in
     let both = step_then g.S.Store c.transaction-tx.result.conn c.append_in.new.tx.conn c.append_in-2.new.tx.conn _ _ c.append_in.ensures.step
     c.append_in-2.ensures.step in
     kept_unless g.S.Store c.args.conn.now c.transaction-tx.result.conn.now c.append_in-2.new.tx.conn.now c.commit.new.self.0 _ c.transaction-tx.ensures.begun

@@ -8,6 +8,7 @@ use Rattle.dnp_store.proofs.Numbering.{no_entries, fresh_book}
 use Rattle.dnp_store.proofs.Statements.{survives_as, survives_on}
 use Rattle.dnp_store.specs.declared.store_kind.StoreKind.TheVariants.{Book}
 use Rattle.dnp_store.proofs.Refusing.{lost_open, taken_open}
+use Rattle.dnp_store.proofs.Standing.{survives_itself}
 use Rattle.dnp_store.proofs.book.ControlBook.create.Goals as goal
 
 stood : (g : _) (c : goal.After-new g) → HasCleanDisk (state g.S.Store c.write_tables.new.conn) → IsTrue c.is_bare-owned.result
@@ -70,3 +71,6 @@ returns-in-Err-clause-same g c clean opened =
 
 pub returns-in-Err-clause-handed_back : goal.returns-in-Err-clause-handed_back
 returns-in-Err-clause-handed_back g c = (search rules, c.is_lost-lost.ensures.survives.limit ∙ c.write_tables.ensures.survives.limit)
+
+pub returns-then-not-is_autocommit-clause-left : goal.returns-then-not-is_autocommit-clause-left
+returns-then-not-is_autocommit-clause-left g c = survives_itself (state g.S.Store c.args.conn)

@@ -5,6 +5,7 @@ use Rattle.dnp_controls.specs.Book.{Ledger}
 use Rattle.dnp_store.proofs.BookOpening.{found_again}
 use Rattle.dnp_store.proofs.BookPlaces.{past_none}
 use Rattle.dnp_store.proofs.Statements.{survives_on}
+use Rattle.dnp_store.proofs.Standing.{survives_itself}
 use Rattle.dnp_store.proofs.book.ControlBook.open.Goals as goal
 
 pub invariant_of-result : goal.invariant_of-result
@@ -70,3 +71,6 @@ returns-in-Err-clause-same g c clean opened =
 
 pub returns-in-Err-clause-handed_back : goal.returns-in-Err-clause-handed_back
 returns-in-Err-clause-handed_back g c = (search rules, c.unread_fault-fault.ensures.survives.limit ∙ c.read_book.ensures.survives.limit)
+
+pub returns-then-not-is_autocommit-clause-left : goal.returns-then-not-is_autocommit-clause-left
+returns-then-not-is_autocommit-clause-left g c = survives_itself (state g.S.Store c.args.conn)

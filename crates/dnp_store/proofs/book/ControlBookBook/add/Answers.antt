@@ -1,11 +1,12 @@
 use Rattle.std.proofs.Common.{rules, ◌≡◌, ◌+◌, ◌∷◌, [], inr, false, IsTrue, arith, sym, ap, subst, ◌⊎◌, true}
 use Rattle.sqlite.specs.State.{HasCleanDisk}
 use Rattle.sqlite.specs.Held.{state}
+use Rattle.dnp_controls.specs.declared.book.BookFault.TheVariants as fault
 use Rattle.dnp_controls.specs.Book.{Ledger, IsSound, added}
 use Rattle.dnp_controls.specs.Moves.{Add}
 use Rattle.dnp_store.specs.BookKept.{Kept, IsPast, Stands, LeavesEither}
 use Rattle.dnp_store.proofs.BookPlaces.{past_push}
-use Rattle.dnp_store.proofs.BookStanding.{either_of, leaves_last}
+use Rattle.dnp_store.proofs.BookStanding.{either_of, leaves_before, leaves_last, seen_refused, seen_stands, seen_stopped}
 use Rattle.dnp_store.specs.declared.store_kind.StoreKind.TheVariants.{Book}
 use Rattle.dnp_store.specs.Refusals.{IsLost}
 use Rattle.dnp_store.proofs.Refusing.{lost_book}
@@ -82,3 +83,14 @@ returns-in-Err-clause-device g c clean told =
       refused = c.in-Err.ensures.refused early;
       lost = c.is_lost-lost.ensures.lost clean lost;
     }))
+
+pub returns-then-self-clause-call : goal.returns-then-self-clause-call
+returns-then-self-clause-call g c = seen_stopped g.S.Store _ _ c.self.view_is c.self.invariant.sound c.if-self.true
+
+pub returns-then-self-ge-MAX_ID-clause-call : goal.returns-then-self-ge-MAX_ID-clause-call
+returns-then-self-ge-MAX_ID-clause-call g c = seen_refused g.S.Store _ _ c.self.view_is fault.Exhausted (λ e. absurd cc) c.self.invariant.sound c.if-self.false
+
+pub returns-then-self-ge-MAX_ID-clause-either : goal.returns-then-self-ge-MAX_ID-clause-either
+returns-then-self-ge-MAX_ID-clause-either g c clean serves own =
+    leaves_before (state g.S.Store c.args.self.now.conn) _ _ (g.met.S.Store.settled c.args.self.now.conn.store)
+    (seen_stands g.S.Store _ _ c.self.view_is c.self.invariant.stands serves own clean)

@@ -2,9 +2,8 @@ use Rattle.std.proofs.Common.{◌≡◌, ◌≤◌, ap, ◌∙◌, subst, List, 
 use Rattle.std.specs.Prelude.{All}
 use Rattle.dnp_controls.specs.declared.book.Entry.{Entry}
 use Rattle.dnp_controls.specs.Book.{is_pending, next_of}
-use Rattle.dnp_controls.proofs.Numbered.{next_of-drop}
 use Rattle.dnp_store.specs.BookKept.{Kept}
-use Rattle.dnp_store.proofs.BookPlaces.{past_on}
+use Rattle.dnp_store.proofs.BookPlaces.{next_after, past_on}
 use Rattle.dnp_store.proofs.book.ControlBookBook.next.Goals as goal
 
 pub invariant_of-self : goal.invariant_of-self
@@ -26,7 +25,7 @@ returns-clause-value g c =
     let rest : c.split_at.result.1.now ≡ drop c.self.inside.first c.self.inside.entries.items = cc in
     c.first_pending.ensures
     ∙ ap (λ es. next_of es c.args.target) c.split_at-2.ensures.back
-    ∙ next_of-drop c.split_at.result.1.now c.count_past-past.result c.args.target c.count_past-past.ensures.past
+    ∙ next_after c.split_at.result.1.now c.count_past-past.result c.args.target c.count_past-past.ensures.past
     ∙ ap (λ es. next_of es c.args.target) rest
-    ∙ next_of-drop c.self.inside.entries.items c.self.inside.first c.args.target c.self.invariant.past.none
+    ∙ next_after c.self.inside.entries.items c.self.inside.first c.args.target c.self.invariant.past.none
     ∙ ap (λ (k : Kept _). next_of k.ledger.entries c.args.target) c.self.view_is

@@ -10,6 +10,7 @@ use Rattle.dnp_store.proofs.Statements.{survives_as, survives_on}
 use Rattle.dnp_store.proofs.JournalStanding.{told_is, told_stands}
 use Rattle.dnp_store.specs.declared.store_kind.StoreKind.TheVariants.{Journal}
 use Rattle.dnp_store.proofs.Refusing.{lost_open, taken_open}
+use Rattle.dnp_store.proofs.Standing.{survives_itself}
 use Rattle.dnp_store.proofs.journal.Journal.create.Goals as goal
 
 stood : (g : _) (c : goal.In_default g) → HasCleanDisk (state g.S.Store c.write_tables.new.conn) → IsTrue c.is_bare-owned.result
@@ -77,3 +78,6 @@ returns-in-Err-clause-same g c clean opened =
 
 pub returns-in-Err-clause-handed_back : goal.returns-in-Err-clause-handed_back
 returns-in-Err-clause-handed_back g c = (search rules, c.is_lost-lost.ensures.survives.limit ∙ c.write_tables.ensures.survives.limit)
+
+pub returns-then-not-is_autocommit-clause-left : goal.returns-then-not-is_autocommit-clause-left
+returns-then-not-is_autocommit-clause-left g c = survives_itself (state g.S.Store c.args.conn)

@@ -3,6 +3,7 @@ use Rattle.sqlite.specs.State.{HasCleanDisk}
 use Rattle.sqlite.specs.Held.{state}
 use Rattle.dnp_store.proofs.JournalStanding.{found_again}
 use Rattle.dnp_store.proofs.Statements.{survives_on}
+use Rattle.dnp_store.proofs.Standing.{survives_itself}
 use Rattle.dnp_store.proofs.journal.Journal.open.Goals as goal
 
 pub invariant_of-result : goal.invariant_of-result
@@ -81,3 +82,6 @@ returns-in-Err-clause-same g c clean opened =
 
 pub returns-in-Err-clause-handed_back : goal.returns-in-Err-clause-handed_back
 returns-in-Err-clause-handed_back g c = (search rules, c.unread_fault-fault.ensures.survives.limit ∙ c.read_journal.ensures.survives.limit)
+
+pub returns-then-not-is_autocommit-clause-left : goal.returns-then-not-is_autocommit-clause-left
+returns-then-not-is_autocommit-clause-left g c = survives_itself (state g.S.Store c.args.conn)

@@ -3,7 +3,7 @@ use Rattle.sqlite.specs.State.{HasCleanDisk}
 use Rattle.sqlite.specs.Held.{state}
 use Rattle.dnp_eventbuf.specs.Archive.{IsSoundArchive, rows_over}
 use Rattle.dnp_store.specs.JournalKept.{Kept, IsHonest, archive_of, held_archive}
-use Rattle.dnp_store.proofs.JournalStanding.{sound_kept, same_archive, sound_still, over_none, over_few, smaller}
+use Rattle.dnp_store.proofs.JournalStanding.{journal_stopped, sound_kept, same_archive, sound_still, over_none, over_few, smaller}
 use Rattle.dnp_store.specs.Refusals.{LosesReading}
 use Rattle.dnp_store.proofs.Refusing.{lost_if}
 use Rattle.dnp_store.proofs.journal.JournalJournalStore.rows.Goals as goal
@@ -87,3 +87,6 @@ returns-in-Err-clause-device g c clean told =
       unread = c.in-Err.ensures.unread early;
       lost = c.is_lost_unread-lost.ensures.lost clean lost;
     }))
+
+pub returns-then-self-clause-call : goal.returns-then-self-clause-call
+returns-then-self-clause-call g c = journal_stopped g.S.Store _ _ c.self.view_is c.if-self.true

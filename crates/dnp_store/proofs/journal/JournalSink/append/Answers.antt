@@ -1,10 +1,11 @@
 use Rattle.std.proofs.Common.{◌≡◌, ◌+◌, false, IsTrue, length, arith, refl, sym, ap, subst, ◌∙◌, rules, ◌⊎◌, inr, true}
 use Rattle.sqlite.specs.State.{HasCleanDisk}
 use Rattle.sqlite.specs.Held.{state}
+use Rattle.dnp_objects.specs.declared.store.StoreFault.TheVariants as fault
 use Rattle.dnp_eventbuf.specs.Archive.{Archive, with_events}
 use Rattle.dnp_store.specs.JournalKept.{Kept, Stands, Leaves, LeavesEither, archive_of, held_archive}
 use Rattle.dnp_store.proofs.JournalHolding.{count_with}
-use Rattle.dnp_store.proofs.JournalStanding.{either_of, leaves_last, told_is, told_stands}
+use Rattle.dnp_store.proofs.JournalStanding.{either_of, leaves_before, leaves_last, seen_stands, sink_refused, sink_stopped, told_is, told_stands}
 use Rattle.dnp_store.specs.declared.store_kind.StoreKind.TheVariants.{Journal}
 use Rattle.dnp_store.specs.Refusals.{IsLost}
 use Rattle.dnp_store.proofs.Refusing.{lost_if}
@@ -80,3 +81,22 @@ returns-in-Err-clause-device g c clean told =
       refused = c.in-Err.ensures.refused early;
       lost = c.is_lost-lost.ensures.lost clean lost;
     }))
+
+pub returns-then-self-clause-call : goal.returns-then-self-clause-call
+returns-then-self-clause-call g c = sink_stopped g.S.Store _ _ c.self.view_is c.if-self.true
+
+pub returns-then-count-self-clause-call : goal.returns-then-count-self-clause-call
+returns-then-count-self-clause-call g c = sink_refused g.S.Store _ _ c.self.view_is fault.Exhausted (λ e. absurd cc) c.if-self.false
+
+pub returns-then-count-self-clause-either : goal.returns-then-count-self-clause-either
+returns-then-count-self-clause-either g c clean serves own =
+    leaves_before (state g.S.Store c.args.self.now.conn) _ _ (g.met.S.Store.settled c.args.self.now.conn.store)
+    (seen_stands g.S.Store _ _ c.self.view_is c.self.invariant.stands serves own clean)
+
+pub returns-clause-either : goal.returns-clause-either
+returns-clause-either g c clean =
+    let new = state g.S.Store c.write_events.new.conn in
+    let events = c.args.events.now in
+    let P = λ (k : Kept _). k.stopped ≡ false → IsTrue k.owned → LeavesEither new (held_archive g.S.Store k) (with_events (held_archive g.S.Store k) events) in
+    subst P c.self.view_is (λ serves own db may.
+    inr (leaves_last new _ (g.met.S.Store.settled c.write_events.new.conn.store) (stood g c clean serves own) db may))

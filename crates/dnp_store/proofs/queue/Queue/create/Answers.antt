@@ -4,6 +4,7 @@ use Rattle.dnp_store.proofs.Statements.{survives_on}
 use Rattle.sqlite.specs.State.{HasCleanDisk}
 use Rattle.dnp_store.specs.declared.store_kind.StoreKind.TheVariants.{Queue}
 use Rattle.dnp_store.proofs.Refusing.{lost_open, taken_open}
+use Rattle.dnp_store.proofs.Standing.{survives_itself}
 use Rattle.dnp_store.proofs.queue.Queue.create.Goals as goal
 
 pub returns-in-Err-clause-left : goal.returns-in-Err-clause-left
@@ -42,3 +43,9 @@ returns-in-Err-clause-same g c clean opened =
 
 pub returns-in-Err-clause-handed_back : goal.returns-in-Err-clause-handed_back
 returns-in-Err-clause-handed_back g c = (search rules, c.is_lost-lost.ensures.survives.limit ∙ c.write_tables.ensures.survives.limit)
+
+pub returns-then-not-is_autocommit-clause-left : goal.returns-then-not-is_autocommit-clause-left
+returns-then-not-is_autocommit-clause-left g c = survives_itself (state g.S.Store c.args.conn)
+
+pub returns-in_default-clause-left : goal.returns-in_default-clause-left
+returns-in_default-clause-left g c = survives_itself (state g.S.Store c.args.conn)
