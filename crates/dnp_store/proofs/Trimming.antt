@@ -1,5 +1,5 @@
 -- A lane that drops its oldest rows.
-use Rattle.std.proofs.Common.{◌≡◌, ◌≢◌, inl, inr, ℕ, zero, suc, ◌+◌, ◌-◌, ◌<◌, ◌≤◌, ◌^◌, ◌==◌, ◌||◌, nat_lt, Bool, true, false, cond, Some, List, [], ◌∷◌, ◌++◌, length, drop, set, map, filter, refl, sym, ap, ap₂, subst, ◌∙◌, arith, length-append, length-set}
+use Rattle.std.proofs.Common.{◌≡◌, ◌≢◌, inl, inr, ℕ, zero, suc, ◌+◌, ◌-◌, ◌<◌, ◌≤◌, ◌^◌, ◌==◌, ◌||◌, nat_lt, Bool, true, false, cond, None, Some, List, [], ◌∷◌, ◌++◌, length, drop, set, map, filter, refl, sym, ap, ap₂, subst, ◌∙◌, arith, length-append, length-set}
 use Rattle.std.specs.Prelude.{slice_get, option_map}
 use Rattle.std.specs.List.{AllByRecursion}
 use Rattle.std.proofs.lemmas.Bool.{cases_eq, cases_lt}
@@ -247,6 +247,12 @@ id_low s rows number place id sound low few at =
     let lane = recursion_from_All (λ (x : Numbered). x.id ≤ s.last_id) (lane_at s number).rows (sound.each number low).up_to_last in
     found_low _ place id (2 ^ 62) (both_low (lane_at s number).rows (numbered_for number s.last_id rows) s.last_id (2 ^ 62) (omega arith) lane
     (came_low number s.last_id rows (2 ^ 62) few)) at
+
+-- among so many rows there is one at each place
+pub is_there : (xs : List Numbered) (place : ℕ) → place < length xs → option_map (λ (x : Numbered). x.id) (slice_get xs place) ≡ None → ⊥
+is_there [] place low none = omega arith
+is_there (x ∷ xs) zero low none = absurd cc
+is_there (x ∷ xs) (suc place) low none = is_there xs place (omega arith) none
 
 -- ---- the whole append
 

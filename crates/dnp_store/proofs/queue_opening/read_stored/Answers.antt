@@ -8,7 +8,7 @@ use Rattle.dnp_store.proofs.Ending.{survives_undone, kept_undone}
 use Rattle.dnp_store.proofs.queue_opening.read_stored.Goals as goal
 
 -- the connection that was rolled back is handed back
-rolled : (g : _) (c : goal.After-conn-2-1 g) → c.rollback.new.self.0 ≡ c.conn-2-1.given.0
+rolled : (g : _) (c : goal.After-owned_by g) → c.rollback.new.self.0 ≡ c.conn-2-1.given.0
 rolled g c = search rules
 
 -- the connection that was undone is handed back

@@ -1,14 +1,14 @@
-use Rattle.std.proofs.Common.{rules, ◌≡◌, ◌+◌, ◌-◌, ◌<◌, ◌++◌, slice_get, option_map, length-set, Some, arith, sym, ap, subst, ◌∙◌, add-one}
+use Rattle.std.proofs.Common.{rules, ◌≡◌, ◌+◌, ◌-◌, ◌<◌, ◌++◌, length, slice_get, option_map, length-append, length-set, None, Some, arith, sym, ap, subst, ◌∙◌, add-one}
 use Rattle.sqlite.specs.State.{HasCleanDisk}
 use Rattle.sqlite.specs.Held.{state}
 use Rattle.dnp_eventbuf.specs.Stock.{lane_at, above}
 use Rattle.dnp_eventbuf.specs.declared.numbered.Numbered.{Numbered}
 use Rattle.dnp_eventbuf.specs.Latest.{numbered_for}
 use Rattle.dnp_store.specs.steps.Steps.{over, cut, IsTrimmed}
-use Rattle.dnp_store.proofs.Trimming.{trimmed_none, trimmed_some, lost_low, id_low}
+use Rattle.dnp_store.proofs.Trimming.{trimmed_none, trimmed_some, lost_low, id_low, is_there}
 use Rattle.dnp_store.specs.declared.store_kind.StoreKind.TheVariants.{Queue}
 use Rattle.dnp_store.proofs.Refusing.{refused_after}
-use Rattle.dnp_store.proofs.Stepping.{step_then}
+use Rattle.dnp_store.proofs.Stepping.{step_as, step_none, step_then}
 use Rattle.dnp_store.proofs.queue_writing.trim.Goals as goal
 
 pub returns-then-over-eq0-clause-trimmed : goal.returns-then-over-eq0-clause-trimmed
@@ -16,7 +16,7 @@ returns-then-over-eq0-clause-trimmed g c clean others raised h =
     let s = c.args.lanes.now in
     let rows = c.args.rows.now in
     let db = (state g.S.Store c.args.tx.now.conn.now).now in
-    let none : over s rows c.args.number ≡ 0 = search rules in
+    let none : over s rows c.args.number ≡ 0 = sym c.drops_in-over.ensures ∙ c.if-over-eq0.true in
     subst (λ n. IsTrimmed c.args.side others db s rows raised n) (sym (add-one c.args.number))
     (trimmed_none c.a_lane_keeps_its_latest_rows.ensures s rows c.args.number c.requires.sound c.requires.number c.requires.after.nine c.args.side others db raised none h)
 
@@ -48,7 +48,7 @@ returns-clause-trimmed g c clean others raised h =
     let mid = state g.S.Store c.take.new.tx.conn.now in
     let new = state g.S.Store c.note.new.tx.conn.now in
     let early : HasCleanDisk mid = omega (arith, c.note.ensures.step.survives.clean) in
-    let some : 0 < over s rows number = search rules in
+    let some : 0 < over s rows number = omega (arith, c.drops_in-over.ensures, c.if-over-eq0.false) in
     let at : c.id_at.result ≡ Some upto = search rules in
     let there = ap (λ n. option_map (λ (x : Numbered). x.id) (slice_get ((lane_at s number).rows ++ numbered_for number s.last_id rows) (n - 1)))
     (sym c.drops_in-over.ensures) ∙ sym c.id_at.ensures ∙ at in
@@ -73,3 +73,20 @@ pub returns-clause-step : goal.returns-clause-step
 returns-clause-step g c =
     let here = step_then g.S.Store c.args.tx.now.conn c.take.new.tx.conn c.note.new.tx.conn _ _ c.take.ensures.step c.in_ok-note.ensures.step in
     record { same_reference = here.same_reference; inside = here.inside; kept = here.kept; survives = here.survives }
+
+pub returns-then-over-eq0-clause-step : goal.returns-then-over-eq0-clause-step
+returns-then-over-eq0-clause-step g c = step_none g.S.Store c.args.tx.now.conn c.requires.inside
+
+pub returns-in_err-upto-clause-step : goal.returns-in_err-upto-clause-step
+returns-in_err-upto-clause-step g c = step_as g.S.Store _ _ tt _ (step_none g.S.Store c.args.tx.now.conn c.requires.inside)
+
+-- a lane that drops some has the row that it drops last
+pub returns-in_err-upto-clause-refused : goal.returns-in_err-upto-clause-refused
+returns-in_err-upto-clause-refused g c clean =
+    let s = c.args.lanes.now in
+    let rows = c.args.rows.now in
+    let ours = (lane_at s c.args.number).rows in
+    let came = numbered_for c.args.number s.last_id rows in
+    let none : c.id_at.result ≡ None = search rules in
+    let low : c.drops_in-over.result - 1 < length (ours ++ came) = omega (arith, c.drops_in-over.ensures, c.if-over-eq0.false, length-append ours came) in
+    absurd (is_there (ours ++ came) (c.drops_in-over.result - 1) low (sym c.id_at.ensures ∙ none))
