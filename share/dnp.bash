@@ -2,12 +2,12 @@
 _dnp() {
     local word=${COMP_WORDS[COMP_CWORD]} before=${COMP_WORDS[COMP_CWORD - 1]}
     if [ "$COMP_CWORD" = 1 ]; then
-        COMPREPLY=($(compgen -W 'answer centre concentrate decode loopback outstation poll sim help --help --version' -- "$word"))
+        COMPREPLY=($(compgen -W 'answer centre concentrate decode loopback outstation poll rows sim help --help --version' -- "$word"))
         return
     fi
     case ${COMP_WORDS[1]}:$before in
     *:--capture|*:--chart|*:--controls|*:--journal|*:--pcap|*:--plan|*:--queue|*:--replay|*:--trace) COMPREPLY=($(compgen -f -- "$word")) ;;
-    answer:--own|answer:--peer|centre:--port|centre:--issue|concentrate:--port|concentrate:--below|concentrate:--rounds|loopback:--limit|outstation:--station|outstation:--port|outstation:--bind|outstation:--connections|outstation:--idle|poll:--own|poll:--peer|poll:--classes|poll:--time|poll:--operate|poll:--repeat|poll:--count|poll:--confirm|poll:--timeout|sim:--limit) COMPREPLY=() ;;
+    answer:--own|answer:--peer|centre:--port|centre:--issue|concentrate:--port|concentrate:--below|concentrate:--rounds|loopback:--limit|outstation:--station|outstation:--port|outstation:--bind|outstation:--connections|outstation:--idle|poll:--own|poll:--peer|poll:--classes|poll:--time|poll:--operate|poll:--repeat|poll:--count|poll:--confirm|poll:--timeout|rows:--centre|rows:--after|rows:--every|sim:--limit) COMPREPLY=() ;;
     answer:*) COMPREPLY=($(compgen -W '--own --peer --help' -- "$word")) ;;
     centre:*) COMPREPLY=($(compgen -W '--plan --journal --controls --port --issue --new --help' -- "$word")) ;;
     concentrate:*) COMPREPLY=($(compgen -W '--plan --queue --controls --port --below --rounds --new --migrate --help' -- "$word")) ;;
@@ -15,8 +15,9 @@ _dnp() {
     loopback:*) COMPREPLY=($(compgen -W '--plan --limit --plain --help' -- "$word")) ;;
     outstation:*) COMPREPLY=($(compgen -W '--plan --station --port --bind --connections --forever --idle --replay --repeat --verbose --help' -- "$word")) ;;
     poll:*) COMPREPLY=($(compgen -W '--own --peer --classes --clear-restart --time --operate --repeat --count --confirm --timeout --json --help' -- "$word")) ;;
+    rows:*) COMPREPLY=($(compgen -W '--journal --queue --controls --centre --after --follow --every --csv --json --help' -- "$word")) ;;
     sim:*) COMPREPLY=($(compgen -W '--plan --limit --trace --chart --capture --json --plain --help' -- "$word")) ;;
-    help:*) COMPREPLY=($(compgen -W 'answer centre concentrate decode loopback outstation poll sim' -- "$word")) ;;
+    help:*) COMPREPLY=($(compgen -W 'answer centre concentrate decode loopback outstation poll rows sim' -- "$word")) ;;
     esac
 }
 complete -F _dnp dnp ./dnp

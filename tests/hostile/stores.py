@@ -1,6 +1,8 @@
 """Files of stores with one octet spoilt. The program that tests/files runs refuses such a file, or opens it, puts a row there
 and shows the rows: these have to be what Python's sqlite3 reads in the same file, or what stood there where that reads none.
-`dnp centre` refuses a journal and a book by name, or goes on and finds nobody to ask. A case is an octet of a file."""
+`dnp centre` refuses a journal and a book by name, or goes on and finds nobody to ask. `dnp rows` refuses each by name, or shows
+what sqlite3 reads, and leaves the file as it is. A case is an octet of a file."""
+import json
 import re
 import shutil
 import sqlite3
@@ -23,6 +25,10 @@ KINDS, STATES = ("Block", "Set16", "Set32"), ("Pending", "Spent", "Finished")
 SAID = [(REFUSED, r"no (?:journal|book of controls): .+|no (?:journal|book of controls), or not whole|no (?:journal|book of controls) was made "
                   r"there: remove the file, and let '--new' make one|row \d+, .+: the plan has no such point|control \d+, .+: the plan has no such output"),
         (FAULT, r"its rows can't be read: out of memory, or its device failed|the device under the database failed|[^:]+")]
+WORDS = {"queue": "--queue", "journal": "--journal", "book": "--controls"}
+STORE = {"queue": "queue", "journal": "journal", "book": "book of controls"}
+EVENTS, COMMANDS = ("binary", "counter", "analog"), ("block", "set16", "set32")
+PROGRESS = ("pending", "spent", "finished")
 OTHERS = "other tables stand there too: nothing is promised of what is stored beside them"
 PLAN = """confirm_ms = 5000
 response_ms = 10000
@@ -93,6 +99,28 @@ def shown(run, name):
     return rows[:-1]
 
 
+def printed(name, line):
+    """The row that a line of `dnp rows` says."""
+    it = json.loads(line)
+    if name == "book":
+        return it["id"], it["target"], COMMANDS.index(it["command"]), it["index"], PROGRESS.index(it["state"]), it["status"] or 0
+    number = EVENTS.index(it["kind"]) + (3 * (it["class"] - 1) if name == "queue" else 0)
+    return it["id"], number, it["index"], int(it["flags"], 16), it["value"], it["time"]
+
+
+def read_beside(room, name, octets, place, wanted):
+    """`dnp rows` of a file with these octets, of which sqlite3 reads these rows, if any."""
+    run = Run([DNP, "rows", WORDS[name], f"{name}.db", "--json"], b"", room).ends(DONE, REFUSED, FAULT)
+    if (room / f"{name}.db").read_bytes() != octets or any((room / f"{name}.db{end}").exists() for end in ("-wal", "-shm")):
+        raise run.broken(f"octet {place} of the {name}'s file spoilt: a file is changed or made", file=octets)
+    if run.status != DONE:
+        if re.fullmatch(f"dnp: {name}\\.db: no {STORE[name]}(?:, or not whole|: .+| was made there: .+)\n"
+                        f"|dnp: {name}\\.db: (?:a queue of an earlier release, .+|its last id is \\d+: .+)\n", run.err) is None:
+            raise run.broken(f"octet {place} of the {name}'s file spoilt: another refusal", file=octets)
+    elif run.err or wanted is not None and [printed(name, line) for line in run.out.splitlines()] != wanted:
+        raise run.broken(f"octet {place} of the {name}'s file spoilt: other rows than sqlite3 reads, {wanted}", file=octets)
+
+
 def is_documented(run, name):
     """Whether the centre ended as it may, having named the file that it refused, or found nobody."""
     said = [line for line in run.err.split("\n")[:-1] if line != f"dnp: {name}.db: {OTHERS}"]
@@ -141,6 +169,7 @@ def try_one(room, whole, name, octets, place, bounded):
             (room / f"{other}.db{end}").unlink(missing_ok=True)
     shutil.copy(room / f"{name}.db", room / "copy.db")
     wanted = rows_in(room / "copy.db", name)
+    read_beside(room, name, octets, place, wanted)
     if name != "queue":
         centre = Run([DNP, "centre", "--plan", "plan.toml", "--journal", "journal.db", "--controls", "book.db", "--port", "1"], b"", room)
         if not is_documented(centre, name):

@@ -25,6 +25,7 @@ mod plan_file;
 mod planned;
 mod poll;
 mod replay;
+mod rows;
 mod serving;
 mod sim;
 mod texts;
@@ -97,6 +98,7 @@ fn command<'a>(alloc: Global) -> Result<Command<'a>, AllocError> {
         .subcommand(loopback::command(alloc)?)?
         .subcommand(outstation::command(alloc)?)?
         .subcommand(poll::command(alloc)?)?
+        .subcommand(rows::command(alloc)?)?
         .subcommand(sim::command(alloc)?)
 }
 
@@ -110,6 +112,7 @@ fn dispatch(rt: &HostRuntime, matches: &ArgMatches<'_>) -> anyhow::Result<ExitCo
         Some((loopback::NAME, given)) => loopback::run(rt, given),
         Some((outstation::NAME, given)) => outstation::run(rt, given),
         Some((poll::NAME, given)) => poll::run(rt, given),
+        Some((rows::NAME, given)) => rows::run(rt, given),
         Some((sim::NAME, given)) => sim::run(rt, given),
         // `clap` refuses a missing or an unknown subcommand before this.
         _ => Ok(ExitCode::from(exit::USAGE)),

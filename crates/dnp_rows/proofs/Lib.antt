@@ -1,0 +1,4 @@
+pub mod Dating
+pub mod Lining
+pub mod Listing
+pub mod Paging

@@ -1,0 +1,9 @@
+use Rattle.std.proofs.Common.{◌≡◌, ℕ, List, ◌++◌, drop}
+use Rattle.dnp_rows.specs.Lines.{AreLines}
+use Rattle.dnp_rows.proofs.line.put_lines.Given as goal
+
+-- some lines are put, and those of the other rows are still to come
+abbrev pub invariant-loop-item : goal.invariant-loop-item
+invariant-loop-item l =
+    (done : List ℕ) × (l.out.items ≡ l.fn.out.items ++ done)
+    × ((rest : List ℕ) → AreLines l.form (drop l.item-index l.items) rest → AreLines l.form l.items (done ++ rest))

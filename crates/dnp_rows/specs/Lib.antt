@@ -1,0 +1,5 @@
+-- Definitions, by which contracts promise.
+pub mod Dates
+pub mod Lines
+pub mod Cells
+pub mod Pages
