@@ -9,7 +9,7 @@ free() { python3 -c 'import socket; s = socket.socket(); s.bind(("127.0.0.1", 0)
 plan() {
     local file=$1 analogs=$2 count=$3 pair number
     local lanes='[100, 100, 100, 100, 100, 100, 100, 100, 100]' ones='' zeros=''
-    local -A keys=([confirm_ms]=5000 [response_ms]=1000 [select_ms]=5000 [retries]=0 [unsolicited]=false [queue]=$lanes)
+    local -A keys=([confirm_ms]=5000 [response_ms]=1000 [select_ms]=5000 [retries]=0 [unsolicited]=false [queue]=$lanes [queue2]=$lanes)
     shift 3
     for pair; do keys[${pair%%=*}]=${pair#*=}; done
     for ((number = 0; number < analogs; number++)); do ones+='1, ' zeros+='0, '; done
@@ -81,11 +81,18 @@ ended() {
     judge "$1" "$2" "$3" "$got"
 }
 
-# polls NAME STATUS STDOUT ARGS..: a run of the centre over journal.db and above.db
+# polls NAME STATUS STDOUT ARGS..: a run of the first centre over journal.db and above.db
 polls() {
     local name=$1 status=$2 stdout=$3
     shift 3
     expect "$name" "$status" "$stdout" '' centre --plan plan.toml --journal journal.db --controls above.db --port "$port" "$@"
+}
+
+# polls2 NAME STATUS STDOUT ARGS..: a run of the second centre over journal2.db and above2.db, at port2
+polls2() {
+    local name=$1 status=$2 stdout=$3
+    shift 3
+    expect "$name" "$status" "$stdout" '' centre --plan plan.toml --number 2 --journal journal2.db --controls above2.db --port "$port2" "$@"
 }
 
 # holds NAME FILE QUERY WANTED: what a database has, by sqlite3

@@ -5,7 +5,7 @@ port=$(python3 -c 'import socket; s = socket.socket(); s.bind(("", 0)); print(s.
 # plan FILE KEY=VALUE..: a plan of one substation with these values in place of those below
 plan() {
     local file=$1 lanes='[2, 2, 2, 2, 2, 2, 2, 2, 2]' pair
-    local -A keys=([confirm_ms]=5000 [response_ms]=10000 [select_ms]=300 [retries]=0 [unsolicited]=false [queue]=$lanes)
+    local -A keys=([confirm_ms]=5000 [response_ms]=10000 [select_ms]=300 [retries]=0 [unsolicited]=false [queue]=$lanes [queue2]=$lanes)
     local -A own=([lanes]=$lanes [binary]=[] [counter]=[] [analog]=[] [deadband]=[] [outputs]=6 [setpoints]=0 [base]='[0, 0, 0, 0, 0]')
     shift
     for pair; do

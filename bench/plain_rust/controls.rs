@@ -11,6 +11,11 @@ pub enum Command {
     Set32 { index: u16, value: i32 },
 }
 
+/// The status of a command that an output doesn't take, and of one whose point another master has selected.
+pub const NOT_SUPPORTED: u8 = 4;
+#[allow(dead_code)]
+pub const ALREADY_ACTIVE: u8 = 5;
+
 /// Whether outputs perform a block of this code and count.
 pub fn is_performed(code: u8, count: u8) -> bool {
     matches!(code & 0x3F, 1..=4) && code & 0xC0 != 0xC0 && count != 0
@@ -26,7 +31,8 @@ pub trait Panel {
 
     fn status(&self, index: u16) -> u8;
 
-    fn can_perform(&self, command: &Command) -> bool;
+    /// The status by which a command is refused, or 0.
+    fn check(&self, command: &Command) -> u8;
 
     fn perform(&mut self, command: Command);
 }
@@ -55,11 +61,12 @@ impl Panel for Switches {
         1 | u8::from(self.latched[usize::from(index)]) << 7
     }
 
-    fn can_perform(&self, command: &Command) -> bool {
-        match *command {
+    fn check(&self, command: &Command) -> u8 {
+        let is_there = match *command {
             Command::Block { index, code, count, .. } => usize::from(index) < self.latched.len() && is_performed(code, count),
             Command::Set16 { index, .. } | Command::Set32 { index, .. } => index < self.setpoints,
-        }
+        };
+        if is_there { 0 } else { NOT_SUPPORTED }
     }
 
     fn perform(&mut self, command: Command) {
@@ -127,6 +134,13 @@ impl<P: Panel> Outputs<P> {
         self.select = None;
     }
 
+    /// The first command of the select that stands at this moment.
+    pub fn standing(&self, now: u64) -> Option<Command> {
+        let select = self.select.as_ref().filter(|select| now < select.at.saturating_add(self.select_ms))?;
+        let request = [&[0xC0, 3], &select.objects[..]].concat();
+        Some(commands(&request).ok()?.first()?.0)
+    }
+
     /// What each command of an OPERATE is answered because of its select; none, where it is carried out.
     fn refused(&mut self, now: u64, octets: &[u8]) -> Option<u8> {
         match self.select.take() {
@@ -153,7 +167,7 @@ impl<P: Panel> Outputs<P> {
         answer.extend_from_slice(&octets[2..]);
         let mut is_selected = function == 3;
         for (command, at) in commands {
-            let code = refused.unwrap_or_else(|| if self.panel.can_perform(&command) { 0 } else { 4 });
+            let code = refused.unwrap_or_else(|| self.panel.check(&command));
             answer[at + 2] = code;
             is_selected &= code == 0;
             if function != 3 && code == 0 {

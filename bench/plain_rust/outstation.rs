@@ -5,7 +5,7 @@
 // Each program that has it uses a part of it.
 #![allow(dead_code)]
 
-use crate::controls::{Outputs, Panel, Switches};
+use crate::controls::{Command, Outputs, Panel, Switches};
 use crate::fragments::{headers, Fault, Header, Range, Row};
 use std::collections::VecDeque;
 
@@ -325,6 +325,11 @@ impl<P: Panel> Outstation<P> {
 
     pub fn panel(&mut self) -> &mut P {
         &mut self.outputs.panel
+    }
+
+    /// The command of the select that stands at this moment.
+    pub fn standing(&self, now: u64) -> Option<Command> {
+        self.outputs.standing(now)
     }
 
     /// Whether it is open, awaits no confirm and holds no READ.

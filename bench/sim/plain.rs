@@ -1,5 +1,5 @@
 //! A simulator in plain Rust that does what `dnp sim --plain` does, for `bench/sim/run` to measure that beside it: the
-//! same plans and scripts, substations, a concentrator and a centre over lines that carry link frames, and the same
+//! same plans and scripts, substations, a concentrator and two centres over lines that carry link frames, and the same
 //! report. Its words are those of the scripts that are measured, and those that cost nothing more: `hangup`, `damage`,
 //! `time`, `tick` and `restart` it doesn't know.
 //!

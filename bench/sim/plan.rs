@@ -10,7 +10,8 @@ pub struct Plan {
     pub select_ms: u64,
     pub retries: u8,
     pub is_unsolicited: bool,
-    pub queue: [usize; 9],
+    /// For the first centre, and for the second.
+    pub queues: [[usize; 9]; 2],
     pub substations: Vec<SubPlan>,
 }
 
@@ -50,7 +51,8 @@ fn set_outer(plan: &mut Plan, key: &str, value: &str) -> Option<()> {
         "select_ms" => plan.select_ms = value.parse().ok()?,
         "retries" => plan.retries = value.parse().ok()?,
         "unsolicited" => plan.is_unsolicited = value.parse().ok()?,
-        "queue" => plan.queue = to_usize(value)?,
+        "queue" => plan.queues[0] = to_usize(value)?,
+        "queue2" => plan.queues[1] = to_usize(value)?,
         _ => return None,
     }
     Some(())
@@ -154,6 +156,11 @@ impl Map {
         let (substation, index) = self.below(kind_of(&command), index_of(&command))?;
         Some((substation, with_index(command, index)))
     }
+}
+
+/// Whether both are for one output or setpoint.
+pub fn is_same_point(one: &Command, other: &Command) -> bool {
+    (kind_of(one), index_of(one)) == (kind_of(other), index_of(other))
 }
 
 fn kind_of(command: &Command) -> usize {

@@ -1,8 +1,9 @@
 //! Books of controls, and the masters that relay them.
 
-use crate::controls::{is_performed, Command, Panel};
+use crate::controls::{is_performed, Command, Panel, ALREADY_ACTIVE, NOT_SUPPORTED};
 use crate::master::{self, Master, Outcome, Sink, Task};
-use crate::plan::Map;
+use crate::plan::{is_same_point, Map};
+use std::cell::RefCell;
 use std::rc::Rc;
 
 #[derive(Clone, Copy, PartialEq)]
@@ -60,10 +61,12 @@ impl Book {
     }
 }
 
-/// Outputs of a concentrator: what is performed is added to the book for its substation.
+/// Outputs of a concentrator towards a centre: what is performed is added to the one book for its substation, but for the point
+/// that the other centre has selected.
 pub struct Relays {
     pub map: Rc<Map>,
-    pub book: Book,
+    pub book: Rc<RefCell<Book>>,
+    pub reserved: Option<Command>,
 }
 
 impl Panel for Relays {
@@ -77,17 +80,21 @@ impl Panel for Relays {
         0
     }
 
-    fn can_perform(&self, command: &Command) -> bool {
+    fn check(&self, command: &Command) -> u8 {
         let obeys = match *command {
             Command::Block { code, count, .. } => is_performed(code, count),
             Command::Set16 { .. } | Command::Set32 { .. } => true,
         };
-        obeys && self.map.command_below(*command).is_some()
+        if !obeys || self.map.command_below(*command).is_none() {
+            return NOT_SUPPORTED;
+        }
+        let is_reserved = self.reserved.is_some_and(|reserved| is_same_point(&reserved, command));
+        if is_reserved { ALREADY_ACTIVE } else { 0 }
     }
 
     fn perform(&mut self, command: Command) {
         if let Some((substation, below)) = self.map.command_below(command) {
-            self.book.add(substation, below);
+            self.book.borrow_mut().add(substation, below);
         }
     }
 }

@@ -33,14 +33,21 @@ fn list<T: fmt::Display>(name: &str, things: &[(u8, T)], out: &mut impl Write) -
 }
 
 pub fn print(world: &mut World, out: &mut impl Write) -> io::Result<()> {
-    list("journal", &world.journal_below(), out)?;
-    list("queue", &world.queue_below(), out)?;
-    list("dropped", &world.dropped_below(), out)?;
+    for (name, centre) in ["journal", "journal2"].into_iter().zip(0..) {
+        list(name, &world.journal_below(centre), out)?;
+    }
+    for (name, centre) in ["queue", "queue2"].into_iter().zip(0..) {
+        list(name, &world.queue_below(centre), out)?;
+    }
+    for (name, centre) in ["dropped", "dropped2"].into_iter().zip(0..) {
+        list(name, &world.dropped_below(centre), out)?;
+    }
     list("confirmed", &world.history.confirmed, out)?;
     list("buffered", &world.buffered(), out)?;
     list("overwritten", &world.history.overwritten, out)?;
     list::<Row>("gone", &[], out)?;
     list("issued", &world.history.issued, out)?;
     list("operated", &world.history.operated, out)?;
-    writeln!(out, "lost {}", world.lost())
+    writeln!(out, "lost {}", world.lost(0))?;
+    writeln!(out, "lost2 {}", world.lost(1))
 }

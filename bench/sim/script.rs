@@ -7,14 +7,16 @@ use std::fmt;
 #[derive(Clone, Copy, PartialEq)]
 pub enum Link {
     Below(u8),
-    Above,
+    /// To the centre of this number, from 0.
+    Above(usize),
 }
 
 impl fmt::Display for Link {
     fn fmt(&self, f: &mut fmt::Formatter<'_>) -> fmt::Result {
         match self {
             Link::Below(substation) => write!(f, "{substation}"),
-            Link::Above => f.write_str("above"),
+            Link::Above(0) => f.write_str("above"),
+            Link::Above(_) => f.write_str("above2"),
         }
     }
 }
@@ -33,11 +35,12 @@ pub enum Line {
     Flush(Link, Way),
     Change { substation: u8, kind: u8, index: u16, value: i64, flags: u8, time: Option<u64> },
     Ask(Link, Task),
-    Issue(u8, Command),
+    /// At the centre of this number, for a substation.
+    Issue(usize, u8, Command),
     Relay(Link),
     Pass(u64),
     Round(Link),
-    Control(u64),
+    Control(usize, u64),
 }
 
 /// The words of a line.
@@ -58,11 +61,13 @@ impl Words<'_> {
 
     fn link(&mut self) -> Option<Link> {
         let mut ahead = self.words.clone();
-        if ahead.next()? == "above" {
-            self.words = ahead;
-            return Some(Link::Above);
-        }
-        self.substation().map(Link::Below)
+        let centre = match ahead.next()? {
+            "above" => 0,
+            "above2" => 1,
+            _ => return self.substation().map(Link::Below),
+        };
+        self.words = ahead;
+        Some(Link::Above(centre))
     }
 
     fn way(&mut self) -> Option<Way> {
@@ -129,11 +134,13 @@ impl Words<'_> {
             "enable" => Line::Ask(self.link()?, Task::Enable(self.classes()?)),
             "disable" => Line::Ask(self.link()?, Task::Disable(self.classes()?)),
             "clear" => Line::Ask(self.link()?, Task::ClearRestart),
-            "issue" => Line::Issue(self.substation()?, self.command()?),
+            "issue" => Line::Issue(0, self.substation()?, self.command()?),
+            "issue2" => Line::Issue(1, self.substation()?, self.command()?),
             "relay" => Line::Relay(self.link()?),
             "pass" => Line::Pass(self.number()?),
             "round" => Line::Round(self.link()?),
-            "control" => Line::Control(self.number()?),
+            "control" => Line::Control(0, self.number()?),
+            "control2" => Line::Control(1, self.number()?),
             _ => return None,
         };
         self.words.next().is_none().then_some(line)

@@ -1,4 +1,4 @@
-//! Substations, a concentrator and a centre, with lines between them, and what became of every row and command.
+//! Substations, a concentrator and two centres, with lines between them, and what became of every row and command.
 
 use crate::controls::{Command, Switches};
 use crate::fragments::Row;
@@ -8,15 +8,16 @@ use crate::outstation::{Actions, Block, Numbered, Outstation, Times};
 use crate::plan::{Map, Plan, SubPlan};
 use crate::relay::{Book, Relay, Relays, State};
 use crate::script::{Line, Link, Way};
+use std::cell::RefCell;
 use std::io::{self, Write};
 use std::rc::Rc;
 
-const CENTRE: u16 = 1;
+const CENTRES: [u16; 2] = [1, 3];
 const MASTER_BELOW: u16 = 2;
 const CONCENTRATOR_ABOVE: u16 = 9;
 const FIRST_OUTSTATION: u16 = 10;
 
-/// The target of all controls in the centre's book.
+/// The target of all controls in a centre's book.
 const STATION_BELOW: u8 = 0;
 
 /// What became of rows and commands, beside the substations that they are of.
@@ -24,8 +25,8 @@ const STATION_BELOW: u8 = 0;
 pub struct History {
     pub confirmed: Vec<(u8, Row)>,
     pub overwritten: Vec<(u8, Row)>,
-    /// As they stand above.
-    pub dropped: Vec<Row>,
+    /// Of each centre, as they stand above.
+    pub dropped: [Vec<Row>; 2],
     pub issued: Vec<(u8, Command)>,
     pub operated: Vec<(u8, Command)>,
 }
@@ -44,24 +45,31 @@ struct Substation {
     relay: Relay,
 }
 
+/// A centre with the link to it.
+struct Centre {
+    channel: Channel,
+    relay: Relay,
+    journal: Vec<Row>,
+    orders: Book,
+}
+
 pub struct World {
     map: Rc<Map>,
     substations: Vec<Substation>,
-    /// The concentrator towards the centre: its lanes are the queue, and its panel has the book of controls.
-    concentrator: Outstation<Relays>,
-    above: Channel,
-    centre: Relay,
-    journal: Vec<Row>,
-    orders: Book,
+    /// The concentrator towards each centre: its lanes are the queue for that one.
+    concentrator: [Outstation<Relays>; 2],
+    /// The concentrator's book of controls.
+    book: Rc<RefCell<Book>>,
+    centres: [Centre; 2],
     now: u64,
     pub history: History,
 }
 
-/// Queues a substation's events, and shows its readings above.
+/// Queues a substation's events for both centres, and shows both its readings.
 struct Queueing<'a> {
     map: &'a Map,
-    concentrator: &'a mut Outstation<Relays>,
-    dropped: &'a mut Vec<Row>,
+    concentrator: &'a mut [Outstation<Relays>; 2],
+    dropped: &'a mut [Vec<Row>; 2],
     substation: u8,
 }
 
@@ -72,13 +80,17 @@ impl Sink for Queueing<'_> {
             let Some(row) = self.map.row_above(self.substation, row) else {
                 continue;
             };
-            if let Some(class @ 1..) = self.concentrator.show(block, row) {
-                let lane = usize::from(class - 1) * 3 + usize::from(row.kind);
-                self.dropped.extend(self.concentrator.append(lane, row));
+            for (towards, dropped) in self.concentrator.iter_mut().zip(&mut *self.dropped) {
+                if let Some(class @ 1..) = towards.show(block, row) {
+                    let lane = usize::from(class - 1) * 3 + usize::from(row.kind);
+                    dropped.extend(towards.append(lane, row));
+                }
             }
         }
         for row in statics.iter().filter_map(|row| self.map.row_above(self.substation, row)) {
-            self.concentrator.show(block, row);
+            self.concentrator.iter_mut().for_each(|towards| {
+                towards.show(block, row);
+            });
         }
         Ok(Vec::new())
     }
@@ -119,17 +131,25 @@ impl World {
         let Plan { confirm_ms, select_ms, retries, is_unsolicited, .. } = *plan;
         let times = Times { confirm_ms, select_ms, retries, is_unsolicited };
         let map = Rc::new(Map::new(plan));
-        let panel = Relays { map: map.clone(), book: Book::default() };
-        let points = [0, 1, 2].map(|kind: usize| plan.substations.iter().map(|s| (s.base[kind], s.classes[kind].clone())).collect());
+        let book = Rc::new(RefCell::new(Book::default()));
+        let towards = |queue| {
+            let panel = Relays { map: map.clone(), book: book.clone(), reserved: None };
+            Outstation::new([0, 1, 2].map(|kind| blocks_above(plan, kind)), queue, panel, times)
+        };
+        let points = || [0, 1, 2].map(|kind: usize| plan.substations.iter().map(|s| (s.base[kind], s.classes[kind].clone())).collect());
+        let centre = |address| Centre {
+            channel: Channel::new(CONCENTRATOR_ABOVE, address),
+            relay: Relay::new(Master::new(master::Plan::new(points()), plan.response_ms)),
+            journal: Vec::new(),
+            orders: Book::default(),
+        };
         let substations = plan.substations.iter().enumerate();
         World {
             substations: substations.map(|(number, plan_of)| new_substation(plan_of, number, times, plan.response_ms)).collect(),
-            concentrator: Outstation::new([0, 1, 2].map(|kind| blocks_above(plan, kind)), plan.queue, panel, times),
-            above: Channel::new(CONCENTRATOR_ABOVE, CENTRE),
-            centre: Relay::new(Master::new(master::Plan::new(points), plan.response_ms)),
+            concentrator: plan.queues.map(towards),
+            centres: CENTRES.map(centre),
             map,
-            journal: Vec::new(),
-            orders: Book::default(),
+            book,
             now: 0,
             history: History::default(),
         }
@@ -146,11 +166,11 @@ impl World {
             Line::Flush(on, way) => self.flush(on, way),
             Line::Change { substation, kind, index, value, flags, time } => self.change(substation, kind, index, value, flags, time),
             Line::Ask(on, task) => self.ask(on, task),
-            Line::Issue(substation, command) => self.issue(substation, command),
+            Line::Issue(centre, substation, command) => self.issue(centre, substation, command),
             Line::Relay(on) => self.relay(on),
             Line::Pass(ms) => self.now = self.now.saturating_add(ms),
             Line::Round(on) => return told(out, "round", on, self.round(on)),
-            Line::Control(id) => return told(out, "control", id, self.control(id)),
+            Line::Control(centre, id) => return told(out, ["control", "control2"][centre], id, self.control(centre, id)),
         }
         Ok(())
     }
@@ -161,14 +181,17 @@ impl World {
                 let substation = &mut self.substations[usize::from(number)];
                 (&mut substation.channel, &mut substation.relay)
             }
-            Link::Above => (&mut self.above, &mut self.centre),
+            Link::Above(centre) => {
+                let centre = &mut self.centres[centre];
+                (&mut centre.channel, &mut centre.relay)
+            }
         }
     }
 
     fn open(&mut self, on: Link) {
         let actions = match on {
             Link::Below(number) => self.substations[usize::from(number)].outstation.opened(self.now),
-            Link::Above => self.concentrator.opened(self.now),
+            Link::Above(centre) => self.concentrator[centre].opened(self.now),
         };
         let (channel, relay) = self.link(on);
         channel.clear();
@@ -179,21 +202,30 @@ impl World {
     fn deliver(&mut self, on: Link, way: Way, is_repeated: bool) {
         match (on, way) {
             (Link::Below(number), Way::Down) => self.come_down_below(number, is_repeated),
-            (Link::Above, Way::Down) => {
-                if self.above.down.bring(&mut self.above.outstation, is_repeated) {
-                    let actions = self.concentrator.receive(self.now, self.above.outstation.fragment());
-                    self.above.send_up(&actions);
-                }
-            }
+            (Link::Above(centre), Way::Down) => self.come_down_above(centre, is_repeated),
             (Link::Below(number), Way::Up) => self.come_up_below(number, is_repeated),
-            (Link::Above, Way::Up) => {
-                if self.above.up.bring(&mut self.above.master, is_repeated) {
-                    let mut sink = Journaling(&mut self.journal);
-                    let confirm = self.centre.receive(self.now, self.above.master.fragment(), &mut sink);
-                    confirm.iter().for_each(|confirm| self.above.send_down(confirm));
+            (Link::Above(centre), Way::Up) => {
+                let Centre { channel, relay, journal, .. } = &mut self.centres[centre];
+                if channel.up.bring(&mut channel.master, is_repeated) {
+                    let mut sink = Journaling(journal);
+                    let confirm = relay.receive(self.now, channel.master.fragment(), &mut sink);
+                    confirm.iter().for_each(|confirm| channel.send_down(confirm));
                 }
             }
         }
+    }
+
+    /// The point that the other centre has selected is reserved for that one.
+    fn come_down_above(&mut self, centre: usize, is_repeated: bool) {
+        let channel = &mut self.centres[centre].channel;
+        if !channel.down.bring(&mut channel.outstation, is_repeated) {
+            return;
+        }
+        let reserved = self.concentrator[1 - centre].standing(self.now);
+        let towards = &mut self.concentrator[centre];
+        towards.panel().reserved = reserved;
+        let actions = towards.receive(self.now, channel.outstation.fragment());
+        channel.send_up(&actions);
     }
 
     fn come_down_below(&mut self, number: u8, is_repeated: bool) {
@@ -253,9 +285,9 @@ impl World {
         }
     }
 
-    fn issue(&mut self, substation: u8, command: Command) {
+    fn issue(&mut self, centre: usize, substation: u8, command: Command) {
         if let Some(above) = self.map.command_above(substation, command) {
-            self.orders.add(STATION_BELOW, above);
+            self.centres[centre].orders.add(STATION_BELOW, above);
             self.history.issued.push((substation, command));
         }
     }
@@ -264,9 +296,12 @@ impl World {
         let (channel, request) = match on {
             Link::Below(number) => {
                 let Substation { channel, relay, .. } = &mut self.substations[usize::from(number)];
-                (channel, relay.step(self.now, number, &mut self.concentrator.panel().book))
+                (channel, relay.step(self.now, number, &mut self.book.borrow_mut()))
             }
-            Link::Above => (&mut self.above, self.centre.step(self.now, STATION_BELOW, &mut self.orders)),
+            Link::Above(centre) => {
+                let Centre { channel, relay, orders, .. } = &mut self.centres[centre];
+                (channel, relay.step(self.now, STATION_BELOW, orders))
+            }
         };
         request.iter().for_each(|request| channel.send_down(request));
     }
@@ -277,7 +312,10 @@ impl World {
                 let Substation { outstation, channel, relay } = &self.substations[usize::from(number)];
                 relay.master.is_idle() && outstation.is_quiet() && channel.is_quiet()
             }
-            Link::Above => self.centre.master.is_idle() && self.concentrator.is_quiet() && self.above.is_quiet(),
+            Link::Above(centre) => {
+                let Centre { channel, relay, .. } = &self.centres[centre];
+                relay.master.is_idle() && self.concentrator[centre].is_quiet() && channel.is_quiet()
+            }
         }
     }
 
@@ -296,8 +334,11 @@ impl World {
     /// A step of relaying, which is refused where it finished this control with another status than SUCCESS.
     fn relay_one(&mut self, on: Link, id: Option<u64>) -> Result<(), Refusal> {
         self.relay(on);
-        let book = if on == Link::Above { &self.orders } else { &self.concentrator.panel().book };
-        match id.and_then(|id| book.entry(id)).map(|entry| entry.state) {
+        let state = match on {
+            Link::Above(centre) => id.and_then(|id| self.centres[centre].orders.entry(id)).map(|entry| entry.state),
+            Link::Below(_) => id.and_then(|id| self.book.borrow().entry(id).map(|entry| entry.state)),
+        };
+        match state {
             Some(State::Finished(1..)) => Err(Refusal::Refused),
             _ => Ok(()),
         }
@@ -314,36 +355,38 @@ impl World {
     }
 
     /// Whether the control is the centre's next one, and no other is on its way to its substation.
-    fn is_next(&mut self, id: u64, substation: Option<u8>) -> bool {
+    fn is_next(&mut self, centre: usize, id: u64, substation: Option<u8>) -> bool {
         let is_free = match substation {
             Some(number) => {
                 let is_idle = self.substations[usize::from(number)].relay.in_progress().is_none();
-                is_idle && self.concentrator.panel().book.next(number).is_none()
+                is_idle && self.book.borrow_mut().next(number).is_none()
             }
             None => true,
         };
-        let is_alone = self.centre.in_progress().is_none_or(|other| other == id);
-        is_free && is_alone && self.orders.next(STATION_BELOW).is_some_and(|entry| entry.id == id)
+        let Centre { relay, orders, .. } = &mut self.centres[centre];
+        let is_alone = relay.in_progress().is_none_or(|other| other == id);
+        is_free && is_alone && orders.next(STATION_BELOW).is_some_and(|entry| entry.id == id)
     }
 
-    /// The control goes from the centre to its substation, over quiet links.
-    fn control(&mut self, id: u64) -> Result<(), Refusal> {
-        if !self.is_quiet(Link::Above) {
+    /// The control goes from its centre to its substation, over quiet links.
+    fn control(&mut self, centre: usize, id: u64) -> Result<(), Refusal> {
+        let above = Link::Above(centre);
+        if !self.is_quiet(above) {
             return Err(Refusal::NotQuiet);
         }
-        let command = self.orders.entry(id).map(|entry| entry.command);
+        let command = self.centres[centre].orders.entry(id).map(|entry| entry.command);
         let substation = command.and_then(|command| self.map.command_below(command)).map(|(number, _)| number);
         if substation.is_some_and(|number| !self.is_quiet(Link::Below(number))) {
             return Err(Refusal::NotQuiet);
         }
-        if !self.is_next(id, substation) {
+        if !self.is_next(centre, id, substation) {
             return Err(Refusal::NotNext);
         }
-        self.relay_through(Link::Above, Some(id))?;
+        self.relay_through(above, Some(id))?;
         let Some(number) = substation else {
             return Ok(());
         };
-        let queued = self.concentrator.panel().book.next(number).map(|entry| entry.id);
+        let queued = self.book.borrow_mut().next(number).map(|entry| entry.id);
         self.relay_through(Link::Below(number), queued)
     }
 
@@ -352,18 +395,18 @@ impl World {
         rows.filter_map(|row| self.map.row_below(row)).collect()
     }
 
-    pub fn journal_below(&self) -> Vec<(u8, Row)> {
-        self.rows_below(self.journal.iter())
+    pub fn journal_below(&self, centre: usize) -> Vec<(u8, Row)> {
+        self.rows_below(self.centres[centre].journal.iter())
     }
 
-    pub fn queue_below(&self) -> Vec<(u8, Row)> {
-        let mut queue: Vec<&Numbered> = self.concentrator.lanes().iter().flat_map(|lane| &lane.rows).collect();
+    pub fn queue_below(&self, centre: usize) -> Vec<(u8, Row)> {
+        let mut queue: Vec<&Numbered> = self.concentrator[centre].lanes().iter().flat_map(|lane| &lane.rows).collect();
         queue.sort_unstable_by_key(|x| x.id);
         self.rows_below(queue.iter().map(|x| &x.row))
     }
 
-    pub fn dropped_below(&self) -> Vec<(u8, Row)> {
-        self.rows_below(self.history.dropped.iter())
+    pub fn dropped_below(&self, centre: usize) -> Vec<(u8, Row)> {
+        self.rows_below(self.history.dropped[centre].iter())
     }
 
     pub fn buffered(&self) -> Vec<(u8, Row)> {
@@ -374,8 +417,8 @@ impl World {
         rows.collect()
     }
 
-    pub fn lost(&self) -> u64 {
-        self.concentrator.lanes().iter().map(|lane| lane.lost).sum()
+    pub fn lost(&self, centre: usize) -> u64 {
+        self.concentrator[centre].lanes().iter().map(|lane| lane.lost).sum()
     }
 }
 

@@ -4,15 +4,20 @@
 Usage: holds.py [REPORT..]   (no file: standard input)
 
 The four definitions are those of the record `Holds` in crates/dnp_world/specs/Reports.antt, counted
-here anew: a report that breaks one of them is told by the definition's name, and one that is no
-report by `well_formed`. The lines of `round` and `control`, which come first, are read over.
+here anew, and hold of each centre: a report that breaks one of them is told by the definition's
+name, and one that is no report by `well_formed`. The lines of `round` and `control`, which come
+first, are read over.
 """
 import re
 import sys
 from collections import Counter
 
-EVENTS = ["journal", "queue", "dropped", "confirmed", "buffered", "overwritten", "gone"]
+# What the words of each centre end in.
+CENTRES = ["", "2"]
+EVENTS = [f"{name}{centre}" for name in ["journal", "queue", "dropped"] for centre in CENTRES] + \
+    ["confirmed", "buffered", "overwritten", "gone"]
 COMMANDS = ["issued", "operated"]
+COUNTS = [f"lost{centre}" for centre in CENTRES]
 
 # Each number has one spelling, so that two rows are the same where their lines are.
 _N = "(?:0|[1-9][0-9]*)"
@@ -20,8 +25,8 @@ _Z = "(?:0|-?[1-9][0-9]*)"
 _POINT = f"(?:binary {_N} [01]|counter {_N} {_N}|analog {_N} {_Z})"
 EVENT = re.compile(f" {_N} {_POINT} [0-9A-F]{{2}} (?:-|{_N})")
 COMMAND = re.compile(f" {_N} (?:block {_N} {_N} {_N} {_N} {_N}|set(?:16|32) {_N} {_Z})")
-COUNT = re.compile(f"([a-z]+) ({_N})")
-OUTCOME = re.compile(f"round (?:above|{_N}) (?:ok|refused 1)|control {_N} (?:ok|refused [123])")
+COUNT = re.compile(f"([a-z]+2?) ({_N})")
+OUTCOME = re.compile(f"round (?:above2?|{_N}) (?:ok|refused 1)|control2? {_N} (?:ok|refused [123])")
 
 
 class Broken(Exception):
@@ -39,30 +44,30 @@ def demand(name, is_so, what):
 
 
 def read(text):
-    """The lists of a report by their names, and the number below `lost`."""
+    """The lists of a report by their names, and the numbers of `lost` and `lost2`."""
     lines = text.split("\n")
     demand("well_formed", lines.pop() == "", "the last line has no line feed")
     at = 0
     while at < len(lines) and OUTCOME.fullmatch(lines[at]):
         at += 1
     report = {}
-    for name in EVENTS + COMMANDS + ["lost"]:
+    for name in EVENTS + COMMANDS + COUNTS:
         demand("well_formed", at < len(lines), f"there is no line {name}")
         count = COUNT.fullmatch(lines[at])
         is_named = count is not None and count[1] == name
         demand("well_formed", is_named, f"{lines[at]!r} where {name} and its number belong")
         number = int(count[2])
         at += 1
-        if name == "lost":
+        if name in COUNTS:
             report[name] = number
-            break
+            continue
         report[name] = lines[at : at + number]
         demand("well_formed", len(report[name]) == number, f"{name} is shorter than {number}")
         form = COMMAND if name in COMMANDS else EVENT
         for line in report[name]:
             demand("well_formed", form.fullmatch(line), f"{line!r} in {name}")
         at += number
-    demand("well_formed", at == len(lines), "more comes behind lost")
+    demand("well_formed", at == len(lines), "more comes behind lost2")
     return report
 
 
@@ -79,16 +84,18 @@ def demand_covered(name, few, many, where):
 
 
 def check(report):
-    """Holds a report that was read against the four definitions."""
-    # nothing_invented: each row of the journal happened at its substation.
-    invented = set(report["journal"]) - set(happened(report))
-    demand("nothing_invented", not invented, f"{min(invented, default='')!r} never happened")
-    # nothing_vanishes: what was confirmed is in the queue or the journal, or was dropped.
-    stands = report["queue"] + report["dropped"] + report["journal"]
-    demand_covered("nothing_vanishes", report["confirmed"], stands, "queue, dropped and journal")
-    # lost_is_counted: as many rows were dropped as are counted as lost.
-    dropped, lost = len(report["dropped"]), report["lost"]
-    demand("lost_is_counted", dropped == lost, f"{dropped} dropped, {lost} lost")
+    """Holds a report that was read against the four definitions, of each centre."""
+    for centre in CENTRES:
+        queue, dropped, journal, lost = (f"{name}{centre}" for name in ["queue", "dropped", "journal", "lost"])
+        # nothing_invented: each row of the journal happened at its substation.
+        invented = set(report[journal]) - set(happened(report))
+        demand("nothing_invented", not invented, f"{min(invented, default='')!r} never happened")
+        # nothing_vanishes: what was confirmed is in the queue or the journal, or was dropped.
+        stands = report[queue] + report[dropped] + report[journal]
+        demand_covered("nothing_vanishes", report["confirmed"], stands, f"{queue}, {dropped} and {journal}")
+        # lost_is_counted: as many rows were dropped as are counted as lost.
+        count = len(report[dropped])
+        demand("lost_is_counted", count == report[lost], f"{count} {dropped}, {report[lost]} {lost}")
     # no_command_twice: none was performed more often than it was issued.
     demand_covered("no_command_twice", report["operated"], report["issued"], "issued")
 

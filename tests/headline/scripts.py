@@ -11,6 +11,8 @@ import os
 import random
 import sys
 
+# What the words of each centre end in.
+CENTRES = ["", "2"]
 KINDS = ["binary", "counter", "analog"]
 WAYS = ["down", "up"]
 ENDS = ["master", "outstation"]
@@ -32,7 +34,7 @@ class Plan:
         self.retries = r.randrange(4)
         self.is_unsolicited = r.random() < 0.4
         self.is_wide = r.random() < 0.05
-        self.queue = self.lanes()
+        self.queues = [self.lanes(), self.lanes()]
         count = r.choice([1, 1, 1, 2, 2, 3, 4, r.randint(5, 16)])
         self.substations = [self.substation() for _ in range(count)]
         for name, size in [("binary", len), ("counter", len), ("analog", len),
@@ -75,7 +77,7 @@ class Plan:
         lines = [f"confirm_ms = {self.confirm}", f"response_ms = {self.response}",
                  f"select_ms = {self.select}", f"retries = {self.retries}",
                  f"unsolicited = {str(self.is_unsolicited).lower()}",
-                 f"queue = {numbers(self.queue)}"]
+                 f"queue = {numbers(self.queues[0])}", f"queue2 = {numbers(self.queues[1])}"]
         for substation in self.substations:
             lines.append("[[substation]]")
             for key, value in substation.items():
@@ -91,11 +93,14 @@ class Script:
         self.r = r = random.Random(f"{seed} {number}")
         self.plan = Plan(r)
         self.stations = range(len(self.plan.substations))
-        self.links = ["above", *map(str, self.stations)]
+        self.links = ["above", "above2", *map(str, self.stations)]
         self.between = r.choice([0, 0, 0.02, 0.1, 0.3])
-        # the substation of each control, whose number is its place from 1, and how many were tried
-        self.controls = []
-        self.tried = 0
+        # by centre the substation of each control, whose number is its place from 1, and how many
+        # were tried
+        self.controls = {centre: [] for centre in CENTRES}
+        self.tried = {centre: 0 for centre in CENTRES}
+        # the second centre has less to do in some scripts, and nothing in others
+        self.centres = r.choice([["", "2"], ["", "", "", "2"], [""]])
         self.clock = 0
         self.lines = []
         acts = [(self.changes, 6), (self.polled, 5), (self.unasked, 3), (self.upwards, 4),
@@ -128,6 +133,9 @@ class Script:
 
     def link(self):
         return self.r.choice(self.links)
+
+    def centre(self):
+        return self.r.choice(self.centres)
 
     def below(self):
         return str(self.r.choice(self.stations))
@@ -216,13 +224,14 @@ class Script:
     def upwards(self):
         """A round below, and one above."""
         self.round(self.below())
-        self.round("above")
+        self.round(f"above{self.centre()}")
 
     def unconfirmed(self):
         """Responses that arrive and whose confirm does not, and what was in them once more."""
         r, link = self.r, self.link()
-        upper = "concentrator" if link != "above" else "centre"
-        lower = "concentrator" if link == "above" else link
+        is_above = link.startswith("above")
+        upper = link.replace("above", "centre") if is_above else "concentrator"
+        lower = "concentrator" if is_above else link
         self.put(f"open {link}")
         self.put(f"poll {link} 123")
         self.across(link, "down")
@@ -234,35 +243,37 @@ class Script:
             self.round(link)
 
     def issue(self):
-        """A command, now and then the same one more than once. Answers its substation."""
-        command = self.command()
+        """A command, now and then the same one more than once. Answers its centre and its
+        substation."""
+        centre, command = self.centre(), self.command()
         station, form, index = command.split()[:3]
         outputs = "outputs" if form == "block" else "setpoints"
         is_there = int(index) < self.plan.substations[int(station)][outputs]
         for _ in range(self.r.choice([1, 1, 1, 2, 3])):
-            self.put(f"issue {command}")
-            self.controls += [station] * is_there
-        return station
+            self.put(f"issue{centre} {command}")
+            self.controls[centre] += [station] * is_there
+        return centre, station
 
     def controlled(self):
         """A command, and the controls that bring it and those before it to their outputs."""
         r = self.r
-        self.issue()
-        first = r.choice([self.tried, self.tried, max(0, self.tried - 2), 0])
-        for control in range(first, len(self.controls)):
+        centre, _ = self.issue()
+        controls, tried = self.controls[centre], self.tried[centre]
+        first = r.choice([tried, tried, max(0, tried - 2), 0])
+        for control in range(first, len(controls)):
             if r.random() < 0.7:
-                self.put("open above")
-                self.put(f"open {self.controls[control]}")
-            self.put(f"control {control + 1}")
-        self.tried = len(self.controls)
+                self.put(f"open above{centre}")
+                self.put(f"open {controls[control]}")
+            self.put(f"control{centre} {control + 1}")
+        self.tried[centre] = len(controls)
         if r.random() < 0.1:
-            self.put(f"control {r.choice([0, self.tried, self.tried + 1, 2**64 - 1])}")
+            self.put(f"control{centre} {r.choice([0, len(controls), len(controls) + 1, 2**64 - 1])}")
 
     def relayed(self):
         """A command, and the steps that bring it to its output."""
         r = self.r
-        below = self.issue()
-        for link, most in [("above", 4), (below, 4)]:
+        centre, below = self.issue()
+        for link, most in [(f"above{centre}", 4), (below, 4)]:
             for _ in range(r.choice([most, most, r.randint(1, most)])):
                 self.put(f"relay {link}")
                 self.across(link, "down")
@@ -303,7 +314,7 @@ class Script:
             f"repeat {link} {way}",
             f"damage {link} {way} {self.damage()}",
             f"hangup {link} {end}",
-            f"restart {r.choice(['centre', 'concentrator', self.below(), self.below()])}",
+            f"restart {r.choice(['centre', 'centre2', 'concentrator', self.below(), self.below()])}",
             f"pass {r.choice(waits[:5] if r.random() < 0.95 else waits)}",
             f"tick {link} {end}",
             f"{r.choice(['poll', 'enable', 'disable'])} {link} {self.classes()}",

@@ -23,6 +23,7 @@ select_ms = 5000
 retries = 0
 unsolicited = false
 queue = {LANES}
+queue2 = {LANES}
 [[substation]]
 lanes = {LANES}
 binary = [1, 2]

@@ -36,6 +36,7 @@ select_ms = 5000
 retries = 0
 unsolicited = false
 queue = [4, 4, 4, 4, 4, 4, 4, 4, 4]
+queue2 = [4, 4, 4, 4, 4, 4, 4, 4, 4]
 [[substation]]
 lanes = [4, 4, 4, 4, 4, 4, 4, 4, 4]
 binary = [1, 1, 1]

@@ -23,15 +23,16 @@ CAPTURE = re.compile(r"refused capture (?:Start|Newer|Link)\n")
 # a key of a plan, what is put there, and the number of the refusal
 WRONG = [("retries", "4", 3), ("retries", "-1", 3), ("confirm_ms", "0", 3), ("select_ms", "3600001", 3), ("response_ms", "1.5", 2),
          ("unsolicited", "1", 2), ("queue", "[1, 1, 1, 1, 1, 1, 1, 1]", 2), ("queue", "[1, 1, 1, 1, 1, 1, 1, 1, 4097]", 3),
+         ("queue2", "[1, 1, 1, 1, 1, 1, 1, 1]", 2), ("queue2", "[1, 1, 1, 1, 1, 1, 1, 1, 0]", 3), ("queue2", '"1"', 2),
          ("lanes", "[0, 1, 1, 1, 1, 1, 1, 1, 1]", 3), ("lanes", "{}", 2), ("outputs", "257", 3), ("setpoints", "-1", 3), ("binary", "[4]", 4),
          ("binary", "[256]", 3), ("counter", "[255, 0]", 4), ("binary", '["1"]', 2), ("base", "[0, 0, 0, 0]", 2), ("base", "[0, 0, 0, 0, 65536]", 3),
          ("outputs", "99999999999999999999", 1), ("outputs", "1 1", 1), ("retries", "", 1), ("queue", "[1, 1", 1), ("unsolicited", "maybe", 1)]
 # lines that do nothing, whatever stands before them, and what a line may be given in place of a word
 NOTHING = ["change {s} binary 65535 1 01 -", "change {s} counter 0 -1 01 5", "change {s} analog 0 2147483648 01 -", "change {s} binary 0 2 01 -",
            "change {s} analog 0 1 01 281474976710656", "change {s} counter 1024 1 01 -", "issue {s} block 65535 3 1 0 0", "issue {s} set16 65535 1",
-           "issue {s} set32 256 -1", "time {l} 281474976710656", "time {l} 18446744073709551615", "pass 0", "enable {l} 0", "disable {l} 0"]
-WORDS = ["", "0", "-1", "16", "255", "256", "65536", "4294967296", "18446744073709551615", "18446744073709551616", "above", "up", "down", "master",
-         "outstation", "centre", "concentrator", "123", "0123", "11", "01", "fg", "-", "+1", "0x1", "block", "set16", "set32", "\t", "\r", "\0", "\u00e4", "A" * 300]
+           "issue {s} set32 256 -1", "issue2 {s} block 65535 3 1 0 0", "issue2 {s} set32 256 -1", "time {l} 281474976710656", "time {l} 18446744073709551615", "pass 0", "enable {l} 0", "disable {l} 0"]
+WORDS = ["", "0", "-1", "16", "255", "256", "65536", "4294967296", "18446744073709551615", "18446744073709551616", "above", "above2", "above1", "up", "down", "master",
+         "outstation", "centre", "centre2", "concentrator", "123", "0123", "11", "01", "fg", "-", "+1", "0x1", "block", "set16", "set32", "\t", "\r", "\0", "\u00e4", "A" * 300]
 
 
 def fault_of(octets):

@@ -12,11 +12,15 @@ TOP = Path(__file__).resolve().parents[2]
 DNP = os.environ.get("DNP", str(TOP / "crates/dnp/out/dnp"))
 SCRIPT = """open 0
 open above
+open above2
 change 0 binary 0 1 01 1000
 issue 0 block 0 3 1 0 0
 round 0
 round above
+round above2
 control 1
+issue2 0 block 0 4 1 0 0
+control2 1
 change 0 binary 0 0 01 2000
 round 0
 poll above 123

@@ -14,24 +14,34 @@ sys.path.insert(0, str(TOP / "tests/headline"))
 import holds
 
 PROGRAM = os.environ.get("MEMORY", str(TOP / "crates/dnp_memory/out/dnp_memory"))
-# what is printed where nothing is refused: the event, its control, and the event whose confirm was lost, which came again
+# what is printed where nothing is refused: the event, the control of each centre, and the event whose confirm was lost, which came
+# again
 WANTED = """journal 1
+ 0 binary 0 1 01 1000
+journal2 1
  0 binary 0 1 01 1000
 queue 2
  0 binary 0 0 01 2000
  0 binary 0 0 01 2000
+queue2 2
+ 0 binary 0 0 01 2000
+ 0 binary 0 0 01 2000
 dropped 0
+dropped2 0
 confirmed 2
  0 binary 0 1 01 1000
  0 binary 0 0 01 2000
 buffered 0
 overwritten 0
 gone 0
-issued 1
+issued 2
  0 block 0 3 1 0 0
-operated 1
+ 0 block 0 3 1 0 0
+operated 2
+ 0 block 0 3 1 0 0
  0 block 0 3 1 0 0
 lost 0
+lost2 0
 """
 
 
@@ -50,7 +60,7 @@ def faults(printed):
     text, found = "", []
     for line in printed.splitlines(keepends=True):
         text += line
-        if line.startswith("lost "):
+        if line.startswith("lost2 "):
             try:
                 holds.check(holds.read(text))
             except holds.Broken as broken:

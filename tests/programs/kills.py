@@ -1,6 +1,7 @@
 #!/usr/bin/env python3
-"""kills.py KILLS EVENTS SEED: the programs of a network, killed at random moments, the concentrator in half of the cases and the
-centre in the others. Then all goes on in good order, and no event may be lost, and no control operated twice."""
+"""kills.py KILLS EVENTS SEED: the programs of a network, killed at random moments, the concentrator in half of the cases and one of
+the two centres in the others. Then all goes on in good order, and no event may be lost on its way to either, and no control
+operated twice."""
 import random
 import shutil
 import signal
@@ -8,7 +9,7 @@ import sys
 import tempfile
 import time
 
-from network import Network
+from network import CENTRES, Network
 
 
 def main():
@@ -19,7 +20,7 @@ def main():
     faults, told = [], ""
     try:
         assert network.begin(new=True), "it did not begin"
-        assert network.poll(new=True) == 0, "the first poll failed"
+        assert set(network.both(new=True).values()) == {0}, "the first polls failed"
         done = serial = 0
         while done < kills and not faults:
             if network.concentrator.poll() is not None and not network.begin():
@@ -27,14 +28,15 @@ def main():
                 break
             issues = chance.random() < 0.5
             serial += issues
-            centre = network.centre(issue=f"0 block 0 1 1 {serial} 0" if issues else None)
+            issuer = chance.choice(CENTRES)
+            programs = {number: network.centre(number, issue=f"0 block 0 1 1 {serial} 0" if issues and number == issuer else None)
+                        for number in CENTRES}
             time.sleep(chance.random() ** 2 * 0.15)
-            program = network.concentrator if chance.random() < 0.5 else centre
+            program = network.concentrator if chance.random() < 0.5 else programs[chance.choice(CENTRES)]
             if program.poll() is None:
                 program.send_signal(signal.SIGKILL)
                 done += 1
-            centre.communicate(timeout=60)
-            network.statuses[f"centre {centre.returncode}"] += 1
+            network.wait(programs)
         if not faults and not network.settle(8):
             faults.append("it did not go on in good order")
         time.sleep(0.2)

@@ -1,15 +1,16 @@
-"""The three programs of a network over localhost, each with its files: `dnp concentrate` and `dnp centre`, which may be killed
+"""The programs of a network over localhost, each with its files: `dnp concentrate` and two of `dnp centre`, which may be killed
 or stopped at any moment, and a substation of another make, whose every event has a value of its own. What became of events
-and controls is counted from the files, by sqlite3 of Python."""
+and controls is counted from the files, by sqlite3 of Python, the events of each centre by themselves."""
 import collections
 import itertools
 import os
-import socket
-import sqlite3
 import subprocess
 import sys
 import time
 from pathlib import Path
+
+import counting
+from counting import CENTRES, FILES
 
 HERE = Path(__file__).resolve().parent
 DNP = os.environ.get("DNP", str(HERE.parents[1] / "crates/dnp/out/dnp"))
@@ -20,6 +21,7 @@ select_ms = 5000
 retries = 0
 unsolicited = false
 queue = {LANES}
+queue2 = {LANES}
 [[substation]]
 lanes = {LANES}
 binary = []
@@ -31,6 +33,8 @@ setpoints = 0
 base = [0, 0, 100, 0, 0]
 """
 UNREACHED, KILLED = 3, 137
+# how long one centre waits for its turn before the other, which has ended, is begun once more, and how often that is
+TURN, TURNS = 0.4, 4
 
 # ten for each process of those that run side by side, again and again
 PORTS = itertools.cycle(range(10_000 + os.getpid() % 2_000 * 10, 10_010 + os.getpid() % 2_000 * 10))
@@ -54,7 +58,7 @@ class Network:
     def __init__(self, room, events):
         self.room = Path(room)
         (self.room / "plan.toml").write_text(PLAN, encoding="ascii")
-        self.below, self.port = free_port(), free_port()
+        self.below, self.ports = free_port(), {number: free_port() for number in CENTRES}
         self.substation = subprocess.Popen(
             [sys.executable, HERE / "substation.py", str(self.below), "0", str(events), self.room / "log"])
         self.await_port(self.below, self.substation)
@@ -78,40 +82,71 @@ class Network:
             with open(self.room / "said", "a", encoding="utf-8") as said:
                 self.concentrator = subprocess.Popen(
                     [DNP, "concentrate", "--plan", "plan.toml", "--queue", "queue.db", "--controls", "below.db", "--port",
-                     str(self.port), "--below", str(self.below), "--rounds", "1000000", *words],
+                     str(self.ports[1]), "--port2", str(self.ports[2]), "--below", str(self.below), "--rounds", "1000000", *words],
                     cwd=self.room, env=env, stdout=said, stderr=said)
-            if self.await_port(self.port, self.concentrator):
+            if self.await_port(self.ports[2], self.concentrator):
                 return True
             if self.concentrator.poll() != UNREACHED:
                 return False
             time.sleep(0.01)
         return False
 
-    def centre(self, new=False, issue=None, env=None):
+    def centre(self, number=1, new=None, issue=None, env=None):
+        """Begins a centre, which makes its files where there are none, or as it is told."""
+        journal, controls = (f"{name}{FILES[number]}.db" for name in ("journal", "above"))
+        new = not (self.room / journal).exists() if new is None else new
         words = ["--new"] if new else []
         words += ["--issue", issue] if issue else []
         return subprocess.Popen(
-            [DNP, "centre", "--plan", "plan.toml", "--journal", "journal.db", "--controls", "above.db", "--port", str(self.port),
-             *words], cwd=self.room, env=env, stdout=subprocess.PIPE, stderr=subprocess.PIPE)
+            [DNP, "centre", "--plan", "plan.toml", "--journal", journal, "--controls", controls, "--port", str(self.ports[number]),
+             "--number", str(number), *words], cwd=self.room, env=env, stdout=subprocess.PIPE, stderr=subprocess.PIPE)
 
-    def poll(self, **how):
-        """A run of the centre, waited for: its exit status."""
-        program = self.centre(**how)
-        try:
-            program.communicate(timeout=60)
-        except subprocess.TimeoutExpired:
-            program.kill()
-            program.communicate()
+    def noted(self, program):
+        """The exit status of a centre that has ended, which is counted."""
+        program.communicate()
         self.statuses[f"centre {program.returncode}"] += 1
         return program.returncode
 
+    def poll(self, number=1, **how):
+        """A run of a centre, waited for: its exit status."""
+        program = self.centre(number, **how)
+        try:
+            program.wait(timeout=60)
+        except subprocess.TimeoutExpired:
+            program.kill()
+        return self.noted(program)
+
+    def both(self, **how):
+        """A run of each centre, waited for, the first with what is told: their exit statuses."""
+        return self.wait({1: self.centre(1, **how), 2: self.centre(2)})
+
+    def wait(self, programs):
+        """Waits for a run of each centre. Where one of them has ended, and the concentrator waits for the next connection of
+        that one before it serves the other, it is begun once more: the exit statuses of the first runs."""
+        statuses, turns, since = {}, 0, time.monotonic()
+        while programs:
+            for number in [number for number, program in programs.items() if program.poll() is not None]:
+                statuses.setdefault(number, self.noted(programs.pop(number)))
+                since = time.monotonic()
+            for number, program in list(programs.items()):
+                if len(programs) == 1 and time.monotonic() - since > TURN:
+                    if turns == TURNS:
+                        program.kill()
+                    else:
+                        turns += 1
+                        other = CENTRES[2 - number]
+                        programs[other] = self.centre(other)
+                    since = time.monotonic()
+            time.sleep(0.002)
+        return statuses
+
     def settle(self, times):
-        """Goes on in good order until the centre has polled so many times: whether it could."""
+        """Goes on in good order until each centre has polled so many times: whether it could."""
         done = 0
         for _ in range(100):
             if self.concentrator.poll() is not None and not self.begin():
                 return False
-            done += self.poll() == 0
+            done += set(self.both().values()) == {0}
             if done == times:
                 return True
             time.sleep(0.02)
@@ -131,36 +166,19 @@ class Network:
         time.sleep(0.05)
 
     def rows(self, name, query):
-        base = sqlite3.connect(self.room / name, timeout=20)
-        try:
-            (whole,) = base.execute("PRAGMA integrity_check").fetchone()
-            assert whole == "ok", f"{name}: {whole}"
-            return base.execute(query).fetchall()
-        finally:
-            base.close()
+        return counting.rows(self.room / name, query)
 
     def count(self):
-        """What came of all events and controls, once all has ended."""
-        lines = (self.room / "log").read_text(encoding="ascii").split("\n")
-        made = max([int(line.split()[1]) for line in lines if line.startswith("value")], default=0)
-        operated = collections.Counter(line for line in lines if line.startswith("operated"))
-        journal = collections.Counter(value for (value,) in self.rows("journal.db", "SELECT value FROM journal"))
-        queue = {value for (value,) in self.rows("queue.db", "SELECT value FROM queue")}
-        ((dropped,),) = self.rows("queue.db", "SELECT sum(lost) FROM lanes")
-        issued = collections.Counter(f"operated {serial}" for (serial,) in self.rows("above.db", "SELECT on_ms FROM control"))
-        self.rows("below.db", "SELECT id FROM control")
-        faults = []
-        missing = [value for value in range(1, made + 1) if value not in journal and value not in queue]
-        if missing:
-            faults.append(f"{len(missing)} events are lost, as {missing[:5]}")
-        if any(not 1 <= value <= made for value in journal):
-            faults.append("the journal has an event that never was")
-        if dropped:
-            faults.append(f"{dropped} events were dropped")
-        often = [line for line, count in operated.items() if count > issued[line]]
-        if often:
-            faults.append(f"controls were operated more often than they were issued: {often}")
-        if not operated.keys() <= issued.keys():
-            faults.append("a control was operated that was never issued")
-        again = sum(1 for count in journal.values() if count > 1)
-        return faults, f"{made} events, {again} of them again; {issued.total()} controls, {operated.total()} operated"
+        """What came of all events and controls, once all has ended. The substation never ends before, so it let go of all its
+        events, or has them still, in which case they come with the last polls."""
+        lines = [line.split() for line in (self.room / "log").read_text(encoding="ascii").split("\n") if line]
+        made = max([int(number) for word, number in lines if word == "value"], default=0)
+        operated = collections.Counter(int(number) for word, number in lines if word == "operated")
+        all_of_them, faults, again = {(value,) for value in range(1, made + 1)}, [], []
+        for number in CENTRES:
+            events = counting.events(self.room, number, all_of_them, all_of_them)
+            faults += events.faults + [f"centre {number}: {events.dropped} events were dropped"] * bool(events.dropped)
+            again.append(str(events.again))
+        more, issued = counting.controls(self.room, operated)
+        told = " and ".join(again)
+        return faults + more, f"{made} events, {told} of them again; {issued} controls, {operated.total()} operated"

@@ -23,6 +23,7 @@ select_ms = 300
 retries = 0
 unsolicited = false
 queue = {LANES}
+queue2 = {LANES}
 [[substation]]
 lanes = {LANES}
 binary = []
@@ -35,7 +36,7 @@ base = [0, 0, 0, 0, 0]
 """
 # so many requests are on their way at once; so many requests, and connections, come before the memory is looked at first
 ROUND, FIRST, FIRST_CONNECTIONS = 16, 512, 100
-# how far the resident memory may move, in kilobytes: 100,000 commands would be 1,600
+# how far the resident memory may grow, in kilobytes: 100,000 commands would be 1,600
 KILOBYTES = 256
 LATCH_ON, LATCH_OFF = 3, 4
 
@@ -144,7 +145,7 @@ def over_one(station, requests):
         before = station.memory()
         station.operate(stream, FIRST, requests)
         after = station.memory()
-    return f"{before} kB of memory, then {after}" if abs(after - before) > KILOBYTES else ""
+    return f"{before} kB of memory, then {after}" if after > before + KILOBYTES else ""
 
 
 def over_many(station, requests, connections):
@@ -156,7 +157,7 @@ def over_many(station, requests, connections):
         with station.connect() as stream:
             station.operate(stream, 0, each)
     after = station.memory()
-    return f"{before} kB of memory, then {after}" if abs(after - before) > KILOBYTES else ""
+    return f"{before} kB of memory, then {after}" if after > before + KILOBYTES else ""
 
 
 def tried(what, *words):

@@ -305,6 +305,7 @@ select_ms = 5000
 retries = 0
 unsolicited = false
 queue = [9, 9, 9, 9, 9, 9, 9, 9, 9]
+queue2 = [9, 9, 9, 9, 9, 9, 9, 9, 9]
 [[substation]]
 lanes = [9, 9, 9, 9, 9, 9, 9, 9, 9]
 binary = [1, 1, 1, 1]

@@ -152,12 +152,12 @@ def run(network, rounds, killed, faults):
     """The rounds, with reads beside them."""
     for number in range(rounds):
         issue = f"0 block 0 1 1 {number + 1} 0" if number % 10 == 0 else None
-        if network.poll(issue=issue) != 0:
-            faults.append(f"round {number}: the centre failed")
+        if set(network.both(issue=issue).values()) != {0}:
+            faults.append(f"round {number}: a centre failed")
         queued = beside(network, ("--queue", "queue.db"), faults)
         if any(" centre 1 class 1 analog 100 " not in line for line in queued):
             faults.append(f"the queue is shown as {queued[:3]}")
-        beside(network, ("--queue", "queue.db", "--centre", "1"), faults)
+        beside(network, ("--queue", "queue.db", "--centre", "2"), faults)
         beside(network, ("--controls", "below.db"), faults)
         killed.now()
     if network.concentrator.poll() is not None:
@@ -170,7 +170,7 @@ def main():
     network = Network(room, events)
     faults, told, broker, readers = [], "", None, []
     try:
-        assert network.begin(new=True) and network.poll(new=True) == 0, "it did not begin"
+        assert network.begin(new=True) and set(network.both(new=True).values()) == {0}, "it did not begin"
         broker = Broker(room) if MOSQUITTO else None
         killed = Killed(room, random.Random(1))
         readers.append(killed)

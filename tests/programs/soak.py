@@ -1,6 +1,6 @@
 #!/usr/bin/env python3
-"""soak.py ROUNDS EVENTS: a concentrator over files polls so often, with so many new events each time, and a centre takes them into
-its journal. In the last round the concentrator may need hardly more memory than in round 50, and its files may have grown by
+"""soak.py ROUNDS EVENTS: a concentrator over files polls so often, with so many new events each time, and two centres take them into
+their journals. In the last round the concentrator may need hardly more memory than in round 50, and its files may have grown by
 their logs alone, each of which is copied back at some 1,000 pages; no event may be lost or stand twice. A run of the centre
 reads the whole journal, so its peak may grow only with that: by OCTETS for each event."""
 import os
@@ -23,7 +23,7 @@ def size(network):
 
 
 def centre(network, new):
-    """A run of the centre, waited for: its exit status, and the most memory that it had, in kilobytes."""
+    """A run of the first centre, waited for: its exit status, and the most memory that it had, in kilobytes."""
     program = network.centre(new=new)
     program.stdout.read()
     _, status, used = os.wait4(program.pid, 0)
@@ -40,8 +40,9 @@ def main():
         assert network.begin(new=True), "it did not begin"
         for number in range(1, rounds + 1):
             status, peak = centre(network, number == 1)
-            if status != 0:
-                faults.append(f"round {number}: the centre ended with {status}")
+            others = network.poll(2)
+            if (status, others) != (0, 0):
+                faults.append(f"round {number}: the centres ended with {status} and {others}")
                 break
             if number == FIRST:
                 first, first_peak = size(network), peak
@@ -57,7 +58,7 @@ def main():
         network.end()
         more, counted = network.count()
         faults += more
-        if not more and ", 0 of them again" not in counted:
+        if not more and ", 0 and 0 of them again" not in counted:
             faults.append(f"events came twice: {counted}")
     finally:
         network.end()

@@ -1,13 +1,14 @@
 #!/usr/bin/env python3
-"""stops.py LIBRARY PROGRAM HOW [STEP]: `dnp concentrate` or `dnp centre`, cut at its first call that writes or syncs a file, then
-at the call STEP after that, and so on until none is left. LIBRARY is stop.c, compiled. HOW it is cut:
+"""stops.py LIBRARY PROGRAM HOW [STEP]: `dnp concentrate`, which serves two centres, or `dnp centre`, the first of them, cut at its
+first call that writes or syncs a file, then at the call STEP after that, and so on until none is left. LIBRARY is stop.c,
+compiled. HOW it is cut:
 
     stopped   it ends before the call. After each, all goes on in good order
     failing   the call fails, and all that follow: the program ends with 3. After that, all goes on in good order
     new       it ends before the call while --new makes its stores. Then either a run without --new serves, or both files are
               removed, and one with --new does
 
-No event may be lost, none stand in the journal more than twice, and the control that was issued not be operated twice. As it
+No event may be lost, none stand in a journal more than twice, and the control that was issued not be operated twice. As it
 was cut, no book has a control pending that was passed on below it: so it never passes one on again."""
 import os
 import shutil
@@ -15,7 +16,7 @@ import sys
 import tempfile
 import time
 
-from network import KILLED, UNREACHED, Network
+from network import CENTRES, FILES as OF, KILLED, UNREACHED, Network
 
 CONTROL = "0 block 0 1 1 7 0"
 PENDING = 0
@@ -24,13 +25,13 @@ FILES = {"centre": ("journal.db", "above.db"), "concentrate": ("queue.db", "belo
 
 def is_cut(network, name, env, cut):
     """Runs the program in a network of which both ran well once, and tells whether it ended as one that is cut."""
-    assert network.begin(new=True) and network.poll(new=True) == 0, "it did not begin"
+    assert network.begin(new=True) and set(network.both(new=True).values()) == {0}, "it did not begin"
     if name == "centre":
         return network.poll(issue=CONTROL, env=env) == cut
     network.stop()
     network.begin(env=env, tries=1 if cut == UNREACHED else 200)
-    network.poll(issue=CONTROL)
-    network.poll()
+    network.both(issue=CONTROL)
+    network.both()
     time.sleep(0.05)
     if network.concentrator.poll() == cut:
         return True
@@ -43,7 +44,7 @@ def is_cut_in_new(network, name, env, faults):
     if name == "centre":
         assert network.begin(new=True), "it did not begin"
         stopped = network.poll(new=True, env=env) == KILLED
-        serves = network.poll() == 0
+        serves = network.both(new=False)[1] == 0
     else:
         stopped = not network.begin(new=True, env=env, tries=1)
         if not stopped:
@@ -53,10 +54,10 @@ def is_cut_in_new(network, name, env, faults):
         for file in FILES[name]:
             for end in ("", "-wal", "-shm"):
                 (network.room / (file + end)).unlink(missing_ok=True)
-        if not (network.poll(new=True) == 0 if name == "centre" else network.begin(new=True)):
+        if not (network.both(new=True)[1] == 0 if name == "centre" else network.begin(new=True)):
             faults.append("with --new it did not begin after its files were removed")
-    if name == "concentrate" and network.poll(new=True) != 0:
-        faults.append("the centre found nobody")
+    if name == "concentrate" and set(network.both(new=True).values()) != {0}:
+        faults.append("a centre found nobody")
     return stopped
 
 
@@ -93,8 +94,11 @@ def cut_at(number, library, name, how):
         time.sleep(0.05)
         network.end()
         faults += network.count()[0]
-        often = max((count for (count,) in network.rows("journal.db", "SELECT count(*) FROM journal GROUP BY value")), default=0)
-        return cut, faults + [f"an event stands in the journal {often} times"] * (often > 2)
+        for number in CENTRES:
+            counts = network.rows(f"journal{OF[number]}.db", "SELECT count(*) FROM journal GROUP BY value")
+            often = max((count for (count,) in counts), default=0)
+            faults += [f"an event stands in the journal of centre {number} {often} times"] * (often > 2)
+        return cut, faults
     finally:
         network.end()
         shutil.rmtree(room)

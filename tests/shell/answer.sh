@@ -173,7 +173,7 @@ done
 # Words that are refused: what ./dnp says of them where it is not built is what the program says
 for words in '' foo help\ foo -x answer\ extra 'answer --own=3 y' sim 'sim extra' loopback 'loopback extra' \
     'sim --json' 'outstation --connections 3 --plan p --far 1' outstation 'outstation --port 1' 'outstation --plan p x' 'outstation extra' centre 'centre --new x' 'centre --plan p --rounds 1' \
-    concentrate 'concentrate --plan p --new' 'concentrate --new --issue x'; do
+    'centre --every 3 --plan p' concentrate 'concentrate --plan p --new' 'concentrate --new --issue x' 'concentrate --every 5'; do
     "$dnp" $words >want 2>want.err </dev/null
     wanted=$?
     got=0

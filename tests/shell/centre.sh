@@ -10,7 +10,10 @@ words="--journal journal.db --controls above.db --port $port"
 
 # Words, then the plan's file, then its text, then words against the plan, then files
 for wrong in '' '--plan plan.toml' "--plan none.toml --journal journal.db --controls above.db --port 65536" \
-    "--plan none.toml $words --rounds 1"; do
+    "--plan none.toml $words --rounds 1" "--plan none.toml $words --number 0" "--plan none.toml $words --number 3" \
+    "--plan none.toml $words --number two" "--plan none.toml $words --every 0" "--plan none.toml $words --every 86400001" \
+    "--plan none.toml $words --polls 2" "--plan none.toml $words --forever" "--plan none.toml $words --every 100 --polls 0" \
+    "--plan none.toml $words --every 100 --polls 1000001" "--plan none.toml $words --every 100 --polls 2 --forever"; do
     expect "takes-no-words:centre $wrong" 2 '' '' centre $wrong
 done
 # commands TEXT: which are no words of a control, whatever the plan
@@ -88,6 +91,11 @@ round 2 rows 2
 round 3 rows 2
 round 4 rows 2
 round 5 rows 2'
+concentrates
+listens "$port"
+polls is-no-other-centre 3 'rows 0' --number 2
+says tells-that-another-centre-is-not-answered 'dnp: the concentrator: the stream could not be read: no answer in 3000 ms'
+ended answers-no-other-centre 0 'round 1 rows 2'
 grep operated log-0 >out
 judge operates-in-the-next-round 0 'operated -7
 operated 33' 0

@@ -1,17 +1,21 @@
 #!/bin/bash
-# `dnp concentrate` from the shell: its words, its files, and substations of another make, some of which fail.
+# `dnp concentrate` from the shell: its words, its files, one centre and two, and substations of another make, some of which fail.
 . "$(dirname "${BASH_SOURCE[0]}")/../expect.bash"
 . "$top/tests/networks.bash"
 trap 'gone; kill "${concentrating-}" 2>/dev/null; rm -rf "$room"' EXIT
 
-below=$(free) port=$(free)
+below=$(free) port=$(free) port2=$(free)
 plan plan.toml 1 2
 words="--queue queue.db --controls below.db --port $port --below $below"
 
 # Words, then the plan's file, then its text, then words against the plan
 for wrong in '' '--plan plan.toml' "--plan none.toml $words --rounds 0" "--plan none.toml $words --rounds 1000001" \
     "--plan none.toml --queue queue.db --controls below.db --port 0 --below $below" "--plan none.toml $words --connections 1" \
-    "--plan none.toml --queue queue.db --controls below.db --port $port --below 65536"; do
+    "--plan none.toml --queue queue.db --controls below.db --port $port --below 65536" "--plan none.toml $words --port2 0" \
+    "--plan none.toml $words --port2 65536" "--plan none.toml $words --every 0" "--plan none.toml $words --every 86400001" \
+    "--plan none.toml $words --forever" "--plan none.toml $words --every 100 --forever --rounds 2" \
+    "--plan none.toml $words --idle 5" "--plan none.toml $words --every 100 --idle 0" \
+    "--plan none.toml $words --every 100 --idle 86401" "--plan none.toml $words --every 100 --polls 2"; do
     expect "takes-no-words:concentrate $wrong" 2 '' '' concentrate $wrong
 done
 expect has-no-plan 3 '' '' concentrate --plan none.toml $words
@@ -57,6 +61,7 @@ round 2 rows 3
 round 3 rows 3'
 says says-nothing-of-good-rounds ''
 holds has-let-the-confirmed-go queue.db 'SELECT count(*) FROM queue' 0
+holds keeps-them-for-the-second-centre queue.db 'SELECT group_concat(value) FROM queue_b' '1,2,3,4,5,6,7,8,9'
 holds has-the-control below.db 'SELECT target, point, code, on_ms, state FROM control' '1|0|3|250|0'
 holds keeps-the-journal journal.db 'SELECT group_concat(value), min(point), max(point) FROM journal' '1,2,3,4,5,6,7,8,9|0|0'
 for store in queue below; do
@@ -81,13 +86,37 @@ holds has-sent-the-control below.db 'SELECT state, status FROM control' '2|0'
 
 # By a plan of other capacities: those by which the queue was made stand
 mv plan.toml whole.toml
-plan plan.toml 1 2 queue='[1, 1, 1, 1, 1, 1, 1, 1, 1]'
+plan plan.toml 1 2 queue='[1, 1, 1, 1, 1, 1, 1, 1, 1]' queue2='[1, 1, 1, 1, 1, 1, 1, 1, 1]'
 concentrates
 listens "$port"
 polls has-all-of-a-fuller-round 0 'rows 3'
 ended keeps-its-capacities 0 'round 1 rows 3'
 holds has-dropped-none queue.db 'SELECT sum(lost) FROM lanes' 0
+holds has-dropped-none-for-the-second queue.db 'SELECT sum(lost) FROM lanes_b' 0
 mv whole.toml plan.toml
+
+# The second centre takes what has waited for it; in each round the centres are served in the order of their numbers
+# both NAME ROWS: a round whose second centre connects before the first, and takes so many rows
+both() {
+    concentrates --port2 "$port2"
+    listens "$port2"
+    "$dnp" centre --plan plan.toml --number 2 --journal journal2.db --controls above2.db --port "$port2" >rows2 2>err2 </dev/null &
+    local second=$! got=0
+    connects "$port2"
+    polls "serves-the-first-before:$1" 0 'rows 3'
+    wait "$second" || got=$?
+    mv rows2 out
+    mv err2 err
+    judge "serves-the-second-after:$1" 0 "rows $2" "$got"
+    ended "serves-both-in-a-round:$1" 0 'round 1 rows 3'
+    says "says-nothing-of-both:$1" ''
+}
+expect makes-the-second-centre 3 '' '' centre --plan plan.toml --number 2 --journal journal2.db --controls above2.db --port "$port2" --new
+both behind 18
+both level 3
+holds has-none-for-the-second queue.db 'SELECT count(*) FROM queue_b' 0
+holds has-the-same-events journal.db 'SELECT group_concat(value) FROM journal' '1,2,3,4,5,6,7,8,9,10,11,12,13,14,15,16,17,18,19,20,21'
+holds has-the-same-events-in-the-second journal2.db 'SELECT group_concat(value) FROM journal' '1,2,3,4,5,6,7,8,9,10,11,12,13,14,15,16,17,18,19,20,21'
 
 # In use by another program, which serves on
 concentrates
@@ -98,6 +127,8 @@ expect takes-no-port-in-use 3 '' '' concentrate $refused --queue second.db --con
 says tells-that-a-port-is-in-use "dnp: port $port: Address already in use (os error 98)"
 polls is-served-all-the-same 0 'rows 3'
 ended serves-all-the-same 0 'round 1 rows 3'
+expect takes-no-port-twice 3 '' '' concentrate $refused --port2 "$port" --queue fourth.db --controls fifth.db --new
+says tells-that-a-port-is-given-twice "dnp: port $port: Address already in use (os error 98)"
 
 # A plan that has changed under what is stored
 concentrates
@@ -111,7 +142,7 @@ for _ in {1..100}; do
     sleep 0.05
 done
 expect takes-no-row-that-is-not-planned 1 '' '' concentrate --plan changed.toml $words
-says names-the-row-that-is-not-planned 'dnp: queue.db: row 19, analog 0 19 01 -: the plan has no such point with a class'
+says names-the-row-that-is-not-planned 'dnp: queue.db: row 25, analog 0 25 01 -: the plan has no such point with a class'
 plan changed.toml 1 1
 expect takes-no-control-that-is-not-planned 1 '' '' concentrate --plan changed.toml $words
 says names-the-control-that-is-not-planned 'dnp: below.db: control 1, 1 block 0 3 1 250 0: the plan has no such output'
@@ -146,8 +177,10 @@ for said in 'dnp: old.db: the queue was for one centre, and has the form for two
     ended "works-after-a-migration:${said:+first}" 0 'round 1 rows 3'
     says "tells-of-a-migration:${said:+first}" "$said"
 done
-holds has-migrated old.db 'SELECT number, seq FROM form, sqlite_sequence' '2|34'
+holds has-migrated old.db "SELECT number, seq FROM form, sqlite_sequence WHERE name = 'queue'" '2|34'
 holds keeps-its-places old.db 'SELECT sum(cap) FROM lanes' 36
+holds has-the-planned-places-for-the-second old.db 'SELECT sum(cap) FROM lanes_b' 900
+holds keeps-events-for-the-second old.db 'SELECT count(*) FROM queue_b' 6
 gone
 
 # Substations that are not there, silent, send noise, or rows that are not planned: a line each, and the next one is polled

@@ -63,7 +63,7 @@ def packets(path):
 
 def capture(path, trace):
     told = [it for it in steps(trace) if it[3] in ("arrives", "repeated")]
-    masters = {"above": (1, 9, 49152)}
+    masters = {"above": (1, 9, 49152), "above2": (3, 9, 49152)}
     masters.update({str(number): (2, 10 + number, 49153 + number) for number in range(16)})
     following, begun, came = {}, {}, []
     for micros, packet in packets(path):
@@ -137,11 +137,11 @@ def report(path, text):
     number = lambda word: None if word == "-" else int(word)
     for line in lines:
         words = line.split(" ")
-        if words[0] in ("round", "control"):
+        if words[0] in ("round", "control", "control2"):
             outcomes.append({words[0]: words[1], "outcome": words[2], **({"reason": int(words[3])} if words[3:] else {})})
         elif words[0]:
             name, count = words[0], int(words[1])
-            lists[name] = count if name == "lost" else []
+            lists[name] = count if name in ("lost", "lost2") else []
         elif words[2] in ("binary", "counter", "analog"):
             lists[name].append({"substation": int(words[1]), "kind": words[2], "index": int(words[3]), "value": int(words[4]),
                                 "flags": words[5], "time": number(words[6])})

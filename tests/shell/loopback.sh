@@ -25,8 +25,8 @@ refuses() {
     expect "refuses-$1" 1 "refused line $2" "$3" loopback --plan "$plan"
     says "says-where-it-refuses-$1" "dnp: line $2, word $4: $5 belongs"
 }
-verbs='open, clear, relay, round, hangup, tick, deliver, flush, poll, enable, disable, time, pass, control, restart, change or issue'
-a_link="above or a substation's number, 0 to 0,"
+verbs='open, clear, relay, round, hangup, tick, deliver, flush, poll, enable, disable, time, pass, control, control2, restart, change, issue or issue2'
+a_link="above, above2 or a substation's number, 0 to 0,"
 fits="open 0$lf"
 refuses a-loss 2 "${fits}lose 0 up$lf$fits" 1 "'lose', where $verbs"
 refuses a-repeat 2 "${fits}repeat 0 up$lf" 1 "'repeat', where $verbs"

@@ -171,7 +171,7 @@ refuses() {
     expect "$name" 1 "refused plan $number" '' outstation --plan wrong.toml $rules
     says "says-why-it-$name" "dnp: wrong.toml: $reason"
 }
-refuses takes-no-text-that-is-no-toml 1 'line 1: the plan is no TOML' 'confirm_ms=' 'response_ms=' 'select_ms=' 'retries=' 'unsolicited=' 'queue='
+refuses takes-no-text-that-is-no-toml 1 'line 1: the plan is no TOML' 'confirm_ms=' 'response_ms=' 'select_ms=' 'retries=' 'unsolicited=' 'queue=' 'queue2='
 refuses takes-no-unknown-key 2 "substation 0, unknown key 'colour'" 'colour=3'
 refuses takes-no-fourth-retry 3 'retries: 4, where a whole number from 0 to 3 belongs' retries=4
 refuses takes-no-class-4 4 'substation 0, binary: item 1 is 4, where a class from 0 to 3 belongs' 'binary=[4]'

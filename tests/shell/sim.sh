@@ -23,7 +23,7 @@ done
 # nothing [LINE..]
 nothing() {
     [ $# = 0 ] || printf '%s\n' "$@"
-    printf '%s 0\n' journal queue dropped confirmed buffered overwritten gone issued operated lost
+    printf '%s 0\n' journal journal2 queue queue2 dropped dropped2 confirmed buffered overwritten gone issued operated lost lost2
 }
 # reports NAME INPUT [LINE..]: the script does nothing that a report shows, and prints these lines
 reports() {
@@ -47,16 +47,19 @@ shows() {
     expect "shows-$1" 0 "$4" "$3" sim --plan changed.toml
 }
 # listed JOURNAL QUEUE DROPPED CONFIRMED BUFFERED OVERWRITTEN GONE ISSUED OPERATED LOST: a report; each list has the
-# items of its word, with a comma behind each
+# items of its word, with a comma behind each. The second centre never polls, and its lanes take a hundred rows: all that
+# came waits for it in the order in which it came, what was dropped for the first one before what that one has.
 listed() {
     local list items item
-    for list in journal queue dropped confirmed buffered overwritten gone issued operated; do
+    set -- "$1" '' "$2" "$3$1$2" "$3" '' "${@:4}"
+    for list in journal journal2 queue queue2 dropped dropped2 confirmed buffered overwritten gone issued operated; do
         IFS=, read -r -a items <<<"$1"
         echo "$list ${#items[@]}"
         for item in "${items[@]+"${items[@]}"}"; do echo " $item"; done
         shift
     done
     echo "lost $1"
+    echo 'lost2 0'
 }
 on1='0 binary 0 1 01 1000'
 block='0 block 0 3 1 0 0'
@@ -111,11 +114,11 @@ refuses() {
     says "says-where-it-refuses-$1" "dnp: line $2$4"
 }
 fits="open 0$lf"
-a_link='where above or a substation'"'"'s number, 0 to 0, belongs'
+a_link='where above, above2 or a substation'"'"'s number, 0 to 0, belongs'
 classes='where a word of the digits 0 to 3, each once at most, belongs'
 number='where a whole number from 0 to 18446744073709551615 belongs'
 octets='where a word of two hexadecimal digits for each of 1 to 292 octets belongs'
-verbs='where open, clear, relay, round, hangup, tick, deliver, repeat, lose, flush, damage, poll, enable, disable, time, pass, control, restart, change or issue belongs'
+verbs='where open, clear, relay, round, hangup, tick, deliver, repeat, lose, flush, damage, poll, enable, disable, time, pass, control, control2, restart, change, issue or issue2 belongs'
 refuses the-third-line 3 "${fits}round 0${lf}poll 0$lf$fits" ", word 3: the line ends, $classes"
 refuses the-last-line-with-no-line-feed 2 "${fits}open" ", word 2: the line ends, $a_link"
 refuses a-blank-line 1 "$lf$fits" ': an empty line, where an event belongs'
@@ -136,7 +139,11 @@ refuses another-end 1 "tick 0 up$lf" ", word 3: 'up', where master or outstation
 refuses another-way 1 "deliver 0 master$lf" ", word 3: 'master', where down or up belongs"
 refuses a-plus-sign 1 "pass +1$lf" ", word 2: '+1', $number"
 refuses a-link-that-the-plan-lacks 2 "${fits}open 1$lf" ", word 2: '1', $a_link"
-refuses a-substation-that-the-plan-lacks 1 "restart 1$lf" ", word 2: '1', where centre, concentrator or a substation's number, 0 to 0, belongs"
+refuses a-substation-that-the-plan-lacks 1 "restart 1$lf" ", word 2: '1', where centre, centre2, concentrator or a substation's number, 0 to 0, belongs"
+refuses a-third-centre 1 "restart centre3$lf" ", word 2: 'centre3', where centre, centre2, concentrator or a substation's number, 0 to 0, belongs"
+refuses a-link-to-a-third-centre 1 "open above3$lf" ", word 2: 'above3', $a_link"
+refuses a-control-of-a-third-centre 1 "control3 1$lf" ", word 1: 'control3', $verbs"
+refuses another-command-of-the-second-centre 1 "issue2 0 sett 0 1$lf" ", word 3: 'sett', where set16, set32 or block belongs"
 refuses a-class-named-twice 1 "poll 0 11$lf" ", word 3: '11', $classes"
 refuses no-class 1 "poll 0 4$lf" ", word 3: '4', $classes"
 refuses damage-of-no-octet 1 "damage 0 down $lf" ", word 4: an empty word, $octets"
@@ -195,7 +202,7 @@ refuses_plan() {
 nine='1, 1, 1, 1, 1, 1, 1, 1, 1'
 refuses_plan that-is-no-TOML 1 'line 1: the plan is no TOML' '1s/=//'
 # (a list may go on in the next line, and there the text ends)
-refuses_plan that-is-no-TOML-at-its-end 1 'line 16: the plan is no TOML' '$s/\]$//'
+refuses_plan that-is-no-TOML-at-its-end 1 'line 17: the plan is no TOML' '$s/\]$//'
 refuses_plan with-a-number-of-65-bits 1 'line 4: the plan is no TOML' 's/^retries = 0/retries = 9223372036854775808/'
 refuses_plan that-is-not-UTF-8 1 'the plan is no TOML' '1s/$/ # \xff/'
 refuses_plan without-retries 2 'retries is missing' '/^retries/d'
@@ -204,6 +211,10 @@ refuses_plan with-a-long-key 2 "unknown key '12345678901234567890123456789012345
 refuses_plan with-retries-in-quotes 2 'retries: a string, where a whole number from 0 to 3 belongs' 's/^retries = 0/retries = "0"/'
 refuses_plan with-half-a-millisecond 2 "select_ms: a number that isn't whole, where a whole number from 1 to 3600000 belongs" 's/^select_ms = .*/select_ms = 0.5/'
 refuses_plan with-a-queue-of-one-lane 2 'queue: a list of 1, where a list of 9 whole numbers belongs' 's/^queue = .*/queue = [1]/'
+refuses_plan without-a-second-queue 2 \
+    'queue2 is missing: it has the same form as queue, for the second centre; to add it, write the line of queue once more, as queue2 = [..]' \
+    '/^queue2/d'
+refuses_plan with-a-second-queue-of-one-lane 2 'queue2: a list of 1, where a list of 9 whole numbers belongs' 's/^queue2 = .*/queue2 = [1]/'
 refuses_plan without-substations 2 'substation is missing' '/^\[\[/,$d'
 refuses_plan with-a-substation-that-is-no-table 2 'substation: item 1 is a whole number, where a table belongs' -e 's/^\[\[.*/substation = [3]/' -e '/^lanes/,$d'
 refuses_plan with-lanes-of-half-a-row 2 "substation 0, lanes: item 2 is a number that isn't whole, where a whole number from 1 to 4096 belongs" 's/^lanes = .*/lanes = [1, 0.5]/'
@@ -212,6 +223,7 @@ refuses_plan with-another-key-of-a-substation 2 "substation 0, unknown key 'colo
 refuses_plan with-retries-of-4 3 'retries: 4, where a whole number from 0 to 3 belongs' 's/^retries = 0/retries = 4/'
 refuses_plan with-a-lane-of-no-rows 3 'queue: item 9 is 0, where a whole number from 1 to 4096 belongs' "s/^queue = .*/queue = [${nine%1}0]/"
 refuses_plan with-257-outputs 3 'substation 0, outputs: 257, where a whole number from 0 to 256 belongs' 's/^outputs = .*/outputs = 257/'
+refuses_plan with-a-second-lane-of-no-rows 3 'queue2: item 9 is 0, where a whole number from 1 to 4096 belongs' "s/^queue2 = .*/queue2 = [${nine%1}0]/"
 refuses_plan with-a-base-of-65536 3 'substation 0, base: item 5 is 65536, where a whole number from 0 to 65535 belongs' 's/, 0\]$/, 65536]/'
 refuses_plan with-no-substation 3 'substation: a list of 0, where a list of 1 to 16 tables belongs' -e 's/^\[\[.*/substation = []/' -e '/^lanes/,$d'
 refuses_plan with-a-class-of-4 4 'substation 0, binary: item 1 is 4, where a class from 0 to 3 belongs' 's/^binary = \[1\]/binary = [4]/'
@@ -242,10 +254,10 @@ rows() {
     seq "$1" "$2" | awk '{ print " 0 binary 0 " $1 % 2 " 01 " $1 }'
 }
 {
-    printf '%s 0\n' journal queue dropped confirmed
+    printf '%s 0\n' journal journal2 queue queue2 dropped dropped2 confirmed
     rows 999901 1000000 buffered
     rows 1 999900 overwritten
-    printf '%s 0\n' gone issued operated lost
+    printf '%s 0\n' gone issued operated lost lost2
 } >want
 got=0 && "$dnp" sim --plan "$plan" <script >out 2>err || got=$?
 if [ "$got" = 0 ] && cmp -s want out; then

@@ -21,5 +21,6 @@ completes completes-a-limit '--limit' sim --l
 completes completes-options '--plan --station --port --bind --connections --forever --idle --replay --repeat --verbose --help' outstation ''
 completes completes-the-one-option '--own' answer --o
 completes completes-the-options-of-sim '--plan --limit --trace --chart --capture --json --plain --help' sim ''
+completes completes-the-ports-of-both-centres '--port --port2' concentrate --port
 completes completes-no-number '' outstation --port ''
-completes completes-help 'answer centre concentrate decode loopback outstation poll sim' help ''
+completes completes-help 'answer centre concentrate decode loopback outstation poll rows sim' help ''

@@ -112,6 +112,21 @@ traces a-control-of-substation-1 two.toml "open 0${lf}open 1${lf}open above${lf}
         both $link down 'OPERATE seq 1 fir fin, 12.1 x1'
         both $link up "RESPONSE seq 1 fir fin $restarted, 12.1 x1"
     done)"
+# The second centre's link, whose select finds the point reserved until the first centre's has passed
+traces two-centres two.toml "open 0${lf}open above2${lf}open above${lf}change 0 binary 0 1 01 1000${lf}round 0${lf}round above2${lf}issue 0 block 0 3 1 0 0${lf}relay above${lf}deliver above down${lf}issue2 0 block 0 4 1 0 0${lf}relay above2${lf}flush above2 down${lf}flush above2 up$lf" \
+    "0 link 0 down sent READ seq 0 fir fin, $events" \
+    "0 link 0 down arrives READ seq 0 fir fin, $events" \
+    "0 link 0 up sent RESPONSE seq 0 fir fin con $restarted, 2.2 x1" \
+    "0 link 0 up arrives RESPONSE seq 0 fir fin con $restarted, 2.2 x1" \
+    "$(both 0 down 'CONFIRM seq 0 fir fin')" \
+    "$(both above2 down "READ seq 0 fir fin, $events")" \
+    "$(both above2 up "RESPONSE seq 0 fir fin con $restarted, 2.2 x1")" \
+    "$(both above2 down 'CONFIRM seq 0 fir fin')" \
+    "$(both above down 'SELECT seq 0 fir fin, 12.1 x1')" \
+    "0 link above up sent RESPONSE seq 0 fir fin iin 82 00, 12.1 x1" \
+    "$(both above2 down 'SELECT seq 1 fir fin, 12.1 x1')" \
+    "$(both above2 up "RESPONSE seq 1 fir fin $restarted, 12.1 x1")" \
+    "0 link above up stands RESPONSE seq 0 fir fin iin 82 00, 12.1 x1"
 # Unsolicited responses: one that is lost when its line is, one below a centre that asks for none
 sed 's/^unsolicited = .*/unsolicited = true/' "$plan" >unsolicited.toml
 traces an-unsolicited-response unsolicited.toml "open 0${lf}flush 0 up${lf}flush 0 down${lf}enable 0 12${lf}flush 0 down${lf}restart concentrator$lf" \

@@ -1,22 +1,20 @@
-//! `dnp centre`: the centre of a plan over files, which polls the concentrator by TCP.
+//! `dnp centre`: one of the two centres of a plan over files, which polls the concentrator by TCP.
 
 ghost use Rattle.dnp_concentrator.specs.Plan.{KeepsLimits};
 
-use crate::asking::{Call, Ended, Peer};
-use crate::fault::unwritten;
 use crate::files::{Place, Stored};
-use crate::numbers::number_given;
-use crate::options::{HINT, flag, plan, required, valued};
+use crate::numbers::{MAX_EVERY, number_given};
+use crate::options::{HINT, defaulted, flag, plan, required, valued};
 use crate::plan_file::plan_given;
 use crate::planned::{has_output, look_at_book, look_at_journal};
+use crate::polls::{Pace, Polls};
 use crate::{exit, files};
 use clap::{ArgMatches, Command};
-use dnp_concentrator::addresses::{CENTRE, CONCENTRATOR_ABOVE};
+use dnp_concentrator::addresses::{CENTRE, SECOND_CENTRE};
 use dnp_concentrator::{Centre, MAX_SUBSTATIONS, Plan};
-use dnp_controls::{Book, State};
+use dnp_controls::Book;
 use dnp_daemons::issue_in;
 use dnp_eventbuf::JournalStore;
-use dnp_master::{Classes, Task};
 use dnp_objects::Command as Control;
 use dnp_store::{ControlBook, Journal};
 use sqlite::{Alter, Connection};
@@ -49,8 +47,17 @@ WHAT IT DOES
   pending, and hangs up. It waits for an answer as long as the plan's response_ms for each
   substation, and once more, since the concentrator may be waiting for each of them in turn. Where
   the connection fails, what came before stands in the journal, and what was not confirmed comes
-  again in the next run: an event may stand there twice, but none is lost. Its link address is 1,
-  the concentrator's is 9.
+  again in the next run: an event may stand there twice, but none is lost. The link address of
+  centre 1 is 1, that of centre 2 is 3, and the concentrator's is 9. Each centre has a journal, a
+  book of controls and a port of its own: '--port' is the concentrator's '--port' for centre 1, and
+  its '--port2' for centre 2.
+
+BY THE CLOCK
+  With --every MS it polls so each MS milliseconds, or at once where the last poll took longer, each
+  time in a connection of its own: once, N times with --polls N, or with --forever without an end. A
+  poll that fails costs its line on standard error, and the next one comes; a store that fails ends
+  the program. --issue issues once, before the first poll; what became of the control is said as
+  soon as it is not pending, or else at the end.
 
 CONTROLS
   --issue takes the words of a script's line 'issue' after 'issue': the substation, and 'block
@@ -63,18 +70,19 @@ CONTROLS
   gets it in the concentrator's next round.
 
 OUTPUT
-  On standard output 'rows R', where the connection could be had: R is how many events the journal
-  grew by. Or 'refused plan N', where the plan is refused, as 'dnp outstation --help' has it.
+  On standard output 'rows R' for each poll whose connection could be had: R is how many events the
+  journal grew by. Or 'refused plan N', where the plan is refused, as 'dnp outstation --help' has
+  it.
 
 EXIT STATUS
-  0  all was asked and answered
+  0  all was asked and answered; with --every, all polls were done, whatever became of each
   1  the plan was refused; a file holds no such store, or already one where --new is to make it; or
      a store holds an event or a control that is not of the plan
   2  the command line is wrong, or the plan has no such output to issue a control to
   3  the program failed: the plan or a file can't be read, a file is in use by another program or
-     given twice, the connection can't be had, or it failed, a store's device failed, out of
-     memory, or the output was lost; a line on standard error says which, and why, but for an
-     output whose reader has gone";
+     given twice, without --every the connection can't be had, or it failed, a store's device
+     failed, out of memory, or the output was lost; a line on standard error says which, and why,
+     but for an output whose reader has gone";
 
 /// What is said of the options.
 const JOURNAL: &str = "The file of the journal";
@@ -83,15 +91,17 @@ const CONTROLS: &str = "The file of the book of controls";
 
 const PORT: &str = "The TCP port of the concentrator, 1 to 65535";
 
+const NUMBER: &str = "Which of the two centres it is, 1 or 2";
+
 const ISSUE: &str = "A control to issue, as in '0 block 3 129 1 100 200'";
 
-const NEW: &str = "Make the journal and the book of controls, which are not there yet";
+const EVERY: &str = "Poll each so many milliseconds, 1 to 86400000";
 
-/// What the centre asks: that the restart bit is cleared, and then all events, class by class, and what all points read.
-const TASKS: [Task; 2] = [
-    Task::ClearRestart,
-    Task::Poll(Classes([true, true, true, true])),
-];
+const POLLS: &str = "How many polls, 1 to 1000000";
+
+const FOREVER: &str = "Poll without an end";
+
+const NEW: &str = "Make the journal and the book of controls, which are not there yet";
 
 /// What `clap` has to know of `dnp centre`.
 pub(crate) fn command<'a>(alloc: Global) -> Result<Command<'a>, AllocError> {
@@ -102,7 +112,15 @@ pub(crate) fn command<'a>(alloc: Global) -> Result<Command<'a>, AllocError> {
         .arg(required(alloc, "journal", "FILE", JOURNAL))?
         .arg(required(alloc, "controls", "FILE", CONTROLS))?
         .arg(required(alloc, "port", "P", PORT))?
+        .arg(defaulted(alloc, "number", "N", "1", NUMBER))?
         .arg(valued(alloc, "issue", "TEXT", ISSUE))?
+        .arg(valued(alloc, "every", "MS", EVERY))?
+        .arg(defaulted(alloc, "polls", "N", "1", POLLS).requires_arg("every")?)?
+        .arg(
+            flag(alloc, "forever", FOREVER)
+                .conflicts_with("polls")?
+                .requires_arg("every")?,
+        )?
         .arg(flag(alloc, "new", NEW))
 }
 
@@ -117,17 +135,26 @@ struct Words<'a> {
     controls: Place<'a>,
     /// The TCP port of the concentrator.
     port: u16,
+    /// The centre's link address.
+    own: u16,
     /// The control to be issued, and the substation that it is for.
     issue: Option<(u8, Control)>,
+    /// How many polls there are, and when they begin.
+    pace: Pace,
 }
 
 /// What the words say. Where one is wrong, that is printed.
 fn words_given<'a, R: Eprint>(rt: &R, given: &ArgMatches<'a>) -> Option<Words<'a>> {
     let port = number_given(rt, given, "port", "P", 1, 65_535)?;
+    let own = match number_given(rt, given, "number", "N", 1, 2)? {
+        1 => CENTRE,
+        _ => SECOND_CENTRE,
+    };
     let issue = match given.get_str("issue") {
         Some(text) => Some(control_given(rt, text)?),
         None => None,
     };
+    let pace = pace_given(rt, given)?;
     let new = given.get_flag("new");
     Some(Words {
         plan: given.get_str("plan").unwrap_or(""),
@@ -142,7 +169,23 @@ fn words_given<'a, R: Eprint>(rt: &R, given: &ArgMatches<'a>) -> Option<Words<'a
             new,
         },
         port: u16::try_from(port).ok()?,
+        own,
         issue,
+        pace,
+    })
+}
+
+/// How many polls there are, and when they begin. Where a word is wrong, that is printed.
+fn pace_given<R: Eprint>(rt: &R, given: &ArgMatches<'_>) -> Option<Pace> {
+    if given.get_str("every").is_none() {
+        return Some(Pace::Once);
+    }
+    let every_ms = number_given(rt, given, "every", "MS", 1, MAX_EVERY)?;
+    let count = number_given(rt, given, "polls", "N", 1, 1_000_000)?;
+    let is_forever = given.get_flag("forever");
+    Some(Pace::ByClock {
+        every_ms,
+        polls: if is_forever { None } else { Some(count) },
     })
 }
 
@@ -272,96 +315,11 @@ where
 {
     look_at_journal(rt, &words.journal, centre.journal(), plan)?;
     look_at_book(rt, &words.controls, centre.book(), plan, true)?;
-    let issued = match &words.issue {
-        Some((substation, control)) => Some(issue(rt, centre, *substation, control)?),
-        None => None,
-    };
-    let asked = ask(rt, centre, words, plan);
-    if let Some(id) = issued {
-        say_state(rt, centre.book(), id);
-    }
-    asked
-}
-
-/// Issues a control, and says on standard error by which number it stands in the book. Where it can't be issued, that is
-/// said, and the exit status is told.
-fn issue<J: JournalStore, B: Book, R: AllocGlobal + Eprint>(
-    rt: &R,
-    centre: &mut Centre<J, B>,
-    substation: u8,
-    control: &Control,
-) -> Result<u64, ExitCode> {
-    match centre.issue(rt.alloc(), substation, control) {
-        Ok(id) => {
-            let _ = eprintln!(rt; "dnp: issued as control {id}");
-            Ok(id)
-        }
-        Err(fault) => {
-            let _ = eprintln!(rt; "dnp: the control was not issued: {fault}");
-            Err(ExitCode::from(exit::FAULT))
-        }
-    }
-}
-
-/// Asks the concentrator, and prints how many rows the journal grew by. Where the connection can't be had, or fails, the
-/// exit status is told.
-fn ask<J: JournalStore, B: Book, R>(
-    rt: &R,
-    centre: &mut Centre<J, B>,
-    words: &Words<'_>,
-    plan: &Plan,
-) -> Result<(), ExitCode>
-where
-    R: AllocGlobal + Print + Eprint + Clock + Net<Listener = TcpListener, Stream = TcpStream>,
-{
-    // (the concentrator may be waiting for each of the substations in turn)
-    let waits = plan.substations.as_slice().len().saturating_add(1) as u64;
-    let call = Call {
-        peer: Peer::Concentrator,
+    let polls = Polls {
+        plan,
         port: words.port,
-        own: CENTRE,
-        other: CONCENTRATOR_ABOVE,
-        patience_ms: plan.times.response_ms.saturating_mul(waits),
+        own: words.own,
+        pace: words.pace,
     };
-    let before = centre.journal().count();
-    let Some(stream) = call.connect(rt) else {
-        return Err(ExitCode::from(exit::FAULT));
-    };
-    let ended = call.ask(rt, centre, &TASKS, &stream);
-    let rows = centre.journal().count().saturating_sub(before);
-    if let Err(cause) = println!(rt; "rows {rows}") {
-        return Err(unwritten(rt, &cause));
-    }
-    match ended {
-        Ended::Done(_) => Ok(()),
-        Ended::Failed | Ended::Lost => Err(ExitCode::from(exit::FAULT)),
-    }
-}
-
-/// Says on standard error what became of a control.
-fn say_state<B: Book, R: AllocGlobal + Eprint>(rt: &R, book: &mut B, id: u64) {
-    let Ok(entries) = book.rows(rt.alloc(), id.saturating_sub(1), 1) else {
-        return;
-    };
-    let Some(entry) = entries.first() else {
-        return;
-    };
-    let _ = match entry.state {
-        State::Pending => {
-            eprintln!(rt;
-                "dnp: control {id} is pending: the next run sends it, and to issue it again would double it"
-            )
-        }
-        State::Spent => {
-            eprintln!(rt;
-                "dnp: control {id} was sent, and its answer is not known: it is not sent again"
-            )
-        }
-        State::Finished(status) => {
-            eprintln!(rt;
-                "dnp: control {id} was answered with status {}",
-                status.code()
-            )
-        }
-    };
+    polls.run(rt, centre, words.issue.as_ref())
 }

@@ -1,28 +1,22 @@
-//! `dnp concentrate`: a concentrator of a plan over files, which polls substations and serves a centre by TCP.
+//! `dnp concentrate`: a concentrator of a plan over files, which polls substations and serves one or two centres by TCP.
 
 ghost use Rattle.dnp_concentrator.specs.Plan.{KeepsLimits};
 
-use crate::asking::{Call, Ended, Peer};
-use crate::fault::unwritten;
 use crate::files::{Place, Stored};
-use crate::numbers::number_given;
-use crate::options::{HINT, defaulted, flag, plan, required};
-use crate::patience::{Minded, Patience};
+use crate::numbers::{MAX_EVERY, MAX_IDLE, number_given};
+use crate::options::{HINT, defaulted, flag, plan, required, valued};
 use crate::plan_file::plan_given;
 use crate::planned::{look_at_book, look_at_queue};
-use crate::serving::{SILENCE_MS, no_port, serve_connection};
-use crate::{exit, files};
+use crate::rounds::{Pace, Rounds};
+use crate::{exit, files, rounds};
 use clap::{ArgMatches, Command};
-use dnp_concentrator::addresses::{CENTRE, CONCENTRATOR_ABOVE, MASTER_BELOW, outstation_address};
-use dnp_concentrator::{Concentrator, MAX_SUBSTATIONS, Plan};
+use dnp_concentrator::{Concentrator, Plan};
 use dnp_controls::Book;
-use dnp_daemons::{Above, Below};
-use dnp_eventbuf::Lanes;
-use dnp_master::{Classes, Task};
+use dnp_eventbuf::{CENTRES, PairLanes};
 use dnp_store::{ControlBook, Queue};
 use sqlite::{Alter, Connection};
 use std::alloc::{AllocError, Global};
-use std::net::{IpAddr, Ipv4Addr, Net, SocketAddr, TcpListener, TcpStream};
+use std::net::{Net, TcpListener, TcpStream};
 use std::process::ExitCode;
 use std::rt::Clock;
 
@@ -30,23 +24,26 @@ use std::rt::Clock;
 pub const NAME: &str = "concentrate";
 
 /// What it does, in a line.
-const ABOUT: &str = "Poll the substations of a plan into a queue, and serve it to a centre";
+const ABOUT: &str =
+    "Poll the substations of a plan into a queue, and serve it to one or two centres";
 
 /// What its help text says after the options.
 const AFTER: &str = "\
 STORES
-  The queue holds the events that the centre has not confirmed yet, the book the controls that are
-  for substations. Each is a database of its own that sqlite3 reads. --new makes both, and their
-  files; without it they are opened, and no file is made: give --new once, in the first run. A run
-  that is stopped or killed leaves each as it was before its last step, or after it; the next run
-  goes on with what stands there. One that is stopped while --new makes them may leave a file
-  without its store: remove the files that it left, and give --new again.
-  A queue takes as many events as the plan allowed when it was made. Each event and control that
-  stands there has to be of the plan, so a plan that loses points waits until they are gone.
-  A queue has room for two centres, of which the first is served. Earlier releases made queues for
-  one: --migrate makes such a queue one for two, in place, in one step that is done whole or not at
-  all, and says so on standard error. Its events go to the first centre; an earlier release can't
-  open it then. Without --migrate it is refused, and left as it is. Keep a copy of the file.
+  The queue holds for each of two centres the events that it has not confirmed yet, the book the
+  controls that are for substations, whichever centre they came from. Each is a database of its own
+  that sqlite3 reads. --new makes both, and their files; without it they are opened, and no file is
+  made: give --new once, in the first run. A run that is stopped or killed leaves each as it was
+  before its last step, or after it; the next run goes on with what stands there. One that is
+  stopped while --new makes them may leave a file without its store: remove the files that it left,
+  and give --new again.
+  A queue takes as many events as the plan allowed when it was made: by its 'queue' for the first
+  centre, and by its 'queue2' for the second. Each event and control that stands there has to be of
+  the plan, so a plan that loses points waits until they are gone.
+  Earlier releases made queues for one centre: --migrate makes such a queue one for two, in place,
+  in one step that is done whole or not at all, and says so on standard error. Its events are those
+  for the first centre, and the second begins with none; an earlier release can't open it then.
+  Without --migrate it is refused, and left as it is. Keep a copy of the file.
 
 ROUNDS
   In each round it connects to one substation after the other, substation S at the port P + S of
@@ -54,11 +51,47 @@ ROUNDS
   the controls that are pending for it, and hangs up. A substation that can't be reached, sends
   nothing to the purpose for as long as the plan's response_ms, or ends the connection before all
   is answered, gives no rows: a line on standard error says why, and the round goes on with the
-  next one. Then the round is printed, and one connection of the centre is served, at all addresses
-  of the machine; who connects meanwhile waits. It ends when the centre ends it, or after 300
-  seconds in which nothing came, or in which nothing could be sent; why one failed is said on
-  standard error. So the centre's connections set the pace: the next round begins with the end of
-  this one. Its link address is 2 below and 9 above; substation S's is 10 + S, the centre's is 1.
+  next one. Then the round is printed.
+  Centres connect at all addresses of the machine, the first at --port, the second at --port2.
+  Without --port2 the first centre alone is served, and events wait for the second in lanes of their
+  own, which drop the oldest when they are full, and count them.
+  Its link address is 2 below and 9 above; substation S's is 10 + S, the first centre's is 1, and
+  the second's is 3.
+
+AT THE PACE OF THE CENTRES
+  Without --every one connection of the first centre is served after a round; who connects meanwhile
+  waits. It ends when the centre ends it, or after 300 seconds in which nothing came, or in which
+  nothing could be sent; why one failed is said on standard error. With --port2 one connection of
+  the second centre is served then, in the same way. So the centres' connections set the pace: the
+  next round begins with the end of the last one, and a centre that doesn't come holds the other up.
+
+BY THE CLOCK
+  With --every MS a round begins each MS milliseconds, or at once where the last took longer, and no
+  round waits for a centre: both are served after each substation and between the rounds, in turns
+  of 50 ms, so neither waits for the other. While a substation is polled they wait for it. Each
+  centre has one connection at a time, the newest: who connects takes the place of the one that is
+  served. A connection ends when the centre ends it, when the station closes it, when another takes
+  its place, when it fails, or after --idle seconds in which no frame of this centre came whole,
+  whatever else came, and whether it reads what is sent or not. Nothing is read of a centre while
+  something that was sent is not taken.
+  Timers run: with unsolicited responses on, one is sent when the centre connects, and when an event
+  of an enabled class comes; one that isn't confirmed in time is repeated as often as the plan says,
+  and then the station closes the connection.
+  So N rounds take N times MS; the connections of the centres end with the last. With --forever
+  there is no last one: a signal ends the program, as SIGTERM, at once and as after a kill.
+
+CONTROLS
+  A control of either centre goes into the one book, and down in the next round. While a select of
+  one centre stands, one of the other for the same output is answered with status 5, already active,
+  and so is a direct operate. A select stands until it is operated, until another request comes from
+  that centre, or its connection ends, or for the plan's select_ms.
+
+LOG
+  With --every a line on standard error for each connection of a centre that begins or ends, with
+  the time in UTC and the centre's address, as '2026-11-26T03:12:44.120Z 127.0.0.1:51234 centre 1
+  connected', and 'centre 1 ended, served N' with the cause: the master, which is the centre, or the
+  station closed it, it was idle, it was taken over by another, whose address is told, all rounds
+  are done, or it failed, and why. N is how many fragments came whole on it.
 
 OUTPUT
   On standard output a line for each round, 'round K rows R': K counts them from 1, and R is how
@@ -80,21 +113,23 @@ const QUEUE: &str = "The file of the queue";
 
 const CONTROLS: &str = "The file of the book of controls";
 
-const PORT: &str = "The TCP port to listen on for the centre, 1 to 65535";
+const PORT: &str = "The TCP port to listen on for the first centre, 1 to 65535";
+
+const PORT2: &str = "The TCP port for the second centre, 1 to 65535, where one is served";
 
 const BELOW: &str = "The TCP port of substation 0; substation S is at P + S";
 
 const ROUNDS: &str = "How many rounds, 1 to 1000000";
 
+const EVERY: &str = "Begin a round each so many milliseconds, 1 to 86400000";
+
+const FOREVER: &str = "Do rounds without an end";
+
+const IDLE: &str = "How long a centre may send nothing whole, in seconds, 1 to 86400";
+
 const NEW: &str = "Make the queue and the book of controls, which are not there yet";
 
 const MIGRATE: &str = "Bring a queue of an earlier release, for one centre, to the form for two";
-
-/// How many substations a plan can have.
-const MOST: u8 = MAX_SUBSTATIONS as u8;
-
-/// The rows that a poll asks for: all events, class by class, and then what all points read.
-const POLL: Task = Task::Poll(Classes([true, true, true, true]));
 
 /// What `clap` has to know of `dnp concentrate`.
 pub(crate) fn command<'a>(alloc: Global) -> Result<Command<'a>, AllocError> {
@@ -105,8 +140,16 @@ pub(crate) fn command<'a>(alloc: Global) -> Result<Command<'a>, AllocError> {
         .arg(required(alloc, "queue", "FILE", QUEUE))?
         .arg(required(alloc, "controls", "FILE", CONTROLS))?
         .arg(required(alloc, "port", "P", PORT))?
+        .arg(valued(alloc, "port2", "P", PORT2))?
         .arg(required(alloc, "below", "P", BELOW))?
         .arg(defaulted(alloc, "rounds", "N", "1", ROUNDS))?
+        .arg(valued(alloc, "every", "MS", EVERY))?
+        .arg(
+            flag(alloc, "forever", FOREVER)
+                .conflicts_with("rounds")?
+                .requires_arg("every")?,
+        )?
+        .arg(defaulted(alloc, "idle", "SECONDS", "60", IDLE).requires_arg("every")?)?
         .arg(flag(alloc, "new", NEW))?
         .arg(flag(alloc, "migrate", MIGRATE).conflicts_with("new")?)
 }
@@ -120,12 +163,14 @@ struct Words<'a> {
     queue: Place<'a>,
     /// The file of the book of controls.
     controls: Place<'a>,
-    /// The TCP port for the centre.
+    /// The TCP port for the first centre.
     port: u16,
+    /// The TCP port for the second centre, if it is served.
+    port2: Option<u16>,
     /// The TCP port of substation 0.
     below: u16,
-    /// How many rounds there are.
-    rounds: u64,
+    /// How many rounds there are, and when they begin.
+    pace: Pace,
     /// Whether a queue for one centre is brought to the form for two.
     migrates: bool,
 }
@@ -133,8 +178,15 @@ struct Words<'a> {
 /// What the words say. Where one is wrong, that is printed.
 fn words_given<'a, R: Eprint>(rt: &R, given: &ArgMatches<'a>) -> Option<Words<'a>> {
     let port = number_given(rt, given, "port", "P", 1, 65_535)?;
+    let port2 = match given.get_str("port2") {
+        Some(_) => {
+            let port = number_given(rt, given, "port2", "P", 1, 65_535)?;
+            Some(u16::try_from(port).ok()?)
+        }
+        None => None,
+    };
     let below = number_given(rt, given, "below", "P", 1, 65_535)?;
-    let rounds = number_given(rt, given, "rounds", "N", 1, 1_000_000)?;
+    let pace = pace_given(rt, given)?;
     let new = given.get_flag("new");
     Some(Words {
         plan: given.get_str("plan").unwrap_or(""),
@@ -149,10 +201,40 @@ fn words_given<'a, R: Eprint>(rt: &R, given: &ArgMatches<'a>) -> Option<Words<'a
             new,
         },
         port: u16::try_from(port).ok()?,
+        port2,
         below: u16::try_from(below).ok()?,
-        rounds,
+        pace,
         migrates: given.get_flag("migrate"),
     })
+}
+
+/// How many rounds there are, and when they begin. Where a word is wrong, that is printed.
+fn pace_given<R: Eprint>(rt: &R, given: &ArgMatches<'_>) -> Option<Pace> {
+    let count = number_given(rt, given, "rounds", "N", 1, 1_000_000)?;
+    let idle = number_given(rt, given, "idle", "SECONDS", 1, MAX_IDLE)?;
+    if given.get_str("every").is_none() {
+        return Some(Pace::ByCentres { rounds: count });
+    }
+    let every_ms = number_given(rt, given, "every", "MS", 1, MAX_EVERY)?;
+    let is_forever = given.get_flag("forever");
+    Some(Pace::ByClock {
+        every_ms,
+        rounds: if is_forever { None } else { Some(count) },
+        idle,
+    })
+}
+
+impl<'a> Words<'a> {
+    /// The rounds over this plan.
+    fn rounds_of<'p>(&self, plan: &'p Plan) -> Rounds<'p> {
+        Rounds {
+            plan,
+            port: self.port,
+            port2: self.port2,
+            below: self.below,
+            pace: self.pace,
+        }
+    }
 }
 
 /// Runs the concentrator that the given words name, and tells the exit status.
@@ -205,7 +287,14 @@ fn queue_there(rt: &HostRuntime, words: &Words<'_>, plan: &Plan) -> Result<Queue
     requires { KeepsLimits plan.now }
 {
     let conn = files::connection(rt, &words.queue)?;
-    files::queue(rt, &words.queue, conn, plan.queue, words.migrates)
+    files::queue(
+        rt,
+        &words.queue,
+        conn,
+        plan.queue,
+        plan.queue2,
+        words.migrates,
+    )
 }
 
 /// Runs the concentrator over its stores, and gives their databases back, with the exit status. Where it can't begin, the
@@ -229,7 +318,7 @@ where
 
 /// Runs a concentrator over these stores, and gives them back, with the exit status. Where it can't begin, why is said on
 /// standard error, and the exit status alone is told.
-fn run_over<Q: Lanes + Drop, B: Book + Drop, R>(
+fn run_over<Q: PairLanes + Drop, B: Book + Drop, R>(
     rt: &R,
     words: &Words<'_>,
     plan: &Plan,
@@ -258,7 +347,7 @@ where
 
 /// Looks whether what the stores hold is of the plan, listens, and does the rounds. Where that ends before the last, the
 /// exit status is told.
-fn run_rounds<Q: Lanes, B: Book, R>(
+fn run_rounds<Q: PairLanes, B: Book, R>(
     rt: &R,
     concentrator: &mut Concentrator<Q, B>,
     words: &Words<'_>,
@@ -267,78 +356,9 @@ fn run_rounds<Q: Lanes, B: Book, R>(
 where
     R: AllocGlobal + Print + Eprint + Clock + Net<Listener = TcpListener, Stream = TcpStream>,
 {
-    look_at_queue(rt, &words.queue, concentrator.queue(), plan)?;
+    for centre in 0..CENTRES {
+        look_at_queue(rt, &words.queue, concentrator.queue(), centre, plan)?;
+    }
     look_at_book(rt, &words.controls, concentrator.book(), plan, false)?;
-    let place = SocketAddr::new(IpAddr::V4(Ipv4Addr::UNSPECIFIED), words.port);
-    let listener = match TcpListener::bind(rt, place) {
-        Ok(listener) => listener,
-        Err(cause) => return Err(no_port(rt, words.port, &cause)),
-    };
-    for round in 0..words.rounds {
-        let rows = poll_all(rt, concentrator, words, plan)?;
-        if let Err(cause) = println!(rt; "round {} rows {rows}", round + 1) {
-            return Err(unwritten(rt, &cause));
-        }
-        match listener.accept() {
-            Ok((stream, _)) => serve_above(rt, concentrator, &stream)?,
-            Err(cause) => return Err(no_port(rt, words.port, &cause)),
-        }
-    }
-    Ok(())
-}
-
-/// Polls the substations one after the other, relays controls to them, and tells how many rows came. A substation that
-/// can't be reached, or fails, gives none; where a store or memory fails, the exit status is told.
-fn poll_all<Q: Lanes, B: Book, R>(
-    rt: &R,
-    concentrator: &mut Concentrator<Q, B>,
-    words: &Words<'_>,
-    plan: &Plan,
-) -> Result<u64, ExitCode>
-where
-    R: AllocGlobal + Eprint + Clock + Net<Listener = TcpListener, Stream = TcpStream>,
-{
-    let mut rows = 0u64;
-    for substation in 0..MOST {
-        if usize::from(substation) >= plan.substations.as_slice().len() {
-            return Ok(rows);
-        }
-        let call = Call {
-            peer: Peer::Substation(substation),
-            port: words.below.saturating_add(u16::from(substation)),
-            own: MASTER_BELOW,
-            other: outstation_address(substation),
-            patience_ms: plan.times.response_ms,
-        };
-        let Some(stream) = call.connect(rt) else {
-            continue;
-        };
-        let mut link = Below::new(concentrator, substation);
-        match call.ask(rt, &mut link, &[POLL], &stream) {
-            Ended::Done(came) => rows = rows.saturating_add(came),
-            Ended::Failed => {}
-            Ended::Lost => return Err(ExitCode::from(exit::FAULT)),
-        }
-    }
-    Ok(rows)
-}
-
-/// Serves a connection of the centre. Where a store or memory fails, that is said, and the exit status is told.
-fn serve_above<Q: Lanes, B: Book, R: AllocGlobal + Eprint + Clock>(
-    rt: &R,
-    concentrator: &mut Concentrator<Q, B>,
-    stream: &TcpStream,
-) -> Result<(), ExitCode> {
-    let patience = Patience::new(rt, SILENCE_MS);
-    let mut above = Above::new(concentrator);
-    let mut station = Minded::new(&mut above, &patience);
-    let served = serve_connection(rt, &mut station, CONCENTRATOR_ABOVE, CENTRE, stream);
-    if let Some(cause) = station.cause() {
-        let _ = eprintln!(rt; "dnp: {cause}");
-        return Err(ExitCode::from(exit::FAULT));
-    }
-    match served {
-        Some(_) => Ok(()),
-        None => Err(ExitCode::from(exit::FAULT)),
-    }
+    rounds::run(rt, concentrator, &words.rounds_of(plan))
 }

@@ -120,18 +120,18 @@ fn look_round<R: Eprint>(rt: &R, place: &Place<'_>, owned: bool) {
 }
 
 /// The queue in a database, opened, or brought to the form for two centres before, which is said, where it was of that for
-/// one.
+/// one; the second centre's lanes take so many rows then.
 fn migrated<S: Alter + Drop, R: AllocGlobal + Eprint>(
     rt: &R,
     place: &Place<'_>,
     conn: Connection<S>,
-    capacities: [u32; LANES],
+    second: [u32; LANES],
 ) -> Result<Queue<S>, (OpenFault, Connection<S>)>
-    requires { All (λ capacity. (1 ≤ capacity) × (capacity ≤ MAX_CAPACITY)) capacities }
+    requires { All (λ capacity. (1 ≤ capacity) × (capacity ≤ MAX_CAPACITY)) second }
 {
     match Queue::open(rt.alloc(), conn) {
         Err((OpenFault::OldForm | OpenFault::WrongForm, conn)) => {
-            let begun = Queue::migrate(rt.alloc(), conn, capacities);
+            let begun = Queue::migrate(rt.alloc(), conn, second);
             if begun.is_ok() {
                 place.say(
                     rt,
@@ -150,15 +150,17 @@ pub(crate) fn queue<S: Alter + Drop, R: AllocGlobal + Eprint>(
     rt: &R,
     place: &Place<'_>,
     conn: Connection<S>,
-    capacities: [u32; LANES],
+    first: [u32; LANES],
+    second: [u32; LANES],
     migrates: bool,
 ) -> Result<Queue<S>, ExitCode>
-    requires { All (λ capacity. (1 ≤ capacity) × (capacity ≤ MAX_CAPACITY)) capacities }
+    requires first { All (λ capacity. (1 ≤ capacity) × (capacity ≤ MAX_CAPACITY)) first }
+    requires second { All (λ capacity. (1 ≤ capacity) × (capacity ≤ MAX_CAPACITY)) second }
 {
     let begun = if place.new {
-        Queue::create(rt.alloc(), conn, capacities, capacities)
+        Queue::create(rt.alloc(), conn, first, second)
     } else if migrates {
-        migrated(rt, place, conn, capacities)
+        migrated(rt, place, conn, second)
     } else {
         Queue::open(rt.alloc(), conn)
     };

@@ -1,4 +1,4 @@
-//! The log of an outstation's connections: a line on standard error for each thing that happens to one, with the time and
+//! The log of a station's connections: a line on standard error for each thing that happens to one, with the time and
 //! the master's address.
 
 use dnp_daemons::ServeFault;
@@ -37,6 +37,8 @@ pub(crate) enum Ending<'a> {
     Failed(ServeFault, Option<&'a io::Error>),
     /// It could not be prepared.
     Unprepared(&'a io::Error),
+    /// The program has done its rounds.
+    Done,
 }
 
 /// A connection's end, and how many fragments came whole on it.
@@ -60,6 +62,7 @@ impl<'a> Display for Ended<'a> {
             Ending::Failed(fault, Some(cause)) => write!(f, "{fault}: {cause}"),
             Ending::Failed(fault, None) => write!(f, "{fault}"),
             Ending::Unprepared(cause) => write!(f, "{cause}"),
+            Ending::Done => f.write_str("all rounds are done"),
         }
     }
 }

@@ -4,6 +4,12 @@ use crate::options::HINT;
 use clap::ArgMatches;
 use dnp_daemons::number_in;
 
+/// The longest that the other end of a connection may send nothing whole, in seconds: a day.
+pub(crate) const MAX_IDLE: u64 = 86_400;
+
+/// The longest from one round or poll to the next, in milliseconds: a day.
+pub(crate) const MAX_EVERY: u64 = 86_400_000;
+
 /// The number that an option gives, from `least` to `most`. Where it gives none, what is wrong with it is printed.
 pub(crate) fn number_given<R: Eprint>(
     rt: &R,

@@ -2,7 +2,7 @@
 
 use crate::alive::{Listening, live_on_connections};
 use crate::exit;
-use crate::numbers::number_given;
+use crate::numbers::{MAX_IDLE, number_given};
 use crate::options::{HINT, defaulted, flag, plan, required, valued};
 use crate::plan_file::{plan_text, refused};
 use crate::replay::{Replay, replay_given};
@@ -87,9 +87,6 @@ EXIT STATUS
 
 /// The highest number that a substation of a plan can have.
 const MAX_STATION: u64 = MAX_SUBSTATIONS as u64 - 1;
-
-/// The longest that a master may send nothing whole, in seconds: a day.
-const MAX_IDLE: u64 = 86_400;
 
 /// What is said of the options.
 const STATION: &str = "The number of the substation in the plan, from 0";

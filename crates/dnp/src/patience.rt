@@ -2,7 +2,7 @@
 
 use dnp_concentrator::Relayed;
 use dnp_controls::BookFault;
-use dnp_daemons::{Answer, Asker, KeptAnswer, Station, StationFault};
+use dnp_daemons::{Answer, Asker, Change, KeptAnswer, Living, Station, StationFault};
 use dnp_master::{AskFault, Fragment, Task};
 use dnp_world::Cause;
 use std::alloc::Global;
@@ -222,5 +222,44 @@ impl<'s, 'p, 'c, S: Asker, C: Clock> Asker for Minded<'s, 'p, 'c, S, C> {
 
     fn idle(&self) -> bool {
         self.station.idle()
+    }
+}
+
+impl<'s, 'p, 'c, S: Living, C: Clock> Living for Minded<'s, 'p, 'c, S, C> {
+    fn tick(&mut self, alloc: Global, _now: u64) -> Result<Answer, StationFault> {
+        let now = self.patience.now();
+        let ticked = self.station.tick(alloc, now);
+        if let Err(fault) = &ticked {
+            self.note_fault(*fault);
+        }
+        ticked
+    }
+
+    fn tick_into(
+        &mut self,
+        answer: &mut KeptAnswer,
+        alloc: Global,
+        _now: u64,
+    ) -> Result<(), StationFault> {
+        let now = self.patience.now();
+        let ticked = self.station.tick_into(answer, alloc, now);
+        if let Err(fault) = &ticked {
+            self.note_fault(*fault);
+        }
+        ticked
+    }
+
+    fn change(
+        &mut self,
+        alloc: Global,
+        _now: u64,
+        change: &Change,
+    ) -> Result<Answer, StationFault> {
+        let now = self.patience.now();
+        let changed = self.station.change(alloc, now, change);
+        if let Err(fault) = &changed {
+            self.note_fault(*fault);
+        }
+        changed
     }
 }

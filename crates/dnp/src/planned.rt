@@ -1,10 +1,12 @@
 //! What a plan has, by what stores hold of it: events and commands that files kept from an earlier run.
 
+ghost use Rattle.std.specs.Prelude.{◌<◌};
+
 use crate::exit;
 use crate::files::Place;
 use dnp_concentrator::{Plan, SubPlan};
 use dnp_controls::{Book, Entry};
-use dnp_eventbuf::{JournalStore, Lanes, MAX_CAPACITY};
+use dnp_eventbuf::{CENTRES, JournalStore, MAX_CAPACITY, PairLanes};
 use dnp_objects::{Command, Kind, LANES, Lane, Row};
 use std::process::ExitCode;
 
@@ -94,19 +96,22 @@ fn no_event<R: Eprint>(rt: &R, place: &Place<'_>, id: u64, row: &Row) -> ExitCod
     ExitCode::from(exit::REFUSED)
 }
 
-/// Looks whether each row of the queue is of a point of the plan that has events: the centre would confirm no other, and
-/// so nothing that stands behind it. Where one isn't, that is said, and the exit status is told.
-pub(crate) fn look_at_queue<Q: Lanes, R: AllocGlobal + Eprint>(
+/// Looks whether each row of the queue for this centre is of a point of the plan that has events: the centre would confirm
+/// no other, and so nothing that stands behind it. Where one isn't, that is said, and the exit status is told.
+pub(crate) fn look_at_queue<Q: PairLanes, R: AllocGlobal + Eprint>(
     rt: &R,
     place: &Place<'_>,
     queue: &mut Q,
+    centre: u8,
     plan: &Plan,
-) -> Result<(), ExitCode> {
+) -> Result<(), ExitCode>
+    requires { centre < CENTRES }
+{
     for number in 0..LANES {
         let Some(lane) = Lane::numbered(number) else {
             return Ok(());
         };
-        let Ok(rows) = queue.offer(rt.alloc(), lane, 0, MAX_CAPACITY as usize) else {
+        let Ok(rows) = queue.offer(rt.alloc(), centre, lane, 0, MAX_CAPACITY as usize) else {
             return Err(unread(rt, place));
         };
         for numbered in rows.iter() {

@@ -1,8 +1,12 @@
-//! A station that serves connections over TCP.
+//! A station that serves connections of centres over TCP.
+
+ghost use Rattle.std.specs.Prelude.{◌<◌};
 
 use crate::exit;
 use crate::fault::Noted;
+use dnp_concentrator::addresses::{CONCENTRATOR_ABOVE, centre_address};
 use dnp_daemons::{Clocked, ServeFault, Station, serve_stream};
+use dnp_eventbuf::CENTRES;
 use dnp_line::Port;
 use std::io;
 use std::net::TcpStream;
@@ -22,24 +26,24 @@ pub(crate) fn no_port<R: Eprint>(rt: &R, port: u16, cause: &io::Error) -> ExitCo
     ExitCode::from(exit::FAULT)
 }
 
-/// Serves a connection of the station `peer` to its end, hangs the station up, and tells how many fragments came whole;
-/// nothing where memory ran out. What goes wrong is said on standard error.
+/// Serves a connection of this centre to its end, hangs the station up, and tells how many fragments came whole; nothing
+/// where memory ran out. What goes wrong is said on standard error.
 pub(crate) fn serve_connection<S, R>(
     rt: &R,
     station: &mut S,
-    own: u16,
-    peer: u16,
+    centre: u8,
     stream: &TcpStream,
 ) -> Option<u64>
 where
     S: Station,
     R: AllocGlobal + Eprint + Clock,
+    requires { centre < CENTRES }
 {
     if let Err(cause) = prepare(stream) {
-        let _ = eprintln!(rt; "dnp: a connection: {cause}");
+        let _ = eprintln!(rt; "dnp: centre {}: {cause}", centre + 1);
         return Some(0);
     }
-    let mut port = Port::new(own, peer, false);
+    let mut port = Port::new(CONCENTRATOR_ABOVE, centre_address(centre), false);
     let mut station = Clocked::new(station, rt);
     let mut reader = Noted::new(stream);
     let mut out = Noted::new(stream);
@@ -57,7 +61,7 @@ where
             return Some(served.fragments);
         }
         Err(fault) => {
-            say(rt, fault, reader.cause(), out.cause());
+            say(rt, centre + 1, fault, reader.cause(), out.cause());
             if fault == ServeFault::Memory {
                 return None;
             }
@@ -74,19 +78,20 @@ fn prepare(stream: &TcpStream) -> io::Result<()> {
     stream.set_write_timeout(silence)
 }
 
-/// Says on standard error why a connection was not served to its end.
+/// Says on standard error why a connection of the centre that counts so was not served to its end.
 fn say<R: Eprint>(
     rt: &R,
+    number: u8,
     fault: ServeFault,
     read: Option<&io::Error>,
     written: Option<&io::Error>,
 ) {
     let _ = match read.or(written) {
         Some(cause) if is_silence(cause) => {
-            eprintln!(rt; "dnp: a connection: {fault}: nothing for {SILENCE} seconds")
+            eprintln!(rt; "dnp: centre {number}: {fault}: nothing for {SILENCE} seconds")
         }
-        Some(cause) => eprintln!(rt; "dnp: a connection: {fault}: {cause}"),
-        None => eprintln!(rt; "dnp: a connection: {fault}"),
+        Some(cause) => eprintln!(rt; "dnp: centre {number}: {fault}: {cause}"),
+        None => eprintln!(rt; "dnp: centre {number}: {fault}"),
     };
 }
 

@@ -37,24 +37,26 @@ const JSON: &str = "Print the report as one object of JSON";
 const AFTER: &str = "\
 INPUT
   The plan says which substations there are, with their points and outputs. The script, on
-  standard input, says line by line what happens in a system of them, a concentrator and a
-  centre: what points read, polls and commands, and which units of the lines arrive, are lost,
-  come twice or are damaged. docs/scripts.md says how both are written. A script of more octets
-  than --limit allows is not run.
+  standard input, says line by line what happens in a system of them, a concentrator and two
+  centres: what points read, polls and commands, and which units of the lines arrive, are lost,
+  come twice or are damaged. What is of the second centre has a 2 to its word: 'above2' is the
+  link to it, and 'issue2' issues a command there. docs/scripts.md says how both are written. A
+  script of more octets than --limit allows is not run.
 
 EXAMPLE
-  A change at the substation is polled by the concentrator, and then by the centre; at the top
-  of the repository:
+  A change at the substation is polled by the concentrator, and then by the first centre; at the
+  top of the repository:
 
     printf 'open 0\\nopen above\\nchange 0 binary 0 1 01 1000\\nround 0\\nround above\\n' |
       dnp sim --plan examples/plan.toml
 
-  Then the change stands in the report below 'journal 1' and below 'confirmed 1'.
+  Then the change stands in the report below 'journal 1' and below 'confirmed 1', and below
+  'queue2 1' for the second centre, which has not polled.
 
 THE STORES
-  The concentrator's queue, the centre's journal and the controls of both stand in SQL databases in
-  memory, of the form that 'dnp concentrate' and 'dnp centre' have in files. With --plain they
-  stand in lists, and the same is printed sooner.
+  The concentrator's queue, the centres' journals and the controls of all three stand in SQL
+  databases in memory, of the form that 'dnp concentrate' and 'dnp centre' have in files. With
+  --plain they stand in lists, and the same is printed sooner.
 
 OUTPUT
   On standard output:
@@ -62,9 +64,9 @@ OUTPUT
     response's first fragment and the confirm of that; the rest of a longer response then stands
     on the line. 1 the link is not quiet: something stands on its lines, its master awaits an
     answer, or it is broken or closed, as by a master that has waited too long ('open L' opens it);
-    'control ID ok' or 'control ID refused N' for each line 'control ID': 1 a link is not quiet,
-    2 it is not the next control, or another one is on its way to its substation, 3 a station
-    refused it;
+    'control ID ok' or 'control ID refused N' for each line 'control ID', and 'control2' with the
+    same for each line 'control2 ID': 1 a link is not quiet, 2 it is not the next control, or
+    another one is on its way to its substation, 3 a station refused it;
     and at the end the report: each list's name and length, and below it its events, as
     ' 0 binary 3 1 01 1000' (substation, kind, index, value, flags in hexadecimal, time in
     milliseconds or '-'), or its commands, as
@@ -72,16 +74,20 @@ OUTPUT
     ' 0 set16 3 -2' (substation, form, index, value). The index is the substation's own; on the
     link above the plan's base is added to it.
   The report's lists:
-    journal      events that the centre has
-    queue        events that wait in the concentrator
-    dropped      events that the concentrator's full lanes dropped
+    journal      events that the first centre has
+    journal2     events that the second centre has
+    queue        events that wait in the concentrator for the first centre
+    queue2       events that wait there for the second
+    dropped      events that the concentrator's full lanes for the first centre dropped
+    dropped2     events that those for the second dropped
     confirmed    events that substations have let go, since the concentrator confirmed them
     buffered     events that wait in substations
     overwritten  events that substations' full lanes dropped
     gone         events that were lost as a substation restarted
-    issued       commands that were issued at the centre
+    issued       commands that were issued at either centre
     operated     commands that outputs have performed
-  and last 'lost N': N events of the concentrator were dropped so far, by its own count.
+  and last 'lost N': N events for the first centre were dropped so far, by the concentrator's own
+  count, and 'lost2 N', the same of the second.
   Or one line, and then nothing has run:
     'refused plan N', by the first of these faults: 1 it is no TOML, as where a key stands twice or a
     number has over 64 bits, 2 a key is missing, unknown or of another type, or two lists have not as
@@ -113,11 +119,12 @@ SOMETHING TO LOOK AT
     --chart FILE    the same as a sequence chart for a browser, time going down: an arrow for each
                     unit, broken off where it is lost (a cross) or damaged (a jag), dashed where it
                     is repeated, dotted where it is dropped or stands at the end; at the left stand
-                    the script's lines. A label that is cut ends in '..'; at most 1500 rows are shown
+                    the script's lines. A label that is cut ends in '..'; at most 1500 rows are shown.
+                    The second centre is drawn where a unit is on its link
     --capture FILE  what arrives, and so no unit that is lost, damaged or dropped, for Wireshark: a
                     TCP conversation to port 20000 for each link, from and to 192.0.2.A, where A is
-                    the station's link address: the centre's is 1, the concentrator's 9 above and 2
-                    below, substation S's 10 + S
+                    the station's link address: the first centre's is 1, the second's 3, the
+                    concentrator's 9 above and 2 below, substation S's 10 + S
     --json          in place of the text an object: 'outcomes' has how rounds and controls came out,
                     with the N of 'refused N' as 'reason', and then come the report's lists by their
                     names, what has no time with 'null'. What is refused, or stops, is printed as

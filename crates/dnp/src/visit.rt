@@ -257,6 +257,6 @@ impl<'e, 'v, C: Clock> Write for Mouth<'e, 'v, C> {
 }
 
 /// Whether a read or a write has waited for as long as it may, or was stopped on its way, as by a signal.
-fn is_pause(error: &io::Error) -> bool {
+pub(crate) fn is_pause(error: &io::Error) -> bool {
     matches!(error.kind(), ErrorKind::WouldBlock | ErrorKind::Interrupted)
 }

@@ -6,18 +6,12 @@
 ghost use Rattle.dnp_concentrator.specs.Plan.{KeepsLimits};
 
 use dnp_concentrator::Plan;
-use dnp_controls::PlainBook;
-use dnp_daemons::ScriptLine;
-use dnp_eventbuf::laws::lanes_stay_sound;
-use dnp_eventbuf::{PlainJournal, PlainLanes};
-use dnp_trace::{Course, Log, What};
-use dnp_world::standing_laws::plans_have_all_lanes;
-use dnp_world::{Carrier, Cause, End, Event, Link, Place, Way, World};
+use dnp_daemons::{PlainWorld, ScriptLine, plain_world};
+use dnp_eventbuf::CENTRES;
+use dnp_trace::{Course, Log, Peer, What};
+use dnp_world::{Carrier, Cause, End, Event, Link, Place, Way};
 use std::alloc::Global;
 use std::slice;
-
-/// A system over stores in memory.
-type System = World<PlainLanes, PlainJournal, PlainBook, PlainBook>;
 
 /// What is noted of a system, also while its units are carried.
 #[derive(Drop)]
@@ -43,18 +37,19 @@ impl Carrier for Watcher {
 
 /// The line of this way of the link.
 fn course_of(on: Link, way: Way) -> Course {
-    let substation = match on {
-        Link::Below(number) => Some(number),
-        Link::Above => None,
+    let peer = match on {
+        Link::Below(number) => Peer::Substation(number),
+        Link::Above(0) => Peer::Centre,
+        Link::Above(_) => Peer::SecondCentre,
     };
     Course {
-        substation,
+        peer,
         up: way == Way::Up,
     }
 }
 
 /// Notes what stands on a line.
-fn look_at(world: &System, watcher: &mut Watcher, on: Link, way: Way) {
+fn look_at(world: &PlainWorld, watcher: &mut Watcher, on: Link, way: Way) {
     watcher.log.stands(
         course_of(on, way),
         world.standing(on, way),
@@ -62,20 +57,22 @@ fn look_at(world: &System, watcher: &mut Watcher, on: Link, way: Way) {
     );
 }
 
-/// Notes what stands on all lines: of the substations, and then of the link above.
-fn look(world: &System, watcher: &mut Watcher) {
+/// Notes what stands on all lines: of the substations, and then of the links above.
+fn look(world: &PlainWorld, watcher: &mut Watcher) {
     for number in 0..watcher.substations {
         look_at(world, watcher, Link::Below(number), Way::Down);
         look_at(world, watcher, Link::Below(number), Way::Up);
     }
-    look_at(world, watcher, Link::Above, Way::Down);
-    look_at(world, watcher, Link::Above, Way::Up);
+    for centre in 0..CENTRES {
+        look_at(world, watcher, Link::Above(centre), Way::Down);
+        look_at(world, watcher, Link::Above(centre), Way::Up);
+    }
 }
 
 /// Takes what stands on a line off it, one unit after the other, and notes that it came to this.
 fn empty(
     alloc: Global,
-    world: &mut System,
+    world: &mut PlainWorld,
     watcher: &mut Watcher,
     on: Link,
     way: Way,
@@ -97,7 +94,7 @@ fn empty(
 }
 
 /// An event happens.
-fn happens(alloc: Global, world: &mut System, event: &Event) -> Result<(), Cause> {
+fn happens(alloc: Global, world: &mut PlainWorld, event: &Event) -> Result<(), Cause> {
     match world.run(alloc, slice::from_ref(event)) {
         Ok(()) => Ok(()),
         Err(stopped) => Err(stopped.cause),
@@ -107,7 +104,7 @@ fn happens(alloc: Global, world: &mut System, event: &Event) -> Result<(), Cause
 /// An end of a link hangs up, so that the line towards it is cleared.
 fn hang_up(
     alloc: Global,
-    world: &mut System,
+    world: &mut PlainWorld,
     watcher: &mut Watcher,
     on: Link,
     end: End,
@@ -122,17 +119,22 @@ fn hang_up(
 /// A station starts again, so that all its ends hang up.
 fn restart(
     alloc: Global,
-    world: &mut System,
+    world: &mut PlainWorld,
     watcher: &mut Watcher,
     place: Place,
 ) -> Result<(), Cause> {
     match place {
-        Place::Centre => hang_up(alloc, world, watcher, Link::Above, End::Master),
+        Place::Centre(centre) => {
+            hang_up(alloc, world, watcher, Link::Above(centre), End::Master)
+        }
         Place::Concentrator => {
             for number in 0..watcher.substations {
                 hang_up(alloc, world, watcher, Link::Below(number), End::Master)?;
             }
-            hang_up(alloc, world, watcher, Link::Above, End::Outstation)
+            for centre in 0..CENTRES {
+                hang_up(alloc, world, watcher, Link::Above(centre), End::Outstation)?;
+            }
+            Ok(())
         }
         Place::Substation(number) => {
             hang_up(alloc, world, watcher, Link::Below(number), End::Outstation)
@@ -143,7 +145,7 @@ fn restart(
 /// Notes what an event is about to do to a front unit, and looks at the lines that it clears.
 fn foresee(
     alloc: Global,
-    world: &mut System,
+    world: &mut PlainWorld,
     watcher: &mut Watcher,
     event: &Event,
 ) -> Result<(), Cause> {
@@ -170,7 +172,7 @@ fn foresee(
 /// An event happens, and what it does is noted.
 fn step(
     alloc: Global,
-    world: &mut System,
+    world: &mut PlainWorld,
     watcher: &mut Watcher,
     event: &Event,
 ) -> Result<(), Cause> {
@@ -190,7 +192,7 @@ fn step(
 /// Delivers each unit that stands on this way of the link.
 fn flush(
     alloc: Global,
-    world: &mut System,
+    world: &mut PlainWorld,
     watcher: &mut Watcher,
     on: Link,
     way: Way,
@@ -204,7 +206,7 @@ fn flush(
 /// Does what a line of a script asks for. A round or a control that is refused does nothing, or less.
 fn run_line(
     alloc: Global,
-    world: &mut System,
+    world: &mut PlainWorld,
     watcher: &mut Watcher,
     line: &ScriptLine,
 ) -> Result<(), Cause> {
@@ -214,8 +216,8 @@ fn run_line(
         ScriptLine::Round(on) => {
             let _ = world.clean_round_by(alloc, *on, watcher);
         }
-        ScriptLine::Control(id) => {
-            let _ = world.clean_control_by(alloc, *id, watcher);
+        ScriptLine::Control(centre, id) => {
+            let _ = world.clean_control_by(alloc, centre.number(), *id, watcher);
         }
     }
     watcher.log.settle();
@@ -226,7 +228,7 @@ fn run_line(
 /// Runs the lines of a script, up to the first at which memory runs out, and looks at what stands on the lines then.
 fn run_lines(
     alloc: Global,
-    world: &mut System,
+    world: &mut PlainWorld,
     watcher: &mut Watcher,
     script: &[ScriptLine],
     text: &str,
@@ -237,55 +239,32 @@ fn run_lines(
         run_line(alloc, world, watcher, line)?;
     }
     for number in 0..watcher.substations {
-        empty(
-            alloc,
-            world,
-            watcher,
-            Link::Below(number),
-            Way::Down,
-            What::Stands,
-        )?;
-        empty(
-            alloc,
-            world,
-            watcher,
-            Link::Below(number),
-            Way::Up,
-            What::Stands,
-        )?;
+        look_last(alloc, world, watcher, Link::Below(number))?;
     }
-    empty(alloc, world, watcher, Link::Above, Way::Down, What::Stands)?;
-    empty(alloc, world, watcher, Link::Above, Way::Up, What::Stands)
+    for centre in 0..CENTRES {
+        look_last(alloc, world, watcher, Link::Above(centre))?;
+    }
+    Ok(())
 }
 
-/// A new system of a plan, or none where memory ran out.
-fn new_system(alloc: Global, plan: &Plan) -> Option<System>
-    requires { KeepsLimits plan.now }
-{
-    plans_have_all_lanes(plan);
-    lanes_stay_sound();
-    let Ok(queue) = PlainLanes::new(alloc, plan.queue) else {
-        return None;
-    };
-    let made = World::new(
-        alloc,
-        plan,
-        queue,
-        PlainJournal::new(alloc),
-        PlainBook::new(alloc),
-        PlainBook::new(alloc),
-    );
-    match made {
-        Ok(world) => Some(world),
-        Err(_) => None,
-    }
+/// Notes what stands on both lines of a link at the end.
+fn look_last(
+    alloc: Global,
+    world: &mut PlainWorld,
+    watcher: &mut Watcher,
+    on: Link,
+) -> Result<(), Cause> {
+    empty(alloc, world, watcher, on, Way::Down, What::Stands)?;
+    empty(alloc, world, watcher, on, Way::Up, What::Stands)
 }
 
 /// Runs a script, whose text this is, on a new system of the plan, and notes what units do. None where memory ran out.
 pub(crate) fn watch(alloc: Global, plan: &Plan, script: &[ScriptLine], text: &str) -> Option<Log>
     requires { KeepsLimits plan.now }
 {
-    let mut world = new_system(alloc, plan)?;
+    let Ok(mut world) = plain_world(alloc, plan) else {
+        return None;
+    };
     let substations = u8::try_from(plan.substations.as_slice().len()).unwrap_or(0);
     let mut watcher = Watcher {
         log: Log::new(alloc, substations),

@@ -5,10 +5,15 @@ pub mod HungUp
 pub mod Ledgers
 pub mod MappedBack
 pub mod Mapping
+pub mod Naming
+pub mod OneNamed
+pub mod OneSide
+pub mod OneStands
 pub mod Orders
 pub mod Passing
 pub mod Queued
 pub mod Refusals
+pub mod ReservedOutputs
 pub mod RestartedCores
 pub mod Sendings
 pub mod SoundPoints

@@ -16,6 +16,7 @@ use Rattle.dnp_controls.specs.Panel.{Panel}
 use Rattle.dnp_concentrator.specs.declared.book_outputs.BookOutputs.{BookOutputs}
 use Rattle.dnp_concentrator.specs.declared.span.Spans.{Spans}
 use Rattle.dnp_concentrator.specs.Mapped.{command_above, command_below}
+use Rattle.dnp_concentrator.specs.Reserving.{is_reserved}
 
 -- ---- what they are made of
 
@@ -24,6 +25,13 @@ map_in outputs = outputs.map
 
 abbrev pub book_in : {B : Type 0} → BookOutputs B → B
 book_in outputs = outputs.book
+
+-- the command of another centre's select, whose point is reserved while a call lasts
+abbrev pub reserved_in : {B : Type 0} → BookOutputs B → Option Command
+reserved_in outputs = outputs.reserved
+
+abbrev pub with_reserved : {B : Type 0} → BookOutputs B → Option Command → BookOutputs B
+with_reserved outputs reserved = record outputs { reserved = reserved }
 
 abbrev pub with_book : {B : Type 0} → BookOutputs B → B → BookOutputs B
 with_book outputs book = record outputs { book = book }
@@ -48,8 +56,12 @@ obeys_code (Set32 index value) = true
 abbrev pub can_relay : List Spans → Command → Bool
 can_relay spans command = is_some (command_below spans command) && obeys_code command
 
-abbrev pub relay_check : List Spans → Command → ℕ
-relay_check spans command = (if can_relay spans command then status.success else status.not_supported)
+-- what can't be relayed is told first, and then that another centre has the point reserved
+abbrev pub relay_check : List Spans → Option Command → Command → ℕ
+relay_check spans reserved command =
+    (if can_relay spans command
+    then (if is_reserved reserved command then status.already_active else status.success)
+    else status.not_supported)
 
 -- the fault of a book that refuses to add a command
 abbrev pub store_fault : BookFault → StoreFault
@@ -77,22 +89,27 @@ ordered spans entry = unwrap_or (command_above spans entry.target entry.command)
 
 -- one command at a time is answered, no output shows a status, and the commands that were performed are those of the
 -- book's entries
-abbrev pub book_panel : List Spans → Ledger → Panel
-book_panel spans ledger = record {
+abbrev pub book_panel : List Spans → Option Command → Ledger → Panel
+book_panel spans reserved ledger = record {
   most = 1;
   outputs = 0;
   status = (λ _. 0);
-  check = relay_check spans;
+  check = relay_check spans reserved;
   performed = map (ordered spans) ledger.entries;
 }
 
 abbrev pub panel_of : {B : Type 0} → (B → Ledger) → BookOutputs B → Panel
-panel_of contents outputs = book_panel (map_in outputs) (contents (book_in outputs))
+panel_of contents outputs = book_panel (map_in outputs) (reserved_in outputs) (contents (book_in outputs))
+
+-- where the point of another centre's select is reserved
+abbrev pub panel_beside : {B : Type 0} → (B → Ledger) → Option Command → BookOutputs B → Panel
+panel_beside contents reserved outputs = panel_of contents (with_reserved outputs reserved)
 
 -- the second outputs come of the first by performing these commands: the book has them, and nothing else has changed
 abbrev pub Performs : {B : Type 0} → (B → Ledger) → BookOutputs B → List Command → BookOutputs B → Type 0
 Performs contents old commands new =
     (map_in new ≡ map_in old) × (contents (book_in new) ≡ all_added (map_in old) (contents (book_in old)) commands)
+    × (reserved_in new ≡ reserved_in old)
 
 -- the book has not the numbers for them
 abbrev pub Exhausts : {B : Type 0} → (B → Ledger) → BookOutputs B → List Command → Type 0

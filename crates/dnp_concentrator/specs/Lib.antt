@@ -13,6 +13,8 @@ pub mod Plan
 pub mod PointsAbove
 pub mod Relayed
 pub mod Relaying
+pub mod Reserving
 pub mod Restarting
+pub mod Two
 -- Words of private steps.
 pub mod steps

@@ -50,6 +50,7 @@ pub record KeepsSubLimits (substation : SubPlan) : Type 0 where
 pub record KeepsLimits (plan : Plan) : Type 0 where
   pub times : KeepsTimes plan.times
   pub queue : All IsCapacity plan.queue
+  pub queue2 : All IsCapacity plan.queue2
   pub some : 1 ≤ length plan.substations
   pub few : length plan.substations ≤ MAX_SUBSTATIONS
   pub substations : All KeepsSubLimits plan.substations

@@ -2,6 +2,7 @@
 
 ghost use Rattle.std.specs.Prelude.{◌≡◌, ◌<◌, Ok, Err, IfOk, OnErr, OnOk, MatchResult, if◌then◌else◌, length, option_map};
 ghost use Rattle.dnp_appfragment.specs.Fragments.{IsRequest};
+ghost use Rattle.dnp_eventbuf.specs.Sides.{ForEach};
 ghost use Rattle.dnp_master.specs.Calls.{ask_answer};
 ghost use Rattle.dnp_master.specs.Requests.{request_for};
 ghost use Rattle.dnp_master.specs.State as master;
@@ -10,10 +11,10 @@ ghost use Rattle.dnp_concentrator.specs.Relaying as spec;
 
 use crate::concentrator::Concentrator;
 use dnp_controls::Book;
-use dnp_eventbuf::Lanes;
+use dnp_eventbuf::PairLanes;
 use dnp_master::{AskFault, Fragment, Task};
 
-impl<Q: Lanes, B: Book> Concentrator<Q, B> {
+impl<Q: PairLanes, B: Book> Concentrator<Q, B> {
     /// How many substations there are: the numbers below it are those of links below.
     pub fn substations(&self) -> usize
         ensures { result ≡ length (links_of self.now) }
@@ -42,19 +43,21 @@ impl<Q: Lanes, B: Book> Concentrator<Q, B> {
     pub fn opened_below(&mut self, substation: u8)
         requires { substation < length (links_of self.old) }
         ensures link { SetsLink self.old substation (spec.opened (link_at self.old substation)) self.new }
-        ensures core { core_of self.new ≡ core_of self.old }
+        ensures cores { ForEach (λ centre. core_of centre self.new ≡ core_of centre self.old) }
         ensures stores { KeepsStores self.old self.new }
     {
         self.links[usize::from(substation)].opened();
     }
 
-    /// The readings above of this substation's points are marked lost.
+    /// The readings above of this substation's points are marked lost, those that either centre is given.
     fn lose(&mut self, substation: u8)
-        ensures core { core_of self.new ≡ without_link (core_of self.old) substation }
+        ensures cores { ForEach (λ centre. core_of centre self.new ≡ without_link (core_of centre self.old) substation) }
         ensures links { links_of self.new ≡ links_of self.old }
         ensures stores { KeepsStores self.old self.new }
     {
-        self.core.points().mark_lost(usize::from(substation));
+        let number = usize::from(substation);
+        self.cores.first.points().mark_lost(number);
+        self.cores.second.points().mark_lost(number);
     }
 
     /// The connection to the substation is gone: its master is closed, the control in progress there is forgotten, and
@@ -62,7 +65,7 @@ impl<Q: Lanes, B: Book> Concentrator<Q, B> {
     pub fn hung_up_below(&mut self, substation: u8)
         requires { substation < length (links_of self.old) }
         ensures link { SetsLink self.old substation (spec.hung_up (link_at self.old substation)) self.new }
-        ensures core { core_of self.new ≡ without_link (core_of self.old) substation }
+        ensures cores { ForEach (λ centre. core_of centre self.new ≡ without_link (core_of centre self.old) substation) }
         ensures stores { KeepsStores self.old self.new }
     {
         self.links[usize::from(substation)].hung_up();
@@ -75,7 +78,7 @@ impl<Q: Lanes, B: Book> Concentrator<Q, B> {
         requires { substation < length (links_of self.old) }
         ensures closes { result ≡ master.is_timed_out (link_at self.old substation).master now }
         ensures link { SetsLink self.old substation (spec.ticked (link_at self.old substation) now) self.new }
-        ensures core { core_of self.new ≡ (if result then without_link (core_of self.old) substation else core_of self.old) }
+        ensures cores { ForEach (λ centre. core_of centre self.new ≡ (if result then without_link (core_of centre self.old) substation else core_of centre self.old)) }
         ensures stores { KeepsStores self.old self.new }
     {
         let has_closed = self.links[usize::from(substation)].tick(now);
@@ -94,7 +97,7 @@ impl<Q: Lanes, B: Book> Concentrator<Q, B> {
             (λ fault. ask_answer (link_at self.old substation).master task ≡ Err fault) }
         ensures reads { IfOk result (λ request. IsRequest request.items (request_for (link_at self.old substation).master.seq task)) }
         ensures link { SetsLink self.old substation (spec.asking (link_at self.old substation) now task) self.new }
-        ensures core { core_of self.new ≡ core_of self.old }
+        ensures cores { ForEach (λ centre. core_of centre self.new ≡ core_of centre self.old) }
         ensures stores { KeepsStores self.old self.new }
     {
         self.links[usize::from(substation)].ask(now, task)
@@ -114,7 +117,7 @@ impl<Q: Lanes, B: Book> Concentrator<Q, B> {
         ensures reads { OnOk result (IsRequest request.new.items (request_for (link_at self.old substation).master.seq task)) }
         ensures left { OnErr result (request.new ≡ request.old) }
         ensures link { SetsLink self.old substation (spec.asking (link_at self.old substation) now task) self.new }
-        ensures core { core_of self.new ≡ core_of self.old }
+        ensures cores { ForEach (λ centre. core_of centre self.new ≡ core_of centre self.old) }
         ensures stores { KeepsStores self.old self.new }
     {
         self.links[usize::from(substation)].ask_into(request, now, task)

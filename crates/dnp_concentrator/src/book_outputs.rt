@@ -1,15 +1,17 @@
 //! Outputs over a book.
 
-ghost use Rattle.std.specs.Prelude.{◌≡◌, ◌<◌, ◌≤◌, OnOk, IfErr, IsSome, ⊤};
+ghost use Rattle.std.specs.Prelude.{◌==◌, ◌≡◌, ◌<◌, ◌≤◌, None, OnOk, IfErr, IsSome, ⊤};
 ghost use Rattle.std.specs.Borrow.{Lends, sem};
+ghost use Rattle.dnp_objects.specs.Status as status;
 ghost use Rattle.dnp_objects.specs.Stores.{IsStoreCall};
 ghost use Rattle.dnp_concentrator.specs.contracts.book_outputs.BookOutputs.{the_row};
-ghost use Rattle.dnp_concentrator.specs.BookOutputs.{map_in, book_in, with_book, obeys_code, can_relay, HoldsSame, IsWell, added_for, store_fault};
+ghost use Rattle.dnp_concentrator.specs.BookOutputs.{map_in, book_in, reserved_in, with_book, with_reserved, obeys_code, can_relay, relay_check, HoldsSame, IsWell, added_for, store_fault};
 ghost use Rattle.dnp_objects.specs.declared.limits.TheConstants.{MAX_ID};
 ghost use Rattle.dnp_concentrator.specs.Mapped.{command_below};
 
 use crate::index_map::IndexMap;
 use crate::limits::COMMANDS_AT_ONCE;
+use crate::reserving::is_reserved;
 use arrayvec::ArrayVec;
 use dnp_controls::{Book, BookFault, MAX_COMMANDS, Outputs, obeys_code_rule};
 use dnp_objects::{Command, Status, StoreFault};
@@ -20,12 +22,18 @@ use std::alloc::Global;
 pub struct BookOutputs<B> {
     map: IndexMap,
     book: B,
+    /// The command of another centre's select, whose point is reserved while a call lasts.
+    reserved: Option<Command>,
 }
 
 impl<B: Drop> Drop for BookOutputs<B> {
     /// One call for whoever lets it go: its parts are looked at here alone.
     fn drop(self) {
-        let BookOutputs { map: _, book: _ } = self;
+        let BookOutputs {
+            map: _,
+            book: _,
+            reserved: _,
+        } = self;
     }
 }
 
@@ -52,19 +60,38 @@ fn fault_of(fault: BookFault) -> StoreFault
 }
 
 impl<B: Book> BookOutputs<B> {
-    /// Outputs over this book, by this index map.
+    /// Outputs over this book, by this index map. No point is reserved.
     pub fn new(map: IndexMap, book: B) -> Self
         ensures map { map_in result ≡ map }
         ensures book { book_in result ≡ book }
+        ensures reserved { reserved_in result ≡ None }
     {
-        BookOutputs { map, book }
+        BookOutputs {
+            map,
+            book,
+            reserved: None,
+        }
+    }
+
+    /// Reserves the point of another centre's command from now on, or none; what was reserved before.
+    pub fn reserve(&mut self, reserved: Option<Command>) -> Option<Command>
+        ensures now { self.new ≡ with_reserved self.old reserved }
+        ensures before { result ≡ reserved_in self.old }
+    {
+        let before = self.reserved;
+        self.reserved = reserved;
+        before
     }
 
     /// The book, as it stands.
     pub fn into_book(self) -> B
         ensures { result ≡ book_in self }
     {
-        let BookOutputs { map: _, book } = self;
+        let BookOutputs {
+            map: _,
+            book,
+            reserved: _,
+        } = self;
         book
     }
 
@@ -90,9 +117,24 @@ impl<B: Book> BookOutputs<B> {
         self.map.command_below(command).is_some() && obeys_code(command)
     }
 
+    /// What a command is answered: NOT_SUPPORTED where its output is no substation's or a block breaks the code rule, else
+    /// ALREADY_ACTIVE where another centre has its point reserved, else SUCCESS.
+    fn status_of(&self, command: &Command) -> Status
+        ensures { result ≡ relay_check (map_in self.now) (reserved_in self.now) command.now }
+    {
+        if !self.can_relay(command) {
+            Status::NOT_SUPPORTED
+        } else if is_reserved(&self.reserved, command) {
+            Status::ALREADY_ACTIVE
+        } else {
+            Status::SUCCESS
+        }
+    }
+
     /// Adds the command to the book for its substation, with the substation's own index.
     fn add(&mut self, alloc: Global, command: &Command) -> Result<(), StoreFault>
         ensures map { map_in self.new ≡ map_in self.old }
+        ensures reserved { reserved_in self.new ≡ reserved_in self.old }
         ensures call { IsStoreCall (IsWell B.honest B.is_stopped) (λ o. B.is_stopped (book_in o)) (λ _. ⊤) (HoldsSame B.contents) (λ _ _. ⊤) StoreFault.Device (IsSome (command_below (map_in self.old) command.now)) self.old self.new result }
         ensures added { IsWell B.honest B.is_stopped self.new → OnOk result (B.contents (book_in self.new) ≡ added_for (B.contents (book_in self.old)) (command_below (map_in self.old) command.now)) }
         ensures not_exhausted { IsWell B.honest B.is_stopped self.new → IsSome (command_below (map_in self.old) command.now) → OnOk result ((B.contents (book_in self.old)).last_id < MAX_ID) }
@@ -108,9 +150,9 @@ impl<B: Book> BookOutputs<B> {
     }
 }
 
-/// One command at a time. A command is answered SUCCESS where its output is a substation's and, of a block, the code rule
-/// is obeyed, and any other NOT_SUPPORTED. What performs a command is the book's `add`, so that a fault of the book is
-/// the fault of the call. No output shows a status.
+/// One command at a time. A command is answered NOT_SUPPORTED where its output is no substation's or a block breaks the code
+/// rule, else ALREADY_ACTIVE where another centre's select has its point reserved, else SUCCESS. What performs a command is
+/// the book's `add`, so that a fault of the book is the fault of the call. No output shows a status.
 impl<B: Book> Outputs for BookOutputs<B> {
     ghost use Rattle.std.specs.Prelude.{true};
     ghost use Rattle.dnp_concentrator.specs.BookOutputs.{book_in, panel_of, IsWell, Performs, Exhausts};
@@ -140,11 +182,7 @@ impl<B: Book> Outputs for BookOutputs<B> {
     }
 
     fn check(&self, command: &Command) -> Status {
-        if self.can_relay(command) {
-            Status::SUCCESS
-        } else {
-            Status::NOT_SUPPORTED
-        }
+        self.status_of(command)
     }
 
     fn operate(
@@ -156,12 +194,11 @@ impl<B: Book> Outputs for BookOutputs<B> {
         let [command] = commands else {
             return Ok(statuses);
         };
-        if self.can_relay(command) {
+        let status = self.status_of(command);
+        if status == Status::SUCCESS {
             self.add(alloc, command)?;
-            statuses.push(Status::SUCCESS);
-        } else {
-            statuses.push(Status::NOT_SUPPORTED);
         }
+        statuses.push(status);
         Ok(statuses)
     }
 }

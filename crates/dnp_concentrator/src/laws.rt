@@ -18,7 +18,7 @@ ghost use Rattle.dnp_objects.specs.Events.{IsEvent};
 ghost use Rattle.dnp_eventbuf.specs.Carried.{IsCarried};
 ghost use Rattle.dnp_pointdb.specs.Plan as points;
 ghost use Rattle.dnp_objects.specs.declared.command.Command.{Command};
-ghost use Rattle.dnp_concentrator.specs.Addresses.{outstation_address};
+ghost use Rattle.dnp_concentrator.specs.Addresses.{centre_address, outstation_address};
 ghost use Rattle.dnp_concentrator.specs.declared.addresses.TheConstants as addresses;
 ghost use Rattle.dnp_concentrator.specs.declared.limits.TheConstants as limits;
 
@@ -89,10 +89,12 @@ pub fn no_event_is_passed_over()
     events_taken_are_of_the_plan();
 }
 
-/// The stations of a system have these link addresses: the centre and the concentrator above, the concentrator's master
+/// The stations of a system have these link addresses: each centre and the concentrator above, the concentrator's master
 /// below, and the outstations of substation 0 and of the last one, 15.
 pub fn stations_have_their_addresses()
     ensures centre { addresses.CENTRE ≡ 1 }
+    ensures second_centre { addresses.SECOND_CENTRE ≡ 3 }
+    ensures each_centre { (centre_address 0 ≡ 1) × (centre_address 1 ≡ 3) }
     ensures concentrator_above { addresses.CONCENTRATOR_ABOVE ≡ 9 }
     ensures master_below { addresses.MASTER_BELOW ≡ 2 }
     ensures first { outstation_address 0 ≡ 10 }

@@ -1,5 +1,5 @@
 //! The middle and the top of a path of DNP3 stations (IEEE Std 1815-2012): a concentrator that polls
-//! substations and hands their events on, and a centre that polls it, keeps a journal and issues controls;
+//! substations and hands their events on to two centres, and a centre that polls it, keeps a journal and issues controls;
 //! the plan of the whole system, and the index map between the substations and the station above them.
 #![tactic(auto)]
 
@@ -24,14 +24,18 @@ mod points_above;
 mod progress;
 mod readings;
 mod receiving;
+mod receiving_above;
 mod receiving_below;
 mod relay;
 pub mod relay_laws;
 mod relayed;
 mod relaying_below;
+mod reserving;
+pub mod reserving_laws;
 pub mod restart_laws;
 mod span;
 mod substation_points;
+mod two;
 
 pub use book_outputs::BookOutputs;
 pub use cause::Cause;
@@ -47,3 +51,4 @@ pub use mapped::queued_rows;
 pub use plan::{Plan, SubPlan};
 pub use relayed::Relayed;
 pub use span::{Span, Spans};
+pub use two::Two;

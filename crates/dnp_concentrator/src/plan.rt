@@ -35,15 +35,17 @@ pub struct SubPlan {
     pub base: [u16; INDEX_KINDS],
 }
 
-/// The plan of a whole system: a concentrator, the substations below it, and a centre above it.
+/// The plan of a whole system: a concentrator, the substations below it, and two centres above it.
 ///
 /// The type keeps none of the ranges below: `keeps_limits` is the test of them.
 #[derive(Debug)]
 pub struct Plan {
     /// The timers and retries of every outstation and master.
     pub times: Times,
-    /// How many rows each lane of the concentrator's queue takes, by the lane's number: 1 to 4,096.
+    /// How many rows each lane of the concentrator's queue for the first centre takes, by the lane's number: 1 to 4,096.
     pub queue: [u32; LANES],
+    /// The same of its queue for the second centre.
+    pub queue2: [u32; LANES],
     /// The substations, each at the place of its number: 1 to 16 of them.
     pub substations: Listed<SubPlan>,
 }
@@ -54,6 +56,7 @@ impl Drop for Plan {
         let Plan {
             times: _,
             queue: _,
+            queue2: _,
             substations: _,
         } = self;
     }
@@ -146,6 +149,7 @@ impl Plan {
         let count = self.substations.as_slice().len();
         keep_times(&self.times)
             && are_capacities(&self.queue)
+            && are_capacities(&self.queue2)
             && 1 <= count
             && count <= MAX_SUBSTATIONS
             && self

@@ -39,11 +39,25 @@ fn set_reading(spans: &Spans, points: &mut PointDb, row: &Row)
 /// reading of its kind can be, sets nothing. No reading that is set is an event above.
 ///
 /// Where the substation's indices stand is looked up once, and the block of a point where the last one was.
-pub(crate) fn set_readings(map: &IndexMap, points: &mut PointDb, substation: u8, rows: &[Row])
+fn set_readings(map: &IndexMap, points: &mut PointDb, substation: u8, rows: &[Row])
     ensures { points.new ≡ spec.readings_set map.now substation points.old rows.now }
 {
     let spans = map.spans_of(substation);
     for row in rows {
         set_reading(&spans, points, row);
     }
+}
+
+/// Sets the readings above by what a substation's fragment has: its events first, and then its present values.
+pub(crate) fn set_taken(
+    map: &IndexMap,
+    points: &mut PointDb,
+    substation: u8,
+    events: &[Row],
+    statics: &[Row],
+)
+    ensures { points.new ≡ spec.readings_set map.now substation (spec.readings_set map.now substation points.old events.now) statics.now }
+{
+    set_readings(map, points, substation, events);
+    set_readings(map, points, substation, statics);
 }

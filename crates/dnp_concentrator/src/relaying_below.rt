@@ -4,6 +4,7 @@ ghost use Rattle.std.specs.Prelude.{◌≡◌, ◌≢◌, ◌<◌, true, false, 
 ghost use Rattle.std.specs.Option.{IsSomeAnd};
 ghost use Rattle.dnp_controls.specs.Book.{entry_of, Has, is_pending};
 ghost use Rattle.dnp_controls.specs.Moves.{AreGranted, after};
+ghost use Rattle.dnp_eventbuf.specs.Sides.{ForEach};
 ghost use Rattle.dnp_concentrator.specs.Concentrator.{book_of, core_of, indices_of, link_at, links_of, plan_above, queue_of, SetsLink};
 ghost use Rattle.dnp_concentrator.specs.Relayed as says;
 ghost use Rattle.dnp_concentrator.specs.Relaying as spec;
@@ -11,10 +12,10 @@ ghost use Rattle.dnp_concentrator.specs.Relaying as spec;
 use crate::concentrator::Concentrator;
 use crate::relayed::Relayed;
 use dnp_controls::{Book, BookFault};
-use dnp_eventbuf::Lanes;
+use dnp_eventbuf::PairLanes;
 use std::alloc::Global;
 
-impl<Q: Lanes, B: Book> Concentrator<Q, B> {
+impl<Q: PairLanes, B: Book> Concentrator<Q, B> {
     /// One step of relaying the book's controls for the substation. On an open, idle link it is the first of these that
     /// fits: the control in progress whose outcome is known is finished in the book; the one whose select stands at the
     /// master is spent in the book, and only then its OPERATE is asked; the one whose select stands no longer is selected
@@ -56,7 +57,7 @@ impl<Q: Lanes, B: Book> Concentrator<Q, B> {
         // Where the step needs no book, none is asked, and nothing refused.
         ensures unasked { says.asks_book (link_at self.old substation) ≡ false → (book_of self.new ≡ book_of self.old) × IsOk result }
         ensures stopped { says.asks_book (link_at self.old substation) ≡ true → IsTrue (B.is_stopped (book_of self.old)) → result ≡ Err BookFault.Device }
-        ensures core { core_of self.new ≡ core_of self.old }
+        ensures cores { ForEach (λ centre. core_of centre self.new ≡ core_of centre self.old) }
         ensures plan { plan_above self.new ≡ plan_above self.old }
         ensures queue { queue_of self.new ≡ queue_of self.old }
         ensures indices { indices_of self.new ≡ indices_of self.old }

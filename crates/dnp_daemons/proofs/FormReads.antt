@@ -15,10 +15,13 @@ use Rattle.dnp_daemons.specs.declared.script.forms.Form.{Form}
 use Rattle.dnp_daemons.specs.declared.script.forms.Form.TheVariants as forms
 use Rattle.dnp_daemons.specs.declared.script.forms.Slot.{Slot}
 use Rattle.dnp_daemons.specs.declared.script.forms.Slot.TheVariants as slots
+use Rattle.dnp_daemons.specs.declared.script.which.WhichCentre.{WhichCentre}
+use Rattle.dnp_daemons.specs.declared.script.which.WhichCentre.TheVariants.{First, Second}
+use Rattle.dnp_daemons.specs.Centres.{number_of}
 use Rattle.dnp_daemons.specs.Numbers.{number_below, integer_within}
 use Rattle.dnp_daemons.specs.Names.{is, substation_named, link_named, place_named, end_named, way_named, kind_named, classes_named, flags_named, time_named, octets_named}
-use Rattle.dnp_daemons.specs.ScriptLines.{line_named, is_lossless, at_link, at_end, at_way, at_link_with, at_word, reading_named, setpoint_named, block_named, issue_named, change_named, damage_named}
-use Rattle.dnp_daemons.specs.steps.Forms.{fit, takes, slots_of, slots_behind, verb_of, is_gentle}
+use Rattle.dnp_daemons.specs.ScriptLines.{line_named, is_lossless, at_link, at_end, at_way, at_link_with, at_word, reading_named, setpoint_named, block_named, issue_named, issuer_named, change_named, damage_named}
+use Rattle.dnp_daemons.specs.steps.Forms.{fit, takes, slots_of, slots_behind, issue_verb, verb_of, is_gentle}
 
 -- ---- options
 
@@ -129,10 +132,12 @@ unfolding at_word
 reads_pass n words e = by_one n forms.Pass slots.Number64 (number_below (2 ^ 64)) (λ ms. One (Pass ms)) refl (λ word. refl)
     (λ word ms m. map_is (λ it. One (Pass it)) (number_below (2 ^ 64) word) ms m) (λ ms. refl) words e
 
-reads_control : (n : ℕ) (words : List (List ℕ)) → fit n words (slots_of forms.Control) ≡ true → Reads n forms.Control words
+reads_control : (n : ℕ) (centre : WhichCentre) (words : List (List ℕ)) → fit n words (slots_of (forms.Control centre)) ≡ true → Reads n (forms.Control centre) words
 unfolding at_word
-reads_control n words e = by_one n forms.Control slots.Number64 (number_below (2 ^ 64)) (λ id. Control id) refl (λ word. refl)
-    (λ word id m. map_is (λ it. Control it) (number_below (2 ^ 64) word) id m) (λ id. refl) words e
+reads_control n First words e = by_one n (forms.Control First) slots.Number64 (number_below (2 ^ 64)) (λ id. Control First id) refl (λ word. refl)
+    (λ word id m. map_is (λ it. Control First it) (number_below (2 ^ 64) word) id m) (λ id. refl) words e
+reads_control n Second words e = by_one n (forms.Control Second) slots.Number64 (number_below (2 ^ 64)) (λ id. Control Second id) refl (λ word. refl)
+    (λ word id m. map_is (λ it. Control Second it) (number_below (2 ^ 64) word) id m) (λ id. refl) words e
 
 reads_restart : (n : ℕ) (words : List (List ℕ)) → fit n words (slots_of forms.Restart) ≡ true → Reads n forms.Restart words
 unfolding at_word
@@ -226,17 +231,24 @@ reads_damage n words e =
     })
 
 -- the issue of a command
-issued : (n : ℕ) (substation : List ℕ) (command : Option Command) (station : ℕ) (what : Command) → substation_named n substation ≡ Some station → command ≡ Some what →
-    issue_named n (codes "issue") substation command ≡ Some (One (Issue station what))
-unfolding issue_named
-issued n substation command station what s c =
-    then_is (λ it. command >>= λ of. Some (One (Issue it of))) (substation_named n substation) station s
-    ∙ then_is (λ of. Some (One (Issue station of))) command what c
+issuer_is : (centre : WhichCentre) → issuer_named (issue_verb centre) ≡ Some (number_of centre)
+issuer_is First = refl
+issuer_is Second = refl
 
-reads_set16 : (n : ℕ) (words : List (List ℕ)) → fit n words (slots_of forms.Set16) ≡ true → Reads n forms.Set16 words
+issued : (n : ℕ) (centre : WhichCentre) (substation : List ℕ) (command : Option Command) (station : ℕ) (what : Command) →
+    substation_named n substation ≡ Some station → command ≡ Some what →
+    issue_named n (issue_verb centre) substation command ≡ Some (One (Issue (number_of centre) station what))
+unfolding issue_named
+issued n centre substation command station what s c =
+    then_is (λ by. substation_named n substation >>= λ it. command >>= λ of. Some (One (Issue by it of))) (issuer_named (issue_verb centre))
+    (number_of centre) (issuer_is centre)
+    ∙ then_is (λ it. command >>= λ of. Some (One (Issue (number_of centre) it of))) (substation_named n substation) station s
+    ∙ then_is (λ of. Some (One (Issue (number_of centre) station of))) command what c
+
+reads_set16 : (n : ℕ) (centre : WhichCentre) (words : List (List ℕ)) → fit n words (slots_of (forms.Set16 centre)) ≡ true → Reads n (forms.Set16 centre) words
 unfolding Taken setpoint_named
-reads_set16 n words e =
-    let t : Taken n (slots_of forms.Set16) words = apart n (slots_of forms.Set16) words e in
+reads_set16 n centre words e =
+    let t : Taken n (slots_of (forms.Set16 centre)) words = apart n (slots_of (forms.Set16 centre)) words e in
     let (verb, ws, are, is_verb, ta) = t in
     let (a, rs, rs_are, is_a, tb) = ta in
     let (b, bs, bs_are, is_b, tc) = tb in
@@ -245,23 +257,23 @@ reads_set16 n words e =
     let s = some_is (substation_named n a) is_a in
     let i = some_is (number_below (2 ^ 16) c) is_c in
     let v = some_is (integer_within (2 ^ 15) d) is_d in
-    let whole : words ≡ codes "issue" ∷ a ∷ codes "set16" ∷ c ∷ d ∷ [] =
-    cons_is words verb (codes "issue") ws (a ∷ codes "set16" ∷ c ∷ d ∷ []) are (verb_is n forms.Set16 verb is_verb)
+    let whole : words ≡ issue_verb centre ∷ a ∷ codes "set16" ∷ c ∷ d ∷ [] =
+    cons_is words verb (issue_verb centre) ws (a ∷ codes "set16" ∷ c ∷ d ∷ []) are (verb_is n (forms.Set16 centre) verb is_verb)
     (cons_is ws a a rs (codes "set16" ∷ c ∷ d ∷ []) rs_are refl
     (cons_is rs b (codes "set16") bs (c ∷ d ∷ []) bs_are ((bytes_eq-Decides b (codes "set16")).0 is_b)
     (cons_is bs c c cs (d ∷ []) cs_are refl (cons_is cs d d ds [] ds_are refl end)))) in
-    subst (λ it. Reads n forms.Set16 it) (sym whole) (record {
-      read = One (Issue s.0 (Set16 i.0 v.0));
-      is = issued n a (setpoint_named (codes "set16") c d) s.0 (Set16 i.0 v.0) s.1
+    subst (λ it. Reads n (forms.Set16 centre) it) (sym whole) (record {
+      read = One (Issue (number_of centre) s.0 (Set16 i.0 v.0));
+      is = issued n centre a (setpoint_named (codes "set16") c d) s.0 (Set16 i.0 v.0) s.1
           (then_is (λ index. integer_within (2 ^ 15) d >>= λ value. Some (Set16 index value)) (number_below (2 ^ 16) c) i.0 i.1
           ∙ then_is (λ value. Some (Set16 i.0 value)) (integer_within (2 ^ 15) d) v.0 v.1);
       gentle = refl;
     })
 
-reads_set32 : (n : ℕ) (words : List (List ℕ)) → fit n words (slots_of forms.Set32) ≡ true → Reads n forms.Set32 words
+reads_set32 : (n : ℕ) (centre : WhichCentre) (words : List (List ℕ)) → fit n words (slots_of (forms.Set32 centre)) ≡ true → Reads n (forms.Set32 centre) words
 unfolding Taken setpoint_named
-reads_set32 n words e =
-    let t : Taken n (slots_of forms.Set32) words = apart n (slots_of forms.Set32) words e in
+reads_set32 n centre words e =
+    let t : Taken n (slots_of (forms.Set32 centre)) words = apart n (slots_of (forms.Set32 centre)) words e in
     let (verb, ws, are, is_verb, ta) = t in
     let (a, rs, rs_are, is_a, tb) = ta in
     let (b, bs, bs_are, is_b, tc) = tb in
@@ -270,23 +282,23 @@ reads_set32 n words e =
     let s = some_is (substation_named n a) is_a in
     let i = some_is (number_below (2 ^ 16) c) is_c in
     let v = some_is (integer_within (2 ^ 31) d) is_d in
-    let whole : words ≡ codes "issue" ∷ a ∷ codes "set32" ∷ c ∷ d ∷ [] =
-    cons_is words verb (codes "issue") ws (a ∷ codes "set32" ∷ c ∷ d ∷ []) are (verb_is n forms.Set32 verb is_verb)
+    let whole : words ≡ issue_verb centre ∷ a ∷ codes "set32" ∷ c ∷ d ∷ [] =
+    cons_is words verb (issue_verb centre) ws (a ∷ codes "set32" ∷ c ∷ d ∷ []) are (verb_is n (forms.Set32 centre) verb is_verb)
     (cons_is ws a a rs (codes "set32" ∷ c ∷ d ∷ []) rs_are refl
     (cons_is rs b (codes "set32") bs (c ∷ d ∷ []) bs_are ((bytes_eq-Decides b (codes "set32")).0 is_b)
     (cons_is bs c c cs (d ∷ []) cs_are refl (cons_is cs d d ds [] ds_are refl end)))) in
-    subst (λ it. Reads n forms.Set32 it) (sym whole) (record {
-      read = One (Issue s.0 (Set32 i.0 v.0));
-      is = issued n a (setpoint_named (codes "set32") c d) s.0 (Set32 i.0 v.0) s.1
+    subst (λ it. Reads n (forms.Set32 centre) it) (sym whole) (record {
+      read = One (Issue (number_of centre) s.0 (Set32 i.0 v.0));
+      is = issued n centre a (setpoint_named (codes "set32") c d) s.0 (Set32 i.0 v.0) s.1
           (then_is (λ index. integer_within (2 ^ 31) d >>= λ value. Some (Set32 index value)) (number_below (2 ^ 16) c) i.0 i.1
           ∙ then_is (λ value. Some (Set32 i.0 value)) (integer_within (2 ^ 31) d) v.0 v.1);
       gentle = refl;
     })
 
-reads_block : (n : ℕ) (words : List (List ℕ)) → fit n words (slots_of forms.Block) ≡ true → Reads n forms.Block words
+reads_block : (n : ℕ) (centre : WhichCentre) (words : List (List ℕ)) → fit n words (slots_of (forms.Block centre)) ≡ true → Reads n (forms.Block centre) words
 unfolding Taken block_named
-reads_block n words e =
-    let t : Taken n (slots_of forms.Block) words = apart n (slots_of forms.Block) words e in
+reads_block n centre words e =
+    let t : Taken n (slots_of (forms.Block centre)) words = apart n (slots_of (forms.Block centre)) words e in
     let (verb, ws, are, is_verb, ta) = t in
     let (a, rs, rs_are, is_a, tb) = ta in
     let (b, bs, bs_are, is_b, tc) = tb in
@@ -301,15 +313,15 @@ reads_block n words e =
     let w = some_is (number_below (2 ^ 8) f) is_f in
     let x = some_is (number_below (2 ^ 32) g) is_g in
     let y = some_is (number_below (2 ^ 32) h) is_h in
-    let whole : words ≡ codes "issue" ∷ a ∷ codes "block" ∷ c ∷ d ∷ f ∷ g ∷ h ∷ [] =
-    cons_is words verb (codes "issue") ws (a ∷ codes "block" ∷ c ∷ d ∷ f ∷ g ∷ h ∷ []) are (verb_is n forms.Block verb is_verb)
+    let whole : words ≡ issue_verb centre ∷ a ∷ codes "block" ∷ c ∷ d ∷ f ∷ g ∷ h ∷ [] =
+    cons_is words verb (issue_verb centre) ws (a ∷ codes "block" ∷ c ∷ d ∷ f ∷ g ∷ h ∷ []) are (verb_is n (forms.Block centre) verb is_verb)
     (cons_is ws a a rs (codes "block" ∷ c ∷ d ∷ f ∷ g ∷ h ∷ []) rs_are refl
     (cons_is rs b (codes "block") bs (c ∷ d ∷ f ∷ g ∷ h ∷ []) bs_are ((bytes_eq-Decides b (codes "block")).0 is_b)
     (cons_is bs c c cs (d ∷ f ∷ g ∷ h ∷ []) cs_are refl (cons_is cs d d ds (f ∷ g ∷ h ∷ []) ds_are refl
     (cons_is ds f f fs (g ∷ h ∷ []) fs_are refl (cons_is fs g g gs (h ∷ []) gs_are refl (cons_is gs h h hs [] hs_are refl end))))))) in
-    subst (λ it. Reads n forms.Block it) (sym whole) (record {
-      read = One (Issue s.0 (Block i.0 v.0 w.0 x.0 y.0));
-      is = issued n a (block_named (codes "block") c d f g h) s.0 (Block i.0 v.0 w.0 x.0 y.0) s.1
+    subst (λ it. Reads n (forms.Block centre) it) (sym whole) (record {
+      read = One (Issue (number_of centre) s.0 (Block i.0 v.0 w.0 x.0 y.0));
+      is = issued n centre a (block_named (codes "block") c d f g h) s.0 (Block i.0 v.0 w.0 x.0 y.0) s.1
           (then_is (λ index. number_below (2 ^ 8) d >>= λ code. number_below (2 ^ 8) f >>= λ count. number_below (2 ^ 32) g >>= λ on.
           number_below (2 ^ 32) h >>= λ off. Some (Block index code count on off)) (number_below (2 ^ 16) c) i.0 i.1
           ∙ then_is (λ code. number_below (2 ^ 8) f >>= λ count. number_below (2 ^ 32) g >>= λ on.
@@ -374,9 +386,9 @@ form_reads n forms.Enable words e = reads_enable n words e
 form_reads n forms.Disable words e = reads_disable n words e
 form_reads n forms.SetTime words e = reads_time n words e
 form_reads n forms.Pass words e = reads_pass n words e
-form_reads n forms.Control words e = reads_control n words e
+form_reads n (forms.Control centre) words e = reads_control n centre words e
 form_reads n forms.Restart words e = reads_restart n words e
 form_reads n forms.Change words e = reads_change n words e
-form_reads n forms.Set16 words e = reads_set16 n words e
-form_reads n forms.Set32 words e = reads_set32 n words e
-form_reads n forms.Block words e = reads_block n words e
+form_reads n (forms.Set16 centre) words e = reads_set16 n centre words e
+form_reads n (forms.Set32 centre) words e = reads_set32 n centre words e
+form_reads n (forms.Block centre) words e = reads_block n centre words e

@@ -1,4 +1,4 @@
--- Events that do nothing on any system of a plan.
+-- Events that do nothing on any system of a plan, as one centre sees it.
 use Rattle.std.proofs.Common.{◌≡◌, ℕ, zero, suc, ◌+◌, ◌^◌, ◌-◌, min, Bool, true, false, not, ◌&&◌, ◌==◌, cond, List, [], ◌∷◌, length, map, Option, Some, None, Result, Err, refl, sym, ap, ◌∙◌, subst, arith}
 use Rattle.std.specs.Prelude.{IfSome, slice_get, slice_index_or, slice_set, nat_lt, nat_le, is_some}
 use Rattle.std.specs.Option.{IsSomeAnd, option_map}
@@ -46,7 +46,7 @@ use Rattle.dnp_world.specs.declared.event.Event.TheVariants as event
 use Rattle.dnp_world.specs.declared.event.Link.{Link}
 use Rattle.dnp_world.specs.declared.event.Link.TheVariants as link
 use Rattle.dnp_daemons.specs.IdleLines.{has_index, idle_reason, reading_reason, task_reason}
-use Rattle.dnp_daemons.specs.IdleRuns.{IsOf}
+use Rattle.dnp_daemons.specs.IdleRuns.{IsOfToOne}
 use Rattle.dnp_daemons.specs.declared.script.ScriptLine.TheVariants.{One}
 use Rattle.dnp_daemons.specs.declared.script.idle.IdleReason.{IdleReason}
 
@@ -143,10 +143,10 @@ idle_reading plan old new station kind index reading reason planned e r =
 
 -- ---- commands
 
-idle_command : (plan : Plan) (old new : System) (station : ℕ) (command : Command) (reason : IdleReason)
-    → old.centre.indices ≡ map_of plan → idle_reason plan (One (event.Issue station command)) ≡ Some reason
+idle_command : (plan : Plan) (old new : System) (by_centre station : ℕ) (command : Command) (reason : IdleReason)
+    → old.centre.indices ≡ map_of plan → idle_reason plan (One (event.Issue by_centre station command)) ≡ Some reason
     → IssuesBy (command_above old.centre.indices station command) station command old new → new ≡ old
-idle_command plan old new station command reason indices e issues =
+idle_command plan old new by_centre station command reason indices e issues =
     by (has_index plan station (kind_of_command command) (index_of command)) refl
   where
     by : (b : Bool) → has_index plan station (kind_of_command command) (index_of command) ≡ b → new ≡ old
@@ -208,7 +208,7 @@ set_there (y ∷ ys) (suc i) x there = ap (λ zs. y ∷ zs) (set_there ys i x th
 
 -- so does the system, and each master
 none_sent : (old new : System) (on : Link) → SendsDown on [] (relaying_at old on) old new → new ≡ old
-none_sent old new link.Above sends =
+none_sent old new (link.Above centre) sends =
     sends.1 ∙ ap (λ (lines : ChannelState). record old { above = lines }) (none_down old.above new.above sends.0)
 none_sent old new (link.Below station) sends =
     let links : slice_set old.concentrator.links station (link_at old.concentrator station) ≡ old.concentrator.links =
@@ -232,15 +232,16 @@ idle_task old new on t reason e asks =
 
 -- ---- all events
 
-pub idle_event : (plan : Plan) (old new : System) (happening : Event) (reason : IdleReason) → IsOf plan old
+pub idle_to_one : (plan : Plan) (old new : System) (happening : Event) (reason : IdleReason) → IsOfToOne plan old
     → idle_reason plan (One happening) ≡ Some reason → Happens old happening new → new ≡ old
-idle_event plan old new (event.Change station kind index reading) reason of e h =
+idle_to_one plan old new (event.Change station kind index reading) reason of e h =
     only_there (has_station old station) (Reads station kind index reading) old new
     (λ r. idle_reading plan old new station kind index reading reason of.points e r) h
-idle_event plan old new (event.Issue station command) reason of e h = idle_command plan old new station command reason of.indices e h
-idle_event plan old new (event.Ask on t) reason of e h =
+idle_to_one plan old new (event.Issue by_centre station command) reason of e h =
+    idle_command plan old new by_centre station command reason of.indices e h
+idle_to_one plan old new (event.Ask on t) reason of e h =
     only_there (has_link old on) (AsksOn (is_own t) on t) old new (λ asks. idle_task old new on t reason e asks) h
-idle_event plan old new (event.Pass ms) reason of e h = by (ms == 0) refl
+idle_to_one plan old new (event.Pass ms) reason of e h = by (ms == 0) refl
   where
     by : (b : Bool) → (ms == 0) ≡ b → new ≡ old
     by true is =
@@ -248,12 +249,12 @@ idle_event plan old new (event.Pass ms) reason of e h = by (ms == 0) refl
         let moment : min (old.now + ms) (2 ^ 64 - 1) ≡ old.now = omega (arith, none, of.moment) in
         h ∙ ap (λ (now : ℕ). record old { now = now }) moment
     by false is = absurd (none-some reason (rw is at e))
-idle_event plan old new (event.Open on) reason of e h = absurd (none-some reason e)
-idle_event plan old new (event.HangUp on end) reason of e h = absurd (none-some reason e)
-idle_event plan old new (event.Deliver on way) reason of e h = absurd (none-some reason e)
-idle_event plan old new (event.Repeat on way) reason of e h = absurd (none-some reason e)
-idle_event plan old new (event.Lose on way) reason of e h = absurd (none-some reason e)
-idle_event plan old new (event.Damage on way octets) reason of e h = absurd (none-some reason e)
-idle_event plan old new (event.Relay on) reason of e h = absurd (none-some reason e)
-idle_event plan old new (event.Tick on end) reason of e h = absurd (none-some reason e)
-idle_event plan old new (event.Restart place) reason of e h = absurd (none-some reason e)
+idle_to_one plan old new (event.Open on) reason of e h = absurd (none-some reason e)
+idle_to_one plan old new (event.HangUp on end) reason of e h = absurd (none-some reason e)
+idle_to_one plan old new (event.Deliver on way) reason of e h = absurd (none-some reason e)
+idle_to_one plan old new (event.Repeat on way) reason of e h = absurd (none-some reason e)
+idle_to_one plan old new (event.Lose on way) reason of e h = absurd (none-some reason e)
+idle_to_one plan old new (event.Damage on way octets) reason of e h = absurd (none-some reason e)
+idle_to_one plan old new (event.Relay on) reason of e h = absurd (none-some reason e)
+idle_to_one plan old new (event.Tick on end) reason of e h = absurd (none-some reason e)
+idle_to_one plan old new (event.Restart place) reason of e h = absurd (none-some reason e)

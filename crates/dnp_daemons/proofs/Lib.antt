@@ -16,4 +16,5 @@ mod ScriptRunning
 mod Scripts
 mod Simulating
 mod Splitting
+mod Views
 mod Written

@@ -15,10 +15,12 @@ use Rattle.dnp_daemons.specs.declared.script.forms.Form.{Form}
 use Rattle.dnp_daemons.specs.declared.script.forms.Form.TheVariants as forms
 use Rattle.dnp_daemons.specs.declared.script.forms.Slot.{Slot}
 use Rattle.dnp_daemons.specs.declared.script.forms.Slot.TheVariants as slots
+use Rattle.dnp_daemons.specs.declared.script.which.WhichCentre.{WhichCentre}
+use Rattle.dnp_daemons.specs.declared.script.which.WhichCentre.TheVariants.{First, Second}
 use Rattle.dnp_daemons.specs.Numbers.{number_below, integer_within}
 use Rattle.dnp_daemons.specs.Names.{is, substation_named, link_named, place_named, end_named, way_named, kind_named, classes_named, flags_named, time_named, octets_named}
-use Rattle.dnp_daemons.specs.ScriptLines.{line_named, is_lossless, at_link, at_end, at_way, at_link_with, at_word, reading_named, setpoint_named, block_named, issue_named, change_named, damage_named}
-use Rattle.dnp_daemons.specs.steps.Forms.{fit, takes, slots_of, slots_behind, verb_of, is_gentle}
+use Rattle.dnp_daemons.specs.ScriptLines.{line_named, is_lossless, at_link, at_end, at_way, at_link_with, at_word, reading_named, setpoint_named, block_named, issue_named, issuer_named, change_named, damage_named}
+use Rattle.dnp_daemons.specs.steps.Forms.{fit, takes, slots_of, slots_behind, issue_verb, verb_of, is_gentle}
 use Rattle.dnp_daemons.proofs.LineWords.{took}
 
 -- ---- options
@@ -154,15 +156,20 @@ of_word n verb word read e =
           has n verb (word ∷ []) read forms.Pass h.0 (took n slots.Number64 word [] [] (ap is_some m.1) refl) (same _ read m.2)
       | inr h ↦ elim (chosen (is verb (codes "control")) _ _ read h.1) [
         | inl h ↦
-            let m = mapped_some (λ id. Control id) (number_below (2 ^ 64) word) read h.1 in
-            has n verb (word ∷ []) read forms.Control h.0 (took n slots.Number64 word [] [] (ap is_some m.1) refl) (same _ read m.2)
-        | inr h ↦ elim (chosen (is verb (codes "restart")) _ _ read h.1) [
+            let m = mapped_some (λ id. Control First id) (number_below (2 ^ 64) word) read h.1 in
+            has n verb (word ∷ []) read (forms.Control First) h.0 (took n slots.Number64 word [] [] (ap is_some m.1) refl) (same _ read m.2)
+        | inr h ↦ elim (chosen (is verb (codes "control2")) _ _ read h.1) [
           | inl h ↦
-              let m = mapped_some (λ place. One (Restart place)) (place_named n word) read h.1 in
-              has n verb (word ∷ []) read forms.Restart h.0 (took n slots.Station word [] [] (ap is_some m.1) refl) (same _ read m.2)
-          | inr h ↦
-              let m = bound_some (λ link. at_link verb link) (link_named n word) read h.1 in
-              of_link n verb word m.0 read m.1 m.2
+              let m = mapped_some (λ id. Control Second id) (number_below (2 ^ 64) word) read h.1 in
+              has n verb (word ∷ []) read (forms.Control Second) h.0 (took n slots.Number64 word [] [] (ap is_some m.1) refl) (same _ read m.2)
+          | inr h ↦ elim (chosen (is verb (codes "restart")) _ _ read h.1) [
+            | inl h ↦
+                let m = mapped_some (λ place. One (Restart place)) (place_named n word) read h.1 in
+                has n verb (word ∷ []) read forms.Restart h.0 (took n slots.Station word [] [] (ap is_some m.1) refl) (same _ read m.2)
+            | inr h ↦
+                let m = bound_some (λ link. at_link verb link) (link_named n word) read h.1 in
+                of_link n verb word m.0 read m.1 m.2
+          ]
         ]
       ]
     ]
@@ -189,9 +196,21 @@ of_damage n verb at by octets read e =
       | inr h ↦ absurd (none-some read h.1)
     ]
 
--- the command of an issue, and its substation
+-- the centre of a verb that issues a command
+issuer : (verb : List ℕ) (number : ℕ) → issuer_named verb ≡ Some number → (centre : WhichCentre) × (is verb (issue_verb centre) ≡ true)
+issuer verb number e =
+    elim (chosen (is verb (codes "issue")) _ _ number e) [
+      | inl h ↦ (First, h.0)
+      | inr h ↦ elim (chosen (is verb (codes "issue2")) _ _ number h.1) [
+        | inl h ↦ (Second, h.0)
+        | inr h ↦ absurd (none-some number h.1)
+      ]
+    ]
+
+-- the command of an issue, its substation, and the centre
 pub record IsIssue (n : ℕ) (verb substation : List ℕ) (command : Option Command) (read : ScriptLine) : Type 0 where
-  pub verb_is : is verb (codes "issue") ≡ true
+  pub centre : WhichCentre
+  pub verb_is : is verb (issue_verb centre) ≡ true
   pub substation_is : is_some (substation_named n substation) ≡ true
   pub commanded : Command
   pub command_is : command ≡ Some commanded
@@ -201,13 +220,18 @@ of_issue : (n : ℕ) (verb substation : List ℕ) (command : Option Command) (re
     IsIssue n verb substation command read
 unfolding issue_named
 of_issue n verb substation command read e =
-    elim (chosen (is verb (codes "issue")) _ _ read e) [
-      | inl h ↦
-          let s = bound_some (λ station. command >>= λ what. Some (One (Issue station what))) (substation_named n substation) read h.1 in
-          let c = bound_some (λ what. Some (One (Issue s.0 what))) command read s.2 in
-          record { verb_is = h.0; substation_is = ap is_some s.1; commanded = c.0; command_is = c.1; gentle = same _ read c.2 }
-      | inr h ↦ absurd (none-some read h.1)
-    ]
+    let b = bound_some (λ by. substation_named n substation >>= λ station. command >>= λ what. Some (One (Issue by station what))) (issuer_named verb) read e in
+    let i = issuer verb b.0 b.1 in
+    let s = bound_some (λ station. command >>= λ what. Some (One (Issue b.0 station what))) (substation_named n substation) read b.2 in
+    let c = bound_some (λ what. Some (One (Issue b.0 s.0 what))) command read s.2 in
+    record {
+      centre = i.0;
+      verb_is = i.1;
+      substation_is = ap is_some s.1;
+      commanded = c.0;
+      command_is = c.1;
+      gentle = same _ read c.2;
+    }
 
 of_setpoint : (n : ℕ) (verb substation form index value : List ℕ) (read : ScriptLine) →
     issue_named n verb substation (setpoint_named form index value) ≡ Some read →
@@ -219,7 +243,7 @@ of_setpoint n verb substation form index value read e =
       | inl h ↦
           let x = bound_some (λ index. integer_within (2 ^ 15) value >>= λ value. Some (Set16 index value)) (number_below (2 ^ 16) index) i.commanded h.1 in
           let v = bound_some (λ value. Some (Set16 x.0 value)) (integer_within (2 ^ 15) value) i.commanded x.2 in
-          has n verb (substation ∷ form ∷ index ∷ value ∷ []) read forms.Set16 i.verb_is
+          has n verb (substation ∷ form ∷ index ∷ value ∷ []) read (forms.Set16 i.centre) i.verb_is
           (took n slots.Substation substation (form ∷ index ∷ value ∷ []) (slots.Set16 ∷ slots.Number16 ∷ slots.Integer16 ∷ []) i.substation_is
           (took n slots.Set16 form (index ∷ value ∷ []) (slots.Number16 ∷ slots.Integer16 ∷ []) h.0
           (took n slots.Number16 index (value ∷ []) (slots.Integer16 ∷ []) (ap is_some x.1)
@@ -228,7 +252,7 @@ of_setpoint n verb substation form index value read e =
         | inl h ↦
             let x = bound_some (λ index. integer_within (2 ^ 31) value >>= λ value. Some (Set32 index value)) (number_below (2 ^ 16) index) i.commanded h.1 in
             let v = bound_some (λ value. Some (Set32 x.0 value)) (integer_within (2 ^ 31) value) i.commanded x.2 in
-            has n verb (substation ∷ form ∷ index ∷ value ∷ []) read forms.Set32 i.verb_is
+            has n verb (substation ∷ form ∷ index ∷ value ∷ []) read (forms.Set32 i.centre) i.verb_is
             (took n slots.Substation substation (form ∷ index ∷ value ∷ []) (slots.Set32 ∷ slots.Number16 ∷ slots.Integer32 ∷ []) i.substation_is
             (took n slots.Set32 form (index ∷ value ∷ []) (slots.Number16 ∷ slots.Integer32 ∷ []) h.0
             (took n slots.Number16 index (value ∷ []) (slots.Integer32 ∷ []) (ap is_some x.1)
@@ -253,7 +277,7 @@ of_block n verb substation form index code count on off read e =
           (number_below (2 ^ 8) count) i.commanded b.2 in
           let d = bound_some (λ on. number_below (2 ^ 32) off >>= λ off. Some (Block a.0 b.0 c.0 on off)) (number_below (2 ^ 32) on) i.commanded c.2 in
           let f = bound_some (λ off. Some (Block a.0 b.0 c.0 d.0 off)) (number_below (2 ^ 32) off) i.commanded d.2 in
-          has n verb (substation ∷ form ∷ index ∷ code ∷ count ∷ on ∷ off ∷ []) read forms.Block i.verb_is
+          has n verb (substation ∷ form ∷ index ∷ code ∷ count ∷ on ∷ off ∷ []) read (forms.Block i.centre) i.verb_is
           (took n slots.Substation substation (form ∷ index ∷ code ∷ count ∷ on ∷ off ∷ []) (slots.Block ∷ slots.Number16 ∷ slots.Number8 ∷ slots.Number8 ∷ slots.Number32 ∷ slots.Number32 ∷ []) i.substation_is
           (took n slots.Block form (index ∷ code ∷ count ∷ on ∷ off ∷ []) (slots.Number16 ∷ slots.Number8 ∷ slots.Number8 ∷ slots.Number32 ∷ slots.Number32 ∷ []) h.0
           (took n slots.Number16 index (code ∷ count ∷ on ∷ off ∷ []) (slots.Number8 ∷ slots.Number8 ∷ slots.Number32 ∷ slots.Number32 ∷ []) (ap is_some a.1)

@@ -4,11 +4,12 @@ use Rattle.std.specs.List.{position, position_or_len, slice_get}
 use Rattle.std.specs.Option.{is_some, option_map}
 use Rattle.std.proofs.Math.Seq.{drop-cons}
 use Rattle.std.proofs.lemmas.Bool.Decides.{nat_tests}
-use Rattle.std.proofs.lemmas.Bool.{cases_lt, cond-true, cond_both, false≢true}
+use Rattle.std.proofs.lemmas.Bool.{cases_lt, cond-false, cond-true, cond_both, false≢true}
 use Rattle.std.proofs.lemmas.Option.{cond_some, none-some, same_Some}
 use Rattle.dnp_daemons.specs.declared.script.ScriptLine.{ScriptLine}
 use Rattle.dnp_daemons.specs.declared.script.forms.Form.{Form}
 use Rattle.dnp_daemons.specs.declared.script.forms.Form.TheVariants as forms
+use Rattle.dnp_daemons.specs.declared.script.which.WhichCentre.TheVariants.{First, Second}
 use Rattle.dnp_daemons.specs.ScriptLines.{first_unread, if_lossless, is_lossless, line_named}
 use Rattle.dnp_daemons.specs.Words.{words_of}
 use Rattle.dnp_daemons.specs.steps.Judging.{reading_by}
@@ -72,12 +73,16 @@ number forms.Enable = 12
 number forms.Disable = 13
 number forms.SetTime = 14
 number forms.Pass = 15
-number forms.Control = 16
-number forms.Restart = 17
-number forms.Change = 18
-number forms.Set16 = 19
-number forms.Set32 = 20
-number forms.Block = 21
+number (forms.Control First) = 16
+number (forms.Control Second) = 17
+number forms.Restart = 18
+number forms.Change = 19
+number (forms.Set16 First) = 20
+number (forms.Set32 First) = 21
+number (forms.Block First) = 22
+number (forms.Set16 Second) = 23
+number (forms.Set32 Second) = 24
+number (forms.Block Second) = 25
 
 listed : (form : Form) → slice_get all_forms (number form) ≡ Some form
 unfolding number
@@ -97,12 +102,16 @@ listed forms.Enable = refl
 listed forms.Disable = refl
 listed forms.SetTime = refl
 listed forms.Pass = refl
-listed forms.Control = refl
+listed (forms.Control First) = refl
+listed (forms.Control Second) = refl
 listed forms.Restart = refl
 listed forms.Change = refl
-listed forms.Set16 = refl
-listed forms.Set32 = refl
-listed forms.Block = refl
+listed (forms.Set16 First) = refl
+listed (forms.Set32 First) = refl
+listed (forms.Block First) = refl
+listed (forms.Set16 Second) = refl
+listed (forms.Set32 Second) = refl
+listed (forms.Block Second) = refl
 
 -- none of them counts more
 bounds : (passes : Form → Bool) (counts : Form → ℕ) (all : List Form) (i : ℕ) (form : Form) → slice_get all i ≡ Some form → passes form ≡ true →
@@ -189,6 +198,20 @@ one_form_more passes counts all k most next d below pass before is =
     let split : most_of passes counts (drop k all) ≡ max (counts (get_or all k d)) (most_of passes counts (drop (suc k) all)) =
     ap (most_of passes counts) (drop-cons all k d below) ∙ cond-true (passes (get_or all k d)) _ _ pass in
     subst (λ j. most_of passes counts all ≡ max next (most_of passes counts (drop j all))) one (omega arith)
+
+-- the same where the form is none of those that pass
+pub harsh_refused : (carried : Bool) (form : Form) → carried ≡ true → is_gentle form ≡ false → allows carried form ≡ false
+harsh_refused true form carried harsh = harsh
+harsh_refused false form carried harsh = cc
+
+pub one_form_passed_over : (passes : Form → Bool) (counts : Form → ℕ) (all : List Form) (k most : ℕ) (d : Form) → k < length all →
+    passes (get_or all k d) ≡ false → most_of passes counts all ≡ max most (most_of passes counts (drop k all)) →
+    most_of passes counts all ≡ max most (most_of passes counts (drop (k + 1) all))
+one_form_passed_over passes counts all k most d below none before =
+    let one : suc k ≡ k + 1 = omega arith in
+    let split : most_of passes counts (drop k all) ≡ most_of passes counts (drop (suc k) all) =
+    ap (most_of passes counts) (drop-cons all k d below) ∙ cond-false (passes (get_or all k d)) _ _ none in
+    subst (λ j. most_of passes counts all ≡ max most (most_of passes counts (drop j all))) one (omega arith)
 
 -- the lines are read by their words
 pub read_by_words : (carried : Bool) (n : ℕ) → reading_by carried n ≡ (λ line. words_by carried n (words_of line))

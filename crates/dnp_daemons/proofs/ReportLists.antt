@@ -10,9 +10,12 @@ use Rattle.dnp_daemons.proofs.Written.{Leaves, none_written}
 -- the lists of events
 abbrev pub events_texts : Report → List (List ℕ)
 events_texts report =
-    events_text (codes "journal") report.journal
-    ∷ events_text (codes "queue") report.queue
-    ∷ events_text (codes "dropped") report.dropped
+    events_text (codes "journal") report.journal.0
+    ∷ events_text (codes "journal2") report.journal.1
+    ∷ events_text (codes "queue") report.queue.0
+    ∷ events_text (codes "queue2") report.queue.1
+    ∷ events_text (codes "dropped") report.dropped.0
+    ∷ events_text (codes "dropped2") report.dropped.1
     ∷ events_text (codes "confirmed") report.confirmed
     ∷ events_text (codes "buffered") report.buffered
     ∷ events_text (codes "overwritten") report.overwritten
@@ -22,7 +25,11 @@ events_texts report =
 -- what stands below them
 abbrev pub below_events : Report → List (List ℕ)
 below_events report =
-    commands_text (codes "issued") report.issued ∷ commands_text (codes "operated") report.operated ∷ count_line (codes "lost") (decimal report.lost) ∷ []
+    commands_text (codes "issued") report.issued
+    ∷ commands_text (codes "operated") report.operated
+    ∷ count_line (codes "lost") (decimal report.lost.0)
+    ∷ count_line (codes "lost2") (decimal report.lost.1)
+    ∷ []
 
 -- a report of which nothing is written
 pub unwritten : (held : Option (List ℕ)) (report : Report) → Leaves (report_text report) held held (concat (events_texts report) ∷ below_events report)

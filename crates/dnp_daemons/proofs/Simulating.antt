@@ -1,13 +1,15 @@
 -- The texts of a plan and a script, run or refused.
-use Rattle.std.proofs.Common.{◌≡◌, ℕ, ◌≤◌, ap, Bool, List, [], ◌∷◌, length, map, Option, Some, Ok, Err, refl, subst}
+use Rattle.std.proofs.Common.{◌≡◌, ℕ, zero, suc, ◌≤◌, ap, arith, Bool, List, [], ◌∷◌, length, map, Option, Some, Ok, Err, refl, subst}
 use Rattle.std.specs.Prelude.{⊤, Result, All}
 use Rattle.std.proofs.lemmas.List.Elements.{All-weaker}
 use Rattle.dnp_concentrator.specs.Plan.{IsCapacity, KeepsLimits}
 use Rattle.dnp_concentrator.specs.declared.plan.Plan.{Plan}
 use Rattle.dnp_concentrator.specs.declared.plan.SubPlan.{SubPlan}
-use Rattle.dnp_controls.specs.Book.{empty_ledger}
+use Rattle.dnp_controls.specs.Book.{Ledger, empty_ledger}
+use Rattle.dnp_eventbuf.specs.Archive.{Archive}
+use Rattle.dnp_eventbuf.specs.Sides.{ForEach}
 use Rattle.dnp_eventbuf.specs.Sound.{IsSound}
-use Rattle.dnp_eventbuf.specs.Stock.{empty_stock, lost_in, rows_in}
+use Rattle.dnp_eventbuf.specs.Stock.{Stock, empty_stock, lost_in, rows_in}
 use Rattle.dnp_objects.specs.declared.limits.TheConstants.{LANES}
 use Rattle.dnp_world.specs.NewSystems.{AreEmpty}
 use Rattle.dnp_concentrator.specs.declared.cause.Cause.TheVariants as cause
@@ -20,10 +22,10 @@ use Rattle.dnp_daemons.specs.declared.sim.Stores.{Stores}
 use Rattle.dnp_daemons.specs.declared.sim.Stores.TheVariants.{Plain, Sql}
 use Rattle.dnp_daemons.specs.ScriptLines.{LineReader}
 use Rattle.dnp_daemons.specs.ScriptReports.{ReportEnds}
-use Rattle.dnp_daemons.specs.ScriptWorlds.{law_of_worlds, plain_system}
+use Rattle.dnp_daemons.specs.ScriptWorlds.{empty_archive, law_of_worlds, plain_system}
 use Rattle.dnp_daemons.specs.steps.Judging.{SaysRefused, reading_by}
 use Rattle.dnp_daemons.specs.Words.{lines_of}
-use Rattle.dnp_world.specs.Systems.{System}
+use Rattle.dnp_world.specs.Wholes.{Whole}
 
 -- a refusal that was not written to its end
 pub cut_refusal : (reads : LineReader) (plan script name : List ℕ) (number : ℕ) (by : ScriptStop) (held held' : Option (List ℕ))
@@ -52,10 +54,10 @@ run_cut reads plan script of lines by held held' good (Unmade is same) =
 run_cut reads plan script of lines by held held' good (Made new ends) = Begun of lines new good ends
 
 -- a script that was run on a system that was new
-pub on_new : (of : Plan) (lines : List ScriptLine) (result : Result ⊤ ScriptStop) (old new : System) (held held' : Option (List ℕ)) → old ≡ plain_system of
+pub on_new : (of : Plan) (lines : List ScriptLine) (result : Result ⊤ ScriptStop) (old new : Whole) (held held' : Option (List ℕ)) → old ≡ plain_system of
     → ReportEnds law_of_worlds old lines result new held held' → PlanEnds of lines result held held'
 on_new of lines result old new held held' is ends =
-    Made new (subst (λ (s : System). ReportEnds law_of_worlds s lines result new held held') is ends)
+    Made new (subst (λ (s : Whole). ReportEnds law_of_worlds s lines result new held held') is ends)
 
 -- ---- what is spoken for
 
@@ -79,14 +81,33 @@ none_lost [] = refl
 none_lost (capacity ∷ capacities) = none_lost capacities
 
 -- they hold nothing, and lanes of a plan that keeps its limits are sound
-pub new_stores : ((capacities : List ℕ) → length capacities ≡ LANES → All (λ capacity. 1 ≤ capacity) capacities → IsSound (empty_stock capacities))
-    → (plan : Plan) → KeepsLimits plan → length plan.queue ≡ LANES
-    → AreEmpty (empty_stock plan.queue) (record { rows = []; last_id = 0 }) empty_ledger empty_ledger
-new_stores made plan keeps nine = record {
-  sound = made plan.queue nine (All-weaker IsCapacity (λ capacity. 1 ≤ capacity) (λ capacity h. h.0) plan.queue keeps.queue);
-  no_rows = no_rows plan.queue;
-  none_lost = none_lost plan.queue;
+one_new : ((capacities : List ℕ) → length capacities ≡ LANES → All (λ capacity. 1 ≤ capacity) capacities → IsSound (empty_stock capacities))
+    → (capacities : List ℕ) → All IsCapacity capacities → length capacities ≡ LANES
+    → AreEmpty (empty_stock capacities) empty_archive empty_ledger empty_ledger
+one_new made capacities keeps nine = record {
+  sound = made capacities nine (All-weaker IsCapacity (λ capacity. 1 ≤ capacity) (λ capacity h. h.0) capacities keeps);
+  no_rows = no_rows capacities;
+  none_lost = none_lost capacities;
   no_events = refl;
   no_controls = refl;
   no_orders = refl;
 }
+
+one_side : ((capacities : List ℕ) → length capacities ≡ LANES → All (λ capacity. 1 ≤ capacity) capacities → IsSound (empty_stock capacities))
+    → (capacities : List ℕ) → All IsCapacity capacities → length capacities ≡ LANES → (queue : Stock) (journal : Archive) (controls orders : Ledger)
+    → queue ≡ empty_stock capacities → journal ≡ empty_archive → controls ≡ empty_ledger → orders ≡ empty_ledger
+    → AreEmpty queue journal controls orders
+one_side made capacities keeps nine queue journal controls orders q j c o = rw (q, j, c, o) (one_new made capacities keeps nine)
+
+-- those for each centre
+pub new_stores : ((capacities : List ℕ) → length capacities ≡ LANES → All (λ capacity. 1 ≤ capacity) capacities → IsSound (empty_stock capacities))
+    → (plan : Plan) → KeepsLimits plan → length plan.queue ≡ LANES → length plan.queue2 ≡ LANES
+    → (queue : ℕ → Stock) (journal : ℕ → Archive) (orders : ℕ → Ledger) → queue 0 ≡ empty_stock plan.queue → queue 1 ≡ empty_stock plan.queue2
+    → journal 0 ≡ empty_archive → journal 1 ≡ empty_archive → orders 0 ≡ empty_ledger → orders 1 ≡ empty_ledger
+    → (controls : Ledger) → controls ≡ empty_ledger
+    → ForEach (λ centre. AreEmpty (queue centre) (journal centre) controls (orders centre))
+new_stores made plan keeps nine nine2 queue journal orders q q2 j j2 o o2 controls c zero low =
+    one_side made plan.queue keeps.queue nine (queue 0) (journal 0) controls (orders 0) q j c o
+new_stores made plan keeps nine nine2 queue journal orders q q2 j j2 o o2 controls c (suc zero) low =
+    one_side made plan.queue2 keeps.queue2 nine2 (queue 1) (journal 1) controls (orders 1) q2 j2 c o2
+new_stores made plan keeps nine nine2 queue journal orders q q2 j j2 o o2 controls c (suc (suc n)) low = absurd (omega arith)

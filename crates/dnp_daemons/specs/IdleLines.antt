@@ -54,7 +54,7 @@ task_reason _ = None
 abbrev pub idle_reason : Plan → ScriptLine → Option IdleReason
 idle_reason plan (One (Change substation kind index reading)) =
     if has_index plan substation (kind_of_points kind) index then reading_reason kind reading else Some NoPoint
-idle_reason plan (One (Issue substation command)) =
+idle_reason plan (One (Issue centre substation command)) =
     if has_index plan substation (kind_of_command command) (index_of command) then None else Some (unnamed_by command)
 idle_reason plan (One (Ask link task)) = task_reason task
 idle_reason plan (One (Pass ms)) = if ms == 0 then Some NoTime else None

@@ -6,6 +6,7 @@ pub mod Names
 pub mod ScriptLines
 pub mod ScriptReasons
 pub mod IdleLines
+pub mod Centres
 pub mod Scripted
 pub mod ScriptTexts
 pub mod ScriptRuns

@@ -1,4 +1,5 @@
--- Definition: what words name: links, ends, ways, kinds, stations, classes, flags, times and octets.
+-- Definition: what words name: links, ends, ways, kinds, stations, classes, flags, times and octets. A word that ends in 2 is of the
+-- second centre.
 use Rattle.std.specs.Prelude.{ℕ, ◌+◌, ◌*◌, ◌^◌, ◌==◌, nat_lt, nat_le, Bool, true, false, not, ◌&&◌, if◌then◌else◌, List, [], ◌∷◌, length, count_by, Option, Some, None, codes}
 use Rattle.std.specs.List.{list_all}
 use Rattle.std.specs.Str.{bytes_eq}
@@ -29,16 +30,19 @@ substation_named substations word = do
   if nat_lt number substations then Some number else None
 
 abbrev pub link_named : ℕ → List ℕ → Option Link
-link_named substations word = if is word (codes "above") then Some Above else (do
-  substation ← substation_named substations word
-  Some (Below substation))
+link_named substations word =
+    if is word (codes "above") then Some (Above 0)
+    else (if is word (codes "above2") then Some (Above 1) else (do
+      substation ← substation_named substations word
+      Some (Below substation)))
 
 abbrev pub place_named : ℕ → List ℕ → Option Place
 place_named substations word =
-    if is word (codes "centre") then Some Centre
+    if is word (codes "centre") then Some (Centre 0)
+    else (if is word (codes "centre2") then Some (Centre 1)
     else (if is word (codes "concentrator") then Some Concentrator else (do
       substation ← substation_named substations word
-      Some (Substation substation)))
+      Some (Substation substation))))
 
 abbrev pub end_named : List ℕ → Option End
 end_named word = if is word (codes "master") then Some Master else (if is word (codes "outstation") then Some Outstation else None)

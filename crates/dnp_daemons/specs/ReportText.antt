@@ -1,4 +1,4 @@
--- Definition: a report as lines of text.
+-- Definition: a report as lines of text. What is of the second centre stands behind the same of the first, with a 2 to its name.
 use Rattle.std.specs.Prelude.{ℕ, List, [], ◌∷◌, ◌++◌, length, map, codes, Option, Some, None}
 use Rattle.std.specs.Fmt.{decimal, signed_decimal}
 use Rattle.std.specs.List.{concat}
@@ -59,15 +59,19 @@ commands_text = list_text command_words
 abbrev pub report_text : Report → List ℕ
 report_text report =
     concat (
-    events_text (codes "journal") report.journal
-    ∷ events_text (codes "queue") report.queue
-    ∷ events_text (codes "dropped") report.dropped
+    events_text (codes "journal") report.journal.0
+    ∷ events_text (codes "journal2") report.journal.1
+    ∷ events_text (codes "queue") report.queue.0
+    ∷ events_text (codes "queue2") report.queue.1
+    ∷ events_text (codes "dropped") report.dropped.0
+    ∷ events_text (codes "dropped2") report.dropped.1
     ∷ events_text (codes "confirmed") report.confirmed
     ∷ events_text (codes "buffered") report.buffered
     ∷ events_text (codes "overwritten") report.overwritten
     ∷ events_text (codes "gone") report.gone
     ∷ commands_text (codes "issued") report.issued
     ∷ commands_text (codes "operated") report.operated
-    ∷ count_line (codes "lost") (decimal report.lost)
+    ∷ count_line (codes "lost") (decimal report.lost.0)
+    ∷ count_line (codes "lost2") (decimal report.lost.1)
     ∷ []
     )

@@ -1,4 +1,4 @@
--- Definition: the lines of a script, by their words.
+-- Definition: the lines of a script, by their words. A verb that ends in 2 is of the second centre.
 use Rattle.std.specs.Prelude.{ℕ, ◌+◌, ◌^◌, Bool, true, false, not, if◌then◌else◌, List, [], ◌∷◌, Option, Some, None, codes, position}
 use Rattle.std.specs.Option.{option_map, is_some}
 use Rattle.dnp_master.specs.declared.task.Task.TheVariants.{Poll, ClearRestart, Enable, Disable, WriteTime}
@@ -9,6 +9,7 @@ use Rattle.dnp_world.specs.declared.event.Event.TheVariants.{Open, HangUp, Deliv
 use Rattle.dnp_world.specs.declared.event.Link.{Link}
 use Rattle.dnp_daemons.specs.declared.script.ScriptLine.{ScriptLine}
 use Rattle.dnp_daemons.specs.declared.script.ScriptLine.TheVariants.{One, Flush, Round, Control}
+use Rattle.dnp_daemons.specs.declared.script.which.WhichCentre.TheVariants.{First, Second}
 use Rattle.dnp_daemons.specs.Words.{words_of}
 use Rattle.dnp_daemons.specs.Numbers.{number_below, integer_within}
 use Rattle.dnp_plantext.specs.PlanFields.{◌>>=◌}
@@ -51,11 +52,12 @@ at_link_with verb link word =
 unfoldable pub at_word : ℕ → List ℕ → List ℕ → Option ScriptLine
 at_word substations verb word =
     if is verb (codes "pass") then option_map (λ ms. One (Pass ms)) (number_below (2 ^ 64) word)
-    else (if is verb (codes "control") then option_map (λ id. Control id) (number_below (2 ^ 64) word)
+    else (if is verb (codes "control") then option_map (λ id. Control First id) (number_below (2 ^ 64) word)
+    else (if is verb (codes "control2") then option_map (λ id. Control Second id) (number_below (2 ^ 64) word)
     else (if is verb (codes "restart") then option_map (λ place. One (Restart place)) (place_named substations word)
     else (do
       link ← link_named substations word
-      at_link verb link)))
+      at_link verb link))))
 
 -- ---- readings and commands
 
@@ -92,14 +94,17 @@ block_named form index code count on_ms off_ms =
       Some (Block index code count on_ms off_ms))
     else None
 
+-- the centre at which a line of this verb issues a command
+abbrev pub issuer_named : List ℕ → Option ℕ
+issuer_named verb = if is verb (codes "issue") then Some 0 else (if is verb (codes "issue2") then Some 1 else None)
+
 -- the issue of a command
 unfoldable pub issue_named : ℕ → List ℕ → List ℕ → Option Command → Option ScriptLine
-issue_named substations verb substation command =
-    if is verb (codes "issue") then (do
-      substation ← substation_named substations substation
-      command ← command
-      Some (One (Issue substation command)))
-    else None
+issue_named substations verb substation command = do
+  centre ← issuer_named verb
+  substation ← substation_named substations substation
+  command ← command
+  Some (One (Issue centre substation command))
 
 -- a change of a point
 unfoldable pub change_named : ℕ → List ℕ → List ℕ → List ℕ → List ℕ → Option Reading → Option ScriptLine
@@ -179,7 +184,7 @@ first_misfit substations lines = first_unread (reading_of substations) lines
 
 -- the substation and the command of a line that issues one
 abbrev pub issued_by : Option ScriptLine → Option (ℕ × Command)
-issued_by (Some (One (Issue substation command))) = Some (substation, command)
+issued_by (Some (One (Issue centre substation command))) = Some (substation, command)
 issued_by _ = None
 
 -- what they say

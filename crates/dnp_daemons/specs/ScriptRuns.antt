@@ -21,8 +21,8 @@ Does law old (One event) new text = law.happens old event new × (text ≡ [])
 Does law old (Flush link way) new text = HappensTimes law (law.units old link way) (Deliver link way) old new × (text ≡ [])
 Does law old (Round link) new text =
     (result : Result ⊤ RoundFault) × law.rounds old link result new × (round_said link result ≡ Some text)
-Does law old (Control id) new text =
-    (result : Result ⊤ ControlFault) × law.controls old id result new × (control_said id result ≡ Some text)
+Does law old (Control centre id) new text =
+    (result : Result ⊤ ControlFault) × law.controls old centre id result new × (control_said centre id result ≡ Some text)
 
 -- some of the units that stand there are delivered, and the next delivery stops
 pub record StopsFlushing {State : Type 0} (law : Law State) (old : State) (link : Link) (way : Way) (new : State) : Type 0 where
@@ -37,7 +37,8 @@ abbrev pub StopsIn : {State : Type 0} → Law State → State → ScriptLine →
 StopsIn law old (One event) new = law.stops old event new
 StopsIn law old (Flush link way) new = StopsFlushing law old link way new
 StopsIn law old (Round link) new = (result : Result ⊤ RoundFault) × law.rounds old link result new × (round_said link result ≡ None)
-StopsIn law old (Control id) new = (result : Result ⊤ ControlFault) × law.controls old id result new × (control_said id result ≡ None)
+StopsIn law old (Control centre id) new =
+    (result : Result ⊤ ControlFault) × law.controls old centre id result new × (control_said centre id result ≡ None)
 
 -- lines are done, one after the other, and print this
 abbrev pub DoesAll : {State : Type 0} → Law State → State → List ScriptLine → State → List ℕ → Type 0

@@ -1,5 +1,5 @@
 -- Definition: what a script prints as it runs.
-use Rattle.std.specs.Prelude.{ℕ, List, [], ◌∷◌, ◌++◌, codes, Option, Some, None, Result, Ok, Err, ⊤}
+use Rattle.std.specs.Prelude.{ℕ, ◌==◌, if◌then◌else◌, List, [], ◌∷◌, ◌++◌, codes, Option, Some, None, Result, Ok, Err, ⊤}
 use Rattle.std.specs.Fmt.{decimal}
 use Rattle.std.specs.List.{concat}
 use Rattle.dnp_world.specs.declared.event.Link.{Link}
@@ -8,6 +8,8 @@ use Rattle.dnp_world.specs.declared.round_fault.RoundFault.{RoundFault}
 use Rattle.dnp_world.specs.declared.round_fault.RoundFault.TheVariants as round
 use Rattle.dnp_world.specs.declared.round_fault.ControlFault.{ControlFault}
 use Rattle.dnp_world.specs.declared.round_fault.ControlFault.TheVariants as control
+use Rattle.dnp_daemons.specs.declared.script.which.WhichCentre.{WhichCentre}
+use Rattle.dnp_daemons.specs.declared.script.which.WhichCentre.TheVariants.{First, Second}
 
 -- something came out well, or was refused by this number
 abbrev pub outcome_line : List ℕ → List ℕ → Option ℕ → List ℕ
@@ -15,12 +17,17 @@ outcome_line name subject None = concat (name ∷ codes " " ∷ subject ∷ (cod
 outcome_line name subject (Some number) =
     concat (name ∷ codes " " ∷ subject ∷ codes " refused " ∷ decimal number ∷ (10 ∷ []) ∷ [])
 
+-- the word for the link to a centre
+abbrev pub above_word : ℕ → List ℕ
+above_word centre = if centre == 0 then codes "above" else codes "above2"
+
 abbrev pub round_line : Link → Option ℕ → List ℕ
 round_line (Below substation) refusal = outcome_line (codes "round") (decimal substation) refusal
-round_line Above refusal = outcome_line (codes "round") (codes "above") refusal
+round_line (Above centre) refusal = outcome_line (codes "round") (above_word centre) refusal
 
-abbrev pub control_line : ℕ → Option ℕ → List ℕ
-control_line id refusal = outcome_line (codes "control") (decimal id) refusal
+abbrev pub control_line : WhichCentre → ℕ → Option ℕ → List ℕ
+control_line First id refusal = outcome_line (codes "control") (decimal id) refusal
+control_line Second id refusal = outcome_line (codes "control2") (decimal id) refusal
 
 -- what is printed of a round; nothing where a store or a request for memory refused
 abbrev pub round_said : Link → Result ⊤ RoundFault → Option (List ℕ)
@@ -29,12 +36,12 @@ round_said link (Err round.NotQuiet) = Some (round_line link (Some 1))
 round_said link (Err (round.Fault cause)) = None
 
 -- what is printed of a control
-abbrev pub control_said : ℕ → Result ⊤ ControlFault → Option (List ℕ)
-control_said id (Ok done) = Some (control_line id None)
-control_said id (Err control.NotQuiet) = Some (control_line id (Some 1))
-control_said id (Err control.NotNext) = Some (control_line id (Some 2))
-control_said id (Err (control.Refused status)) = Some (control_line id (Some 3))
-control_said id (Err (control.Fault cause)) = None
+abbrev pub control_said : WhichCentre → ℕ → Result ⊤ ControlFault → Option (List ℕ)
+control_said centre id (Ok done) = Some (control_line centre id None)
+control_said centre id (Err control.NotQuiet) = Some (control_line centre id (Some 1))
+control_said centre id (Err control.NotNext) = Some (control_line centre id (Some 2))
+control_said centre id (Err (control.Refused status)) = Some (control_line centre id (Some 3))
+control_said centre id (Err (control.Fault cause)) = None
 
 -- so many lines were done, and the next one stopped
 abbrev pub stopped_line : ℕ → List ℕ

@@ -6,6 +6,7 @@ use Rattle.dnp_world.specs.declared.link_event.Way.{Way}
 use Rattle.dnp_world.specs.declared.report.Report.{Report}
 use Rattle.dnp_world.specs.declared.round_fault.RoundFault.{RoundFault}
 use Rattle.dnp_world.specs.declared.round_fault.ControlFault.{ControlFault}
+use Rattle.dnp_daemons.specs.declared.script.which.WhichCentre.{WhichCentre}
 
 -- what the calls of a system do, and what they show
 pub record Law (State : Type 0) : Type 1 where
@@ -17,8 +18,8 @@ pub record Law (State : Type 0) : Type 1 where
   pub units : State → Link → Way → ℕ
   -- a clean round on the link comes out so, and leaves this
   pub rounds : State → Link → Result ⊤ RoundFault → State → Type 0
-  -- so does a clean control
-  pub controls : State → ℕ → Result ⊤ ControlFault → State → Type 0
+  -- so does a clean control of one of the centres
+  pub controls : State → WhichCentre → ℕ → Result ⊤ ControlFault → State → Type 0
   -- the report of this state
   pub shows : State → Report → Type 0
 

@@ -3,7 +3,7 @@
 use Rattle.std.specs.Prelude.{◌≡◌, ℕ, List, ◌++◌, Option, Result, Ok, Err, ⊤, ◌≢◌}
 use Rattle.std.specs.Io.KnownBytes.{Appends}
 use Rattle.dnp_concentrator.specs.declared.plan.Plan.{Plan}
-use Rattle.dnp_world.specs.Systems.{System}
+use Rattle.dnp_world.specs.Wholes.{Whole}
 use Rattle.dnp_concentrator.specs.declared.cause.Cause.TheVariants as cause
 use Rattle.dnp_daemons.specs.declared.script.ScriptLine.{ScriptLine}
 use Rattle.dnp_daemons.specs.declared.run.ScriptStop.{ScriptStop}
@@ -18,7 +18,7 @@ use Rattle.dnp_daemons.specs.ScriptWorlds.{law_of_worlds, plain_system}
 -- the texts come to this status, and this is printed
 pub data ComeTo (reads : LineReader) (plan script text : List ℕ) (status : ℕ) : Type 0 where
   Refused : IsRefusal reads plan script text → status ≡ 1 → ComeTo reads plan script text status
-  Run : (of : Plan) (lines : List ScriptLine) (new : System) → AreGood reads plan script of lines
+  Run : (of : Plan) (lines : List ScriptLine) (new : Whole) → AreGood reads plan script of lines
       → IsReported law_of_worlds (plain_system of) lines new text → status ≡ 0 → ComeTo reads plan script text status
 
 -- they come to no status, for this reason, and this was written: nothing where nothing ran, a part of a refusal, or what a script
@@ -27,7 +27,7 @@ pub data AreUnfinished (reads : LineReader) (plan script : List ℕ) (by : Scrip
   Unrun : by ≡ stop.Fault cause.Memory → held' ≡ held → AreUnfinished reads plan script by held held'
   RefusalCut : (written unwritten : List ℕ) → IsRefusal reads plan script (written ++ unwritten) → by ≡ stop.WriteFailed → Appends held held' written
       → AreUnfinished reads plan script by held held'
-  Begun : (of : Plan) (lines : List ScriptLine) (new : System) → AreGood reads plan script of lines
+  Begun : (of : Plan) (lines : List ScriptLine) (new : Whole) → AreGood reads plan script of lines
       → ReportEnds law_of_worlds (plain_system of) lines (Err by) new held held' → AreUnfinished reads plan script by held held'
 
 -- what texts come to, and what was written
@@ -38,7 +38,7 @@ TextsEnd reads plan script (Err by) held held' = AreUnfinished reads plan script
 -- what a plan and a script for it come to
 pub data PlanEnds (of : Plan) (lines : List ScriptLine) (result : Result ⊤ ScriptStop) (held held' : Option (List ℕ)) : Type 0 where
   Unmade : result ≡ Err (stop.Fault cause.Memory) → held' ≡ held → PlanEnds of lines result held held'
-  Made : (new : System) → ReportEnds law_of_worlds (plain_system of) lines result new held held' → PlanEnds of lines result held held'
+  Made : (new : Whole) → ReportEnds law_of_worlds (plain_system of) lines result new held held' → PlanEnds of lines result held held'
 
 -- what is spoken for: all that runs over lists, and over databases what ran while none of them had answered Device
 abbrev pub IsSpokenFor : {A : Type 0} → Stores → Result A ScriptStop → Type 0

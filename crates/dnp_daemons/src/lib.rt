@@ -7,6 +7,7 @@
 #![tactic(auto)]
 
 pub mod number_laws;
+mod plain;
 mod report_text;
 mod run;
 mod script;
@@ -23,10 +24,11 @@ pub use dnp_streams::{
     StationFault, TextFault, Waiting, answer_line, ask_noted, ask_stream, laws, live_stream,
     octet_of, read_address, read_text, serve_noted, serve_stream, text_fault,
 };
+pub use plain::{PlainWorld, plain_world};
 pub use report_text::{PrintFault, print_report};
 pub use run::{ScriptStop, Scripted, run_script};
 pub use script::{
-    IdleLines, IdleReason, LineFault, ScriptFault, ScriptLine, idle_lines, issue_in, number_in,
-    read_script, script_fault,
+    IdleLines, IdleReason, LineFault, ScriptFault, ScriptLine, WhichCentre, idle_lines, issue_in,
+    number_in, read_script, script_fault,
 };
 pub use sim::{Stores, loop_text, sim_text};

@@ -91,10 +91,13 @@ fn write_report<W: Write>(
     ensures part { OnErr result ((part rest : List ℕ) × (report_text report.now ≡ part ++ rest)
         × Appends (W.contents out.old) (W.contents out.new) part) }
 {
-    let lists: [(&[u8], &Listed<(u8, Row)>); 7] = [
-        (b"journal", &report.journal),
-        (b"queue", &report.queue),
-        (b"dropped", &report.dropped),
+    let lists: [(&[u8], &Listed<(u8, Row)>); 10] = [
+        (b"journal", &report.journal.0),
+        (b"journal2", &report.journal.1),
+        (b"queue", &report.queue.0),
+        (b"queue2", &report.queue.1),
+        (b"dropped", &report.dropped.0),
+        (b"dropped2", &report.dropped.1),
         (b"confirmed", &report.confirmed),
         (b"buffered", &report.buffered),
         (b"overwritten", &report.overwritten),
@@ -103,12 +106,14 @@ fn write_report<W: Write>(
     write_lists(line, &lists, out)?;
     write_list(line, b"issued", report.issued.as_slice(), out)?;
     write_list(line, b"operated", report.operated.as_slice(), out)?;
-    write_count(b"lost", report.lost, out)?;
+    write_count(b"lost", report.lost.0, out)?;
+    write_count(b"lost2", report.lost.1, out)?;
     Ok(())
 }
 
 /// Prints a report: for each list a line of its name and length, and below it a line for each event or command, which
-/// begins with a space; at the end a line of `lost` and its number. An event is its substation, kind, index, value, flags
+/// begins with a space; at the end a line of `lost` and its number, and one of `lost2`. What is of the second centre stands
+/// behind the same of the first, with a 2 to its name. An event is its substation, kind, index, value, flags
 /// as two hexadecimal digits, and time or `-`; a command is its substation and the words with which it is issued.
 ///
 /// The lines are written one by one: a writer whose calls are dear belongs behind a buffer.

@@ -19,12 +19,14 @@ mod names;
 mod numbers;
 mod reason;
 mod said;
+pub(crate) mod which;
 pub(crate) mod words;
 
 pub use idle::{IdleLines, IdleReason, idle_lines};
 pub use lines::issue_in;
 pub use numbers::number_in;
 pub use reason::{LineFault, script_fault};
+pub use which::WhichCentre;
 
 /// What a line of a script asks for.
 #[derive(Debug, Drop)]
@@ -35,8 +37,8 @@ pub enum ScriptLine {
     Flush(Link, Way),
     /// A clean round on this link.
     Round(Link),
-    /// The control of this number in the centre's book, by a clean control.
-    Control(u64),
+    /// The control of this number in this centre's book, by a clean control.
+    Control(WhichCentre, u64),
 }
 
 /// Why a text is no script.

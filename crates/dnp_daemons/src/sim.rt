@@ -8,6 +8,7 @@ ghost use Rattle.dnp_daemons.specs.Simulations.{IsSpokenFor, PlanEnds, TextsEnd}
 ghost use Rattle.dnp_daemons.specs.steps.Judging.{reading_by};
 ghost use Rattle.dnp_daemons.specs.steps.Readings.{Says};
 
+use crate::plain::plain_world;
 use crate::run::ScriptStop;
 use crate::run::carried::Carried;
 use crate::run::reporting::run_to_report;
@@ -15,19 +16,15 @@ use crate::script::checking::ScriptText;
 use crate::sim::judging::{Judged, judge, print_refusal};
 use crate::sim::sql::simulate_sql;
 use dnp_concentrator::Plan;
-use dnp_controls::PlainBook;
-use dnp_eventbuf::laws::lanes_stay_sound;
-use dnp_eventbuf::{PlainJournal, PlainLanes};
-use dnp_world::standing_laws::plans_have_all_lanes;
-use dnp_world::{Carrier, Cause, InMemory, World};
+use dnp_world::{Carrier, Cause, InMemory};
 use std::alloc::Global;
 use std::io::Write;
 
 mod judging;
 mod sql;
 
-/// Over which stores a script runs, all of them in memory: the concentrator's queue, the centre's journal, and the books of
-/// controls of both.
+/// Over which stores a script runs, all of them in memory: the concentrator's queue for both centres and its book of controls,
+/// and a journal and a book of controls at each centre.
 #[derive(Clone, Copy, Debug, PartialEq, Eq)]
 pub enum Stores {
     /// SQL databases, as a concentrator and a centre have them in files.
@@ -56,20 +53,7 @@ fn simulate_plain<C: Carrier + Drop, W: Write>(
     ensures named { result ≢ Err (ScriptStop.Fault Cause.Exhausted) }
     ensures device { result ≢ Err (ScriptStop.Fault Cause.Device) }
 {
-    plans_have_all_lanes(plan);
-    lanes_stay_sound();
-    let Ok(queue) = PlainLanes::new(alloc, plan.queue) else {
-        return Err(ScriptStop::Fault(Cause::Memory));
-    };
-    let made = World::new(
-        alloc,
-        plan,
-        queue,
-        PlainJournal::new(alloc),
-        PlainBook::new(alloc),
-        PlainBook::new(alloc),
-    );
-    match made {
+    match plain_world(alloc, plan) {
         Ok(world) => {
             let mut carried = Carried { world, carrier };
             run_to_report(alloc, &mut carried, script, out)

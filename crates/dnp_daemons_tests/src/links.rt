@@ -4,7 +4,7 @@ use crate::ends::{Giving, Taking};
 use crate::plans::SMALL;
 use dnp_concentrator::{Centre, Concentrator};
 use dnp_controls::PlainBook;
-use dnp_eventbuf::{JournalStore, Lane, Lanes, PlainJournal, PlainLanes};
+use dnp_eventbuf::{CENTRES, JournalStore, Lane, PairLanes, PlainJournal, PlainPair};
 use dnp_line::Port;
 use dnp_master::{Classes, Outcome, Task};
 use dnp_objects::Kind;
@@ -18,6 +18,9 @@ const BELOW: [u8; 6] = [0x02, 0x00, 0x0A, 0x00, 0x59, 0x71];
 /// The same from outstation 9 to master 1.
 const ABOVE: [u8; 6] = [0x01, 0x00, 0x09, 0x00, 0xB3, 0xCB];
 
+/// The same from outstation 9 to master 3.
+const ABOVE2: [u8; 6] = [0x03, 0x00, 0x09, 0x00, 0x1A, 0x03];
+
 /// The control octet, the function and the first indications of an unsolicited response.
 const REPORTS: [u8; 3] = [0xF0, 0x82, 0x80];
 
@@ -29,6 +32,12 @@ const CONFIRM: [u8; 15] = [
 /// A READ of class 1 from master 1 to outstation 9.
 const POLL: [u8; 18] = [
     0x05, 0x64, 0x0B, 0xC4, 0x09, 0x00, 0x01, 0x00, 0xED, 0xDB, 0xC0, 0xC0, 0x01, 0x3C, 0x02, 0x06,
+    0x54, 0xE0,
+];
+
+/// A READ of class 1 from master 3 to outstation 9.
+const POLL2: [u8; 18] = [
+    0x05, 0x64, 0x0B, 0xC4, 0x09, 0x00, 0x03, 0x00, 0x08, 0xC0, 0xC0, 0xC0, 0x01, 0x3C, 0x02, 0x06,
     0x54, 0xE0,
 ];
 
@@ -95,7 +104,7 @@ fn sends<S: Station>(
 fn a_concentrator_on_streams(rt: HostRuntime) {
     let alloc = rt.alloc();
     let plan = read_plan(alloc, SMALL).expect(&rt, "a plan");
-    let queue = PlainLanes::new(alloc, plan.queue).expect(&rt, "a queue");
+    let queue = PlainPair::new(alloc, plan.queue, plan.queue2).expect(&rt, "a queue");
     let mut concentrator = Concentrator::new(alloc, &plan, queue, PlainBook::new(alloc)).expect(
         &rt,
         "a concentrator",
@@ -119,13 +128,26 @@ fn a_concentrator_on_streams(rt: HostRuntime) {
             "link {link}, {count} octets"
         );
     }
-    let mut station = Above::new(&mut concentrator);
+    let mut station = Above::new(&mut concentrator, 0);
     assert!(rt;
         sends(
             alloc,
             &mut station,
             Port::new(9, 1, false),
             &POLL,
+            &response,
+            one(0)
+        )
+    );
+    // The same event waits for the second centre.
+    let mut station = Above::new(&mut concentrator, 1);
+    let response = event_frame(ABOVE2, [0xE0, 0x81, 0x80], 100, [0xB4, 0x8E]);
+    assert!(rt;
+        sends(
+            alloc,
+            &mut station,
+            Port::new(9, 3, false),
+            &POLL2,
             &response,
             one(0)
         )
@@ -161,7 +183,7 @@ fn a_centre_on_a_stream(rt: HostRuntime) {
 /// Asks these tasks on the link to the substation, to which an answer comes.
 fn asks(
     alloc: Global,
-    concentrator: &mut Concentrator<PlainLanes, PlainBook>,
+    concentrator: &mut Concentrator<PlainPair, PlainBook>,
     tasks: &[Task],
     turns: u64,
     writer: &mut Taking,
@@ -187,7 +209,7 @@ fn asks(
 }
 
 /// Whether the concentrator's master of the substation awaits no response.
-fn is_idle(concentrator: &Concentrator<PlainLanes, PlainBook>) -> bool {
+fn is_idle(concentrator: &Concentrator<PlainPair, PlainBook>) -> bool {
     0 < concentrator.substations() && concentrator.idle_below(0)
 }
 
@@ -196,7 +218,7 @@ fn is_idle(concentrator: &Concentrator<PlainLanes, PlainBook>) -> bool {
 fn a_poll_on_a_stream(rt: HostRuntime) {
     let alloc = rt.alloc();
     let plan = read_plan(alloc, SMALL).expect(&rt, "a plan");
-    let queue = PlainLanes::new(alloc, plan.queue).expect(&rt, "a queue");
+    let queue = PlainPair::new(alloc, plan.queue, plan.queue2).expect(&rt, "a queue");
     let mut concentrator = Concentrator::new(alloc, &plan, queue, PlainBook::new(alloc)).expect(
         &rt,
         "a concentrator",
@@ -209,12 +231,14 @@ fn a_poll_on_a_stream(rt: HostRuntime) {
     assert_eq!(rt; asked.faults, 0);
     assert!(rt; writer.taken.as_slice() == ASKED.as_slice());
     let lane = Lane::new(1, Kind::Binary).expect(&rt, "a lane");
-    let queued = concentrator
-        .queue()
-        .offer(alloc, lane, 0, 9)
-        .expect(&rt, "rows");
-    assert_eq!(rt; queued.len(), 1);
-    assert_eq!(rt; queued[0].row.index, 100);
+    for centre in 0..CENTRES {
+        let queued = concentrator
+            .queue()
+            .offer(alloc, centre, lane, 0, 9)
+            .expect(&rt, "rows");
+        assert_eq!(rt; queued.len(), 1);
+        assert_eq!(rt; queued[0].row.index, 100);
+    }
     let none = Task::Poll(Classes([false, false, false, false]));
     let mut writer = Taking::new(128);
     let asked = asks(alloc, &mut concentrator, &[none, POLL_1], 100, &mut writer).expect(

@@ -12,6 +12,7 @@ select_ms = 5000
 retries = 0
 unsolicited = false
 queue = [100, 100, 100, 100, 100, 100, 100, 100, 100]
+queue2 = [7, 100, 100, 100, 100, 100, 100, 100, 100]
 [[substation]]
 lanes = [100, 100, 100, 100, 100, 100, 100, 100, 100]
 binary = [1]
@@ -63,7 +64,7 @@ fn a_plan_has_the_fields_of_its_text(rt: HostRuntime) -> Result<(), Fail> {
     let said = format!(in rt.alloc(); "{plan:?}")?;
     assert_eq!(rt;
         said.as_str(),
-        "Plan { times: Times { confirm_ms: 5000, response_ms: 10000, select_ms: 5000, retries: 0, unsolicited: false }, queue: [100, 100, 100, 100, 100, 100, 100, 100, 100], substations: Listed { items: [SubPlan { lanes: [100, 100, 100, 100, 100, 100, 100, 100, 100], binary: Listed { items: [1] }, counter: Listed { items: [] }, analog: Listed { items: [] }, deadband: Listed { items: [] }, outputs: 1, setpoints: 0, base: [100, 0, 0, 200, 0] }] } }"
+        "Plan { times: Times { confirm_ms: 5000, response_ms: 10000, select_ms: 5000, retries: 0, unsolicited: false }, queue: [100, 100, 100, 100, 100, 100, 100, 100, 100], queue2: [7, 100, 100, 100, 100, 100, 100, 100, 100], substations: Listed { items: [SubPlan { lanes: [100, 100, 100, 100, 100, 100, 100, 100, 100], binary: Listed { items: [1] }, counter: Listed { items: [] }, analog: Listed { items: [] }, deadband: Listed { items: [] }, outputs: 1, setpoints: 0, base: [100, 0, 0, 200, 0] }] } }"
     );
 
     let two = format!(in rt.alloc(); "{SMALL}{SECOND}")?;
@@ -79,7 +80,7 @@ fn a_plan_has_the_fields_of_its_text(rt: HostRuntime) -> Result<(), Fail> {
 type Change = (&'static str, &'static str);
 
 /// Two changes of [`SMALL`], and why the plan with them is refused.
-const REFUSED: [(Change, Change, PlanTextFault); 28] = [
+const REFUSED: [(Change, Change, PlanTextFault); 31] = [
     (("retries = 0", "retries ="), SAME, PlanTextFault::Syntax),
     (
         ("retries = 0", "retries = 99999999999999999999"),
@@ -104,6 +105,13 @@ const REFUSED: [(Change, Change, PlanTextFault); 28] = [
         PlanTextFault::Field,
     ),
     (("queue = [100, ", "queue = ["), SAME, PlanTextFault::Field),
+    (("queue2 = [7, ", "queue2 = ["), SAME, PlanTextFault::Field),
+    // a plan of an earlier release
+    (
+        ("queue2 = [7, 100, 100, 100, 100, 100, 100, 100, 100]\n", ""),
+        SAME,
+        PlanTextFault::Field,
+    ),
     (
         ("deadband = []", "deadband = [0]"),
         SAME,
@@ -143,6 +151,7 @@ const REFUSED: [(Change, Change, PlanTextFault); 28] = [
         SAME,
         PlanTextFault::Range,
     ),
+    (("queue2 = [7", "queue2 = [0"), SAME, PlanTextFault::Range),
     (("lanes = [100", "lanes = [0"), SAME, PlanTextFault::Range),
     (("outputs = 1", "outputs = 257"), SAME, PlanTextFault::Range),
     (

@@ -5,15 +5,15 @@ use dnp_daemons::{ScriptFault, read_plan, read_script};
 use std::test::Fail;
 
 /// A line, and what it says.
-const SAID: [(&str, &str); 29] = [
+const SAID: [(&str, &str); 37] = [
     ("open 0", "[One(Open(Below(0)))]"),
-    ("open above\n", "[One(Open(Above))]"),
+    ("open above\n", "[One(Open(Above(0)))]"),
     ("hangup 0 master", "[One(HangUp(Below(0), Master))]"),
-    ("tick above outstation", "[One(Tick(Above, Outstation))]"),
+    ("tick above outstation", "[One(Tick(Above(0), Outstation))]"),
     ("deliver 0 down", "[One(Deliver(Below(0), Down))]"),
     ("repeat 0 up", "[One(Repeat(Below(0), Up))]"),
-    ("lose above up", "[One(Lose(Above, Up))]"),
-    ("flush above down", "[Flush(Above, Down)]"),
+    ("lose above up", "[One(Lose(Above(0), Up))]"),
+    ("flush above down", "[Flush(Above(0), Down)]"),
     (
         "damage 0 up 0564fF",
         "[One(Damage(Below(0), Up, Damaged { octets: [5, 100, 255] }))]",
@@ -36,7 +36,7 @@ const SAID: [(&str, &str); 29] = [
     ),
     (
         "enable above 31",
-        "[One(Ask(Above, Enable(Classes([false, true, false, true]))))]",
+        "[One(Ask(Above(0), Enable(Classes([false, true, false, true]))))]",
     ),
     (
         "disable 0 2",
@@ -46,27 +46,47 @@ const SAID: [(&str, &str); 29] = [
     ("time 0 1000", "[One(Ask(Below(0), WriteTime(1000)))]"),
     (
         "issue 0 block 0 3 1 0 4294967295",
-        "[One(Issue { substation: 0, command: Block { index: 0, code: 3, count: 1, on_ms: 0, off_ms: 4294967295 } })]",
+        "[One(Issue { centre: 0, substation: 0, command: Block { index: 0, code: 3, count: 1, on_ms: 0, off_ms: 4294967295 } })]",
     ),
     (
         "issue 0 set16 2 -32768",
-        "[One(Issue { substation: 0, command: Set16 { index: 2, value: -32768 } })]",
+        "[One(Issue { centre: 0, substation: 0, command: Set16 { index: 2, value: -32768 } })]",
     ),
     (
         "issue 0 set32 1 2147483647",
-        "[One(Issue { substation: 0, command: Set32 { index: 1, value: 2147483647 } })]",
+        "[One(Issue { centre: 0, substation: 0, command: Set32 { index: 1, value: 2147483647 } })]",
     ),
     ("relay 0", "[One(Relay(Below(0)))]"),
     (
         "pass 18446744073709551615",
         "[One(Pass(18446744073709551615))]",
     ),
-    ("restart centre", "[One(Restart(Centre))]"),
+    ("restart centre", "[One(Restart(Centre(0)))]"),
     ("restart concentrator", "[One(Restart(Concentrator))]"),
     ("restart 0", "[One(Restart(Substation(0)))]"),
-    ("round above", "[Round(Above)]"),
-    ("control 1", "[Control(1)]"),
-    ("round 0\ncontrol 2\n", "[Round(Below(0)), Control(2)]"),
+    ("round above", "[Round(Above(0))]"),
+    ("control 1", "[Control(First, 1)]"),
+    (
+        "round 0\ncontrol 2\n",
+        "[Round(Below(0)), Control(First, 2)]",
+    ),
+    ("open above2", "[One(Open(Above(1)))]"),
+    ("flush above2 up", "[Flush(Above(1), Up)]"),
+    ("round above2", "[Round(Above(1))]"),
+    (
+        "poll above2 1",
+        "[One(Ask(Above(1), Poll(Classes([false, true, false, false]))))]",
+    ),
+    ("restart centre2", "[One(Restart(Centre(1)))]"),
+    (
+        "issue2 0 block 0 3 1 0 1",
+        "[One(Issue { centre: 1, substation: 0, command: Block { index: 0, code: 3, count: 1, on_ms: 0, off_ms: 1 } })]",
+    ),
+    (
+        "issue2 0 set16 2 -1",
+        "[One(Issue { centre: 1, substation: 0, command: Set16 { index: 2, value: -1 } })]",
+    ),
+    ("control2 1", "[Control(Second, 1)]"),
     ("", "[]"),
 ];
 
@@ -82,7 +102,7 @@ fn each_line_says_its_event(rt: HostRuntime) -> Result<(), Fail> {
 }
 
 /// Lines that don't fit.
-const UNFIT: [&str; 47] = [
+const UNFIT: [&str; 54] = [
     "\n",
     "open",
     "open 1",
@@ -130,6 +150,13 @@ const UNFIT: [&str; 47] = [
     "round 1",
     "control 0x1",
     "listen 0",
+    "open above1",
+    "open above3",
+    "restart centre1",
+    "restart above2",
+    "issue1 0 set16 0 1",
+    "issue2 0 set16 0 32768",
+    "control3 1",
 ];
 
 #[test]

@@ -1,5 +1,5 @@
-//! A centre and a concentrator: an event that comes from a substation, by direct calls or on a stream, and a control that
-//! goes towards it.
+//! A centre and a concentrator: an event that comes from a substation, by direct calls or on a stream, and goes up to both
+//! centres, and a control that goes towards the substation.
 
 use crate::controls::count;
 use crate::lanes::{Counts, counted};
@@ -7,19 +7,19 @@ use crate::outstations::with_digits;
 use crate::streams;
 use dnp_concentrator::{Centre, Concentrator, IssueFault, Listed, Plan, Relayed, SubPlan};
 use dnp_controls::{BookFault, PlainBook};
-use dnp_eventbuf::{JournalStore, PlainJournal, PlainLanes, StoreFault};
+use dnp_eventbuf::{CENTRES, JournalStore, PlainJournal, PlainPair, Side, StoreFault};
 use dnp_master::{Classes, Fragment, MasterFault, Task};
 use dnp_objects::{Command, LANES};
 use dnp_outstation::Actions;
 use dnp_pointdb::Times;
 use std::alloc::Global;
 
-/// A concentrator of one substation, and its centre.
+/// A concentrator of one substation, and its first centre.
 #[derive(Drop)]
 struct Pair {
-    concentrator: Concentrator<PlainLanes, PlainBook>,
+    concentrator: Concentrator<PlainPair, PlainBook>,
     centre: Centre<PlainJournal, PlainBook>,
-    /// What the concentrator did last towards the centre.
+    /// What the concentrator did last towards a centre.
     actions: Actions,
 }
 
@@ -58,6 +58,7 @@ pub(crate) fn plan(alloc: Global) -> Option<Plan> {
             unsolicited: false,
         },
         queue: [2; 9],
+        queue2: [2; 9],
         substations: Listed::new(substations),
     })
 }
@@ -68,7 +69,7 @@ fn begin(alloc: Global) -> Option<Pair> {
     if !plan.keeps_limits() {
         return None;
     }
-    let queue = PlainLanes::new(alloc, [2; 9]).ok()?;
+    let queue = PlainPair::new(alloc, [2; 9], [2; 9]).ok()?;
     let journal = PlainJournal::new(alloc);
     let orders = PlainBook::new(alloc);
     let controls = PlainBook::new(alloc);
@@ -82,26 +83,30 @@ fn begin(alloc: Global) -> Option<Pair> {
 /// What can be seen of a concentrator.
 #[derive(Clone, Copy, PartialEq, Eq)]
 struct ConcentratorView {
-    /// Its queue.
-    queue: [Counts; LANES],
+    /// Each side of its queue.
+    queue: [[Counts; LANES]; 2],
     /// How many controls its book has.
     controls: Option<usize>,
-    /// Whether the link above is open and has nothing to do, and that below.
-    idle: (bool, bool),
+    /// Whether each link above is open and has nothing to do, and that below.
+    idle: [bool; 3],
 }
 
 /// What can be seen of the concentrator.
 fn concentrator_view(
     alloc: Global,
-    concentrator: &mut Concentrator<PlainLanes, PlainBook>,
+    concentrator: &mut Concentrator<PlainPair, PlainBook>,
 ) -> ConcentratorView {
     ConcentratorView {
-        queue: counted(concentrator.queue()),
+        queue: [
+            counted(&mut Side::new(concentrator.queue(), 0)),
+            counted(&mut Side::new(concentrator.queue(), 1)),
+        ],
         controls: count(alloc, concentrator.book()),
-        idle: (
-            concentrator.quiet_above(),
+        idle: [
+            concentrator.quiet_above(0),
+            concentrator.quiet_above(1),
             concentrator.substations() == 1 && concentrator.idle_below(0),
-        ),
+        ],
     }
 }
 
@@ -128,15 +133,18 @@ fn centre_view(alloc: Global, centre: &mut Centre<PlainJournal, PlainBook>) -> C
     }
 }
 
-/// Octets come to the concentrator from the centre. How long its answer is, 0 where there is none.
-fn above(alloc: Global, pair: &mut Pair, octets: &[u8]) -> Option<u64> {
+/// Octets come to the concentrator from this centre. How long its answer is, 0 where there is none.
+fn above(alloc: Global, pair: &mut Pair, centre: u8, octets: &[u8]) -> Option<u64> {
+    if centre >= CENTRES {
+        return None;
+    }
     let concentrator = &mut pair.concentrator;
     let before = concentrator_view(alloc, concentrator);
-    match concentrator.receive_above(&mut pair.actions, alloc, 0, octets) {
+    match concentrator.receive_above(centre, &mut pair.actions, alloc, 0, octets) {
         Ok(()) => {}
         Err(StoreFault::Memory) if concentrator_view(alloc, concentrator) == before => {
             concentrator
-                .receive_above(&mut pair.actions, alloc, 0, octets)
+                .receive_above(centre, &mut pair.actions, alloc, 0, octets)
                 .ok()?;
         }
         Err(_) => return None,
@@ -168,7 +176,7 @@ fn taken(
     Some(taken as u64)
 }
 
-/// Octets come to the concentrator from the substation. How many rows the queue drops for them.
+/// Octets come to the concentrator from the substation. How many rows the sides of the queue drop for them.
 fn below(alloc: Global, pair: &mut Pair, octets: &[u8]) -> Option<u64> {
     let concentrator = &mut pair.concentrator;
     if concentrator.substations() != 1 {
@@ -180,18 +188,17 @@ fn below(alloc: Global, pair: &mut Pair, octets: &[u8]) -> Option<u64> {
         return None;
     }
     let dropped = match concentrator.receive_below(alloc, 0, 0, octets) {
-        Ok(actions) => actions.dropped,
+        Ok((actions, others)) => (actions.dropped, others),
         Err(MasterFault::Memory)
             if concentrator_view(alloc, concentrator) == before
                 && concentrator.substations() == 1 => {
-            concentrator
-                .receive_below(alloc, 0, 0, octets)
-                .ok()?
-                .dropped
+            let (actions, others) = concentrator.receive_below(alloc, 0, 0, octets).ok()?;
+            (actions.dropped, others)
         }
         Err(_) => return None,
     };
-    Some(dropped.as_slice().len() as u64)
+    let first = dropped.0.as_slice().len() as u64;
+    Some(first.wrapping_add(dropped.1.as_slice().len() as u64))
 }
 
 /// The substation's binary comes to the concentrator as an event, and then nothing more, since what makes look-ups quick
@@ -238,21 +245,25 @@ fn issue(alloc: Global, centre: &mut Centre<PlainJournal, PlainBook>) -> Option<
     }
 }
 
-/// Queues an event, polls it, confirms it, and issues a control that comes to the concentrator's book.
+/// Queues an event, polls it, confirms it, lets the second centre ask for it too, and issues a control that comes to the
+/// concentrator's book.
 fn go(alloc: Global, pair: &mut Pair) -> Option<u64> {
     let mut number = event(alloc, pair)?;
-    pair.concentrator
-        .opened_above(&mut pair.actions, alloc, 0)
-        .ok()?;
+    for centre in 0..CENTRES {
+        pair.concentrator
+            .opened_above(centre, &mut pair.actions, alloc, 0)
+            .ok()?;
+    }
     pair.centre.opened();
     let request = pair.centre.ask(0, POLL).ok()?;
-    number = with_digits(number, above(alloc, pair, request.as_slice())?);
+    number = with_digits(number, above(alloc, pair, 0, request.as_slice())?);
     number = with_digits(number, taken(alloc, &mut pair.centre, &pair.actions)?);
-    above(alloc, pair, &[0xC0, 0x00])?;
+    above(alloc, pair, 0, &[0xC0, 0x00])?;
+    number = with_digits(number, above(alloc, pair, 1, request.as_slice())?);
     issue(alloc, &mut pair.centre)?;
     for _ in 0..2 {
         let request = relayed(alloc, pair)?;
-        number = with_digits(number, above(alloc, pair, request.as_slice())?);
+        number = with_digits(number, above(alloc, pair, 0, request.as_slice())?);
         taken(alloc, &mut pair.centre, &pair.actions)?;
     }
     Some(number)
@@ -276,8 +287,8 @@ fn finish(alloc: Global, mut pair: Pair, is_on_stream: bool) -> Option<u64> {
 }
 
 /// Lets an event go up and a control go down. The number has two digits for each: how many rows the queue drops, how long
-/// the response is, how many events the centre takes, how long the answers to its SELECT and OPERATE are. Or asks for
-/// events on a stream, with the number of that.
+/// the response is, how many events the centre takes, how long the response to the second centre is, how long the answers to
+/// the SELECT and OPERATE are. Or asks for events on a stream, with the number of that.
 pub(crate) fn run(alloc: Global, is_on_stream: bool) -> Option<u64> {
     match begin(alloc) {
         Some(pair) => finish(alloc, pair, is_on_stream),

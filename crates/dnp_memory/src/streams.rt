@@ -4,7 +4,7 @@ use crate::outstations::{Station, change, with_digits};
 use dnp_concentrator::Concentrator;
 use dnp_controls::PlainBook;
 use dnp_daemons::{Below, Station as OnStream, ask_stream, serve_stream};
-use dnp_eventbuf::{Lane, Lanes, PlainLanes};
+use dnp_eventbuf::{Lane, Lanes, PlainPair};
 use dnp_line::Port;
 use dnp_master::{Classes, Task};
 use dnp_objects::Kind;
@@ -52,7 +52,7 @@ pub(crate) fn serve(alloc: Global, station: &mut Station) -> Option<u64> {
 
 /// Asks for class 1 on a connection. How many rows came and how many tasks came out, two digits for each, where nothing
 /// was refused and the requests were written.
-fn asked(alloc: Global, concentrator: &mut Concentrator<PlainLanes, PlainBook>) -> Option<u64> {
+fn asked(alloc: Global, concentrator: &mut Concentrator<PlainPair, PlainBook>) -> Option<u64> {
     let mut port = Port::new(2, 10, true);
     let mut room = [0; 33];
     let mut reader: &[u8] = &RESPONSE;
@@ -82,7 +82,7 @@ fn asked(alloc: Global, concentrator: &mut Concentrator<PlainLanes, PlainBook>) 
 /// of each.
 pub(crate) fn ask(
     alloc: Global,
-    concentrator: &mut Concentrator<PlainLanes, PlainBook>,
+    concentrator: &mut Concentrator<PlainPair, PlainBook>,
 ) -> Option<u64> {
     let mut number = 0u64;
     for _ in 0..2 {

@@ -3,25 +3,27 @@
 
 use crate::concentrators::plan;
 use dnp_concentrator::{Cause, Plan};
-use dnp_controls::PlainBook;
-use dnp_daemons::{PrintFault, ScriptLine, Scripted, print_report, read_script};
-use dnp_eventbuf::laws::lanes_stay_sound;
-use dnp_eventbuf::{PlainJournal, PlainLanes};
-use dnp_world::standing_laws::plans_have_all_lanes;
-use dnp_world::{ControlFault, Report, RoundFault, World};
+use dnp_daemons::{PrintFault, ScriptLine, Scripted, plain_world, print_report, read_script};
+use dnp_world::{ControlFault, Report, RoundFault};
 use std::alloc::Global;
 use std::io;
 use std::io::Write;
 
-/// An event that goes all the way up, a control that goes all the way down, and a poll whose confirm is lost.
+/// An event that goes all the way up to both centres, a control of each that goes all the way down, and a poll whose confirm is
+/// lost. The link above is opened again after the first control: its select would stand in the second's way where it was cut.
 const SCRIPT: &str = "\
 open 0
 open above
 change 0 binary 0 1 01 1000
+open above2
 round 0
 round above
+round above2
 issue 0 block 0 3 1 0 0
 control 1
+open above
+issue2 0 block 0 3 1 0 0
+control2 1
 change 0 binary 0 0 01 2000
 poll 0 123
 deliver 0 down
@@ -55,7 +57,7 @@ fn does<S: Scripted>(alloc: Global, system: &mut S, line: &ScriptLine) -> Option
             Err(RoundFault::Fault(Cause::Memory)) => Some(Ended::Cut),
             Err(_) => None,
         },
-        ScriptLine::Control(id) => match system.clean_control(alloc, *id) {
+        ScriptLine::Control(centre, id) => match system.clean_control(alloc, *centre, *id) {
             Ok(()) | Err(ControlFault::NotQuiet | ControlFault::NotNext) => Some(Ended::Done),
             Err(ControlFault::Fault(Cause::Memory)) => Some(Ended::Cut),
             Err(_) => None,
@@ -120,20 +122,7 @@ fn run_once<W: Write>(
     if !plan.keeps_limits() {
         return Ok(None);
     }
-    plans_have_all_lanes(plan);
-    lanes_stay_sound();
-    let Ok(queue) = PlainLanes::new(alloc, plan.queue) else {
-        return Err(Cause::Memory);
-    };
-    let made = World::new(
-        alloc,
-        plan,
-        queue,
-        PlainJournal::new(alloc),
-        PlainBook::new(alloc),
-        PlainBook::new(alloc),
-    );
-    match made {
+    match plain_world(alloc, plan) {
         Ok(mut world) => Ok(do_all(alloc, &mut world, lines, out)),
         Err(_) => Err(Cause::Memory),
     }

@@ -13,6 +13,7 @@ select_ms = 5000
 retries = 0
 unsolicited = false
 queue = [2, 2, 2, 2, 2, 2, 2, 2, 2]
+queue2 = [2, 2, 2, 2, 2, 2, 2, 2, 2]
 [[substation]]
 lanes = [2, 2, 2, 2, 2, 2, 2, 2, 2]
 binary = [1, 3]
@@ -39,8 +40,8 @@ open 1
 change 0 analog 0 -7 01 1000
 damage 0 up 0564
 flush 0 up
-round 0
-control 1
+round above2
+control2 1
 ";
 
 /// Reads the plan.
@@ -70,7 +71,7 @@ fn kind_of(line: &ScriptLine) -> u64 {
         ScriptLine::One(_) => 1,
         ScriptLine::Flush(_, _) => 2,
         ScriptLine::Round(_) => 3,
-        ScriptLine::Control(_) => 4,
+        ScriptLine::Control(_, _) => 4,
     }
 }
 

@@ -14,10 +14,11 @@ pub record AreUnder (t : Data) (fields : PlanFields) : Type 0 where
   pub retries : Some fields.retries ≡ integer_under (codes "retries") t
   pub unsolicited : Some fields.unsolicited ≡ bool_under (codes "unsolicited") t
   pub queue : Some fields.queue ≡ exactly LANES (integers_under (codes "queue") t)
+  pub queue2 : Some fields.queue2 ≡ exactly LANES (integers_under (codes "queue2") t)
   pub substations : Some fields.substations ≡ substations_under t
   pub keys : has_keys PLAN_KEYS t ≡ true
 
 pub put_together : (t : Data) (fields : PlanFields) → AreUnder t fields → Some fields ≡ plan_fields_of t
 unfolding plan_fields_of
 put_together t fields u =
-    rw (← u.confirm_ms, ← u.response_ms, ← u.select_ms, ← u.retries, ← u.unsolicited, ← u.queue, ← u.substations, u.keys) refl
+    rw (← u.confirm_ms, ← u.response_ms, ← u.select_ms, ← u.retries, ← u.unsolicited, ← u.queue, ← u.queue2, ← u.substations, u.keys) refl

@@ -107,6 +107,7 @@ plan_fields_of t = do
   retries ← integer_under (codes "retries") t
   unsolicited ← bool_under (codes "unsolicited") t
   queue ← exactly LANES (integers_under (codes "queue") t)
+  queue2 ← exactly LANES (integers_under (codes "queue2") t)
   substations ← substations_under t
   when (has_keys PLAN_KEYS t) (record {
     confirm_ms = confirm_ms;
@@ -115,5 +116,6 @@ plan_fields_of t = do
     retries = retries;
     unsolicited = unsolicited;
     queue = queue;
+    queue2 = queue2;
     substations = substations;
   })

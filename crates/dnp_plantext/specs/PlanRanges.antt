@@ -96,6 +96,7 @@ plan_of fields =
     if not (length fields.substations == 0) && nat_le (length fields.substations) MAX_SUBSTATIONS then (do
       times ← times_of fields
       queue ← capacities_of fields.queue
+      queue2 ← capacities_of fields.queue2
       substations ← sub_plans_of fields.substations
-      Some (record { times = times; queue = queue; substations = substations }))
+      Some (record { times = times; queue = queue; queue2 = queue2; substations = substations }))
     else None

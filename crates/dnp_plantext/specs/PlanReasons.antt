@@ -48,6 +48,7 @@ name_of keys.SelectMs = codes "select_ms"
 name_of keys.Retries = codes "retries"
 name_of keys.Unsolicited = codes "unsolicited"
 name_of keys.Queue = codes "queue"
+name_of keys.Queue2 = codes "queue2"
 name_of keys.Substation = codes "substation"
 name_of keys.Lanes = codes "lanes"
 name_of keys.Binary = codes "binary"
@@ -61,7 +62,8 @@ name_of keys.Unknown = []
 
 -- the order of the keys
 abbrev pub own_keys : List PlanKey
-own_keys = keys.ConfirmMs ∷ keys.ResponseMs ∷ keys.SelectMs ∷ keys.Retries ∷ keys.Unsolicited ∷ keys.Queue ∷ []
+own_keys =
+    keys.ConfirmMs ∷ keys.ResponseMs ∷ keys.SelectMs ∷ keys.Retries ∷ keys.Unsolicited ∷ keys.Queue ∷ keys.Queue2 ∷ []
 
 abbrev pub sub_keys : List PlanKey
 sub_keys =
@@ -131,6 +133,7 @@ deadband_fault substation t =
 abbrev pub key_fault : Option ℕ → PlanKey → Data → Option PlanPlace
 key_fault substation keys.Unsolicited t = bool_fault substation keys.Unsolicited t
 key_fault substation keys.Queue t = list_fault substation keys.Queue (Some LANES) t
+key_fault substation keys.Queue2 t = list_fault substation keys.Queue2 (Some LANES) t
 key_fault substation keys.Lanes t = list_fault substation keys.Lanes (Some LANES) t
 key_fault substation keys.Binary t = list_fault substation keys.Binary None t
 key_fault substation keys.Counter t = list_fault substation keys.Counter None t
@@ -220,6 +223,7 @@ range_fault fields =
     <|> number_fault None keys.SelectMs 1 MAX_TIMER_MS fields.select_ms
     <|> number_fault None keys.Retries 0 MAX_RETRIES fields.retries
     <|> item_fault None keys.Queue 1 MAX_CAPACITY 0 fields.queue
+    <|> item_fault None keys.Queue2 1 MAX_CAPACITY 0 fields.queue2
     <|> count_fault (length fields.substations)
     <|> subs_range_fault 0 fields.substations
 

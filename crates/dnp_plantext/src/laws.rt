@@ -4,6 +4,6 @@ ghost use Rattle.dnp_plantext.specs.declared.plan_text.fields.TheConstants as fi
 
 /// A plan has so many keys, and each of its substations so many.
 pub fn plans_have_their_keys()
-    ensures plan { fields.PLAN_KEYS ≡ 7 }
+    ensures plan { fields.PLAN_KEYS ≡ 8 }
     ensures substation { fields.SUBSTATION_KEYS ≡ 8 }
 {}

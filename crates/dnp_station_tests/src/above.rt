@@ -1,9 +1,11 @@
-//! A concentrator towards the station above.
+//! A concentrator towards the stations above.
+
+ghost use Rattle.std.specs.Prelude.{◌<◌};
 
 use crate::system_plans::{SMALL, plan};
 use dnp_concentrator::Concentrator;
 use dnp_controls::{Book, Entry, PlainBook, State};
-use dnp_eventbuf::PlainLanes;
+use dnp_eventbuf::{CENTRES, PlainPair};
 use dnp_objects::Command;
 use dnp_outstation::Actions;
 use std::alloc::{AllocError, Global};
@@ -11,7 +13,7 @@ use std::process::Abort;
 use std::test::Fail;
 
 /// A concentrator over stores in memory.
-pub(crate) type Middle = Concentrator<PlainLanes, PlainBook>;
+pub(crate) type Middle = Concentrator<PlainPair, PlainBook>;
 
 /// LATCH_ON of the output 200, once, as it is asked for and answered with the status 0.
 #[rattlefmt::skip]
@@ -65,18 +67,21 @@ pub(crate) fn sends(actions: &Actions, octets: &[u8]) -> bool {
     }
 }
 
-/// Whether the request is answered with its own objects and this status.
+/// Whether the centre's request is answered with its own objects and this status.
 fn is_answered(
     concentrator: &mut Middle,
+    centre: u8,
     actions: &mut Actions,
     alloc: Global,
     head: [u8; 2],
     objects: &[u8; 18],
     status: u8,
-) -> Result<bool, Fail> {
+) -> Result<bool, Fail>
+    requires { centre < CENTRES }
+{
     let asked = fragment(alloc, &head, objects, 0x00)?;
     let answered = fragment(alloc, &[head[0], 0x81, 0x80, 0x00], objects, status)?;
-    concentrator.receive_above(actions, alloc, 1_000, asked.as_slice())?;
+    concentrator.receive_above(centre, actions, alloc, 1_000, asked.as_slice())?;
     Ok(sends(actions, answered.as_slice()))
 }
 
@@ -87,21 +92,21 @@ fn concentrator_of(alloc: Global, unsolicited: bool) -> Result<Option<Middle>, A
     if !plan.keeps_limits() {
         return Ok(None);
     }
-    let queue = PlainLanes::new(alloc, [100; 9])?;
+    let queue = PlainPair::new(alloc, [100; 9], [100; 9])?;
     Ok(Concentrator::new(alloc, &plan, queue, PlainBook::new(alloc)).ok())
 }
 
 /// Commands from above come into the book, and those to an output that the plan lacks don't.
 fn commands_are_put(rt: &impl Abort, alloc: Global, concentrator: &mut Middle) -> Result<(), Fail> {
     let mut actions = Actions::none(alloc);
-    concentrator.opened_above(&mut actions, alloc, 0)?;
+    concentrator.opened_above(0, &mut actions, alloc, 0)?;
     for (head, objects, status) in STEPS {
-        let is_right = is_answered(concentrator, &mut actions, alloc, head, &objects, status)?;
+        let is_right = is_answered(concentrator, 0, &mut actions, alloc, head, &objects, status)?;
         assert!(rt; is_right, "{head:?} {status}");
     }
     assert!(rt; concentrator.book().rows(alloc, 0, 10)?.as_slice() == [LATCHED].as_slice());
-    concentrator.hung_up_above();
-    assert!(rt; !concentrator.quiet_above());
+    concentrator.hung_up_above(0);
+    assert!(rt; !concentrator.quiet_above(0));
     concentrator.restart(alloc);
     Ok(())
 }
@@ -118,13 +123,55 @@ fn a_command_above_is_put_into_the_book(rt: HostRuntime) -> Result<(), Fail> {
     Ok(())
 }
 
+/// Whether it is the second centre, the first octets of its request to latch the output 200, and the status that is
+/// answered: what the first has selected is reserved for it until it operates it.
+const TURNS: [(bool, [u8; 2], u8); 6] = [
+    (false, [0xC0, 0x03], 0x00),
+    (true, [0xC0, 0x03], 0x05),
+    (true, [0xC1, 0x05], 0x05),
+    (false, [0xC1, 0x04], 0x00),
+    (true, [0xC2, 0x03], 0x00),
+    (false, [0xC2, 0x05], 0x05),
+];
+
+/// The centres take turns at one output: one command comes into the book.
+fn turns_are_taken(rt: &impl Abort, alloc: Global, concentrator: &mut Middle) -> Result<(), Fail> {
+    let mut actions = Actions::none(alloc);
+    for centre in 0..CENTRES {
+        concentrator.opened_above(centre, &mut actions, alloc, 0)?;
+    }
+    for (is_second, head, status) in TURNS {
+        let centre = u8::from(is_second);
+        let is_right = is_answered(
+            concentrator,
+            centre,
+            &mut actions,
+            alloc,
+            head,
+            &LATCHES,
+            status,
+        )?;
+        assert!(rt; is_right, "{centre} {head:?} {status}");
+    }
+    assert!(rt; concentrator.book().rows(alloc, 0, 10)?.as_slice() == [LATCHED].as_slice());
+    Ok(())
+}
+
+#[test]
+fn a_selected_output_is_reserved(rt: HostRuntime) -> Result<(), Fail> {
+    match concentrator_of(rt.alloc(), false)? {
+        Some(mut concentrator) => turns_are_taken(&rt, rt.alloc(), &mut concentrator),
+        None => Err(Fail::new("no concentrator")),
+    }
+}
+
 /// The first report above awaits its confirm, and the link closes when its time is over.
 fn report_closes(rt: &impl Abort, alloc: Global, concentrator: &mut Middle) -> Result<(), Fail> {
     let mut actions = Actions::none(alloc);
-    concentrator.opened_above(&mut actions, alloc, 0)?;
+    concentrator.opened_above(0, &mut actions, alloc, 0)?;
     assert!(rt; sends(&actions, &[0xF0, 0x82, 0x80, 0x00]));
     for (now, closes) in [(4_999, false), (5_000, true)] {
-        concentrator.tick_above(&mut actions, alloc, now)?;
+        concentrator.tick_above(0, &mut actions, alloc, now)?;
         assert!(rt;
             actions.send[0].is_none() && actions.close == closes,
             "{now}"

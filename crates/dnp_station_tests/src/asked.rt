@@ -4,14 +4,14 @@
 use crate::system_plans::{SMALL, Sketch, plan};
 use dnp_concentrator::{Centre, Concentrator};
 use dnp_controls::{Book, BookFault, Entry, PlainBook};
-use dnp_eventbuf::{JournalStore, Lanes, Numbered, Sink, Upto};
+use dnp_eventbuf::{JournalStore, Numbered, PairLanes, Sink, Upto};
 use dnp_master::{Classes, MasterFault, Task};
 use dnp_objects::{Command, Lane, LaneRow, Row, Status, StoreFault};
 use std::alloc::{AllocError, Global};
 use std::process::Abort;
 use std::test::Fail;
 
-/// A queue that holds nothing, and counts its appends.
+/// A queue for two centres that holds nothing, and counts its appends.
 #[derive(Drop)]
 struct CountedQueue {
     /// How many were asked.
@@ -21,17 +21,11 @@ struct CountedQueue {
 }
 
 /// It gives nothing back, so it is never honest.
-impl Lanes for CountedQueue {
-    ghost use Rattle.std.specs.Prelude.{false, true, [], ⊤};
+impl PairLanes for CountedQueue {
+    ghost use Rattle.std.specs.Prelude.{false, true, []};
     ghost use Rattle.dnp_eventbuf.specs.Stock.{empty_stock};
 
-    ghost contents = { λ _. empty_stock [] };
-
-    ghost beside = { λ _. [] };
-
-    ghost Place = { ⊤ };
-
-    ghost place = { λ _. tt };
+    ghost contents = { λ _ _. empty_stock [] };
 
     ghost honest = { λ _. ⊥ };
 
@@ -41,17 +35,32 @@ impl Lanes for CountedQueue {
 
     ghost may_fault = { λ _. true };
 
-    fn append(&mut self, alloc: Global, _rows: &[LaneRow]) -> Result<Vec<Row>, StoreFault> {
+    fn append_both(
+        &mut self,
+        alloc: Global,
+        _rows: &[LaneRow],
+    ) -> Result<(Vec<Row>, Vec<Row>), StoreFault> {
         self.appends = self.appends.saturating_add(1);
         if self.is_spent {
             return Err(StoreFault::Exhausted);
         }
+        Ok((Vec::new(alloc), Vec::new(alloc)))
+    }
+
+    fn append(
+        &mut self,
+        alloc: Global,
+        _centre: u8,
+        _rows: &[LaneRow],
+    ) -> Result<Vec<Row>, StoreFault> {
+        self.appends = self.appends.saturating_add(1);
         Ok(Vec::new(alloc))
     }
 
     fn offer(
         &mut self,
         alloc: Global,
+        _centre: u8,
         _lane: Lane,
         _after: u64,
         _most: usize,
@@ -59,27 +68,32 @@ impl Lanes for CountedQueue {
         Ok(Vec::new(alloc))
     }
 
-    fn release(&mut self, alloc: Global, _upto: &Upto) -> Result<Vec<Row>, StoreFault> {
+    fn release(
+        &mut self,
+        alloc: Global,
+        _centre: u8,
+        _upto: &Upto,
+    ) -> Result<Vec<Row>, StoreFault> {
         Ok(Vec::new(alloc))
     }
 
-    fn empty(&mut self, alloc: Global) -> Result<Vec<Row>, StoreFault> {
+    fn empty(&mut self, alloc: Global, _centre: u8) -> Result<Vec<Row>, StoreFault> {
         Ok(Vec::new(alloc))
     }
 
-    fn len(&mut self, _lane: Lane) -> u32 {
+    fn len(&mut self, _centre: u8, _lane: Lane) -> u32 {
         0
     }
 
-    fn last(&mut self, _lane: Lane) -> u64 {
+    fn last(&mut self, _centre: u8, _lane: Lane) -> u64 {
         0
     }
 
-    fn lost(&mut self, _lane: Lane) -> u64 {
+    fn lost(&mut self, _centre: u8, _lane: Lane) -> u64 {
         0
     }
 
-    fn raised(&mut self) -> bool {
+    fn raised(&mut self, _centre: u8) -> bool {
         false
     }
 }
@@ -226,13 +240,13 @@ fn polled(
     concentrator.opened_below(0);
     let _ = concentrator.ask_below(0, 0, POLL)?;
     let answer = concentrator.receive_below(alloc, 0, 0, octets);
-    assert!(rt; answer.map(|actions| actions.taken) == taken);
+    assert!(rt; answer.map(|(actions, _)| actions.taken) == taken);
     assert!(rt; concentrator.queue().appends == 1);
     Ok(())
 }
 
 #[test]
-fn a_fragment_is_queued_by_one_append(rt: HostRuntime) -> Result<(), Fail> {
+fn a_fragment_is_queued_for_both_by_one_append(rt: HostRuntime) -> Result<(), Fail> {
     for (is_spent, taken) in [(false, Ok(1)), (true, Err(MasterFault::Exhausted))] {
         match concentrator_of(rt.alloc(), &[SMALL], is_spent)? {
             Some(mut concentrator) => polled(&rt, rt.alloc(), &mut concentrator, &EVENT, taken)?,

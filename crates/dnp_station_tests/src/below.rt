@@ -6,7 +6,7 @@ use crate::above::{Middle, sends};
 use crate::system_plans::{SMALL, plan};
 use dnp_concentrator::{Centre, Concentrator, IssueFault, Plan, Relayed};
 use dnp_controls::{Book, Entry, PlainBook, PlainOutputs, State};
-use dnp_eventbuf::{Lane, Lanes, Numbered, PlainJournal, PlainLanes};
+use dnp_eventbuf::{CENTRES, Lane, Numbered, PairLanes, PlainJournal, PlainLanes, PlainPair, Rows};
 use dnp_master::{Classes, MasterActions, Task};
 use dnp_objects::{Command, Kind, Row, Status};
 use dnp_outstation::{Actions, Outstation};
@@ -59,16 +59,18 @@ const DONE: Entry = Entry {
     state: State::Finished(Status::SUCCESS),
 };
 
-/// A concentrator of a plan that keeps its limits, with open connections; its queue takes one row a lane. `None` where the
-/// plan isn't one.
+/// A concentrator of a plan that keeps its limits, with open connections; its queue takes one row a lane for the first centre,
+/// and two for the second. `None` where the plan isn't one.
 fn middle_of(alloc: Global, plan: &Plan) -> Result<Option<Middle>, Fail>
     requires { KeepsLimits plan.now }
 {
-    let queue = PlainLanes::new(alloc, [1; 9])?;
+    let queue = PlainPair::new(alloc, [1; 9], [2; 9])?;
     let Ok(mut concentrator) = Concentrator::new(alloc, plan, queue, PlainBook::new(alloc)) else {
         return Ok(None);
     };
-    concentrator.opened_above(&mut Actions::none(alloc), alloc, NOW)?;
+    for centre in 0..CENTRES {
+        concentrator.opened_above(centre, &mut Actions::none(alloc), alloc, NOW)?;
+    }
     if concentrator.substations() > 0 {
         concentrator.opened_below(0);
     }
@@ -154,20 +156,21 @@ fn relay_above(
     alloc: Global,
 ) -> Result<Relayed, Fail> {
     let relayed = centre.relay(alloc, NOW)?;
-    concentrator.receive_above(actions, alloc, NOW, request_of(&relayed))?;
+    concentrator.receive_above(0, actions, alloc, NOW, request_of(&relayed))?;
     if let Some(answer) = &actions.send[0] {
         let _ = centre.receive(alloc, NOW, answer.as_slice())?;
     }
     Ok(relayed)
 }
 
-/// What comes of a request to the substation: what the concentrator does with its answer.
+/// What comes of a request to the substation: what the concentrator does with its answer, and the rows that the second
+/// centre's lanes drop.
 fn answer_below(
     concentrator: &mut Middle,
     substation: &mut Bottom,
     alloc: Global,
     request: &[u8],
-) -> Result<Option<MasterActions>, Fail> {
+) -> Result<Option<(MasterActions, Rows)>, Fail> {
     let actions = substation.receive(alloc, NOW, request)?;
     match &actions.send[0] {
         Some(answer) if concentrator.substations() > 0 => {
@@ -270,7 +273,7 @@ fn row(value: i64) -> Row {
     }
 }
 
-/// Present values of the binary inputs above: index 100, on, flags 01.
+/// Present values of the binary inputs above, to the first centre, whose lane has dropped a row: index 100, on, flags 01.
 #[rattlefmt::skip]
 const PRESENT: [u8; 12] = [0xC0, 0x81, 0x82, 0x08, 0x01, 0x02, 0x01, 0x64, 0x00, 0x64, 0x00, 0x81];
 
@@ -279,7 +282,7 @@ fn poll(
     concentrator: &mut Middle,
     substation: &mut Bottom,
     alloc: Global,
-) -> Result<Option<MasterActions>, Fail> {
+) -> Result<Option<(MasterActions, Rows)>, Fail> {
     if concentrator.substations() == 0 {
         return Ok(None);
     }
@@ -288,7 +291,8 @@ fn poll(
     answer_below(concentrator, substation, alloc, request.as_slice())
 }
 
-/// Of two events that are polled the full lane drops the first; above, the second stands as the present value.
+/// Of two events that are polled the first centre's full lane drops the first, and the second's has both; above, the second
+/// stands as the present value.
 fn events_are_queued(
     rt: &impl Abort,
     alloc: Global,
@@ -298,21 +302,38 @@ fn events_are_queued(
     for value in [0, 1] {
         let _ = substation.change(alloc, NOW, Kind::Binary, 0, reading(value))?;
     }
-    let Some(taken) = poll(concentrator, substation, alloc)? else {
+    let Some((taken, others)) = poll(concentrator, substation, alloc)? else {
         return Err(Fail::new("no answer"));
     };
     assert!(rt; taken.taken == 2 && taken.send == Some([0xC0, 0x00]));
     assert!(rt; taken.dropped.as_slice() == [row(0)].as_slice());
+    assert!(rt; others.as_slice().is_empty());
     let Some(lane) = Lane::new(1, Kind::Binary) else {
         return Err(Fail::new("no lane"));
     };
-    assert!(rt; concentrator.queue().lost(lane) == 1);
-    let queued = concentrator.queue().offer(alloc, lane, 0, 9)?;
+    assert!(rt; concentrator.queue().lost(0, lane) == 1);
+    assert!(rt; concentrator.queue().lost(1, lane) == 0);
+    let earlier = Numbered { id: 1, row: row(0) };
     let later = Numbered { id: 2, row: row(1) };
+    let queued = concentrator.queue().offer(alloc, 0, lane, 0, 9)?;
     assert!(rt; queued.as_slice() == [later].as_slice());
+    let queued = concentrator.queue().offer(alloc, 1, lane, 0, 9)?;
+    assert!(rt; queued.as_slice() == [earlier, later].as_slice());
+    stand_above(rt, alloc, concentrator)
+}
+
+/// The same to the second, whose lane has dropped none.
+#[rattlefmt::skip]
+const PRESENT_BESIDE: [u8; 12] = [0xC0, 0x81, 0x82, 0x00, 0x01, 0x02, 0x01, 0x64, 0x00, 0x64, 0x00, 0x81];
+
+/// To each centre the readings above stand as the present values.
+fn stand_above(rt: &impl Abort, alloc: Global, concentrator: &mut Middle) -> Result<(), Fail> {
+    let request = [0xC0, 0x01, 0x3C, 0x01, 0x06];
     let mut actions = Actions::none(alloc);
-    concentrator.receive_above(&mut actions, alloc, NOW, &[0xC0, 0x01, 0x3C, 0x01, 0x06])?;
+    concentrator.receive_above(0, &mut actions, alloc, NOW, &request)?;
     assert!(rt; sends(&actions, &PRESENT));
+    concentrator.receive_above(1, &mut actions, alloc, NOW, &request)?;
+    assert!(rt; sends(&actions, &PRESENT_BESIDE));
     Ok(())
 }
 

@@ -50,6 +50,7 @@ pub(crate) fn plan(alloc: Global, sketches: &[Sketch]) -> Result<Plan, AllocErro
             unsolicited: false,
         },
         queue: [100; 9],
+        queue2: [100; 9],
         substations: Listed::new(substations),
     })
 }

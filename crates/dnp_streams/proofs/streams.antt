@@ -6,12 +6,14 @@ pub mod Putting
 pub mod Spelling
 pub mod Clocking
 pub mod Taken
+pub mod Unasked
 pub mod Dialogues
 pub mod Talking
 pub mod Refused
 pub mod Told
 pub mod MastersOneWay
-pub mod BookOneWay
+pub mod AboveOneWay
+pub mod AboveSteps
 pub mod Alive
 pub mod Answering
 pub mod Changing

@@ -12,6 +12,7 @@ pub mod Lives
 pub mod Masters
 pub mod Centres
 pub mod Concentrators
+pub mod AboveLives
 pub mod Lent
 pub mod Dialogues
 pub mod Asking

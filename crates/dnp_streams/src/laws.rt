@@ -8,15 +8,13 @@ ghost use Rattle.dnp_streams.specs.streams.OneWay.{OpensOneWay, ReceivesOneWay, 
 ghost use Rattle.dnp_streams.specs.streams.Living.{FollowsAll, NeverFalls, Standing, Step, changes_in};
 ghost use Rattle.dnp_streams.specs.streams.Outstations.{ShowOneWay, outstation_opens, outstation_receives};
 ghost use Rattle.dnp_streams.specs.streams.Centres.{centre_opens, centre_receives};
-ghost use Rattle.dnp_streams.specs.streams.Concentrators.{below_opens, below_receives};
-ghost use Rattle.dnp_concentrator.specs.BookOutputs.{Performs, panel_of};
+ghost use Rattle.dnp_streams.specs.streams.Concentrators.{above_opens, above_receives, below_opens, below_receives};
 ghost use Rattle.dnp_streams.specs.declared.address.TheConstants as address;
 ghost use Rattle.dnp_streams.specs.declared.input.TheConstants as input;
 ghost use Rattle.dnp_streams.specs.declared.octets.TheConstants as octets;
 
 use crate::stream::Station;
-use dnp_concentrator::laws as concentrator;
-use dnp_controls::{Book, LatestOutputs, NoOutputs, Outputs, PlainOutputs};
+use dnp_controls::{LatestOutputs, NoOutputs, Outputs, PlainOutputs};
 use dnp_line::laws as lines;
 use dnp_linkframe::laws as frames;
 use dnp_transport::laws as segments;
@@ -71,13 +69,11 @@ pub fn plain_outputs_show_one_way()
     ensures none { ShowOneWay ⟦<NoOutputs as Outputs>⟧.panel ⟦<NoOutputs as Outputs>⟧.performs }
 {}
 
-/// What the outputs of a concentrator show after commands comes out in one way, and so do the steps of its outstation, by
-/// the law of outstations.
-pub fn book_outputs_show_one_way<B: Book>()
-    ensures { ShowOneWay (panel_of B.contents) (Performs B.contents) }
-{
-    concentrator::commands_are_undone();
-}
+/// The steps of a concentrator's outstation towards a centre come out in one way.
+pub fn an_outstation_above_comes_out_in_one_way()
+    ensures opens { OpensOneWay above_opens }
+    ensures receives { ReceivesOneWay above_receives }
+{}
 
 /// The steps of a centre come out in one way.
 pub fn a_centre_comes_out_in_one_way()

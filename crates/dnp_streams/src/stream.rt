@@ -15,6 +15,7 @@ mod live;
 mod live_steps;
 mod live_turns;
 mod living;
+mod living_above;
 mod living_outstation;
 mod log;
 mod master;

@@ -4,6 +4,8 @@ use Rattle.std.specs.Prelude.{ℕ, zero, suc, ◌+◌, ◌-◌, ◌*◌, ◌/◌
 use Rattle.dnp_trace.specs.declared.capture.TheConstants.{ACK, FIRST_PORT, HEAD, LONGEST, PORT, PSH_ACK, SYN}
 use Rattle.dnp_trace.specs.declared.capture.End.{End}
 use Rattle.dnp_trace.specs.declared.capture.Talk.{Talk}
+use Rattle.dnp_trace.specs.declared.noted.Peer.{Peer}
+use Rattle.dnp_trace.specs.declared.noted.Peer.TheVariants as peer
 use Rattle.dnp_trace.specs.declared.noted.What.{What}
 use Rattle.dnp_trace.specs.declared.noted.What.TheVariants as what
 use Rattle.dnp_trace.specs.declared.noted.Step.{Step}
@@ -84,8 +86,8 @@ packet_record moment from to bits payload = packet_head moment (length payload +
 abbrev pub sent_more : ℕ → End → End
 sent_more n end = record end { next = (end.next + n) % 2 ^ 32 }
 
--- a new conversation, of the link above or of that to a substation: the last octets of the addresses are the link
--- addresses, the outstation listens at DNP3's port, and each master connects from another one
+-- a new conversation, of the link to a centre or to a substation: the last octets of the addresses are the link addresses, the
+-- outstation listens at DNP3's port, and a master connects from another one for each of its links
 abbrev pub talk_between : ℕ → ℕ → ℕ → Talk
 talk_between master outstation port = record {
   begun = false;
@@ -93,14 +95,15 @@ talk_between master outstation port = record {
   outstation = record { host = outstation; port = PORT; next = 0 };
 }
 
-abbrev pub new_talk : Option ℕ → Talk
-new_talk None = talk_between 1 9 FIRST_PORT
-new_talk (Some substation) = talk_between 2 (min (substation + 10) 255) (FIRST_PORT + 1 + substation)
+abbrev pub new_talk : Peer → Talk
+new_talk peer.Centre = talk_between 1 9 FIRST_PORT
+new_talk peer.SecondCentre = talk_between 3 9 FIRST_PORT
+new_talk (peer.Substation substation) = talk_between 2 (min (substation + 10) 255) (FIRST_PORT + 1 + substation)
 
--- the conversations of the link above and of those to so many substations
+-- the conversations of the links to the centres and of those to so many substations
 abbrev pub new_talks : ℕ → List Talk
-new_talks zero = new_talk None ∷ []
-new_talks (suc n) = new_talks n ++ new_talk (Some n) ∷ []
+new_talks zero = new_talk peer.Centre ∷ new_talk peer.SecondCentre ∷ []
+new_talks (suc n) = new_talks n ++ new_talk (peer.Substation n) ∷ []
 
 -- the conversation once it has begun
 unfoldable pub begun : Talk → Talk
@@ -152,15 +155,15 @@ talk_packets moment unit (Some talk) =
 abbrev pub talk_after : Sent → Option Talk → List Talk → List Talk
 talk_after unit None talks = talks
 talk_after unit (Some talk) talks =
-    slice_set talks (link_number unit.course.substation) (after_arrival (begun talk) unit.course.up (carried unit.octets))
+    slice_set talks (link_number unit.course.peer) (after_arrival (begun talk) unit.course.up (carried unit.octets))
 
 abbrev pub unit_packets : ℕ → Option Sent → List Talk → List ℕ
 unit_packets moment None talks = []
-unit_packets moment (Some unit) talks = talk_packets moment unit (slice_get talks (link_number unit.course.substation))
+unit_packets moment (Some unit) talks = talk_packets moment unit (slice_get talks (link_number unit.course.peer))
 
 abbrev pub unit_after : Option Sent → List Talk → List Talk
 unit_after None talks = talks
-unit_after (Some unit) talks = talk_after unit (slice_get talks (link_number unit.course.substation)) talks
+unit_after (Some unit) talks = talk_after unit (slice_get talks (link_number unit.course.peer)) talks
 
 -- the packets of a step, and the conversations after it: only what arrives is a packet
 abbrev pub step_packets : List Sent → List Talk → Step → List ℕ

@@ -1,9 +1,12 @@
 -- Definition: the head of a sequence chart, which is SVG, and how texts stand in it: nothing in them is read as XML.
-use Rattle.std.specs.Prelude.{ℕ, ◌+◌, ◌*◌, ◌&&◌, ◌||◌, nat_le, ◌==◌, if◌then◌else◌, List, [], ◌∷◌, ◌++◌, min, codes}
+use Rattle.std.specs.Prelude.{ℕ, ◌+◌, ◌*◌, Bool, true, false, ◌&&◌, ◌||◌, nat_le, ◌==◌, if◌then◌else◌, List, [], ◌∷◌, ◌++◌, min, codes}
 use Rattle.std.specs.Fmt.{decimal}
-use Rattle.std.specs.List.{flat_map}
+use Rattle.std.specs.List.{flat_map, list_any}
 use Rattle.dnp_trace.specs.declared.chart.TheConstants.{APART, BOTTOM, LEFT, MAX_ROWS, RIGHT, ROW, TOP}
+use Rattle.dnp_trace.specs.declared.noted.Peer.{Peer}
+use Rattle.dnp_trace.specs.declared.noted.Peer.TheVariants as peer
 use Rattle.dnp_trace.specs.declared.svg.TheConstants.{BACKGROUND, OPENING, STYLE, VIEW}
+use Rattle.dnp_trace.specs.Logs.{Noted, Sent}
 
 -- an octet of a text as XML has it: 60 is '<', 62 is '>', 38 is '&', 34 is '"'; what is no character of ASCII is '?'
 abbrev pub octet_escaped : ℕ → List ℕ
@@ -22,9 +25,23 @@ text_escaped text = flat_map octet_escaped text
 unfoldable pub attribute_text : List ℕ → ℕ → List ℕ
 attribute_text name value = codes " " ++ name ++ 61 ∷ 34 ∷ [] ++ decimal value ++ 34 ∷ []
 
--- a column for the centre, for the concentrator and for each substation
+-- a unit was on the link to the second centre
+abbrev pub is_of_second : Peer → Bool
+is_of_second peer.Centre = false
+is_of_second peer.SecondCentre = true
+is_of_second (peer.Substation substation) = false
+
+abbrev pub has_second : Noted → Bool
+has_second log = list_any (λ (unit : Sent). is_of_second unit.course.peer) log.units
+
+-- how many stations stand to the right of the first: the second centre where a unit was on its link, the concentrator, and each
+-- substation
+abbrev pub gaps : Noted → ℕ
+gaps log = log.substations + (if has_second log then 2 else 1)
+
+-- a column for the first, and for each of these
 abbrev pub chart_width : ℕ → ℕ
-chart_width substations = LEFT + APART * (substations + 1) + RIGHT
+chart_width gaps = LEFT + APART * gaps + RIGHT
 
 -- a row for each thing that happened, MAX_ROWS at most
 abbrev pub chart_height : ℕ → ℕ

@@ -3,6 +3,8 @@
 use Rattle.std.specs.Prelude.{ℕ, zero, suc, ◌+◌, ◌-◌, ◌*◌, ◌^◌, ◌==◌, Bool, true, false, if◌then◌else◌, List, [], ◌∷◌, ◌++◌, length, min, position, remove, count_by, slice_get, slice_set, Option, Some, None}
 use Rattle.std.specs.Option.{option_map, option_map_or}
 use Rattle.dnp_trace.specs.declared.noted.Course.{Course}
+use Rattle.dnp_trace.specs.declared.noted.Peer.{Peer}
+use Rattle.dnp_trace.specs.declared.noted.Peer.TheVariants as peer
 use Rattle.dnp_trace.specs.declared.noted.What.{What}
 use Rattle.dnp_trace.specs.declared.noted.What.TheVariants as what
 use Rattle.dnp_trace.specs.declared.noted.Step.{Step}
@@ -44,9 +46,11 @@ nothing_yet substations = record {
 
 -- ---- lines of a system
 
-abbrev pub link_number : Option ℕ → ℕ
-link_number None = 0
-link_number (Some substation) = substation + 1
+-- the number of a link, by the station at the other end of it
+abbrev pub link_number : Peer → ℕ
+link_number peer.Centre = 0
+link_number peer.SecondCentre = 1
+link_number (peer.Substation substation) = substation + 2
 
 abbrev pub way_number : Bool → ℕ
 way_number false = 0
@@ -54,7 +58,7 @@ way_number true = 1
 
 -- the number of a line: each has another one
 abbrev pub line_number : Course → ℕ
-line_number course = 2 * link_number course.substation + way_number course.up
+line_number course = 2 * link_number course.peer + way_number course.up
 
 -- the unit stands on the line of this number
 abbrev pub is_on : ℕ → Standing → Bool

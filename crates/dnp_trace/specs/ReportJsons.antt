@@ -101,18 +101,24 @@ end_list empty = (if empty then [] else 10 ∷ 32 ∷ 32 ∷ []) ++ 93 ∷ 44 �
 
 -- ---- lines
 
+-- the words of a round, of a control, and of one of the second centre
+abbrev pub is_outcome : List ℕ → Bool
+is_outcome word = bytes_eq word (codes "round") || bytes_eq word (codes "control") || bytes_eq word (codes "control2")
+
 -- what a line is, by its first word
 abbrev pub kind_of : List ℕ → Kind
 kind_of word =
     if length word == 0 then kind.Item
-    else (if bytes_eq word (codes "round") || bytes_eq word (codes "control") then kind.Outcome
-    else (if bytes_eq word (codes "lost") then kind.Lost else kind.List))
+    else (if is_outcome word then kind.Outcome
+    else (if bytes_eq word (codes "lost") then kind.Lost
+    else (if bytes_eq word (codes "lost2") then kind.Lost2 else kind.List)))
 
 -- a line, after a list that is empty so far or isn't
 abbrev pub line_json : Kind → Bool → List ℕ → List ℕ
 line_json kind.Item empty line = begin_item empty ++ item (more_words line)
 line_json kind.Outcome empty line = begin_item empty ++ outcome line
 line_json kind.Lost empty line = end_list empty ++ member (codes "lost") (more_words line) false
+line_json kind.Lost2 empty line = 44 ∷ 10 ∷ 32 ∷ 32 ∷ [] ++ member (codes "lost2") (more_words line) false
 line_json kind.List empty line = end_list empty ++ begin_list (first_word line)
 
 -- whether the list is empty after it
@@ -120,6 +126,7 @@ abbrev pub empty_after : Kind → Bool → Bool
 empty_after kind.Item empty = false
 empty_after kind.Outcome empty = false
 empty_after kind.Lost empty = empty
+empty_after kind.Lost2 empty = empty
 empty_after kind.List empty = true
 
 -- the lines of a text and the end of the object, after a list that is empty so far or isn't

@@ -3,6 +3,8 @@
 use Rattle.std.specs.Prelude.{◌≡◌, ℕ, Bool, if◌then◌else◌, List, [], ◌∷◌, ◌++◌, codes, slice_get, Option, Some, None}
 use Rattle.std.specs.Fmt.{decimal}
 use Rattle.dnp_trace.specs.declared.noted.Course.{Course}
+use Rattle.dnp_trace.specs.declared.noted.Peer.{Peer}
+use Rattle.dnp_trace.specs.declared.noted.Peer.TheVariants as peer
 use Rattle.dnp_trace.specs.declared.noted.What.{What}
 use Rattle.dnp_trace.specs.declared.noted.What.TheVariants as what
 use Rattle.dnp_trace.specs.declared.noted.Step.{Step}
@@ -20,12 +22,13 @@ fate_word what.Damaged = codes "damaged"
 fate_word what.Dropped = codes "dropped"
 fate_word what.Stands = codes "stands"
 
-abbrev pub link_word : Option ℕ → List ℕ
-link_word (Some substation) = decimal substation
-link_word None = codes "above"
+abbrev pub link_word : Peer → List ℕ
+link_word peer.Centre = codes "above"
+link_word peer.SecondCentre = codes "above2"
+link_word (peer.Substation substation) = decimal substation
 
 abbrev pub course_phrase : Course → List ℕ
-course_phrase course = codes " link " ++ link_word course.substation ++ (if course.up then codes " up " else codes " down ")
+course_phrase course = codes " link " ++ link_word course.peer ++ (if course.up then codes " up " else codes " down ")
 
 -- the line of a unit that did this: up to what the unit says, and whole
 abbrev pub step_begin : ℕ → Course → What → List ℕ

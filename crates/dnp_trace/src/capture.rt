@@ -3,12 +3,11 @@
 //! Each link is a conversation of TCP over IPv4 between addresses of its own, which the master opens before its first
 //! unit. What arrives is a packet, and what is lost is none: a capture at the end of each line.
 ghost use Rattle.std.specs.Prelude.{◌≡◌, ◌≤◌, ◌++◌, length, take, Some, true, IfOk, OnOk, IsErr};
-ghost use Rattle.dnp_trace.specs.Logs.{link_number};
 ghost use Rattle.dnp_trace.specs.Captures as spec;
 ghost use Rattle.dnp_trace.specs.Captures.{sent_more, new_talk, new_talks, begun, carried, after_arrival, talk_packets, talk_after, step_packets, step_after, is_arrival as is_arrival_of, capture_of};
 
 use crate::log::Log;
-use crate::noted::{Course, Step, Unit, What};
+use crate::noted::{Peer, Step, Unit, What};
 use crate::packet::put_packet;
 use crate::sheet::Sheet;
 use std::alloc::{AllocError, Global};
@@ -16,7 +15,7 @@ use std::alloc::{AllocError, Global};
 /// The port at which outstations listen, which is DNP3's.
 pub(crate) const PORT: u16 = 20_000;
 
-/// The least port from which masters connect; each link has the next one.
+/// The least port from which masters connect: the centres from this one, and the concentrator for each substation from the next.
 pub(crate) const FIRST_PORT: u16 = 49_152;
 
 /// The most octets of a unit that a packet carries: with both headers, 20 octets each, it has 65,535 at most.
@@ -89,14 +88,14 @@ impl Talk {
         }
     }
 
-    /// The one of the link above, or of that to the substation of this number. The last octets of the addresses are the
-    /// link addresses.
-    fn new(substation: Option<u8>) -> Talk
-        ensures { result ≡ new_talk substation }
+    /// The one of the link to this station. The last octets of the addresses are the link addresses.
+    fn new(peer: Peer) -> Talk
+        ensures { result ≡ new_talk peer }
     {
-        match substation {
-            None => Talk::between(1, 9, FIRST_PORT),
-            Some(number) => {
+        match peer {
+            Peer::Centre => Talk::between(1, 9, FIRST_PORT),
+            Peer::SecondCentre => Talk::between(3, 9, FIRST_PORT),
+            Peer::Substation(number) => {
                 let port = FIRST_PORT + 1 + u16::from(number);
                 Talk::between(2, number.saturating_add(10), port)
             }
@@ -213,16 +212,6 @@ fn after(talk: Talk, up: bool, payload: &[u8]) -> Talk
     }
 }
 
-/// The place of a line's conversation among those of all links.
-fn place_of(course: Course) -> usize
-    ensures { result ≡ link_number course.substation }
-{
-    match course.substation {
-        Some(number) => usize::from(number) + 1,
-        None => 0,
-    }
-}
-
 /// A unit arrives in this conversation, which is this one then.
 fn arrive_in(
     sheet: &mut Sheet,
@@ -251,7 +240,7 @@ fn arrive(
     ensures talks { OnOk result (talks.new.items ≡ spec.unit_after (Some unit.now) talks.old.items) }
 {
     let course = unit.course();
-    let place = place_of(course);
+    let place = course.peer.number();
     match talks.get(place).copied() {
         Some(talk) => {
             talks[place] = arrive_in(sheet, moment, talk, course.up, unit.octets())?;
@@ -290,14 +279,15 @@ fn put_step(
     }
 }
 
-/// The conversations of all links: that of the link above, and then those to the substations.
+/// The conversations of all links: those to the centres, and then those to the substations.
 fn talks_of(alloc: Global, substations: u8) -> Result<Vec<Talk>, AllocError>
     ensures { IfOk result (λ talks. talks.items ≡ new_talks substations) }
 {
     let mut talks = Vec::new(alloc);
-    talks.push(Talk::new(None))?;
+    talks.push(Talk::new(Peer::Centre))?;
+    talks.push(Talk::new(Peer::SecondCentre))?;
     for number in 0..substations {
-        talks.push(Talk::new(Some(number)))?;
+        talks.push(Talk::new(Peer::Substation(number)))?;
     }
     Ok(talks)
 }

@@ -1,10 +1,11 @@
 //! A sequence chart of what units did, as SVG.
 
 ghost use Rattle.std.specs.Prelude.{◌≡◌, ◌++◌, ◌∷◌, [], List, ℕ, true, length, codes, IfOk, IsErr};
-ghost use Rattle.dnp_trace.specs.Charts.{chart_head, chart_width, chart_height};
+ghost use Rattle.dnp_trace.specs.Charts.{chart_head, chart_width, chart_height, gaps, has_second, is_of_second};
 
+use crate::columns::{Columns, column_x};
 use crate::log::Log;
-use crate::noted::{Course, Step, Unit, What};
+use crate::noted::{Course, Peer, Step, Unit, What};
 use crate::phrase::say_unit;
 use crate::sheet::Sheet;
 use crate::svg::{attribute, begin, begin_text, escaped, straight};
@@ -56,48 +57,13 @@ fn row_y(row: u32) -> u32 {
     row.saturating_mul(ROW).saturating_add(TOP)
 }
 
-/// Where the station of this column stands: the centre, the concentrator, and the substations after them.
-fn column_x(column: u32) -> u32 {
-    column.saturating_mul(APART).saturating_add(LEFT)
-}
-
-/// From where to where the units of a line go.
-fn ends_of(course: Course) -> (u32, u32) {
-    let (master, outstation) = match course.substation {
-        Some(number) => (1, u32::from(number) + 2),
-        None => (0, 1),
-    };
-    if course.up {
-        (column_x(outstation), column_x(master))
-    } else {
-        (column_x(master), column_x(outstation))
-    }
-}
-
-/// Where the way of a unit that doesn't come to its end breaks off: before the next station.
-fn break_x(course: Course) -> u32 {
-    let (begin, end) = ends_of(course);
-    if begin < end {
-        begin.saturating_add(APART / 2)
-    } else {
-        begin.saturating_sub(APART / 2)
-    }
-}
-
-/// Writes the name of a station.
-fn station_name(sheet: &mut Sheet, column: u32) -> Result<(), AllocError> {
-    match column {
-        0 => sheet.word("centre"),
-        1 => sheet.word("concentrator"),
-        _ => {
-            sheet.word("substation ")?;
-            sheet.number(column.saturating_sub(2))
-        }
-    }
-}
-
 /// Draws a station: its name, and the line below it.
-fn station(sheet: &mut Sheet, column: u32, height: u32) -> Result<(), AllocError> {
+fn station(
+    sheet: &mut Sheet,
+    columns: Columns,
+    column: u32,
+    height: u32,
+) -> Result<(), AllocError> {
     let x = column_x(column);
     sheet.word("<rect class=\"box\"")?;
     attribute(sheet, "x", x.saturating_sub(60))?;
@@ -106,7 +72,7 @@ fn station(sheet: &mut Sheet, column: u32, height: u32) -> Result<(), AllocError
     attribute(sheet, "height", 24)?;
     sheet.word("/>\n")?;
     begin_text(sheet, "head", x, 26, "middle")?;
-    station_name(sheet, column)?;
+    columns.station_name(sheet, column)?;
     sheet.word("</text>\n")?;
     straight(sheet, "life", (x, 34), (x, height.saturating_sub(20)), "")
 }
@@ -131,13 +97,14 @@ fn jag(sheet: &mut Sheet, x: u32, y: u32) -> Result<(), AllocError> {
 /// Draws a unit's way from where it was sent to where it came to this.
 fn arrow(
     sheet: &mut Sheet,
+    columns: Columns,
     course: Course,
     sent: u32,
     row: u32,
     what: What,
 ) -> Result<(), AllocError> {
-    let (begin, end) = ends_of(course);
-    let middle = break_x(course);
+    let (begin, end) = columns.ends_of(course);
+    let middle = columns.break_x(course);
     let (from, y) = ((begin, row_y(sent)), row_y(row));
     match what {
         What::Sent => Ok(()),
@@ -156,15 +123,21 @@ fn arrow(
 }
 
 /// Says beside a unit's end how it ended, where it didn't just arrive.
-fn end_word(sheet: &mut Sheet, course: Course, row: u32, what: What) -> Result<(), AllocError> {
+fn end_word(
+    sheet: &mut Sheet,
+    columns: Columns,
+    course: Course,
+    row: u32,
+    what: What,
+) -> Result<(), AllocError> {
     if what == What::Sent || what == What::Arrives {
         return Ok(());
     }
-    let (_, end) = ends_of(course);
+    let (_, end) = columns.ends_of(course);
     let (x, anchor) = match what {
         What::Repeated if course.up => (end.saturating_add(14), "start"),
         What::Repeated => (end.saturating_sub(14), "end"),
-        _ => (break_x(course).saturating_add(12), "start"),
+        _ => (columns.break_x(course).saturating_add(12), "start"),
     };
     begin_text(sheet, "on end", x, row_y(row).saturating_add(4), anchor)?;
     sheet.word(word_of(what))?;
@@ -172,10 +145,16 @@ fn end_word(sheet: &mut Sheet, course: Course, row: u32, what: What) -> Result<(
 }
 
 /// Says what a unit says, beside where it was sent.
-fn unit_phrase(sheet: &mut Sheet, alloc: Global, row: u32, unit: &Unit) -> Result<(), AllocError> {
+fn unit_phrase(
+    sheet: &mut Sheet,
+    alloc: Global,
+    columns: Columns,
+    row: u32,
+    unit: &Unit,
+) -> Result<(), AllocError> {
     let mut phrase = Sheet::new(alloc);
     say_unit(&mut phrase, unit.octets())?;
-    let (begin, end) = ends_of(unit.course());
+    let (begin, end) = columns.ends_of(unit.course());
     let y = row_y(row).saturating_sub(4);
     let (x, anchor) = if begin < end {
         (begin.saturating_add(6), "start")
@@ -188,7 +167,13 @@ fn unit_phrase(sheet: &mut Sheet, alloc: Global, row: u32, unit: &Unit) -> Resul
 }
 
 /// Draws the ways of all units.
-fn arrows(sheet: &mut Sheet, alloc: Global, log: &Log, steps: &[Step]) -> Result<(), AllocError> {
+fn arrows(
+    sheet: &mut Sheet,
+    alloc: Global,
+    columns: Columns,
+    log: &Log,
+    steps: &[Step],
+) -> Result<(), AllocError> {
     // in which row each unit was sent
     let mut sent = Vec::new(alloc);
     let mut row: u32 = 0;
@@ -197,7 +182,7 @@ fn arrows(sheet: &mut Sheet, alloc: Global, log: &Log, steps: &[Step]) -> Result
             if what == What::Sent {
                 sent.push(row)?;
             } else if let (Some(from), Some(unit)) = (sent.get(unit), log.units().get(unit)) {
-                arrow(sheet, unit.course(), *from, row, what)?;
+                arrow(sheet, columns, unit.course(), *from, row, what)?;
             }
         }
         row = row.saturating_add(1);
@@ -216,20 +201,22 @@ fn line_text(sheet: &mut Sheet, row: u32, text: &[u8]) -> Result<(), AllocError>
 fn unit_text(
     sheet: &mut Sheet,
     alloc: Global,
+    columns: Columns,
     row: u32,
     what: What,
     unit: &Unit,
 ) -> Result<(), AllocError> {
     if what == What::Sent {
-        unit_phrase(sheet, alloc, row, unit)?;
+        unit_phrase(sheet, alloc, columns, row, unit)?;
     }
-    end_word(sheet, unit.course(), row, what)
+    end_word(sheet, columns, unit.course(), row, what)
 }
 
 /// Writes the text of a row.
 fn row_text(
     sheet: &mut Sheet,
     alloc: Global,
+    columns: Columns,
     log: &Log,
     row: u32,
     step: Step,
@@ -240,7 +227,7 @@ fn row_text(
             None => Ok(()),
         },
         Step::Unit { what, unit, .. } => match log.units().get(unit) {
-            Some(unit) => unit_text(sheet, alloc, row, what, unit),
+            Some(unit) => unit_text(sheet, alloc, columns, row, what, unit),
             None => Ok(()),
         },
     }
@@ -254,7 +241,13 @@ fn moment_of(step: Step) -> u64 {
 }
 
 /// Writes the texts of all rows, and the moment where it is another one.
-fn texts(sheet: &mut Sheet, alloc: Global, log: &Log, steps: &[Step]) -> Result<(), AllocError> {
+fn texts(
+    sheet: &mut Sheet,
+    alloc: Global,
+    columns: Columns,
+    log: &Log,
+    steps: &[Step],
+) -> Result<(), AllocError> {
     let mut row: u32 = 0;
     let mut last = None;
     for step in steps {
@@ -265,7 +258,7 @@ fn texts(sheet: &mut Sheet, alloc: Global, log: &Log, steps: &[Step]) -> Result<
             sheet.word(" ms</text>\n")?;
             last = Some(moment);
         }
-        row_text(sheet, alloc, log, row, *step)?;
+        row_text(sheet, alloc, columns, log, row, *step)?;
         row = row.saturating_add(1);
     }
     Ok(())
@@ -284,23 +277,47 @@ fn cut_note(sheet: &mut Sheet, shown: usize, all: usize, height: u32) -> Result<
     Ok(())
 }
 
-/// Draws all: the stations of a system of so many substations, the ways of units and the texts of these rows.
+/// Whether the link is that to the second centre.
+fn is_second(peer: Peer) -> bool
+    ensures { result ≡ is_of_second peer }
+{
+    peer == Peer::SecondCentre
+}
+
+/// Whether a unit was on the link to the second centre.
+fn has_second_of(log: &Log) -> bool
+    ensures { result ≡ has_second log.now }
+{
+    log.units().iter().any(|unit| is_second(unit.course().peer))
+}
+
+/// How many stations stand to the right of the first.
+fn gaps_of(log: &Log) -> u16
+    ensures { result ≡ gaps log.now }
+{
+    let above = if has_second_of(log) { 2 } else { 1 };
+    u16::from(log.substations()) + above
+}
+
+/// Draws all: the stations of a system, of which so many stand to the right of the first, the ways of units and the texts of
+/// these rows.
 fn drawn(alloc: Global, log: &Log, steps: &[Step], height: u32) -> Result<Sheet, AllocError> {
+    let columns = Columns::new(has_second_of(log));
     let mut sheet = Sheet::new(alloc);
-    for column in 0..u32::from(log.substations()) + 2 {
-        station(&mut sheet, column, height)?;
+    for column in 0..u32::from(gaps_of(log)) + 1 {
+        station(&mut sheet, columns, column, height)?;
     }
-    arrows(&mut sheet, alloc, log, steps)?;
-    texts(&mut sheet, alloc, log, steps)?;
+    arrows(&mut sheet, alloc, columns, log, steps)?;
+    texts(&mut sheet, alloc, columns, log, steps)?;
     cut_note(&mut sheet, steps.len(), log.steps().len(), height)?;
     Ok(sheet)
 }
 
-/// The width of a chart of so many substations.
-fn width_of(substations: u8) -> u32
-    ensures { result ≡ chart_width substations }
+/// The width of a chart in which so many stations stand to the right of the first.
+fn width_of(gaps: u16) -> u32
+    ensures { result ≡ chart_width gaps }
 {
-    LEFT + APART * (u32::from(substations) + 1) + RIGHT
+    LEFT + APART * u32::from(gaps) + RIGHT
 }
 
 /// The rows that are shown of these.
@@ -322,7 +339,7 @@ fn height_of(steps: usize) -> u32
 /// An error says that memory ran out, now or when it was noted.
 pub fn chart_text(alloc: Global, log: &Log) -> Result<Vec<u8>, AllocError>
     // (which elements are drawn between the head and the end, no clause says)
-    ensures chart { IfOk result (λ text. (drawn : List ℕ) × (text.items ≡ chart_head (chart_width log.now.substations) (chart_height (length log.now.steps)) ++ drawn ++ codes "</svg>" ++ 10 ∷ [])) }
+    ensures chart { IfOk result (λ text. (drawn : List ℕ) × (text.items ≡ chart_head (chart_width (gaps log.now)) (chart_height (length log.now.steps)) ++ drawn ++ codes "</svg>" ++ 10 ∷ [])) }
     ensures cut { log.now.cut ≡ true → IsErr result }
 {
     if log.is_cut() {
@@ -331,7 +348,7 @@ pub fn chart_text(alloc: Global, log: &Log) -> Result<Vec<u8>, AllocError>
     let height = height_of(log.steps().len());
     let drawn = drawn(alloc, log, rows_of(log.steps()), height)?;
     let mut sheet = Sheet::new(alloc);
-    begin(&mut sheet, width_of(log.substations()), height)?;
+    begin(&mut sheet, width_of(gaps_of(log)), height)?;
     sheet.put(drawn.octets())?;
     sheet.word("</svg>\n")?;
     Ok(sheet.into_octets())

@@ -13,8 +13,10 @@ pub(crate) enum Kind {
     Item,
     /// How a round or a control came out.
     Outcome,
-    /// How many units were lost.
+    /// How many events full lanes for the first centre have lost.
     Lost,
+    /// The same of the second centre.
+    Lost2,
     /// The name and the length of a list.
     List,
 }
@@ -27,8 +29,9 @@ fn kind_of(word: &str) -> Kind
         return Kind::Item;
     }
     match word {
-        "round" | "control" => Kind::Outcome,
+        "round" | "control" | "control2" => Kind::Outcome,
         "lost" => Kind::Lost,
+        "lost2" => Kind::Lost2,
         _ => Kind::List,
     }
 }
@@ -39,7 +42,7 @@ fn is_empty_after(kind: Kind, empty: bool) -> bool
 {
     match kind {
         Kind::Item | Kind::Outcome => false,
-        Kind::Lost => empty,
+        Kind::Lost | Kind::Lost2 => empty,
         Kind::List => true,
     }
 }
@@ -234,6 +237,10 @@ fn put_line(sheet: &mut Sheet, kind: Kind, empty: bool, line: &str) -> Result<()
             end_list(sheet, empty)?;
             put_member(sheet, "lost", rest, false)
         }
+        Kind::Lost2 => {
+            sheet.word(",\n  ")?;
+            put_member(sheet, "lost2", rest, false)
+        }
         Kind::List => {
             end_list(sheet, empty)?;
             begin_list(sheet, word)
@@ -242,7 +249,7 @@ fn put_line(sheet: &mut Sheet, kind: Kind, empty: bool, line: &str) -> Result<()
 }
 
 /// What a script that ran to its report printed, as one object of JSON: first the list `outcomes` of its rounds and
-/// controls, and then the report's lists by their names, and `lost`.
+/// controls, and then the report's lists by their names, and `lost` and `lost2`.
 ///
 /// An error says that memory ran out.
 pub fn report_json(alloc: Global, text: &str) -> Result<Vec<u8>, AllocError>

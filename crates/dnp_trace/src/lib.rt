@@ -6,6 +6,7 @@
 
 mod capture;
 mod chart;
+mod columns;
 mod json;
 pub mod laws;
 mod log;
@@ -20,5 +21,5 @@ pub use capture::capture_octets;
 pub use chart::chart_text;
 pub use json::report_json;
 pub use log::Log;
-pub use noted::{Course, What};
+pub use noted::{Course, Peer, What};
 pub use trace::trace_text;

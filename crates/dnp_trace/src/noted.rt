@@ -1,15 +1,39 @@
 //! What is noted: lines, units and what they did.
 ghost use Rattle.std.specs.Prelude.{◌≡◌, ◌<◌, length, OnOk, position, count_by, slice_get};
-ghost use Rattle.dnp_trace.specs.Logs.{line_number, is_on, octets_seen, seen_at, left as left_of};
+ghost use Rattle.dnp_trace.specs.Logs.{line_number, link_number, is_on, octets_seen, seen_at, left as left_of};
 
 use std::alloc::AllocError;
 use std::marker::Model;
 
+/// The station at the other end of a concentrator's link.
+#[derive(Clone, Copy, Debug, PartialEq, Eq)]
+pub enum Peer {
+    /// The first centre.
+    Centre,
+    /// The second centre.
+    SecondCentre,
+    /// The substation of this number.
+    Substation(u8),
+}
+
+impl Peer {
+    /// The number of the link.
+    pub(crate) fn number(self) -> usize
+        ensures { result ≡ link_number self }
+    {
+        match self {
+            Peer::Centre => 0,
+            Peer::SecondCentre => 1,
+            Peer::Substation(substation) => usize::from(substation) + 2,
+        }
+    }
+}
+
 /// A line of a system: a way of one of its links.
 #[derive(Clone, Copy, Debug, PartialEq, Eq)]
 pub struct Course {
-    /// The substation of the link, or none for the link between the centre and the concentrator.
-    pub substation: Option<u8>,
+    /// The station at the other end of the concentrator's link.
+    pub peer: Peer,
     /// Whether it goes up, to the master.
     pub up: bool,
 }
@@ -19,12 +43,8 @@ impl Course {
     pub(crate) fn number(self) -> usize
         ensures { result ≡ line_number self }
     {
-        let link = match self.substation {
-            None => 0,
-            Some(substation) => usize::from(substation) + 1,
-        };
         let way = if self.up { 1 } else { 0 };
-        2 * link + way
+        2 * self.peer.number() + way
     }
 }
 

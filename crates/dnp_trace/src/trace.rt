@@ -4,7 +4,7 @@ ghost use Rattle.dnp_trace.specs.Phrases.{IsPhrase};
 ghost use Rattle.dnp_trace.specs.Traces.{fate_word, link_word, course_phrase, step_begin, step_line, IsStepText, AreTraceLines};
 
 use crate::log::Log;
-use crate::noted::{Course, Step, Unit, What};
+use crate::noted::{Course, Peer, Step, Unit, What};
 use crate::phrase::say_unit;
 use crate::sheet::Sheet;
 use std::alloc::{AllocError, Global};
@@ -25,12 +25,13 @@ pub(crate) fn word_of(what: What) -> &'static str
 }
 
 /// Says which link it is.
-fn say_link(sheet: &mut Sheet, substation: Option<u8>) -> Result<(), AllocError>
-    ensures { OnOk result (sheet.new ≡ sheet.old ++ link_word substation) }
+fn say_link(sheet: &mut Sheet, peer: Peer) -> Result<(), AllocError>
+    ensures { OnOk result (sheet.new ≡ sheet.old ++ link_word peer) }
 {
-    match substation {
-        Some(number) => sheet.number(number),
-        None => sheet.word("above"),
+    match peer {
+        Peer::Centre => sheet.word("above"),
+        Peer::SecondCentre => sheet.word("above2"),
+        Peer::Substation(number) => sheet.number(number),
     }
 }
 
@@ -39,7 +40,7 @@ fn say_course(sheet: &mut Sheet, course: Course) -> Result<(), AllocError>
     ensures { OnOk result (sheet.new ≡ sheet.old ++ course_phrase course) }
 {
     sheet.word(" link ")?;
-    say_link(sheet, course.substation)?;
+    say_link(sheet, course.peer)?;
     if course.up {
         sheet.word(" up ")
     } else {

@@ -46,13 +46,13 @@ answered : Grounds → ComingLaws → (left : LineState → LineState) (e : Link
 answered grounds laws left e as_event old new h station port [] heard made came =
     let lists : RowLists = lists_of h.links.above in
     quiet_above grounds old new h station (middle_of old.concentrator) old.centre.link (heard_lines left port old) e refl made
-    (as_event (seen_above old lists) (seen_above (record old { above = heard_lines left port old }) lists) (middle_panel old.concentrator)
+    (as_event (seen_above old lists) (seen_above (record old { above = heard_lines left port old }) lists) (middle_panel old.concentrator old.now)
     (record { port = port; given = []; heard = heard; came = refl }))
     came
 answered grounds laws left e as_event old new h station port (fragment ∷ others) heard made came =
     let l : Link = h.links.above in
     let s : State = middle_of old.concentrator in
-    let panel : Panel = middle_panel old.concentrator in
+    let panel : Panel = middle_panel old.concentrator old.now in
     let spans : List Spans = old.concentrator.indices in
     let book : Ledger = old.concentrator.controls in
     let step : Step = connection_after s panel old.now fragment in
@@ -68,7 +68,7 @@ answered grounds laws left e as_event old new h station port (fragment ∷ other
       lines = new.above;
     } in
     let performs : map (ordered spans) (book_with old commands).entries ≡ map (ordered spans) book.entries ++ commands =
-    ordered_all laws spans book commands (all_relayed spans book old.concentrator.core old.now fragment) in
+    ordered_all laws spans book commands (all_relayed spans (old.concentrator.reserved old.now) book old.concentrator.core old.now fragment) in
     let base : LinkState ⊤ = seen_above (record old { above = lines }) (lists_of l) in
     let lists : RowLists = record (lists_of l) { released = rows_of l.released ++ released } in
     let s' : LinkState ⊤ = seen_above (changed_above a old) lists in

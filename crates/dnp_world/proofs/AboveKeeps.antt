@@ -65,7 +65,7 @@ pub record StoresShow (old : System) (a : Above) (orders : Ledger) (taken : List
   pub same : commands_in orders.entries ≡ commands_in old.centre.orders.entries
 
 -- the outputs above show no status
-shown_above : (s : System) → ShowOctets (middle_panel s.concentrator)
+shown_above : (s : System) → ShowOctets (middle_panel s.concentrator s.now)
 shown_above s = record { outputs = omega arith; status = λ index low. omega arith }
 
 -- what the link by itself lists: these rows were taken besides, and these released
@@ -120,14 +120,14 @@ turn_above old h station a orders taken released asked link shows grows lanes =
 -- The link by itself moves so.
 pub above_follows : TurnLaws → (old : System) {el : Elsewhere} (h : IsStanding el old) (station : ℕ) (a : Above) (orders : Ledger) (taken released : List Row)
     (asked : List Command) (lists : RowLists) → StoresShow old a orders taken asked → ListsMore h.links.above taken released lists
-    → Follows [] [] asked (middle_panel old.concentrator).performed h.links.above (seen_above (changed_above a old) lists)
+    → Follows [] [] asked (middle_panel old.concentrator old.now).performed h.links.above (seen_above (changed_above a old) lists)
     → Keeps el station [] old (with_orders orders (changed_above a old))
 unfolding turn_above
 above_follows laws old h station a orders taken released asked lists shows listed f =
     let l : Link = h.links.above in
     let next : System = with_orders orders (changed_above a old) in
     let s' : LinkState ⊤ = seen_above next lists in
-    let before : List Command = (middle_panel old.concentrator).performed in
+    let before : List Command = (middle_panel old.concentrator old.now).performed in
     let link : Link = f.link in
     let grows : Grows l link (record does_nothing { discarded = released; taken = taken; asked = asked; performed = a.commands }) =
     subst (λ (xs : List Command). Grows l link (record does_nothing { discarded = released; taken = taken; asked = asked; performed = xs }))
@@ -152,12 +152,12 @@ above_follows laws old h station a orders taken released asked lists shows liste
 pub above_keeps : Grounds → (old new : System) {el : Elsewhere} (h : IsStanding el old) (station : ℕ) (a : Above) (taken released : List Row) (lists : RowLists)
     (e : LinkEvent) → StoresShow old a old.centre.orders taken [] → ListsMore h.links.above taken released lists
     → rows_made_by old.concentrator.core.points (e ∷ []) ≡ []
-    → HappensOn no_sink (middle_panel old.concentrator) (seen_above old (lists_of h.links.above)) e
+    → HappensOn no_sink (middle_panel old.concentrator old.now) (seen_above old (lists_of h.links.above)) e
     (seen_above (changed_above a old) lists) → new ≡ changed_above a old → Keeps el station [] old new
 above_keeps grounds old new {el = el} h station a taken released lists e shows listed none happens after =
     let s : LinkState ⊤ = seen_above old (lists_of h.links.above) in
     let s' : LinkState ⊤ = seen_above (changed_above a old) lists in
-    let panel : Panel = middle_panel old.concentrator in
+    let panel : Panel = middle_panel old.concentrator old.now in
     subst (λ (x : System). Keeps el station [] old x) (sym after)
     (above_follows grounds.turns old h station a old.centre.orders taken released [] lists shows listed
     (subst (λ (rows : List Row). Follows [] rows [] panel.performed h.links.above s') none

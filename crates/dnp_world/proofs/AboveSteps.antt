@@ -12,6 +12,7 @@ use Rattle.dnp_appfragment.specs.Meaning.{request_at}
 use Rattle.dnp_appfragment.specs.Table.{function_octet}
 use Rattle.dnp_concentrator.specs.BookOutputs.{added_for, all_added, book_panel, can_relay, obeys_code, ordered, relay_check}
 use Rattle.dnp_concentrator.specs.Mapped.{command_above, command_below}
+use Rattle.dnp_concentrator.specs.Reserving.{is_reserved}
 use Rattle.dnp_concentrator.specs.declared.span.Spans.{Spans}
 use Rattle.dnp_controls.specs.Book.{Ledger, added}
 use Rattle.dnp_controls.specs.Panel.{Panel, accepted}
@@ -179,71 +180,74 @@ performs_as laws s o now octets = by (case_of s.core octets) refl (laws.says s.c
 abbrev pub IsRelayed : List Spans → Command → Type 0
 IsRelayed spans command = is_some (command_below spans command) ≡ true
 
-relayed : (spans : List Spans) (command : Command) → (relay_check spans command == status.success) ≡ true → IsRelayed spans command
-relayed spans command is = by (can_relay spans command) refl is
+relayed : (spans : List Spans) (reserved : Option Command) (command : Command) → (relay_check spans reserved command == status.success) ≡ true
+    → IsRelayed spans command
+relayed spans reserved command is = by (can_relay spans command) refl is
   where
-    by : (b : Bool) → can_relay spans command ≡ b → ((if b then status.success else status.not_supported) == status.success) ≡ true
-        → IsRelayed spans command
+    checked : Bool → ℕ
+    checked b = if b then (if is_reserved reserved command then status.already_active else status.success) else status.not_supported
+
+    by : (b : Bool) → can_relay spans command ≡ b → (checked b == status.success) ≡ true → IsRelayed spans command
     by true can is = (and_parts (is_some (command_below spans command)) (obeys_code command) can).0
     by false can is = absurd (cc)
 
-accepted_relayed : (spans : List Spans) (commands : List Command) → Each (IsRelayed spans) (accepted (relay_check spans) commands)
-accepted_relayed spans [] = tt
-accepted_relayed spans (c ∷ cs) = by (relay_check spans c == status.success) refl (accepted_relayed spans cs)
+accepted_relayed : (spans : List Spans) (reserved : Option Command) (commands : List Command) → Each (IsRelayed spans) (accepted (relay_check spans reserved) commands)
+accepted_relayed spans reserved [] = tt
+accepted_relayed spans reserved (c ∷ cs) = by (relay_check spans reserved c == status.success) refl (accepted_relayed spans reserved cs)
   where
-    by : (b : Bool) → (relay_check spans c == status.success) ≡ b → Each (IsRelayed spans) (accepted (relay_check spans) cs)
-        → Each (IsRelayed spans) (cond b (c ∷ accepted (relay_check spans) cs) (accepted (relay_check spans) cs))
-    by true is rest = (relayed spans c is, rest)
+    by : (b : Bool) → (relay_check spans reserved c == status.success) ≡ b → Each (IsRelayed spans) (accepted (relay_check spans reserved) cs)
+        → Each (IsRelayed spans) (cond b (c ∷ accepted (relay_check spans reserved) cs) (accepted (relay_check spans reserved) cs))
+    by true is rest = (relayed spans reserved c is, rest)
     by false is rest = rest
 
-performed_relayed : (spans : List Spans) (book : Ledger) (commands : List Command)
-    → Each (IsRelayed spans) (performed_of (book_panel spans book) commands)
-performed_relayed spans book commands = by (are_too_many (book_panel spans book) commands)
+performed_relayed : (spans : List Spans) (reserved : Option Command) (book : Ledger) (commands : List Command)
+    → Each (IsRelayed spans) (performed_of (book_panel spans reserved book) commands)
+performed_relayed spans reserved book commands = by (are_too_many (book_panel spans reserved book) commands)
   where
-    by : (b : Bool) → Each (IsRelayed spans) (if b then [] else accepted (relay_check spans) commands)
+    by : (b : Bool) → Each (IsRelayed spans) (if b then [] else accepted (relay_check spans reserved) commands)
     by true = tt
-    by false = accepted_relayed spans commands
+    by false = accepted_relayed spans reserved commands
 
-function_relayed : (spans : List Spans) (book : Ledger) (select : Option Select) (time now : ℕ) (octets : List ℕ) (f : Function) (headers : List Head)
-    → (let o : Panel = book_panel spans book in
+function_relayed : (spans : List Spans) (reserved : Option Command) (book : Ledger) (select : Option Select) (time now : ℕ) (octets : List ℕ) (f : Function) (headers : List Head)
+    → (let o : Panel = book_panel spans reserved book in
     Each (IsRelayed spans) (performs_of (come_to (outcome_of f select time o now octets (commands_in headers)) headers)))
-function_relayed spans book select time now octets function.Select headers = tt
-function_relayed spans book select time now octets function.Operate headers =
+function_relayed spans reserved book select time now octets function.Select headers = tt
+function_relayed spans reserved book select time now octets function.Operate headers =
     by (are_too_many o (commands_in headers)) (answer select now (number_in octets) (objects_in octets) time == status.success)
   where
     o : Panel
-    o = book_panel spans book
+    o = book_panel spans reserved book
 
-    by : (a b : Bool) → Each (IsRelayed spans) (if a then operates None (book_panel spans book) (commands_in headers)
-        else if b then operates None (book_panel spans book) (commands_in headers)
+    by : (a b : Bool) → Each (IsRelayed spans) (if a then operates None (book_panel spans reserved book) (commands_in headers)
+        else if b then operates None (book_panel spans reserved book) (commands_in headers)
         else record { select = None; performs = []; code = alike (answer select now (number_in octets) (objects_in octets) time) }).performs
-    by true b = performed_relayed spans book (commands_in headers)
-    by false true = performed_relayed spans book (commands_in headers)
+    by true b = performed_relayed spans reserved book (commands_in headers)
+    by false true = performed_relayed spans reserved book (commands_in headers)
     by false false = tt
-function_relayed spans book select time now octets function.DirectOperate headers = performed_relayed spans book (commands_in headers)
-function_relayed spans book select time now octets function.DirectOperateNr headers = performed_relayed spans book (commands_in headers)
-function_relayed spans book select time now octets _ headers = tt
+function_relayed spans reserved book select time now octets function.DirectOperate headers = performed_relayed spans reserved book (commands_in headers)
+function_relayed spans reserved book select time now octets function.DirectOperateNr headers = performed_relayed spans reserved book (commands_in headers)
+function_relayed spans reserved book select time now octets _ headers = tt
 
-outcome_relayed : (spans : List Spans) (book : Ledger) (select : Option Select) (time now : ℕ) (octets : List ℕ) (r : Result Asked AppFault)
-    → Each (IsRelayed spans) (performs_of (outcome_at select time (book_panel spans book) now octets r))
-outcome_relayed spans book select time now octets (Err fault) = tt
-outcome_relayed spans book select time now octets (Ok request) = by (nat_lt (MAX_FRAGMENT - 2) (length octets))
+outcome_relayed : (spans : List Spans) (reserved : Option Command) (book : Ledger) (select : Option Select) (time now : ℕ) (octets : List ℕ) (r : Result Asked AppFault)
+    → Each (IsRelayed spans) (performs_of (outcome_at select time (book_panel spans reserved book) now octets r))
+outcome_relayed spans reserved book select time now octets (Err fault) = tt
+outcome_relayed spans reserved book select time now octets (Ok request) = by (nat_lt (MAX_FRAGMENT - 2) (length octets))
   where
     by : (b : Bool) → Each (IsRelayed spans) (performs_of (if b then Err parameter_error
-        else come_to (outcome_of request.function select time (book_panel spans book) now octets (commands_in request.headers)) request.headers))
+        else come_to (outcome_of request.function select time (book_panel spans reserved book) now octets (commands_in request.headers)) request.headers))
     by true = tt
-    by false = function_relayed spans book select time now octets request.function request.headers
+    by false = function_relayed spans reserved book select time now octets request.function request.headers
 
-pub all_relayed : (spans : List Spans) (book : Ledger) (c : Core) (now : ℕ) (octets : List ℕ)
-    → Each (IsRelayed spans) (performed_in c (book_panel spans book) now octets)
-all_relayed spans book c now octets = by (case_of c octets)
+pub all_relayed : (spans : List Spans) (reserved : Option Command) (book : Ledger) (c : Core) (now : ℕ) (octets : List ℕ)
+    → Each (IsRelayed spans) (performed_in c (book_panel spans reserved book) now octets)
+all_relayed spans reserved book c now octets = by (case_of c octets)
   where
-    asks : (b : Bool) → Each (IsRelayed spans) (if b then performed_at c (book_panel spans book) now octets else [])
+    asks : (b : Bool) → Each (IsRelayed spans) (if b then performed_at c (book_panel spans reserved book) now octets else [])
     asks true =
-        outcome_relayed spans book (new_request c.session octets).selects c.times.select_ms now octets (request_at octets)
+        outcome_relayed spans reserved book (new_request c.session octets).selects c.times.select_ms now octets (request_at octets)
     asks false = tt
 
-    by : (k : Case) → Each (IsRelayed spans) (performed_for c (book_panel spans book) now octets k)
+    by : (k : Case) → Each (IsRelayed spans) (performed_for c (book_panel spans reserved book) now octets k)
     by case.Asks = asks (is_control octets)
     by _ = tt
 

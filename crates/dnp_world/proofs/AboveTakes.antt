@@ -12,6 +12,7 @@ use Rattle.dnp_line.specs.Ways.{HearsIfAny}
 use Rattle.dnp_master.specs.Calls.{Taking, receive_of}
 use Rattle.dnp_master.specs.declared.fault.MasterFault.{MasterFault}
 use Rattle.dnp_objects.specs.declared.row.Row.{Row}
+use Rattle.dnp_world.specs.declared.event.Link.TheVariants as link
 use Rattle.dnp_world.specs.declared.link_event.LinkEvent.{LinkEvent}
 use Rattle.dnp_world.specs.declared.link_event.LinkEvent.TheVariants as event
 use Rattle.dnp_world.specs.declared.link_event.Way.TheVariants as way
@@ -22,9 +23,9 @@ use Rattle.dnp_world.specs.Link.{Link}
 use Rattle.dnp_world.specs.OneLinkEvents as one
 use Rattle.dnp_world.specs.OneLinkEvents.{HappensOn, LinkState, Receives, Takes}
 use Rattle.dnp_world.specs.SystemEvents.{ComesUp, MasterReceives, MasterTakes}
-use Rattle.dnp_world.specs.SystemStanding.{RowLists, lists_of, no_sink, seen, seen_above, IsStanding, Keeps}
+use Rattle.dnp_world.specs.SystemStanding.{RowLists, lists_of, no_sink, seen_above, IsStanding, Keeps}
 use Rattle.dnp_world.specs.Systems.{System, middle_of, middle_panel}
-use Rattle.dnp_world.proofs.AboveEvents.{on, quiet_above}
+use Rattle.dnp_world.proofs.AboveEvents.{quiet_above}
 use Rattle.dnp_world.proofs.AboveKeeps.{Above, above_keeps, changed_above}
 use Rattle.dnp_world.proofs.BelowEvents.{none_behind}
 use Rattle.dnp_world.proofs.BelowKeeps.{Grounds, none_used}
@@ -51,18 +52,18 @@ untaken : Grounds → (left : LineState → LineState) (e : LinkEvent) → IsCom
 untaken grounds left e as_event old new h station port given heard made came after =
     let lists : RowLists = lists_of h.links.above in
     quiet_above grounds old new h station (middle_of old.concentrator) old.centre.link (heard_lines left port old) e refl made
-    (as_event (seen_above old lists) (seen_above (record old { above = heard_lines left port old }) lists) (middle_panel old.concentrator)
+    (as_event (seen_above old lists) (seen_above (record old { above = heard_lines left port old }) lists) (middle_panel old.concentrator old.now)
     (record { port = port; given = given; heard = heard; came = came }))
     after
 
 -- the centre takes the fragment, or refuses it
 received : Grounds → (left : LineState → LineState) (e : LinkEvent) → IsComing left e
-    → (old new : System) {el : Elsewhere} (h : IsStanding el old) (station : ℕ) → (port : PortState) (fragment : List ℕ) (others : List (List ℕ))
+    → (centre : ℕ) (old new : System) {el : Elsewhere} (h : IsStanding el old) (station : ℕ) → (port : PortState) (fragment : List ℕ) (others : List (List ℕ))
     → HearsIfAny (front_of old.above.up) old.above.master_port port [] (fragment ∷ others)
     → rows_made_by old.concentrator.core.points (e ∷ []) ≡ []
     → (r : Result Taking MasterFault) → receive_of old.centre.link.master old.now fragment ≡ r
-    → MasterReceives on r (record old { above = heard_lines left port old }) new → Keeps el station [] old new
-received grounds left e as_event old new h station port fragment others heard made (Ok t) is (room, (down, after)) =
+    → MasterReceives (link.Above centre) r (record old { above = heard_lines left port old }) new → Keeps el station [] old new
+received grounds left e as_event centre old new h station port fragment others heard made (Ok t) is (room, (down, after)) =
     let l : Link = h.links.above in
     let lines : ChannelState = heard_lines left port old in
     let base : LinkState ⊤ = seen_above (record old { above = lines }) (lists_of l) in
@@ -92,7 +93,7 @@ received grounds left e as_event old new h station port fragment others heard ma
     })
     (record { taken_is = refl; released_is = none_behind _; left_is = refl })
     made
-    (as_event (seen_above old (lists_of l)) s' (middle_panel old.concentrator)
+    (as_event (seen_above old (lists_of l)) s' (middle_panel old.concentrator old.now)
     (record {
       port = port;
       given = fragment ∷ others;
@@ -100,36 +101,36 @@ received grounds left e as_event old new h station port fragment others heard ma
       came = subst (λ (x : Result Taking MasterFault). Receives no_sink x base s') (sym is) takes;
     }))
     after
-received grounds left e as_event old new h station port fragment others heard made (Err fault) is after =
+received grounds left e as_event centre old new h station port fragment others heard made (Err fault) is after =
     let base : LinkState ⊤ = seen_above (record old { above = heard_lines left port old }) (lists_of h.links.above) in
     untaken grounds left e as_event old new h station port (fragment ∷ others) heard made
     (subst (λ (x : Result Taking MasterFault). Receives no_sink x base base) (sym is) refl) after
 
 taken_in : Grounds → (left : LineState → LineState) (e : LinkEvent) → IsComing left e
-    → (old new : System) {el : Elsewhere} (h : IsStanding el old) (station : ℕ)
+    → (centre : ℕ) (old new : System) {el : Elsewhere} (h : IsStanding el old) (station : ℕ)
     → (port : PortState) (given : List (List ℕ)) → HearsIfAny (front_of old.above.up) old.above.master_port port [] given
     → rows_made_by old.concentrator.core.points (e ∷ []) ≡ []
-    → MasterTakes on given (record old { above = heard_lines left port old }) new → Keeps el station [] old new
-taken_in grounds left e as_event old new h station port [] heard made came =
+    → MasterTakes (link.Above centre) given (record old { above = heard_lines left port old }) new → Keeps el station [] old new
+taken_in grounds left e as_event centre old new h station port [] heard made came =
     untaken grounds left e as_event old new h station port [] heard made refl came
-taken_in grounds left e as_event old new h station port (fragment ∷ others) heard made came =
-    received grounds left e as_event old new h station port fragment others heard made (receive_of old.centre.link.master old.now fragment) refl came
+taken_in grounds left e as_event centre old new h station port (fragment ∷ others) heard made came =
+    received grounds left e as_event centre old new h station port fragment others heard made (receive_of old.centre.link.master old.now fragment) refl came
 
-comes : Grounds → (left : LineState → LineState) (e : LinkEvent) → IsComing left e → (old new : System) {el : Elsewhere} (station : ℕ) → IsStanding el old
-    → rows_made_by old.concentrator.core.points (e ∷ []) ≡ [] → ComesUp left on old new → Keeps el station [] old new
-comes grounds left e as_event old new station h made c =
+comes : Grounds → (left : LineState → LineState) (e : LinkEvent) → IsComing left e → (centre : ℕ) (old new : System) {el : Elsewhere} (station : ℕ) → IsStanding el old
+    → rows_made_by old.concentrator.core.points (e ∷ []) ≡ [] → ComesUp left (link.Above centre) old new → Keeps el station [] old new
+comes grounds left e as_event centre old new station h made c =
     let port : PortState = c.between.above.master_port in
     let is : c.between ≡ record old { above = heard_lines left port old } =
     c.heard.1 ∙ ap (λ (lines : ChannelState). record old { above = lines }) c.heard.0.after in
-    taken_in grounds left e as_event old new h station port c.given c.heard.0.heard made
-    (subst (λ (s : System). MasterTakes on c.given s new) is c.came)
+    taken_in grounds left e as_event centre old new h station port c.given c.heard.0.heard made
+    (subst (λ (s : System). MasterTakes (link.Above centre) c.given s new) is c.came)
 
-pub delivers_to_centre : Grounds → (old new : System) {el : Elsewhere} (station : ℕ) → IsStanding el old → ComesUp delivered_on on old new
+pub delivers_to_centre : Grounds → (centre : ℕ) (old new : System) {el : Elsewhere} (station : ℕ) → IsStanding el old → ComesUp delivered_on (link.Above centre) old new
     → Keeps el station [] old new
-delivers_to_centre grounds old new station h c =
-    comes grounds delivered_on (event.Deliver way.Up) (λ s s' panel come. come) old new station h refl c
+delivers_to_centre grounds centre old new station h c =
+    comes grounds delivered_on (event.Deliver way.Up) (λ s s' panel come. come) centre old new station h refl c
 
-pub repeats_to_centre : Grounds → (old new : System) {el : Elsewhere} (station : ℕ) → IsStanding el old → ComesUp repeated_on on old new
+pub repeats_to_centre : Grounds → (centre : ℕ) (old new : System) {el : Elsewhere} (station : ℕ) → IsStanding el old → ComesUp repeated_on (link.Above centre) old new
     → Keeps el station [] old new
-repeats_to_centre grounds old new station h c =
-    comes grounds repeated_on (event.Repeat way.Up) (λ s s' panel come. come) old new station h refl c
+repeats_to_centre grounds centre old new station h c =
+    comes grounds repeated_on (event.Repeat way.Up) (λ s s' panel come. come) centre old new station h refl c

@@ -14,8 +14,8 @@ use Rattle.dnp_world.specs.Arriving.{AreInUnits, Arrive, Arrives, HearsAt, Stand
 use Rattle.dnp_world.specs.Channels.{ChannelState, GoDown, GoUp, line_of}
 use Rattle.dnp_world.specs.Rounds.{Flushes, deliveries}
 use Rattle.dnp_world.specs.SystemEvents.{LinesChange, SendsDown, with_relaying}
-use Rattle.dnp_world.specs.SystemRuns.{RunsTo}
-use Rattle.dnp_world.specs.Systems.{SubstationState, System, standing_on, units_at}
+use Rattle.dnp_world.specs.SystemRuns.{Happens, RunsTo}
+use Rattle.dnp_world.specs.Systems.{SubstationState, System, itself, standing_on, units_at}
 use Rattle.dnp_world.specs.declared.event.Link.{Link}
 use Rattle.dnp_world.specs.declared.event.Link.TheVariants.{Below, Above}
 use Rattle.dnp_world.specs.declared.link_event.Way.{Way}
@@ -73,12 +73,12 @@ record HasCome (on : Link) (way : Way) (ahead behind : List (List ℕ)) (old new
   both : BothWays way [] (behind ++ answers) lines
 
 -- two lists of deliveries
-runs_two : (on : Link) (way : Way) (m n : ℕ) (old new : System) → RunsTo old (deliveries (m + n) on way) new
-    → (mid : System) × RunsTo old (deliveries m on way) mid × RunsTo mid (deliveries n on way) new
-runs_two on way zero n old new runs = (old, refl, subst (λ (k : ℕ). RunsTo old (deliveries k on way) new) (omega arith) runs)
+runs_two : (on : Link) (way : Way) (m n : ℕ) (old new : System) → RunsTo Happens old (deliveries (m + n) on way) new
+    → (mid : System) × RunsTo Happens old (deliveries m on way) mid × RunsTo Happens mid (deliveries n on way) new
+runs_two on way zero n old new runs = (old, refl, subst (λ (k : ℕ). RunsTo Happens old (deliveries k on way) new) (omega arith) runs)
 runs_two on way (suc m) n old new runs =
     let more : suc m + n ≡ suc (m + n) = omega arith in
-    let r : RunsTo old (deliveries (suc (m + n)) on way) new = subst (λ (k : ℕ). RunsTo old (deliveries k on way) new) more runs in
+    let r : RunsTo Happens old (deliveries (suc (m + n)) on way) new = subst (λ (k : ℕ). RunsTo Happens old (deliveries k on way) new) more runs in
     let t = runs_two on way m n r.0 new r.2 in
     (t.0, (r.0, r.1, t.1), t.2)
 
@@ -129,10 +129,10 @@ one_arrives on way f fragments behind first rest c old new b units r =
     }
 
 all_come : Lower → (on : Link) (way : Way) (ahead behind : List (List ℕ)) (c : ChannelState) (old new : System) → channel_on old on ≡ Some c
-    → BothWays way ahead behind c → RunsTo old (deliveries (length (line_of way c).units) on way) new → HasCome on way ahead behind old new
+    → BothWays way ahead behind c → RunsTo Happens old (deliveries (length (line_of way c).units) on way) new → HasCome on way ahead behind old new
 all_come low on way [] behind c old new there b runs =
     let none : length (line_of way c).units ≡ 0 = ap (λ (xs : List (List ℕ)). length xs) b.there.units in
-    let same : new ≡ old = subst (λ (n : ℕ). RunsTo old (deliveries n on way) new) none runs in
+    let same : new ≡ old = subst (λ (n : ℕ). RunsTo Happens old (deliveries n on way) new) none runs in
     record {
       answers = [];
       arrive = (refl, same);
@@ -146,7 +146,7 @@ all_come low on way (f ∷ fragments) behind c old new there b runs =
     let rest : List (List ℕ) = u.1 in
     let count : length (line_of way c).units ≡ length first + length rest =
     ap (λ (xs : List (List ℕ)). length xs) u.4 ∙ length-append first rest in
-    let two = runs_two on way (length first) (length rest) old new (subst (λ (n : ℕ). RunsTo old (deliveries n on way) new) count runs) in
+    let two = runs_two on way (length first) (length rest) old new (subst (λ (n : ℕ). RunsTo Happens old (deliveries n on way) new) count runs) in
     let mid : System = two.0 in
     let r : Reached on way f rest c old mid =
     fragment_comes low on way (sender_at way c) f first rest c old mid there u.2 u.4 b.there.facing b.there.history two.1 in
@@ -154,7 +154,7 @@ all_come low on way (f ∷ fragments) behind c old new there b runs =
     let left : length rest ≡ length (line_of way o.lines).units = ap (λ (xs : List (List ℕ)). length xs) (sym o.units) in
     let h : HasCome on way fragments (behind ++ o.answers) mid new =
     all_come low on way fragments (behind ++ o.answers) o.lines mid new o.there o.both
-    (subst (λ (n : ℕ). RunsTo mid (deliveries n on way) new) left two.2) in
+    (subst (λ (n : ℕ). RunsTo Happens mid (deliveries n on way) new) left two.2) in
     record {
       answers = o.answers ++ h.answers;
       arrive = (o.answers, h.answers, mid, o.arrives, h.arrive, refl);
@@ -171,22 +171,22 @@ standing_there (Below station) way s c there =
     let f : Found s station c = found s station c there in
     ap (λ (b : Bool). if b then units_at way (slice_get s.substations station) else 0) f.has
     ∙ ap (λ (o : Option SubstationState). units_at way o) f.there ∙ ap (λ (l : ChannelState). length (line_of way l).units) f.lines
-standing_there Above way s c there = ap (λ (l : ChannelState). length (line_of way l).units) (same_Some s.above c there)
+standing_there (Above centre) way s c there = ap (λ (l : ChannelState). length (line_of way l).units) (same_Some s.above c there)
 
 flush : Lower → (on : Link) (way : Way) (ahead behind : List (List ℕ)) (c : ChannelState) (old new : System) → channel_on old on ≡ Some c
-    → BothWays way ahead behind c → Flushes on way old new → HasCome on way ahead behind old new
+    → BothWays way ahead behind c → Flushes Happens itself on way old new → HasCome on way ahead behind old new
 flush low on way ahead behind c old new there b runs =
     all_come low on way ahead behind c old new there b
-    (subst (λ (n : ℕ). RunsTo old (deliveries n on way) new) (standing_there on way old c there) runs)
+    (subst (λ (n : ℕ). RunsTo Happens old (deliveries n on way) new) (standing_there on way old c there) runs)
 
-pub down_comes : Lower → (on : Link) (down up : List (List ℕ)) (old new : System) → UnderWay on down up old → Flushes on Down old new
+pub down_comes : Lower → (on : Link) (down up : List (List ℕ)) (old new : System) → UnderWay on down up old → Flushes Happens itself on Down old new
     → (answers : List (List ℕ)) × Arrive on Down down answers old new × UnderWay on [] (up ++ answers) new
 down_comes low on down up old new u runs =
     let h : HasCome on Down down up old new =
     flush low on Down down up u.channel old new u.there (record { there = u.down_is; back_is = u.up_is }) runs in
     (h.answers, h.arrive, record { channel = h.lines; there = h.there; down_is = h.both.there; up_is = h.both.back_is })
 
-pub up_comes : Lower → (on : Link) (down up : List (List ℕ)) (old new : System) → UnderWay on down up old → Flushes on Up old new
+pub up_comes : Lower → (on : Link) (down up : List (List ℕ)) (old new : System) → UnderWay on down up old → Flushes Happens itself on Up old new
     → (answers : List (List ℕ)) × Arrive on Up up answers old new × UnderWay on (down ++ answers) [] new
 up_comes low on down up old new u runs =
     let h : HasCome on Up up down old new =

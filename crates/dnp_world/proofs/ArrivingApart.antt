@@ -10,7 +10,7 @@ use Rattle.dnp_master.specs.Calls.{Taking, receive_of}
 use Rattle.dnp_master.specs.State.{is_idle}
 use Rattle.dnp_master.specs.declared.fault.MasterFault.{MasterFault}
 use Rattle.dnp_outstation.specs.State.{is_quiet}
-use Rattle.dnp_world.specs.Arriving.{Arrive, HearsAt, IsClearOn, StandOn, TakesOn, channel_at, channel_on}
+use Rattle.dnp_world.specs.Arriving.{AreApart, Arrive, HearsAt, IsClearOn, StandOn, TakesOn, channel_at, channel_on}
 use Rattle.dnp_world.specs.Behind.{Elsewhere}
 use Rattle.dnp_world.specs.Channels.{ChannelState, GoDown, are_quiet, is_quiet_line}
 use Rattle.dnp_world.specs.Joined.{Carries}
@@ -85,7 +85,7 @@ quiet_is_clear (Below station) s h e =
     let quiet : Bool = is_quiet_at (slice_get s.substations station) in
     let parts = and_parts (has_station s station) (idle && quiet) e in
     quiet_below s station (slice_get s.substations station) h refl parts.0 (and_parts idle quiet parts.1).1
-quiet_is_clear Above s h e =
+quiet_is_clear (Above centre) s h e =
     let lines : ChannelState = s.above in
     let ends_quiet : Bool = is_quiet s.concentrator.core && are_quiet lines in
     let ends = and_parts (is_idle s.centre.link.master) ends_quiet e in
@@ -111,33 +111,34 @@ set_apart s station other is apart =
 two_stations : (station other : ℕ) → Below station ≢ Below other → station ≢ other
 two_stations station other apart same = apart (ap (λ (n : ℕ). Below n) same)
 
-pub lines_apart : (on other : Link) (C : ChannelState → ChannelState → Type 0) (old new : System) → on ≢ other → LinesChange other C old new
+pub lines_apart : (on other : Link) (C : ChannelState → ChannelState → Type 0) (old new : System) → AreApart on other → LinesChange other C old new
     → channel_on new on ≡ channel_on old on
 lines_apart (Below station) (Below other) C old new apart e =
-    ap (λ (s : System). channel_on s (Below station)) e.after ∙ set_apart old station other e.is (two_stations station other apart)
-lines_apart Above (Below other) C old new apart e = ap (λ (s : System). channel_on s Above) e.after
-lines_apart (Below station) Above C old new apart e = ap (λ (s : System). channel_on s (Below station)) e.1
-lines_apart Above Above C old new apart e = absurd (apart refl)
+    ap (λ (s : System). channel_on s (Below station)) e.after ∙ set_apart old station other e.is apart
+lines_apart (Above centre) (Below other) C old new apart e = ap (λ (s : System). channel_on s (Above centre)) e.after
+lines_apart (Below station) (Above centre) C old new apart e = ap (λ (s : System). channel_on s (Below station)) e.1
+lines_apart (Above centre) (Above other) C old new apart e = absurd apart
 
-received_apart : (on other : Link) (r : Result Taking MasterFault) (old new : System) → on ≢ other → MasterReceives other r old new
+received_apart : (on other : Link) (r : Result Taking MasterFault) (old new : System) → AreApart on other → MasterReceives other r old new
     → channel_on new on ≡ channel_on old on
 received_apart on other (Ok t) old new apart (room, changes) =
     lines_apart on other (GoDown _) (taken_on old other t) new apart changes ∙ taken_same on other old t
 received_apart on other (Err fault) old new apart is = ap (λ (s : System). channel_on s on) is
 
-takes_apart : (on other : Link) (way : Way) (f : List ℕ) (old new : System) → on ≢ other → TakesOn other way f old new
+takes_apart : (on other : Link) (way : Way) (f : List ℕ) (old new : System) → AreApart on other → TakesOn other way f old new
     → channel_on new on ≡ channel_on old on
 takes_apart (Below station) (Below other) Down f old new apart h =
     let e = h.answers in
-    ap (λ (s : System). channel_on s (Below station)) e.after ∙ set_apart old station other e.is (two_stations station other apart)
-takes_apart Above (Below other) Down f old new apart h = ap (λ (s : System). channel_on s Above) h.answers.after
-takes_apart (Below station) Above Down f old new apart h = ap (λ (s : System). channel_on s (Below station)) h.after
-takes_apart Above Above Down f old new apart h = absurd (apart refl)
+    ap (λ (s : System). channel_on s (Below station)) e.after ∙ set_apart old station other e.is apart
+takes_apart (Above centre) (Below other) Down f old new apart h = ap (λ (s : System). channel_on s (Above centre)) h.answers.after
+takes_apart (Below station) (Above centre) Down f old new apart h = ap (λ (s : System). channel_on s (Below station)) h.after
+takes_apart (Above centre) (Above other) Down f old new apart h = absurd apart
 takes_apart on (Below other) Up f old new apart h =
     received_apart on (Below other) (receive_of (relaying_at old (Below other)).master old.now f) old new apart h
-takes_apart on Above Up f old new apart h = received_apart on Above (receive_of (relaying_at old Above).master old.now f) old new apart h
+takes_apart on (Above centre) Up f old new apart h =
+    received_apart on (Above centre) (receive_of (relaying_at old (Above centre)).master old.now f) old new apart h
 
-pub arrivals_apart : (on other : Link) (way : Way) (fragments answers : List (List ℕ)) (old new : System) → on ≢ other
+pub arrivals_apart : (on other : Link) (way : Way) (fragments answers : List (List ℕ)) (old new : System) → AreApart on other
     → Arrive other way fragments answers old new → channel_on new on ≡ channel_on old on
 arrivals_apart on other way [] answers old new apart h = ap (λ (s : System). channel_on s on) h.1
 arrivals_apart on other way (f ∷ fragments) answers old new apart (first, more, next, arrives, rest, all) =
@@ -145,7 +146,7 @@ arrivals_apart on other way (f ∷ fragments) answers old new apart (first, more
     ∙ takes_apart on other way f arrives.heard next apart arrives.takes
     ∙ lines_apart on other (HearsAt way) old arrives.heard apart arrives.hears
 
-pub sends_apart : (on other : Link) (fragments : List (List ℕ)) (link : Relaying) (old new : System) → on ≢ other
+pub sends_apart : (on other : Link) (fragments : List (List ℕ)) (link : Relaying) (old new : System) → AreApart on other
     → SendsDown other fragments link old new → channel_on new on ≡ channel_on old on
 sends_apart on other fragments link old new apart changes =
     lines_apart on other (GoDown fragments) (with_relaying old other link) new apart changes ∙ relaying_same on other old link

@@ -76,7 +76,7 @@ channel_found s station was has there =
 -- a link with lines is one of the plan
 pub linked : (on : Link) (s : System) (c : ChannelState) → channel_on s on ≡ Some c → has_link s on ≡ true
 linked (Below station) s c e = (found s station c e).has
-linked Above s c e = refl
+linked (Above centre) s c e = refl
 
 -- another list of as many substations has the same places
 pub has_set : (s : System) (i station : ℕ) (is : SubstationState) → has_station (with_substation s i is) station ≡ has_station s station
@@ -104,7 +104,7 @@ lines_as (Below station) C D old new weaker e = record {
   changed = (weaker e.was.channel e.is.channel e.changed.0, e.changed.1);
   after = e.after;
 }
-lines_as Above C D old new weaker e = (weaker old.above new.above e.0, e.1)
+lines_as (Above centre) C D old new weaker e = (weaker old.above new.above e.0, e.1)
 
 -- any change of the lines
 pub lines_by : (on : Link) (C : ChannelState → ChannelState → Type 0) (c c' : ChannelState) (old new : System) → LinesGo on c c' old new → C c c'
@@ -137,7 +137,7 @@ lines_go (Below station) C c old new there e =
         change = record { was = e.was; is = e.is; there = e.there; changed = ((same, refl), e.changed.1); after = e.after };
       };
     }
-lines_go Above C c old new there e =
+lines_go (Above centre) C c old new there e =
     let same : old.above ≡ c = same_Some old.above c there in
     record {
       lines = new.above;
@@ -171,7 +171,7 @@ lines_both (Below station) a b c first next last g h =
       after = h.after;
       change = record { was = e.was; is = f.is; there = e.there; changed = ((e.changed.0.0, f.changed.0.1), both.0); after = both.1 };
     }
-lines_both Above a b c first next last g h =
+lines_both (Above centre) a b c first next last g h =
     let with_above : System → System = λ s. record s { above = last.above } in
     record {
       before = g.before;

@@ -47,17 +47,17 @@ same_channel station s t substations links =
 pub relaying_same : (on other : Link) (s : System) (link : Relaying) → channel_on (with_relaying s other link) on ≡ channel_on s on
 relaying_same (Below station) (Below other) s link =
     same_channel station s (with_relaying s (Below other) link) refl (length_set s.concentrator.links other link)
-relaying_same Above (Below other) s link = refl
-relaying_same (Below station) Above s link = refl
-relaying_same Above Above s link = refl
+relaying_same (Above centre) (Below other) s link = refl
+relaying_same (Below station) (Above centre) s link = refl
+relaying_same (Above centre) (Above other) s link = refl
 
 pub taken_same : (on other : Link) (s : System) (t : Taking) → channel_on (taken_on s other t) on ≡ channel_on s on
 taken_same (Below station) (Below other) s t =
     same_channel station s (taken_on s (Below other) t) refl
     (length_set s.concentrator.links other (relaying.received (link_at s.concentrator other) t))
-taken_same Above (Below other) s t = refl
-taken_same (Below station) Above s t = refl
-taken_same Above Above s t = refl
+taken_same (Above centre) (Below other) s t = refl
+taken_same (Below station) (Above centre) s t = refl
+taken_same (Above centre) (Above other) s t = refl
 
 -- ---- the stations
 
@@ -79,12 +79,12 @@ substation_goes station f c old new there h =
       goes = subst (λ (o : Option SubstationState). GoUp (answers_below o old.now f) c e.is.channel) (sym e.there) up;
     }
 
-middle_goes : (f : List ℕ) (c : ChannelState) (old new : System) → channel_on old Above ≡ Some c → MiddleAnswers (f ∷ []) old new
-    → HasTaken Above Down (answers_on old Above Down f) c new
-middle_goes f c old new there h = record {
+middle_goes : (centre : ℕ) (f : List ℕ) (c : ChannelState) (old new : System) → channel_on old (Above centre) ≡ Some c → MiddleAnswers (f ∷ []) old new
+    → HasTaken (Above centre) Down (answers_on old (Above centre) Down f) c new
+middle_goes centre f c old new there h = record {
   lines = new.above;
   there = refl;
-  goes = subst (λ (x : ChannelState). GoUp (answers_on old Above Down f) x new.above) (same_Some old.above c there) h.sent;
+  goes = subst (λ (x : ChannelState). GoUp (answers_on old (Above centre) Down f) x new.above) (same_Some old.above c there) h.sent;
 }
 
 receives : (on : Link) (r : Result Taking MasterFault) (c : ChannelState) (old new : System) → channel_on old on ≡ Some c → MasterReceives on r old new
@@ -102,7 +102,7 @@ receives on (Err fault) c old new there is = record {
 pub takes_goes : (on : Link) (way : Way) (f : List ℕ) (c : ChannelState) (old new : System) → channel_on old on ≡ Some c → TakesOn on way f old new
     → HasTaken on way (answers_on old on way f) c new
 takes_goes (Below station) Down f c old new there h = substation_goes station f c old new there h
-takes_goes Above Down f c old new there h = middle_goes f c old new there h
+takes_goes (Above centre) Down f c old new there h = middle_goes centre f c old new there h
 takes_goes (Below station) Up f c old new there h =
     receives (Below station) (receive_of (relaying_at old (Below station)).master old.now f) c old new there h
-takes_goes Above Up f c old new there h = receives Above (receive_of (relaying_at old Above).master old.now f) c old new there h
+takes_goes (Above centre) Up f c old new there h = receives (Above centre) (receive_of (relaying_at old (Above centre)).master old.now f) c old new there h

@@ -109,15 +109,15 @@ heard_below station old new h =
     }
 
 -- the concentrator
-came_above : (given : List (List ℕ)) (old new : System) → MiddleAnswers given old new → TakesAll Above Down given old new
-came_above [] old new h = h
-came_above (fragment ∷ others) old new h = h
+came_above : (centre : ℕ) (given : List (List ℕ)) (old new : System) → MiddleAnswers given old new → TakesAll (Above centre) Down given old new
+came_above centre [] old new h = h
+came_above centre (fragment ∷ others) old new h = h
 
-heard_above : (old new : System) → ComesDownAbove delivered_on old new → Heard Above Down old new
-heard_above old new h =
+heard_above : (centre : ℕ) (old new : System) → ComesDownAbove delivered_on old new → Heard (Above centre) Down old new
+heard_above centre old new h =
     let lines : ChannelState = record old.above { down = delivered_on old.above.down; outstation_port = h.port } in
     let middle : System = record old { above = lines } in
-    record { given = h.given; heard = middle; hears = ((h.heard, refl), refl); took = came_above h.given middle new h.came }
+    record { given = h.given; heard = middle; hears = ((h.heard, refl), refl); took = came_above centre h.given middle new h.came }
 
 -- a master
 taken_below : (station : ℕ) (given : List (List ℕ)) (old new : System) → MasterTakes (Below station) given old new
@@ -125,9 +125,9 @@ taken_below : (station : ℕ) (given : List (List ℕ)) (old new : System) → M
 taken_below station [] old new h = h
 taken_below station (fragment ∷ others) old new h = h
 
-taken_above : (given : List (List ℕ)) (old new : System) → MasterTakes Above given old new → TakesAll Above Up given old new
-taken_above [] old new h = h
-taken_above (fragment ∷ others) old new h = h
+taken_above : (centre : ℕ) (given : List (List ℕ)) (old new : System) → MasterTakes (Above centre) given old new → TakesAll (Above centre) Up given old new
+taken_above centre [] old new h = h
+taken_above centre (fragment ∷ others) old new h = h
 
 is_heard_up : (given : List (List ℕ)) (was is : ChannelState) → IsHeardUp delivered_on given was is → IsHeard Up given was is
 is_heard_up given was is h = (h.heard, h.after)
@@ -139,18 +139,18 @@ heard_by_master (Below station) old new h = record {
   hears = lines_as (Below station) (IsHeardUp delivered_on h.given) (IsHeard Up h.given) old h.between (is_heard_up h.given) h.heard;
   took = taken_below station h.given h.between new h.came;
 }
-heard_by_master Above old new h = record {
+heard_by_master (Above centre) old new h = record {
   given = h.given;
   heard = h.between;
-  hears = lines_as Above (IsHeardUp delivered_on h.given) (IsHeard Up h.given) old h.between (is_heard_up h.given) h.heard;
-  took = taken_above h.given h.between new h.came;
+  hears = lines_as (Above centre) (IsHeardUp delivered_on h.given) (IsHeard Up h.given) old h.between (is_heard_up h.given) h.heard;
+  took = taken_above centre h.given h.between new h.came;
 }
 
 comes_on : (on : Link) (way : Way) (old new : System) → ComesOn delivered_on on way old new → Heard on way old new
 comes_on (Below station) Down old new h = heard_below station old new h
-comes_on Above Down old new h = heard_above old new h
+comes_on (Above centre) Down old new h = heard_above centre old new h
 comes_on (Below station) Up old new h = heard_by_master (Below station) old new h
-comes_on Above Up old new h = heard_by_master Above old new h
+comes_on (Above centre) Up old new h = heard_by_master (Above centre) old new h
 
 -- the lines before and after it
 record Delivery (on : Link) (way : Way) (c : ChannelState) (old new : System) : Type 0 where
@@ -209,7 +209,7 @@ segments_come : Lower → (on : Link) (way : Way) (sender : PortState) (f : List
     (segs units tail : List (List ℕ)) (c : ChannelState) (old new : System) (heard : List Frame)
     → channel_on old on ≡ Some c → WillGive f pushed (x ∷ segs) → (line_of way c).units ≡ units ++ tail → AreSpelled sender (x ∷ segs) units
     → AreFacing sender (receiver_at way c) → Answers heard (receiver_at way c).link → Stands pushed (receiver_at way c).assembly
-    → RunsTo old (deliveries (suc (length segs)) on way) new → Reached on way f tail c old new
+    → RunsTo Happens old (deliveries (suc (length segs)) on way) new → Reached on way f tail c old new
 segments_come low on way sender f pushed x [] units tail c old new heard there will line spelled facing answers stands runs =
     let us : List (List ℕ) = spelled.1 in
     let units_is : (line_of way c).units ≡ spelled.0 ∷ (us ++ tail) = line ∙ ap (λ (l : List (List ℕ)). l ++ tail) spelled.4 in
@@ -243,7 +243,7 @@ segments_come low on way sender f pushed x (y ∷ segs) units tail c old new hea
     let r : Reached on way f tail d.lines d.heard new =
     segments_come low on way sender f (x ∷ pushed) y segs us tail d.lines d.heard new o.taken.heard d.go.after will.2
     (ap (λ (l : LineState). l.units) line_is) spelled.3 (o.taken.same_ends ∙ facing) o.taken.answers o.taken.stands
-    (subst (λ (s : System). RunsTo s (deliveries (suc (length segs)) on way) new) still runs.2) in
+    (subst (λ (s : System). RunsTo Happens s (deliveries (suc (length segs)) on way) new) still runs.2) in
     let last : PortState = receiver_at way r.lines in
     record {
       lines = r.lines;
@@ -261,7 +261,7 @@ segments_come low on way sender f pushed x (y ∷ segs) units tail c old new hea
 -- the units of a fragment at the front of the line
 pub fragment_comes : Lower → (on : Link) (way : Way) (sender : PortState) (f : List ℕ) (first tail : List (List ℕ)) (c : ChannelState) (old new : System)
     → channel_on old on ≡ Some c → IsInUnits sender f first → (line_of way c).units ≡ first ++ tail → AreFacing sender (receiver_at way c)
-    → HasHistory (receiver_at way c) → RunsTo old (deliveries (length first) on way) new → Reached on way f tail c old new
+    → HasHistory (receiver_at way c) → RunsTo Happens old (deliveries (length first) on way) new → Reached on way f tail c old new
 fragment_comes low on way sender f first tail c old new there units line facing history runs =
     from (cuts f units.number) (cuts_will_give low f units.number history.pushed units.some units.fits) units.spelled
   where
@@ -270,4 +270,4 @@ fragment_comes low on way sender f first tail c old new there units line facing 
     from (x ∷ segs) will spelled =
         let count : length first ≡ suc (length segs) = spelled_length sender (x ∷ segs) first spelled in
         segments_come low on way sender f history.pushed x segs first tail c old new history.heard there will line spelled facing history.answers
-        history.stands (subst (λ (n : ℕ). RunsTo old (deliveries n on way) new) count runs)
+        history.stands (subst (λ (n : ℕ). RunsTo Happens old (deliveries n on way) new) count runs)

@@ -5,37 +5,37 @@ use Rattle.dnp_concentrator.specs.declared.cause.Cause.{Cause}
 use Rattle.dnp_concentrator.specs.declared.cause.Cause.TheVariants.{Device}
 use Rattle.dnp_world.specs.Carriers.{Crosses, RunsOver, TellsDeviceOver}
 use Rattle.dnp_world.specs.Causes.{TellsDevice}
-use Rattle.dnp_world.specs.SystemRuns.{Happens}
-use Rattle.dnp_world.specs.Systems.{System}
+use Rattle.dnp_world.specs.Centres.{HappensToAll}
+use Rattle.dnp_world.specs.Wholes.{Whole}
 use Rattle.dnp_world.specs.declared.event.Event.{Event}
 use Rattle.dnp_world.specs.declared.event.Link.{Link}
 use Rattle.dnp_world.specs.declared.link_event.Way.{Way}
 use Rattle.dnp_world.proofs.OneLinkRuns.{take_more}
 
-pub over_more : {C : Type 0} (carries : C → Link → Way → List ℕ → C → Type 0) (old mid new : System) (events : List Event) (event : Event)
-    (before between after : C) → RunsOver carries old events mid before between → Happens mid event new → Crosses carries mid event between after
+pub over_more : {C : Type 0} (carries : C → Link → Way → List ℕ → C → Type 0) (old mid new : Whole) (events : List Event) (event : Event)
+    (before between after : C) → RunsOver carries old events mid before between → HappensToAll mid event new → Crosses carries mid event between after
     → RunsOver carries old (events ++ event ∷ []) new before after
 over_more carries old mid new [] event before between after ran h crossed = (
   new,
   after,
-  subst (λ (s : System). Happens s event new) ran.0 h,
-  subst (λ (c : _). Crosses carries old event c after) ran.1 (subst (λ (s : System). Crosses carries s event between after) ran.0 crossed),
+  subst (λ (s : Whole). HappensToAll s event new) ran.0 h,
+  subst (λ (c : _). Crosses carries old event c after) ran.1 (subst (λ (s : Whole). Crosses carries s event between after) ran.0 crossed),
   (refl, refl),
 )
 over_more carries old mid new (first ∷ events) event before between after ran h crossed =
     (ran.0, ran.1, ran.2, ran.3, over_more carries ran.0 mid new events event ran.1 between after ran.4 h crossed)
 
 -- one event more was done
-pub one_over : {C : Type 0} (carries : C → Link → Way → List ℕ → C → Type 0) (old mid new : System) (events : List Event) (k : ℕ) (event : Event)
+pub one_over : {C : Type 0} (carries : C → Link → Way → List ℕ → C → Type 0) (old mid new : Whole) (events : List Event) (k : ℕ) (event : Event)
     (before between after : C) → k < length events → event ≡ get_or events k event → RunsOver carries old (take k events) mid before between
-    → Happens mid event new → Crosses carries mid event between after → RunsOver carries old (take (k + 1) events) new before after
+    → HappensToAll mid event new → Crosses carries mid event between after → RunsOver carries old (take (k + 1) events) new before after
 one_over carries old mid new events k event before between after low is ran h crossed =
     let next : k + 1 ≡ suc k = omega arith in
     subst (λ (es : List Event). RunsOver carries old es new before after)
     (ap (λ (e : Event). take k events ++ e ∷ []) is ∙ sym (take_more events k event low) ∙ ap (λ (n : ℕ). take n events) (sym next))
     (over_more carries old mid new (take k events) event before between after ran h crossed)
 
-pub all_over : {C : Type 0} (carries : C → Link → Way → List ℕ → C → Type 0) (old new : System) (events : List Event) (k : ℕ) (before after : C)
+pub all_over : {C : Type 0} (carries : C → Link → Way → List ℕ → C → Type 0) (old new : Whole) (events : List Event) (k : ℕ) (before after : C)
     → length events ≤ k → RunsOver carries old (take k events) new before after → RunsOver carries old events new before after
 all_over carries old new events k before after high ran =
     subst (λ (es : List Event). RunsOver carries old es new before after) (take_all k events high) ran

@@ -15,7 +15,7 @@ use Rattle.dnp_world.specs.ControlExchanges.{CanBegin, ChecksAs, Ends, GoesOver,
 use Rattle.dnp_world.specs.Controls.{IsAccepted, Passes, PassesBack, status_on}
 use Rattle.dnp_world.specs.SystemEvents.{IsMissing, IsRefused}
 use Rattle.dnp_world.specs.SystemRuns.{Happens}
-use Rattle.dnp_world.specs.Systems.{System}
+use Rattle.dnp_world.specs.Systems.{System, itself}
 use Rattle.dnp_world.specs.declared.event.Event.TheVariants.{Relay}
 use Rattle.dnp_world.specs.declared.event.Link.{Link}
 use Rattle.dnp_world.proofs.Books.{put}
@@ -54,7 +54,7 @@ pub record OverLink (on : Link) (target id check : ℕ) (command : Command) : Ty
   pub Kept : List Command → System → System → Type 0
   pub book : System → Ledger
   pub join : (first more : List Command) (a b c : System) → Kept first a b → Kept more b c → Kept (first ++ more) a c
-  pub back : (old new : System) (ends : Ends) → View old ends → PassesBack on (Some id) old new → IsTaken target ends
+  pub back : (old new : System) (ends : Ends) → View old ends → PassesBack Happens itself on (Some id) old new → IsTaken target ends
       → Back View Kept target id check command old new ends
   pub step : (old new : System) (ends : Ends) → View old ends → Happens old (Relay on) new → IsTaken target ends → Told Kept target book old new ends
   pub says : (s : System) → status_on s on (Some id) ≡ status_at (book s) id
@@ -143,7 +143,7 @@ module _ (laws : ControlLaws) (on : Link) (target check : ℕ) (entry : Entry) (
 
   -- its OPERATE goes over the link
   pub answered_over : (old new : System) (ends : Ends) → over.View old ends → HasSelected entry ends → entry_of ends.book.entries entry.id ≡ Some entry
-      → is_pending entry.state ≡ true → PassesBack on (Some entry.id) old new → AnsweredOver old new
+      → is_pending entry.state ≡ true → PassesBack Happens itself on (Some entry.id) old new → AnsweredOver old new
   answered_over old new ends view has there pending operates =
       let step : next_step target ends ≡ Operates entry.id entry.command = second_step laws.same target entry ends has in
       let second = over.back old new ends view operates (operate_taken target entry ends step there pending) in
@@ -170,8 +170,8 @@ module _ (laws : ControlLaws) (on : Link) (target check : ℕ) (entry : Entry) (
 
   -- the OPERATE, and what became of it
   operated_over : (old mid operated new : System) (ends : Ends) → check ≡ success → over.View mid ends → over.Kept [] old mid → HasSelected entry ends
-      → entry_of ends.book.entries entry.id ≡ Some entry → is_pending entry.state ≡ true → PassesBack on (Some entry.id) mid operated
-      → Passes on (Some entry.id) operated new → Accepted entry.id check entry.command over.Kept over.book old new
+      → entry_of ends.book.entries entry.id ≡ Some entry → is_pending entry.state ≡ true → PassesBack Happens itself on (Some entry.id) mid operated
+      → Passes Happens itself on (Some entry.id) operated new → Accepted entry.id check entry.command over.Kept over.book old new
   operated_over old mid operated new ends checks view before has there pending operates finishes =
       let a : AnsweredOver mid operated = answered_over mid operated ends view has there pending operates in
       let last = over.step operated new a.after a.view finishes.relays a.taken in
@@ -188,7 +188,7 @@ module _ (laws : ControlLaws) (on : Link) (target check : ℕ) (entry : Entry) (
 
   -- ---- its OPERATE comes first
 
-  pub ended_over : (old operated new : System) (a : AnsweredOver old operated) → PassesBack on (Some entry.id) operated new
+  pub ended_over : (old operated new : System) (a : AnsweredOver old operated) → PassesBack Happens itself on (Some entry.id) operated new
       → Ended over.View over.Kept target (told_to target a.after) [] operated new
   ended_over old operated new a finishes =
       let back = over.back operated new a.after a.view finishes a.taken in
@@ -203,7 +203,7 @@ module _ (laws : ControlLaws) (on : Link) (target check : ℕ) (entry : Entry) (
       }
 
   -- it ended with SUCCESS where the step that told the book passed
-  pub ended_good : (old operated new : System) (a : AnsweredOver old operated) → PassesBack on (Some entry.id) operated new → a.comes.status ≡ success
+  pub ended_good : (old operated new : System) (a : AnsweredOver old operated) → PassesBack Happens itself on (Some entry.id) operated new → a.comes.status ≡ success
   ended_good old operated new a finishes = (over.back operated new a.after a.view finishes a.taken).told a.comes.status a.comes.told
 
   -- what the book says after one step more
@@ -212,7 +212,7 @@ module _ (laws : ControlLaws) (on : Link) (target check : ℕ) (entry : Entry) (
   ended_says old operated ended new a e is = ap (λ (b : Ledger). status_at b entry.id) (is ∙ e.leaves.same ∙ e.is) ∙ a.comes.told
 
   begun_over : (old new : System) (ends : Ends) → over.View old ends → HasSelected entry ends
-      → entry_of ends.book.entries entry.id ≡ Some entry → is_pending entry.state ≡ true → IsAccepted on (Some entry.id) old new
+      → entry_of ends.book.entries entry.id ≡ Some entry → is_pending entry.state ≡ true → IsAccepted Happens itself on (Some entry.id) old new
       → Accepted entry.id check entry.command over.Kept over.book old new
   begun_over old new ends view has there pending accepted =
       let a : AnsweredOver old accepted.selected = answered_over old accepted.selected ends view has there pending accepted.selects in
@@ -230,7 +230,7 @@ module _ (laws : ControlLaws) (on : Link) (target check : ℕ) (entry : Entry) (
       }
 
   pub accepted_over : (old new : System) (ends : Ends) → over.View old ends → Starts target entry ends
-      → entry_of ends.book.entries entry.id ≡ Some entry → is_pending entry.state ≡ true → IsAccepted on (Some entry.id) old new
+      → entry_of ends.book.entries entry.id ≡ Some entry → is_pending entry.state ≡ true → IsAccepted Happens itself on (Some entry.id) old new
       → Accepted entry.id check entry.command over.Kept over.book old new
   accepted_over old new ends view (IsSelected has) there pending a = begun_over old new ends view has there pending a
   accepted_over old new ends view (Tells status other next told) there pending a =

@@ -6,6 +6,7 @@ use Rattle.std.proofs.lemmas.Bool.{and_parts}
 use Rattle.std.proofs.lemmas.List.Folds.{find-append}
 use Rattle.dnp_appfragment.specs.Fragments.{request_octets}
 use Rattle.dnp_concentrator.specs.BookOutputs.{can_relay, relay_check}
+use Rattle.dnp_concentrator.specs.Reserving.{is_reserved}
 use Rattle.dnp_concentrator.specs.Mapped.{command_below}
 use Rattle.dnp_concentrator.specs.Relaying.{Relaying, step_of}
 use Rattle.dnp_concentrator.specs.declared.span.Spans.{Spans}
@@ -53,12 +54,13 @@ pub record CleanLaws : Type 0 where
 
 -- ---- statuses
 
-pub relay_low : (spans : List Spans) (command : Command) → relay_check spans command < 128
-relay_low spans command = by (can_relay spans command)
+pub relay_low : (spans : List Spans) (reserved : Option Command) (command : Command) → relay_check spans reserved command < 128
+relay_low spans reserved command = by (can_relay spans command) (is_reserved reserved command)
   where
-    by : (b : Bool) → (if b then 0 else 4) < 128
-    by true = omega arith
-    by false = omega arith
+    by : (b taken : Bool) → (if b then (if taken then 5 else 0) else 4) < 128
+    by true true = omega arith
+    by true false = omega arith
+    by false taken = omega arith
 
 pub plain_low : (outputs setpoints : ℕ) (command : Command) → plain_check outputs setpoints command < 128
 plain_low outputs setpoints command = by (can_perform outputs setpoints command)
@@ -68,8 +70,8 @@ plain_low outputs setpoints command = by (can_perform outputs setpoints command)
     by false = omega arith
 
 -- what is relayed with SUCCESS is for a substation
-pub relayed_some : (spans : List Spans) (command : Command) → relay_check spans command ≡ success → command_below spans command ≡ None → ⊥
-relayed_some spans command good none =
+pub relayed_some : (spans : List Spans) (reserved : Option Command) (command : Command) → relay_check spans reserved command ≡ success → command_below spans command ≡ None → ⊥
+relayed_some spans reserved command good none =
     let never : 4 ≡ 0 = sym (rw none refl) ∙ good in
     omega (arith, never)
 

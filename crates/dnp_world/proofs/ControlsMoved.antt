@@ -1,5 +1,5 @@
 -- What a clean control has moved.
-use Rattle.std.proofs.Common.{◌≡◌, ℕ, ◌+◌, ◌<◌, true, List, [], ◌∷◌, ◌++◌, length, Option, Some, None, refl, sym, ap, ◌∙◌, subst, append-nil}
+use Rattle.std.proofs.Common.{◌≡◌, ℕ, ◌+◌, ◌<◌, true, [], ◌∷◌, ◌++◌, length, Option, Some, None, refl, sym, ap, ◌∙◌, subst, append-nil}
 use Rattle.std.specs.Prelude.{nat_lt, slice_get}
 use Rattle.std.specs.Option.{option_and_then, option_map}
 use Rattle.std.proofs.lemmas.Bool.{and_parts, ltb-true}
@@ -18,12 +18,13 @@ use Rattle.dnp_world.specs.ControlExchanges.{status_at}
 use Rattle.dnp_world.specs.ControlMoves.{ControlMoves}
 use Rattle.dnp_world.specs.Controls.{AtCentre, AtConcentrator, CanGo, IsAccepted, IsControl, IsControlFor, IsRefusedControl, IsRefusedOn, are_quiet_for, found_in, is_free_below, is_free_for, next_below, station_in}
 use Rattle.dnp_world.specs.ControlsInStep.{InStep}
-use Rattle.dnp_world.specs.Rounds.{is_quiet_at, is_quiet_on}
+use Rattle.dnp_world.specs.Rounds.{is_quiet_above, is_quiet_at, is_quiet_below, is_quiet_on}
 use Rattle.dnp_world.specs.SystemStanding.{IsStanding}
-use Rattle.dnp_world.specs.Systems.{SubstationState, System, has_station, link_at}
-use Rattle.dnp_world.specs.declared.event.Link.TheVariants.{Below}
+use Rattle.dnp_world.specs.SystemRuns.{Happens}
+use Rattle.dnp_world.specs.Systems.{SubstationState, System, has_station, itself, link_at}
+use Rattle.dnp_world.specs.declared.event.Link.TheVariants.{Above, Below}
 use Rattle.dnp_world.proofs.ControlBooks.{next_found as next_is_found}
-use Rattle.dnp_world.proofs.ControlsAbove.{KeepsAround, KeptAbove, ends_above, on, over_above}
+use Rattle.dnp_world.proofs.ControlsAbove.{KeepsAround, KeptAbove, ends_above, over_above}
 use Rattle.dnp_world.proofs.ControlsAccepted.{Accepted, Begins, accepted_over}
 use Rattle.dnp_world.proofs.ControlsBelow.{KeptBelow}
 use Rattle.dnp_world.proofs.ControlsClean.{CleanLaws, added_next, below_begins, free_above, free_below, next_above, none_is, none_mapped, plain_low, relay_low, relayed_some, same_lines, there_of}
@@ -34,7 +35,7 @@ use Rattle.dnp_world.proofs.RelaySteps.{next_has}
 use Rattle.dnp_world.proofs.RelayWidths.{below_fits}
 use Rattle.dnp_world.proofs.StepBooks.{added_carries, next_found}
 
-module _ (laws : CleanLaws) (old : System) {el : Elsewhere} (standing : IsStanding el old) (steps : InStep old) (entry : Entry)
+module _ (laws : CleanLaws) (centre : ℕ) (old : System) {el : Elsewhere} (standing : IsStanding el old) (steps : InStep old) (entry : Entry)
     (next : next_of old.centre.orders.entries 0 ≡ Some entry) (goes : is_free_for entry.id old.centre.link.progress ≡ true) where
   widths : HasWidths entry.command
   widths = (next_has (λ (e : Entry). HasWidths e.command) old.centre.orders.entries 0 entry steps.widths next).0
@@ -44,27 +45,31 @@ module _ (laws : CleanLaws) (old : System) {el : Elsewhere} (standing : IsStandi
 
   -- ---- above
 
+  -- the command whose point another centre's select reserves while it goes
+  abbrev names : Option Command
+  names = old.concentrator.reserved old.now
+
   abbrev AcceptedAbove : System → Type 0
   AcceptedAbove above =
-      Accepted entry.id (relay_check old.indices entry.command) entry.command (KeptAbove old.indices) (λ s. s.centre.orders) old above
+      Accepted entry.id (relay_check old.indices names entry.command) entry.command (KeptAbove old.indices) (λ s. s.centre.orders) old above
 
-  above_accepted : (above : System) → is_quiet_on old on ≡ true → IsAccepted on (Some entry.id) old above → AcceptedAbove above
+  above_accepted : (above : System) → is_quiet_above old ≡ true → IsAccepted Happens itself (Above centre) (Some entry.id) old above → AcceptedAbove above
   unfolding over_above
   above_accepted above quiet a =
-      accepted_over laws.controls on 0 (relay_check old.indices entry.command) entry (over_above laws.arriving old.indices entry.id entry.command)
-      (relay_low old.indices entry.command) old above (ends_above old [])
-      (record { going = []; is = refl; under = laws.quiet on old standing quiet; spans_are = standing.of_plan.middle_indices })
+      accepted_over laws.controls (Above centre) 0 (relay_check old.indices names entry.command) entry
+      (over_above laws.arriving centre old.indices names entry.id entry.command) (relay_low old.indices names entry.command) old above (ends_above old [])
+      (record { going = []; is = refl; under = laws.quiet (Above centre) old standing quiet; checked = (standing.of_plan.middle_indices, refl) })
       (above_starts laws.decides old entry standing steps quiet next goes) (next_found old.centre.orders.entries 0 entry steps.orders.rising next) pending a
 
   -- what a status above ends has operated nothing
-  above_rests : (new : System) (status : ℕ) → is_quiet_on old on ≡ true → IsRefusedOn on (Some entry.id) status old new
+  above_rests : (new : System) (status : ℕ) → is_quiet_above old ≡ true → IsRefusedOn Happens itself (Above centre) (Some entry.id) status old new
       → new.history.operated ≡ old.history.operated
   unfolding over_above
   above_rests new status quiet refused =
       let kept : KeptAbove old.indices [] old new =
-      refused_over laws.controls on 0 (relay_check old.indices entry.command) entry (over_above laws.arriving old.indices entry.id entry.command)
-      (relay_low old.indices entry.command) old new (ends_above old []) status
-      (record { going = []; is = refl; under = laws.quiet on old standing quiet; spans_are = standing.of_plan.middle_indices })
+      refused_over laws.controls (Above centre) 0 (relay_check old.indices names entry.command) entry
+      (over_above laws.arriving centre old.indices names entry.id entry.command) (relay_low old.indices names entry.command) old new (ends_above old []) status
+      (record { going = []; is = refl; under = laws.quiet (Above centre) old standing quiet; checked = (standing.of_plan.middle_indices, refl) })
       (above_starts laws.decides old entry standing steps quiet next goes) (next_found old.centre.orders.entries 0 entry steps.orders.rising next) pending refused in
       ap (λ a. a.history.operated) kept.keeps
 
@@ -109,7 +114,7 @@ module _ (laws : CleanLaws) (old : System) {el : Elsewhere} (standing : IsStandi
         ltb-true station (length above.concentrator.links)
         ((and_parts (nat_lt station (length above.substations)) (nat_lt station (length above.concentrator.links)) (under_has station [] [] above under)).1)
 
-    below_accepted : (new : System) → IsAccepted (Below station) (Some its.id) above new
+    below_accepted : (new : System) → IsAccepted Happens itself (Below station) (Some its.id) above new
         → Accepted its.id (plain_check was.outputs.outputs was.outputs.setpoints command) command (KeptBelow station) (λ s. s.concentrator.controls) above new
     unfolding its over_below
     below_accepted new a =
@@ -134,7 +139,7 @@ module _ (laws : CleanLaws) (old : System) {el : Elsewhere} (standing : IsStandi
         its_next) refl a
 
     -- what a status below ends, too
-    below_rests : (new : System) (status : ℕ) → IsRefusedOn (Below station) (next_below above station) status above new
+    below_rests : (new : System) (status : ℕ) → IsRefusedOn Happens itself (Below station) (next_below above station) status above new
         → new.history.operated ≡ old.history.operated
     unfolding its over_below
     below_rests new status refused =
@@ -157,14 +162,14 @@ module _ (laws : CleanLaws) (old : System) {el : Elsewhere} (standing : IsStandi
         (below_fits old.indices entry.command (station, command) widths is)))
         (next_found above.concentrator.controls.entries station its
         (subst (λ (b : Ledger). IsSound b) (sym controls) ((added_carries laws.sound old.concentrator.controls station command).sound steps.controls)).rising
-        its_next) refl (subst (λ (o : Option ℕ). IsRefusedOn (Below station) o status above new) its_id refused) in
+        its_next) refl (subst (λ (o : Option ℕ). IsRefusedOn Happens itself (Below station) o status above new) its_id refused) in
         kept.operated ∙ append-nil above.history.operated ∙ ap (λ a. a.history.operated) keeps
 
     moved : (new : System) → found_in old.centre.orders.entries entry.id ≡ Some entry
-        → IsAccepted (Below station) (next_below above station) above new → ControlMoves entry.id old new
+        → IsAccepted Happens itself (Below station) (next_below above station) above new → ControlMoves entry.id old new
     unfolding its
     moved new found a =
-        let b = below_accepted new (subst (λ (o : Option ℕ). IsAccepted (Below station) o above new) its_id a) in
+        let b = below_accepted new (subst (λ (o : Option ℕ). IsAccepted Happens itself (Below station) o above new) its_id a) in
         record {
           station = station;
           command = command;
@@ -180,10 +185,10 @@ module _ (laws : CleanLaws) (old : System) {el : Elsewhere} (standing : IsStandi
   found = next_is_found old.centre.orders.entries 0 entry steps.orders.rising steps.orders.from_1 next
 
   goes_below : (station : ℕ) (command : Command) (new : System) → command_below old.indices entry.command ≡ Some (station, command)
-      → are_quiet_for old (Some station) ≡ true → is_free_below old (Some station) ≡ true → IsControlFor (Some station) entry.id old new
+      → are_quiet_for old (Some station) ≡ true → is_free_below old (Some station) ≡ true → IsControlFor Happens itself centre (Some station) entry.id old new
       → ControlMoves entry.id old new
   goes_below station command new is quiet free (above, first, second) =
-      let both = and_parts (is_quiet_on old on) (is_quiet_on old (Below station)) quiet in
+      let both = and_parts (is_quiet_above old) (is_quiet_below old station) quiet in
       let frees = and_parts _ _ free in
       let ends = and_parts (has_station old station) _ both.1 in
       let rests = and_parts _ (is_quiet_at (slice_get old.substations station)) ends.1 in
@@ -192,10 +197,10 @@ module _ (laws : CleanLaws) (old : System) {el : Elsewhere} (standing : IsStandi
       (none_is (link_at old.concentrator station).progress frees.1) both.1 was there new found second
 
   rests_below : (station : ℕ) (command : Command) (above new : System) (status : ℕ) → command_below old.indices entry.command ≡ Some (station, command)
-      → are_quiet_for old (Some station) ≡ true → is_free_below old (Some station) ≡ true → IsAccepted on (Some entry.id) old above
-      → IsRefusedOn (Below station) (next_below above station) status above new → new.history.operated ≡ old.history.operated
+      → are_quiet_for old (Some station) ≡ true → is_free_below old (Some station) ≡ true → IsAccepted Happens itself (Above centre) (Some entry.id) old above
+      → IsRefusedOn Happens itself (Below station) (next_below above station) status above new → new.history.operated ≡ old.history.operated
   rests_below station command above new status is quiet free first refused =
-      let both = and_parts (is_quiet_on old on) (is_quiet_on old (Below station)) quiet in
+      let both = and_parts (is_quiet_above old) (is_quiet_below old station) quiet in
       let frees = and_parts _ _ free in
       let ends = and_parts (has_station old station) _ both.1 in
       let rests = and_parts _ (is_quiet_at (slice_get old.substations station)) ends.1 in
@@ -211,12 +216,12 @@ module _ (laws : CleanLaws) (old : System) {el : Elsewhere} (standing : IsStandi
       ap (option_and_then (λ (x : Entry). option_map (λ (p : ℕ × Command). p.0) (command_below old.indices x.command))) found
       ∙ ap (option_map (λ (p : ℕ × Command). p.0)) e
 
-  above_quiet : (o : Option ℕ) → are_quiet_for old o ≡ true → is_quiet_on old on ≡ true
+  above_quiet : (o : Option ℕ) → are_quiet_for old o ≡ true → is_quiet_above old ≡ true
   above_quiet None quiet = quiet
-  above_quiet (Some station) quiet = (and_parts (is_quiet_on old on) (is_quiet_on old (Below station)) quiet).0
+  above_quiet (Some station) quiet = (and_parts (is_quiet_above old) (is_quiet_below old station) quiet).0
 
   refused_entry : (new : System) (status : ℕ) → are_quiet_for old (station_in old entry.id) ≡ true → is_free_below old (station_in old entry.id) ≡ true
-      → IsRefusedControl entry.id status old new → new.history.operated ≡ old.history.operated
+      → IsRefusedControl Happens itself centre entry.id status old new → new.history.operated ≡ old.history.operated
   refused_entry new status quiet free (AtCentre refused) = above_rests new status (above_quiet (station_in old entry.id) quiet) refused
   refused_entry new status quiet free (AtConcentrator its above is first refused) = by (command_below old.indices entry.command) refl
     where
@@ -226,33 +231,33 @@ module _ (laws : CleanLaws) (old : System) {el : Elsewhere} (standing : IsStandi
           let same : its ≡ p.0 = same_Some its p.0 (sym is ∙ station_is (Some p) e) in
           rests_below p.0 p.1 above new status e (subst (λ (x : Option ℕ). are_quiet_for old x ≡ true) (station_is (Some p) e) quiet)
           (subst (λ (x : Option ℕ). is_free_below old x ≡ true) (station_is (Some p) e) free) first
-          (subst (λ (n : ℕ). IsRefusedOn (Below n) (next_below above n) status above new) same refused)
+          (subst (λ (n : ℕ). IsRefusedOn Happens itself (Below n) (next_below above n) status above new) same refused)
 
   clean_entry : (new : System) → are_quiet_for old (station_in old entry.id) ≡ true → is_free_below old (station_in old entry.id) ≡ true
-      → IsControl entry.id old new → ControlMoves entry.id old new
+      → IsControl Happens itself centre entry.id old new → ControlMoves entry.id old new
   clean_entry new quiet free control = by (command_below old.indices entry.command) refl
     where
       by : (o : Option (ℕ × Command)) → command_below old.indices entry.command ≡ o → ControlMoves entry.id old new
       by None e =
           let above : AcceptedAbove new =
           above_accepted new (subst (λ (x : Option ℕ). are_quiet_for old x ≡ true) (station_is None e) quiet)
-          (subst (λ (x : Option ℕ). IsControlFor x entry.id old new) (station_is None e) control) in
-          absurd (relayed_some old.indices entry.command above.checks e)
+          (subst (λ (x : Option ℕ). IsControlFor Happens itself centre x entry.id old new) (station_is None e) control) in
+          absurd (relayed_some old.indices names entry.command above.checks e)
       by (Some p) e =
           goes_below p.0 p.1 new e (subst (λ (x : Option ℕ). are_quiet_for old x ≡ true) (station_is (Some p) e) quiet)
           (subst (λ (x : Option ℕ). is_free_below old x ≡ true) (station_is (Some p) e) free)
-          (subst (λ (x : Option ℕ). IsControlFor x entry.id old new) (station_is (Some p) e) control)
+          (subst (λ (x : Option ℕ). IsControlFor Happens itself centre x entry.id old new) (station_is (Some p) e) control)
 
-pub clean_moves : CleanLaws → (id : ℕ) (old new : System) {el : Elsewhere} → IsStanding el old → InStep old → CanGo id old → IsControl id old new
+pub clean_moves : CleanLaws → (centre id : ℕ) (old new : System) {el : Elsewhere} → IsStanding el old → InStep old → CanGo id old → IsControl Happens itself centre id old new
     → ControlMoves id old new
-clean_moves laws id old new standing steps can control =
+clean_moves laws centre id old new standing steps can control =
     let n = next_above old id can.1 in
-    subst (λ (i : ℕ). CanGo i old → IsControl i old new → ControlMoves i old new) n.id_is
-    (λ can control. clean_entry laws old standing steps n.entry n.next (free_above old n.entry.id can.1) new can.0 (free_below old n.entry.id can.1) control) can control
+    subst (λ (i : ℕ). CanGo i old → IsControl Happens itself centre i old new → ControlMoves i old new) n.id_is
+    (λ can control. clean_entry laws centre old standing steps n.entry n.next (free_above old n.entry.id can.1) new can.0 (free_below old n.entry.id can.1) control) can control
 
-pub refused_rests : CleanLaws → (id status : ℕ) (old new : System) {el : Elsewhere} → IsStanding el old → InStep old → CanGo id old
-    → IsRefusedControl id status old new → new.history.operated ≡ old.history.operated
-refused_rests laws id status old new standing steps can control =
+pub refused_rests : CleanLaws → (centre id status : ℕ) (old new : System) {el : Elsewhere} → IsStanding el old → InStep old → CanGo id old
+    → IsRefusedControl Happens itself centre id status old new → new.history.operated ≡ old.history.operated
+refused_rests laws centre id status old new standing steps can control =
     let n = next_above old id can.1 in
-    subst (λ (i : ℕ). CanGo i old → IsRefusedControl i status old new → new.history.operated ≡ old.history.operated) n.id_is
-    (λ can control. refused_entry laws old standing steps n.entry n.next (free_above old n.entry.id can.1) new status can.0 (free_below old n.entry.id can.1) control) can control
+    subst (λ (i : ℕ). CanGo i old → IsRefusedControl Happens itself centre i status old new → new.history.operated ≡ old.history.operated) n.id_is
+    (λ can control. refused_entry laws centre old standing steps n.entry n.next (free_above old n.entry.id can.1) new status can.0 (free_below old n.entry.id can.1) control) can control

@@ -10,7 +10,8 @@ use Rattle.dnp_objects.specs.declared.command.Command.{Command}
 use Rattle.dnp_world.specs.ControlAnswers.{operated_by}
 use Rattle.dnp_world.specs.ControlExchanges.{Ends, HasSelected, Refused, SelectComesTo, Stands}
 use Rattle.dnp_world.specs.Controls.{First, IsRefusedOn, IsTold, PassesBack, Second, Third}
-use Rattle.dnp_world.specs.Systems.{System}
+use Rattle.dnp_world.specs.SystemRuns.{Happens}
+use Rattle.dnp_world.specs.Systems.{System, itself}
 use Rattle.dnp_world.specs.declared.event.Link.{Link}
 use Rattle.dnp_world.proofs.ControlAccepts.{Began, second_step, select_goes}
 use Rattle.dnp_world.proofs.ControlArrivals.{ControlLaws}
@@ -26,7 +27,7 @@ none_operated status command other = by (status == success) refl
 module _ (laws : ControlLaws) (on : Link) (target check : ℕ) (entry : Entry) (over : OverLink on target entry.id check entry.command) (low : check < 128) where
   -- what its OPERATE came to, where that is told and is no SUCCESS
   operate_rests : (mid operated new : System) (a : Answered over.View over.Kept target check entry mid operated) (status : ℕ)
-      → IsTold on (Some entry.id) status operated new → over.Kept [] mid new
+      → IsTold Happens itself on (Some entry.id) status operated new → over.Kept [] mid new
   operate_rests mid operated new a status told =
       let last = over.step operated new a.after a.view told.relays a.taken in
       let says : Some a.comes.status ≡ Some status =
@@ -38,7 +39,7 @@ module _ (laws : ControlLaws) (on : Link) (target check : ℕ) (entry : Entry) (
   -- ---- its SELECT was answered before
 
   begun_rests : (old new : System) (ends : Ends) (status : ℕ) → over.View old ends → HasSelected entry ends
-      → entry_of ends.book.entries entry.id ≡ Some entry → is_pending entry.state ≡ true → IsRefusedOn on (Some entry.id) status old new
+      → entry_of ends.book.entries entry.id ≡ Some entry → is_pending entry.state ≡ true → IsRefusedOn Happens itself on (Some entry.id) status old new
       → over.Kept [] old new
   begun_rests old new ends status view has there pending (First told) =
       (over.step old new ends view told.relays (operate_taken target entry ends (second_step laws.same target entry ends has) there pending)).kept
@@ -56,7 +57,7 @@ module _ (laws : ControlLaws) (on : Link) (target check : ℕ) (entry : Entry) (
   -- ---- its SELECT is asked, or the book is told at once
 
   told_rests : (old new : System) (ends : Ends) (status : ℕ) → over.View old ends → IsTaken target ends
-      → ((selected : System) → PassesBack on (Some entry.id) old selected → ⊥) → IsRefusedOn on (Some entry.id) status old new → over.Kept [] old new
+      → ((selected : System) → PassesBack Happens itself on (Some entry.id) old selected → ⊥) → IsRefusedOn Happens itself on (Some entry.id) status old new → over.Kept [] old new
   told_rests old new ends status view taken never (First told) = (over.step old new ends view told.relays taken).kept
   told_rests old new ends status view taken never (Second selected selects told) = absurd (never selected selects)
   told_rests old new ends status view taken never (Third selected operated selects operates told) = absurd (never selected selects)
@@ -64,7 +65,7 @@ module _ (laws : ControlLaws) (on : Link) (target check : ℕ) (entry : Entry) (
   -- once it was selected, or the book can be told its status
   selected_rests : (old selected new : System) (e : Ends) (status : ℕ) → over.View selected e → over.Kept [] old selected
       → entry_of e.book.entries entry.id ≡ Some entry → is_pending entry.state ≡ true → SelectComesTo target check entry e
-      → IsTold on (Some entry.id) status selected new → over.Kept [] old new
+      → IsTold Happens itself on (Some entry.id) status selected new → over.Kept [] old new
   selected_rests old selected new e status seen kept here pending comes told =
       over.join [] [] old selected new kept (over.step selected new e seen told.relays (taken comes)).kept
     where
@@ -73,8 +74,8 @@ module _ (laws : ControlLaws) (on : Link) (target check : ℕ) (entry : Entry) (
       taken (Refused other next says) = finish_taken target entry.id check entry e next here (pending_open entry.state pending)
 
   operated_rests : (old selected operated new : System) (e : Ends) (status : ℕ) → over.View selected e → over.Kept [] old selected
-      → entry_of e.book.entries entry.id ≡ Some entry → is_pending entry.state ≡ true → PassesBack on (Some entry.id) selected operated
-      → IsTold on (Some entry.id) status operated new → SelectComesTo target check entry e → over.Kept [] old new
+      → entry_of e.book.entries entry.id ≡ Some entry → is_pending entry.state ≡ true → PassesBack Happens itself on (Some entry.id) selected operated
+      → IsTold Happens itself on (Some entry.id) status operated new → SelectComesTo target check entry e → over.Kept [] old new
   operated_rests old selected operated new e status seen kept here pending operates told (Stands good seq asked has) =
       over.join [] [] old selected new kept
       (operate_rests selected operated new (answered_over laws on target check entry over low selected operated e seen has here pending operates) status told)
@@ -85,7 +86,7 @@ module _ (laws : ControlLaws) (on : Link) (target check : ℕ) (entry : Entry) (
 
   -- so nothing is performed
   pub refused_over : (old new : System) (ends : Ends) (status : ℕ) → over.View old ends → Starts target entry ends
-      → entry_of ends.book.entries entry.id ≡ Some entry → is_pending entry.state ≡ true → IsRefusedOn on (Some entry.id) status old new
+      → entry_of ends.book.entries entry.id ≡ Some entry → is_pending entry.state ≡ true → IsRefusedOn Happens itself on (Some entry.id) status old new
       → over.Kept [] old new
   refused_over old new ends status view (IsSelected has) there pending refused = begun_rests old new ends status view has there pending refused
   refused_over old new ends status view (Tells first other next told) there pending refused =
@@ -100,7 +101,7 @@ module _ (laws : ControlLaws) (on : Link) (target check : ℕ) (entry : Entry) (
       Selected selected = (e : Ends) × over.View selected e × over.Kept [] old selected × (entry_of e.book.entries entry.id ≡ Some entry)
           × SelectComesTo target check entry e
 
-      comes : (selected : System) → PassesBack on (Some entry.id) old selected → Selected selected
+      comes : (selected : System) → PassesBack Happens itself on (Some entry.id) old selected → Selected selected
       comes selected selects =
           let first = over.back old selected ends view selects taken in
           let began : Began target check entry first.commands first.after =
@@ -113,7 +114,7 @@ module _ (laws : ControlLaws) (on : Link) (target check : ℕ) (entry : Entry) (
             began.comes,
           )
 
-      by : IsRefusedOn on (Some entry.id) status old new → over.Kept [] old new
+      by : IsRefusedOn Happens itself on (Some entry.id) status old new → over.Kept [] old new
       by (First told) = (over.step old new ends view told.relays taken).kept
       by (Second selected selects told) =
           let (e, seen, kept, here, came) = comes selected selects in

@@ -22,10 +22,9 @@ use Rattle.dnp_world.specs.ControlAnswers.{ConfirmsReport}
 use Rattle.dnp_world.specs.ControlExchanges.{CanBegin, Ends, HasSelected, next_step, status_at}
 use Rattle.dnp_world.specs.Controls.{found_in, is_free_for}
 use Rattle.dnp_world.specs.ControlsInStep.{GoesWith, InStep, IsOfEntry, IsUnspent}
-use Rattle.dnp_world.specs.Rounds.{is_quiet_on}
+use Rattle.dnp_world.specs.Rounds.{is_quiet_above}
 use Rattle.dnp_world.specs.SystemStanding.{IsStanding, lists_of, seen_above}
 use Rattle.dnp_world.specs.Systems.{System}
-use Rattle.dnp_world.specs.declared.event.Link.TheVariants.{Above}
 use Rattle.dnp_world.proofs.BelowKeeps.{some_of}
 use Rattle.dnp_world.proofs.ControlAccepts.{status_told}
 use Rattle.dnp_world.proofs.ControlBooks.{next_found as next_is_found}
@@ -45,7 +44,7 @@ open_not_held true e = absurd (cc)
 open_not_held false e = refl
 
 module _ (equal : IsEqualityTest command_eq) (s : System) {el : Elsewhere} (entry : Entry) (h : IsStanding el s) (steps : InStep s)
-    (quiet : is_quiet_on s Above ≡ true) (next : next_of s.centre.orders.entries 0 ≡ Some entry) where
+    (quiet : is_quiet_above s ≡ true) (next : next_of s.centre.orders.entries 0 ≡ Some entry) where
   abbrev ends : Ends
   ends = ends_above s []
 
@@ -143,7 +142,7 @@ module _ (equal : IsEqualityTest command_eq) (s : System) {el : Elsewhere} (entr
   by_progress None there free g = Begins (begins (rw (idle, there, next) refl))
   by_progress (Some p) there free g = by_stage p there (eqb-true p.id entry.id free) g p.stage refl
 
-pub above_starts : IsEqualityTest command_eq → (s : System) {el : Elsewhere} (entry : Entry) → IsStanding el s → InStep s → is_quiet_on s Above ≡ true
+pub above_starts : IsEqualityTest command_eq → (s : System) {el : Elsewhere} (entry : Entry) → IsStanding el s → InStep s → is_quiet_above s ≡ true
     → next_of s.centre.orders.entries 0 ≡ Some entry → is_free_for entry.id s.centre.link.progress ≡ true → Starts 0 entry (ends_above s [])
 above_starts equal s entry h steps quiet next free =
     by_progress equal s entry h steps quiet next s.centre.link.progress refl free steps.above

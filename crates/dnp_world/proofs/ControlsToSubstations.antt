@@ -12,8 +12,8 @@ use Rattle.dnp_world.specs.Arriving.{UnderWay, channel_at}
 use Rattle.dnp_world.specs.ControlExchanges.{AnswersAll, ChecksAs, Ends, HearsAll, next_step, status_at, told_to}
 use Rattle.dnp_world.specs.Controls.{Passes, PassesBack}
 use Rattle.dnp_world.specs.SystemEvents.{Refuses, RelaysOn, Steps, requests_of, told}
-use Rattle.dnp_world.specs.SystemRuns.{IfThere}
-use Rattle.dnp_world.specs.Systems.{SubstationState, System, has_station, link_at, station_of}
+use Rattle.dnp_world.specs.SystemRuns.{Happens, IfThere}
+use Rattle.dnp_world.specs.Systems.{SubstationState, System, has_station, itself, link_at, station_of}
 use Rattle.dnp_world.specs.declared.event.Link.TheVariants.{Below}
 use Rattle.dnp_world.proofs.ArrivingLinks.{length_set}
 use Rattle.dnp_world.proofs.ControlsAbove.{ArrivingLaws}
@@ -87,14 +87,14 @@ relayed_below laws station was old relayed going there long under (Steps pending
           (ap (λ (s : System). s.history.operated) sends.after);
     }
 
-told_below : (station id : ℕ) (old relayed : System) (ends : Ends) → Passes (Below station) (Some id) old relayed
+told_below : (station id : ℕ) (old relayed : System) (ends : Ends) → Passes Happens itself (Below station) (Some id) old relayed
     → relayed.concentrator.controls ≡ told_to station ends → SaysSuccess (told_to station ends) id
 told_below station id old relayed ends p controls status says = p.passes status (ap (λ (b : Ledger). status_at b id) controls ∙ says)
 
 pub back_from : ArrivingLaws → PerformsLaw → (station id : ℕ) (command : Command) (outputs setpoints : ℕ) (was : SubstationState) (old new : System)
     (going : List (List ℕ)) → slice_get old.substations station ≡ Some was → station < length old.concentrator.links
     → UnderWay (Below station) going [] old → was.outputs.outputs ≡ outputs → was.outputs.setpoints ≡ setpoints
-    → PassesBack (Below station) (Some id) old new → IsTaken station (ends_below station old was going)
+    → PassesBack Happens itself (Below station) (Some id) old new → IsTaken station (ends_below station old was going)
     → Back (SeenBelow station outputs setpoints) (KeptBelow station) station id (plain_check outputs setpoints command) command old new
     (ends_below station old was going)
 back_from laws law station id command outputs setpoints was old new going there long under outputs_are setpoints_are p taken =

@@ -1,5 +1,5 @@
 -- What events make of the points of substations, and which rows they make.
-use Rattle.std.proofs.Common.{◌≡◌, ℕ, Bool, true, false, ◌&&◌, ◌==◌, if◌then◌else◌, List, [], ◌∷◌, ◌++◌, append-nil, append_assoc, map, length, nat_lt, Option, Some, None, option_map, ◌⊎◌, inl, inr, refl, sym, ap, ◌∙◌, subst, eq-eqb, ne_eqb}
+use Rattle.std.proofs.Common.{◌≡◌, ℕ, Bool, true, false, ◌&&◌, ◌==◌, if◌then◌else◌, List, [], ◌∷◌, ◌++◌, append-nil, length, nat_lt, Option, Some, None, option_map, ◌⊎◌, inl, inr, refl, sym, ap, ◌∙◌, subst, eq-eqb, ne_eqb}
 use Rattle.std.specs.Prelude.{option_to_list, slice_get, slice_set}
 use Rattle.std.specs.List.{flat_map}
 use Rattle.std.proofs.lemmas.Bool.{cases_eq}
@@ -16,7 +16,7 @@ use Rattle.dnp_pointdb.specs.declared.reading.Reading.{Reading}
 use Rattle.dnp_world.specs.Behind.{made_at}
 use Rattle.dnp_world.specs.Joined.{rows_made_by}
 use Rattle.dnp_world.specs.Steady.{issued_by, made_from, moves_at, points_at, rows_made_at}
-use Rattle.dnp_world.specs.SystemRuns.{Happens, RunsTo}
+use Rattle.dnp_world.specs.SystemRuns.{Happens}
 use Rattle.dnp_world.specs.Systems.{System, SubstationState, has_station, station_of}
 use Rattle.dnp_world.specs.declared.event.Event.{Event}
 use Rattle.dnp_world.specs.declared.event.Event.TheVariants as event
@@ -154,7 +154,7 @@ same_moves old new same (event.Restart (place.Substation station)) i =
     ap (λ (b : Bool). if b && station == i then (let first : Move = Restart in first) ∷ [] else []) (same station)
 same_moves old new same e i = refl
 
-all_moves : (old new : System) → ((station : ℕ) → has_station new station ≡ has_station old station) → (events : List Event) (i : ℕ)
+pub all_moves : (old new : System) → ((station : ℕ) → has_station new station ≡ has_station old station) → (events : List Event) (i : ℕ)
     → flat_map (λ e. moves_at new e i) events ≡ flat_map (λ e. moves_at old e i) events
 all_moves old new same [] i = refl
 all_moves old new same (e ∷ events) i =
@@ -232,16 +232,3 @@ made_behind laws old next e events h i =
     (sym (event_points laws old next e m i))
     ∙ ap (λ (moves : List Move). rows_made_at old (e ∷ []) i ++ made_from (points_at next i) moves)
     (sym (all_moves old next (same_stations old next m.touched) events i))
-
--- those of a list, and then those of the list after it
-pub made_after : ((old next : System) (e : Event) (events : List Event) → Happens old e next → (i : ℕ)
-    → rows_made_at old (e ∷ events) i ≡ rows_made_at old (e ∷ []) i ++ rows_made_at next events i) → (old mid : System) (first second : List Event)
-    → RunsTo old first mid → (i : ℕ) → rows_made_at old (first ++ second) i ≡ rows_made_at old first i ++ rows_made_at mid second i
-made_after law old mid [] second same i =
-    ap (λ (s : System). rows_made_at s second i) (sym same)
-    ∙ ap (λ (rows : List Row). rows ++ rows_made_at mid second i) (sym (none_made (points_at old i)))
-made_after law old mid (e ∷ first) second (next, h, ran) i =
-    law old next e (first ++ second) h i
-    ∙ ap (λ (rows : List Row). rows_made_at old (e ∷ []) i ++ rows) (made_after law next mid first second ran i)
-    ∙ sym (append_assoc (rows_made_at old (e ∷ []) i) (rows_made_at next first i) (rows_made_at mid second i))
-    ∙ ap (λ (rows : List Row). rows ++ rows_made_at mid second i) (sym (law old next e first h i))

@@ -73,7 +73,7 @@ lines_same (Below station) Change old new c =
     ∙ ap (λ (xs : List State). record (ends_of old) { outstations = xs })
     (map-set_same station_of old.substations station c.is c.was
     (ap station_of c.changed.1 ∙ ap station_of (sym (get_or_from_slice_get old.substations station c.was c.was c.there))))
-lines_same Above Change old new c = ap ends_of c.1
+lines_same (Above centre) Change old new c = ap ends_of c.1
 
 there_of : (xs : List SubstationState) (station : ℕ) (was : SubstationState) → slice_get xs station ≡ Some was
     → slice_get (map station_of xs) station ≡ Some (station_of was)
@@ -137,7 +137,7 @@ opens : (on : Link) (old new : System) → OpensOn on old new → Moved none old
 opens (Below station) old new c =
     changes station _ _ old new _ (LinkUsed station LinkOpens) refl refl (λ was is s. refl)
     (λ was is there steps. record { call = Opens old.now; after = ap station_of steps.after; moved = refl }) c
-opens Above old new m = moved_none old new (CentreUsed LinkOpens) (ap ends_of m.after)
+opens (Above centre) old new m = moved_none old new (CentreUsed LinkOpens) (ap ends_of m.after)
 
 hangs_up : (on : Link) (e : End) (old new : System) → HangsUpOn on e old new → Moved none old new
 hangs_up (Below station) end.Master old new c =
@@ -145,8 +145,8 @@ hangs_up (Below station) end.Master old new c =
     (λ was is there after. record { call = Waits; after = ap station_of after; moved = refl }) c
 hangs_up (Below station) end.Outstation old new c =
     calls_at station _ _ old new (λ was is s. refl) (λ was is there after. record { call = HangsUp; after = ap station_of after; moved = refl }) c
-hangs_up Above end.Master old new after = moved_none old new (CentreUsed LinkHangsUp) (ap ends_of after)
-hangs_up Above end.Outstation old new after = rests old new (ap ends_of after)
+hangs_up (Above centre) end.Master old new after = moved_none old new (CentreUsed LinkHangsUp) (ap ends_of after)
+hangs_up (Above centre) end.Outstation old new after = rests old new (ap ends_of after)
 
 answers : (given : List (List ℕ)) (now : ℕ) (released : List Row) (was is : SubstationState) (lines : ChannelState)
     → SubstationAnswers given now released (record was { channel = lines }) is → IsCalled [] was is
@@ -157,14 +157,14 @@ middle_answers : (given : List (List ℕ)) (old new : System) → MiddleAnswers 
 middle_answers [] old new same = same_system old new same
 middle_answers (fragment ∷ others) old new m =
     let c = old.concentrator in
-    moved_none old new (Performs c.indices (performed_in c.core (middle_panel c) old.now fragment))
+    moved_none old new (Performs c.indices (performed_in c.core (middle_panel c old.now) old.now fragment))
     (ap ends_of m.after)
 
 receives : (on : Link) (now : ℕ) (fragment : List ℕ) (r : Result Taking MasterFault) (old new : System)
     → receive_of (relaying_at old on).master now fragment ≡ r → MasterReceives on r old new → Moved none old new
 receives (Below station) now fragment (Ok t) old new is h = moved_none old new (LinkUsed station (LinkHears now fragment t is))
     (lines_same (Below station) _ (taken_on old (Below station) t) new h.1)
-receives Above now fragment (Ok t) old new is h = moved_none old new (CentreUsed (LinkHears now fragment t is))
+receives (Above centre) now fragment (Ok t) old new is h = moved_none old new (CentreUsed (LinkHears now fragment t is))
     (ap ends_of h.1.1)
 receives on now fragment (Err fault) old new is same = same_system old new same
 
@@ -180,9 +180,9 @@ comes : (left : LineState → LineState) (on : Link) (w : Way) (old new : System
 comes left (Below station) way.Down old new c =
     calls_at station _ _ old new (λ was is s. refl)
     (λ was is there h. answers h.given old.now c.released was is _ h.came) c.came
-comes left Above way.Down old new c = middle_answers c.given (record old { above = _ }) new c.came
+comes left (Above centre) way.Down old new c = middle_answers c.given (record old { above = _ }) new c.came
 comes left (Below station) way.Up old new c = comes_up left (Below station) old new c
-comes left Above way.Up old new c = comes_up left Above old new c
+comes left (Above centre) way.Up old new c = comes_up left (Above centre) old new c
 
 reads_by : (station : ℕ) (kind : Kind) (index : ℕ) (reading : Reading) (was : SubstationState) (r : Result (Option LaneRow) ChangeFault)
     (old new : System) → slice_get old.substations station ≡ Some was → answer_of was.core.points kind index reading ≡ r
@@ -213,7 +213,7 @@ moved_by_reading station kind index reading old new c =
 asks : (own : Bool) (on : Link) (task : Task) (old new : System) → AsksOn own on task old new → Moved none old new
 asks true (Below station) task old new c = moved_none old new (LinkUsed station (LinkAsks old.now task))
     (lines_same (Below station) _ (with_link old station _) new c)
-asks true Above task old new c = moved_none old new (CentreUsed (LinkAsks old.now task))
+asks true (Above centre) task old new c = moved_none old new (CentreUsed (LinkAsks old.now task))
     (ap ends_of c.1)
 asks false on task old new same = same_system old new same
 
@@ -227,7 +227,7 @@ issues (Some above) station command old new is h =
 relays : (on : Link) (old new : System) → RelaysOn on old new → Moved none old new
 relays (Below station) old new (Steps pending sends) = moved_none old new (LinkRelays station old.now)
     (lines_same (Below station) _ (with_link (told old (Below station) (step_on old (Below station))) station _) new sends)
-relays Above old new (Steps pending sends) = moved_none old new (CentreRelays old.now)
+relays (Above centre) old new (Steps pending sends) = moved_none old new (CentreRelays old.now)
     (ap ends_of sends.1)
 relays on old new (Refuses refused same) = same_system old new same
 
@@ -240,12 +240,12 @@ master_ticks (Below station) old new after = by _ after
     by : (b : Bool) → new ≡ (if b then with_lost ticked station else ticked) → Moved none old new
     by true is = moved_none old new (LinkUsed station (LinkTicks old.now)) (ap ends_of is)
     by false is = moved_none old new (LinkUsed station (LinkTicks old.now)) (ap ends_of is)
-master_ticks Above old new after = moved_none old new (CentreUsed (LinkTicks old.now)) (ap ends_of after)
+master_ticks (Above centre) old new after = moved_none old new (CentreUsed (LinkTicks old.now)) (ap ends_of after)
 
 ticks : (on : Link) (old new : System) → OutstationTicks on old new → Moved none old new
 ticks (Below station) old new c =
     calls_at station _ _ old new (λ was is s. refl) (λ was is there steps. record { call = Ticks old.now; after = ap station_of steps.after; moved = refl }) c
-ticks Above old new m = rests old new (ap ends_of m.after)
+ticks (Above centre) old new m = rests old new (ap ends_of m.after)
 
 gone_same : (xs : List SubstationState) → map station_of (map master_gone xs) ≡ map station_of xs
 gone_same [] = refl
@@ -273,12 +273,12 @@ does old new (event.Change station kind index reading) h =
     if_moved (has_station old station) (system.Reads station kind index reading) station (PointReads kind index reading ∷ []) old new
     (moved_by_reading station kind index reading old new) h
 does old new (event.Ask on task) h = if_there (has_link old on) (AsksOn (is_own task) on task) old new (asks (is_own task) on task old new) h
-does old new (event.Issue station command) h = issues (command_above old.centre.indices station command) station command old new refl h
+does old new (event.Issue centre station command) h = issues (command_above old.centre.indices station command) station command old new refl h
 does old new (event.Relay on) h = if_there (has_link old on) (RelaysOn on) old new (relays on old new) h
 does old new (event.Pass ms) h = rests old new (ap ends_of h)
 does old new (event.Tick on end.Master) h = if_there (has_link old on) (MasterTicks on) old new (master_ticks on old new) h
 does old new (event.Tick on end.Outstation) h = if_there (has_link old on) (OutstationTicks on) old new (ticks on old new) h
-does old new (event.Restart place.Centre) h = hangs_up Above end.Master old new h
+does old new (event.Restart (place.Centre centre)) h = hangs_up (Above centre) end.Master old new h
 does old new (event.Restart place.Concentrator) h = moved_none old new (AllHangUp)
     (ap ends_of h ∙ ap (λ (xs : List State). record (after_used (ends_of old) AllHangUp) { outstations = xs }) (gone_same old.substations))
 does old new (event.Restart (place.Substation station)) h =

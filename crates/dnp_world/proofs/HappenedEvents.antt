@@ -65,7 +65,7 @@ none_listed times n m (plan ∷ plans) =
     ap (λ (rows : List Row). at_station n rows ++ listed_from lane_rows_of (n + 1) (fresh_substations times (suc m) plans)) (empty_rows plan.lanes)
     ∙ none_listed times (n + 1) (suc m) plans
 
-pub none_happened : (plan : Plan) (queue : Stock) (journal : Archive) (controls orders : Ledger)
-    → happened (report_of (fresh_system plan queue journal controls orders)) ≡ []
-none_happened plan queue journal controls orders =
+pub none_happened : (plan : Plan) (centre : ℕ) (queue : Stock) (journal : Archive) (controls orders : Ledger)
+    → happened (report_of (fresh_system plan centre queue journal controls orders)) ≡ []
+none_happened plan centre queue journal controls orders =
     ap (λ (rows : List (ℕ × Row)). rows ++ []) (none_listed plan.times 0 0 plan.substations)

@@ -44,6 +44,7 @@ pub mod JoinedHappenings
 pub mod JoinedRuns
 pub mod JoinedConclusions
 pub mod MasterTakes
+pub mod EndTakes
 mod SystemPlaces
 mod IdleLines
 mod OneLinkIdle
@@ -52,6 +53,7 @@ mod SystemRefusals
 mod SystemArrivals
 mod SystemTasks
 mod SystemComing
+mod MiddleEnds
 mod SystemRuns
 mod CarriedRuns
 mod SystemSteps
@@ -140,3 +142,17 @@ mod ControlsClean
 mod ControlsMoved
 mod Reopening
 mod Restarted
+mod EachCentre
+mod Elsewhere
+mod LeftBooks
+mod FromThere
+mod Both
+mod Seen
+mod MovesForAll
+mod CentrePlaces
+mod CentreIssues
+mod WholeEvents
+mod CentreReads
+mod CentreStores
+mod NewWholes
+mod SystemCalls

@@ -3,14 +3,14 @@ use Rattle.std.proofs.Common.{◌≡◌, ℕ, true, false, zero, suc, ◌+◌, �
 use Rattle.std.specs.Prelude.{All, slice_get, IfSome}
 use Rattle.std.proofs.lemmas.List.Elements.{All-head, All-nil, All-tail, All-weaker}
 use Rattle.std.proofs.lemmas.List.Sorted.{IsPermutation-refl}
-use Rattle.dnp_concentrator.specs.Addresses.{outstation_address}
+use Rattle.dnp_concentrator.specs.Addresses.{centre_address, outstation_address}
 use Rattle.dnp_concentrator.specs.Below.{link_in, new_link, new_links}
 use Rattle.dnp_concentrator.specs.BookOutputs.{book_panel}
 use Rattle.dnp_concentrator.specs.IndexMap.{IsMap, IsTooWide, Overlaps}
 use Rattle.dnp_concentrator.specs.Plan.{IsCapacity, KeepsSubLimits, map_of}
 use Rattle.dnp_concentrator.specs.PointsAbove.{points_above, points_at, points_below}
 use Rattle.dnp_concentrator.specs.Relaying.{Relaying}
-use Rattle.dnp_concentrator.specs.declared.addresses.TheConstants.{CENTRE, CONCENTRATOR_ABOVE, MASTER_BELOW}
+use Rattle.dnp_concentrator.specs.declared.addresses.TheConstants.{CONCENTRATOR_ABOVE, MASTER_BELOW}
 use Rattle.dnp_concentrator.specs.declared.plan.Plan.{Plan}
 use Rattle.dnp_concentrator.specs.declared.plan.SubPlan.{SubPlan}
 use Rattle.dnp_concentrator.specs.declared.span.Spans.{Spans}
@@ -160,9 +160,9 @@ none_listed times n number (s ∷ plans) =
 
 -- ---- the system
 
-nothing_in : (plan : Plan) (queue : Stock) (journal : Archive) (controls orders : Ledger) → AreEmpty queue journal controls orders
-    → kept_in (fresh_system plan queue journal controls orders) ≡ nothing_kept
-nothing_in plan queue journal controls orders empty =
+nothing_in : (plan : Plan) (centre : ℕ) (queue : Stock) (journal : Archive) (controls orders : Ledger) → AreEmpty queue journal controls orders
+    → kept_in (fresh_system plan centre queue journal controls orders) ≡ nothing_kept
+nothing_in plan centre queue journal controls orders empty =
     let kept : List (ℕ × Row) → List Row → List Row → ℕ → List Entry → List Entry → Kept =
     λ buffered rows events lost entries ordered. record nothing_kept {
       buffered = buffered;
@@ -182,18 +182,18 @@ nothing_in plan queue journal controls orders empty =
     ∙ ap (λ (xs : List Entry). kept [] [] [] 0 xs orders.entries) empty.no_controls
     ∙ ap (λ (xs : List Entry). kept [] [] [] 0 [] xs) empty.no_orders
 
-pub nothing_to_show : (plan : Plan) (queue : Stock) (journal : Archive) (controls orders : Ledger) → AreEmpty queue journal controls orders
-    → report_of (fresh_system plan queue journal controls orders) ≡ nothing_shown
-nothing_to_show plan queue journal controls orders empty =
-    ap (shown_of (map_of plan)) (nothing_in plan queue journal controls orders empty)
+pub nothing_to_show : (plan : Plan) (centre : ℕ) (queue : Stock) (journal : Archive) (controls orders : Ledger) → AreEmpty queue journal controls orders
+    → report_of (fresh_system plan centre queue journal controls orders) ≡ nothing_shown
+nothing_to_show plan centre queue journal controls orders empty =
+    ap (shown_of (map_of plan)) (nothing_in plan centre queue journal controls orders empty)
 
 pub masters_ask : (times : Times) (plans : List SubPlan) → map points_asked (map (new_link times) plans) ≡ map points_below plans
 masters_ask times [] = refl
 masters_ask times (s ∷ plans) = ap (λ (ps : List points.Plan). points_below s ∷ ps) (masters_ask times plans)
 
-new_of_plan : NewLaws → (plan : Plan) (queue : Stock) (journal : Archive) (controls orders : Ledger) → CanBegin plan
-    → IsOfPlan plan (fresh_system plan queue journal controls orders)
-new_of_plan laws plan queue journal controls orders can = record {
+new_of_plan : NewLaws → (plan : Plan) (centre : ℕ) (queue : Stock) (journal : Archive) (controls orders : Ledger) → CanBegin plan
+    → IsOfPlan plan (fresh_system plan centre queue journal controls orders)
+new_of_plan laws plan centre queue journal controls orders can = record {
   limits = can.limits;
   is_map = laws.is_map (map_of plan) can.narrow can.apart;
   indices = refl;
@@ -203,23 +203,26 @@ new_of_plan laws plan queue journal controls orders can = record {
   masters = masters_ask plan.times plan.substations;
 }
 
-pub stands_at_first : NewLaws → (plan : Plan) (queue : Stock) (journal : Archive) (controls orders : Ledger) → CanBegin plan
-    → AreEmpty queue journal controls orders → IsStanding alone (fresh_system plan queue journal controls orders)
-stands_at_first laws plan queue journal controls orders can empty =
-    let new : System = fresh_system plan queue journal controls orders in
+pub stands_at_first : NewLaws → (plan : Plan) (centre : ℕ) (queue : Stock) (journal : Archive) (controls orders : Ledger) → CanBegin plan
+    → AreEmpty queue journal controls orders
+    → (standing : IsStanding alone (fresh_system plan centre queue journal controls orders)) × (standing.links.above.performed ≡ [])
+stands_at_first laws plan centre queue journal controls orders can empty =
+    let new : System = fresh_system plan centre queue journal controls orders in
     let new_queue : AreNew queue = record { sound = empty.sound; none = empty.no_rows } in
     let joined : (i : ℕ) → AreJoined queue plan.times 0 plan.substations i =
     all_joined laws queue new_queue plan.times 0 plan.substations can.limits.substations can.lanes in
-    let links : Links = record { below = λ i. fresh_link (lanes_in queue (slice_get new.substations i)); above = fresh_link queue } in
-    record {
-      plan = plan;
-      of_plan = new_of_plan laws plan queue journal controls orders can;
-      links = links;
-      below = λ i. joined_in queue (link_in (new_links plan) i) (slice_get new.substations i) (joined i).joined;
-      above = new_joined_to laws (new_database (points_above plan)) (points_above plan) plan.times queue
-          (book_panel (map_of plan) controls).performed CENTRE CONCENTRATOR_ABOVE
-          (laws.sound_points (points_above plan) (sound_above plan can.limits (laws.is_map (map_of plan) can.narrow can.apart))) new_queue;
-      behind = subst (IsBehind (map_of plan) alone links) (sym (nothing_in plan queue journal controls orders empty))
-          (laws.at_first (map_of plan) links (λ i. untouched laws (lanes_in queue (slice_get new.substations i)) (joined i).new)
-          (untouched laws queue new_queue));
-    }
+    let links : Links = record { below = λ i. fresh_link (lanes_in queue (slice_get new.substations i)); above = fresh_link queue } in (
+      record {
+        plan = plan;
+        of_plan = new_of_plan laws plan centre queue journal controls orders can;
+        links = links;
+        below = λ i. joined_in queue (link_in (new_links plan) i) (slice_get new.substations i) (joined i).joined;
+        above = new_joined_to laws (new_database (points_above plan)) (points_above plan) plan.times queue
+            (book_panel (map_of plan) None controls).performed (centre_address centre) CONCENTRATOR_ABOVE
+            (laws.sound_points (points_above plan) (sound_above plan can.limits (laws.is_map (map_of plan) can.narrow can.apart))) new_queue;
+        behind = subst (IsBehind (map_of plan) alone links) (sym (nothing_in plan centre queue journal controls orders empty))
+            (laws.at_first (map_of plan) links (λ i. untouched laws (lanes_in queue (slice_get new.substations i)) (joined i).new)
+            (untouched laws queue new_queue));
+      },
+      refl,
+    )

@@ -75,3 +75,9 @@ no_rows octets fault e = ap answered_events e
 
 pub extended : (ok : Bool) (old other new : List Row) → new ≡ (cond ok (old ++ other) old) → ok ≡ true → new ≡ old ++ other
 extended ok old other new is done = is ∙ ap (λ (b : Bool). cond b (old ++ other) old) done
+
+-- one that was given room, and then the rows
+pub all_listed : (ok : Bool) (old roomy rows dropped new : List Row) → roomy ≡ old → rows ≡ dropped → new ≡ (cond ok (roomy ++ rows) roomy) → ok ≡ true
+    → new ≡ old ++ dropped
+all_listed ok old roomy rows dropped new same rows_are is done =
+    extended ok roomy rows new is done ∙ ap (λ (xs : List Row). xs ++ rows) same ∙ ap (λ (xs : List Row). old ++ xs) rows_are

@@ -1,5 +1,5 @@
 -- A link that was opened is quiet, where its outstation sends no unsolicited responses.
-use Rattle.std.proofs.Common.{◌≡◌, ℕ, ◌<◌, Bool, true, false, not, ◌&&◌, if◌then◌else◌, List, [], ◌∷◌, ◌++◌, length, Option, Some, refl, sym, ap, ◌∙◌, subst, ltb-true}
+use Rattle.std.proofs.Common.{◌≡◌, ℕ, zero, suc, arith, ◌<◌, Bool, true, false, not, ◌&&◌, if◌then◌else◌, List, [], ◌∷◌, ◌++◌, length, Option, Some, refl, sym, ap, ◌∙◌, subst, ltb-true}
 use Rattle.std.specs.Prelude.{nat_lt, slice_get}
 use Rattle.std.proofs.lemmas.Bool.{and_parts, both_ways, cond-false}
 use Rattle.dnp_concentrator.specs.Relaying as relaying
@@ -13,17 +13,21 @@ use Rattle.dnp_outstation.specs.Links.{begun}
 use Rattle.dnp_outstation.specs.Offer.{pushed}
 use Rattle.dnp_outstation.specs.State.{Core, State, Step, is_free, is_quiet, still}
 use Rattle.dnp_pointdb.specs.declared.times.Times.{Times}
+use Rattle.dnp_eventbuf.specs.declared.pair.TheConstants.{CENTRES}
+use Rattle.dnp_world.specs.Centres.{HappensToAll, centre_of, is_there, seen_at}
 use Rattle.dnp_world.specs.Channels.{ChannelState, GoUp, are_quiet, cleared, is_quiet_line}
 use Rattle.dnp_world.specs.Opening.{OpensQuiet, reports_at, reports_on}
 use Rattle.dnp_world.specs.Rounds.{is_quiet_at, is_quiet_on}
 use Rattle.dnp_world.specs.SystemEvents.{OpensOn, with_link, with_substation}
 use Rattle.dnp_world.specs.SystemRuns.{Happens, IfThere, RunsTo}
 use Rattle.dnp_world.specs.Systems.{SubstationState, System, has_link, has_station, link_at, middle_of, station_of}
+use Rattle.dnp_world.specs.Wholes.{Whole}
 use Rattle.dnp_world.specs.declared.event.Event.{Event}
 use Rattle.dnp_world.specs.declared.event.Event.TheVariants.{Open}
 use Rattle.dnp_world.specs.declared.event.Link.{Link}
 use Rattle.dnp_world.specs.declared.event.Link.TheVariants.{Below, Above}
 use Rattle.dnp_world.proofs.ArrivingLinks.{has_set, length_set}
+use Rattle.dnp_world.proofs.EachCentre.{no_such}
 use Rattle.dnp_world.proofs.ListedAt.{set_here}
 use Rattle.dnp_world.proofs.SystemPlans.{link_here}
 
@@ -118,8 +122,8 @@ opens_below station old new has off e =
     ∙ both_true (has_station last station) (is_idle (link_at last.concentrator station).master && is_quiet_at (slice_get last.substations station)) has_last
     (both_true (is_idle (link_at last.concentrator station).master) (is_quiet_at (slice_get last.substations station)) idle quiet)
 
-opens_above : (old new : System) → reports_on new Above ≡ false → OpensOn Above old new → is_quiet_on new Above ≡ true
-opens_above old new off e =
+opens_above : (centre : ℕ) (old new : System) → reports_on new (Above centre) ≡ false → OpensOn (Above centre) old new → is_quiet_on new (Above centre) ≡ true
+opens_above centre old new off e =
     let q : OpenedQuiet new.concentrator.core new.above =
     opened_quiet (middle_of old.concentrator) old.now old.above new.above new.concentrator.core (ap (λ (s : System). s.concentrator.core) e.after) off
     e.sent in
@@ -131,9 +135,17 @@ pub opens_quiet : (on : Link) (old new : System) → has_link old on ≡ true �
     → is_quiet_on new on ≡ true
 opens_quiet (Below station) old new has off h =
     opens_below station old new has off (subst (λ (b : Bool). IfThere b (OpensOn (Below station)) old new) has h)
-opens_quiet Above old new has off h = opens_above old new off h
+opens_quiet (Above centre) old new has off h = opens_above centre old new off h
 
--- ---- after a list of events
+-- ---- after a list of events of the whole
+
+-- the event as the centre of the link sees it
+opened_there : (on : Link) (old new : Whole) → is_there (centre_of on) ≡ true → HappensToAll old (Open on) new
+    → Happens (seen_at (centre_of on) old) (Open on) (seen_at (centre_of on) new)
+opened_there (Below station) old new there h = h 0 (omega arith)
+opened_there (Above zero) old new there h = h 0 (omega arith)
+opened_there (Above (suc zero)) old new there h = h 1 (omega arith)
+opened_there (Above (suc (suc n))) old new there h = absurd (both_ways (nat_lt (suc (suc n)) CENTRES) (no_such n) there)
 
 -- a link that isn't there before its opening isn't there after it
 last_opens : (on : Link) (b : Bool) (old new : System) → has_link old on ≡ b → has_link new on ≡ true → reports_on new on ≡ false
@@ -143,12 +155,16 @@ last_opens on false old new before has off h =
     let same : new ≡ old = subst (λ (b : Bool). IfThere b (OpensOn on) old new) before h in
     absurd (both_ways (has_link new on) (ap (λ (s : System). has_link s on) same ∙ before) has)
 
-ends_quiet : (on : Link) (events : List Event) (old new : System) → has_link new on ≡ true → reports_on new on ≡ false
-    → RunsTo old (events ++ Open on ∷ []) new → is_quiet_on new on ≡ true
-ends_quiet on [] old new has off (next, h, end) =
-    last_opens on (has_link old on) old new refl has off (subst (λ (s : System). Happens old (Open on) s) (sym end) h)
-ends_quiet on (event ∷ events) old new has off (next, h, rest) = ends_quiet on events next new has off rest
+ends_quiet : (on : Link) (events : List Event) (old new : Whole) → is_there (centre_of on) ≡ true → has_link (seen_at (centre_of on) new) on ≡ true
+    → reports_on (seen_at (centre_of on) new) on ≡ false → RunsTo HappensToAll old (events ++ Open on ∷ []) new
+    → is_quiet_on (seen_at (centre_of on) new) on ≡ true
+ends_quiet on [] old new there has off (next, h, end) =
+    last_opens on (has_link (seen_at (centre_of on) old) on) (seen_at (centre_of on) old) (seen_at (centre_of on) new) refl has off
+    (opened_there on old new there (subst (λ (w : Whole). HappensToAll old (Open on) w) (sym end) h))
+ends_quiet on (event ∷ events) old new there has off (next, h, rest) = ends_quiet on events next new there has off rest
 
-pub runs_quiet : (events : List Event) (old new : System) → RunsTo old events new → OpensQuiet events new
+pub runs_quiet : (events : List Event) (old new : Whole) → RunsTo HappensToAll old events new → OpensQuiet events new
 runs_quiet events old new ran =
-    λ on before is has off. ends_quiet on before old new has off (subst (λ (es : List Event). RunsTo old es new) is ran)
+    λ on before is has off.
+    let both = and_parts (is_there (centre_of on)) (has_link (seen_at (centre_of on) new) on) has in
+    ends_quiet on before old new both.0 both.1 off (subst (λ (es : List Event). RunsTo HappensToAll old es new) is ran)

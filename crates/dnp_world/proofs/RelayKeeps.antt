@@ -17,7 +17,7 @@ use Rattle.dnp_world.specs.Link.{Link}
 use Rattle.dnp_world.specs.SystemEvents.{RelaysOn, Refuses, Steps}
 use Rattle.dnp_world.specs.SystemStanding.{lists_of, seen_below, IsJoinedBelow, IsStanding, Keeps}
 use Rattle.dnp_world.specs.Systems.{SubstationState, System, has_station, link_at, middle_of, station_of}
-use Rattle.dnp_world.proofs.AboveEvents.{on, with_ends}
+use Rattle.dnp_world.proofs.AboveEvents.{with_ends}
 use Rattle.dnp_world.proofs.AboveKeeps.{Above, above_follows, none_listed}
 use Rattle.dnp_world.proofs.BelowCalls.{has_link_to, link_keeps, with_link_to}
 use Rattle.dnp_world.proofs.BelowEvents.{both_as, none_behind, nothing_gone, nothing_listed, with_both}
@@ -77,10 +77,10 @@ relays_below laws old new {el = el} station has h i (Steps pending sends) =
     (step_goes laws.requests (station_of was) (lists_of l) old.now r book.entries station was.channel lines l step refl
     (step_widths r book station step refl inside) before.joined sends.changed.0)))
 
-pub relays_above : RelayLaws → (old new : System) {el : Elsewhere} (station : ℕ) → IsStanding el old → InStep old → RelaysOn on old new
+pub relays_above : RelayLaws → (centre : ℕ) (old new : System) {el : Elsewhere} (station : ℕ) → IsStanding el old → InStep old → RelaysOn (link.Above centre) old new
     → Keeps el station [] old new
-relays_above laws old new station h i (Refuses refused same) = same_keeps station old new h same
-relays_above laws old new {el = el} station h i (Steps pending sends) =
+relays_above laws centre old new station h i (Refuses refused same) = same_keeps station old new h same
+relays_above laws centre old new {el = el} station h i (Steps pending sends) =
     let r : Relaying = old.centre.link in
     let book : Ledger = old.centre.orders in
     let step : Step = step_of r book.entries 0 in

@@ -119,18 +119,24 @@ of_orders (e ∷ entries) all =
     All-cons FitsEntry e entries (All-head FitsOrder (order_of e) (orders_in entries) all)
     (of_orders entries (All-tail FitsOrder (order_of e) (orders_in entries) all))
 
-pub controls_fit : CommandLaws → (s : System) {el : Elsewhere} → IsStanding el s → All FitsEntry s.centre.orders.entries
-    → All FitsEntry s.concentrator.controls.entries
-controls_fit laws s {el = el} h all =
+-- what the link above performed can be sent
+pub performed_fit : CommandLaws → (s : System) {el : Elsewhere} (h : IsStanding el s) → All FitsEntry s.centre.orders.entries
+    → All HasWidths h.links.above.performed
+performed_fit laws s h all =
     let l : Link = h.links.above in
     let orders : List Entry = s.centre.orders.entries in
-    let controls : List Entry = s.concentrator.controls.entries in
     let asked : All HasWidths l.asked =
     all_counted command_eq laws.commands HasWidths l.asked (commands_in orders)
     (λ test. omega (arith, h.behind.asked_above.at_most test, (picked is_used command_of orders).at_most test))
     (All-map HasWidths command_of orders all) in
-    let performed : All HasWidths l.performed =
-    all_counted command_eq laws.commands HasWidths l.performed l.asked (laws.performed l h.behind.above_stands).at_most asked in
+    all_counted command_eq laws.commands HasWidths l.performed l.asked (laws.performed l h.behind.above_stands).at_most asked
+
+pub controls_fit : CommandLaws → (s : System) {el : Elsewhere} → IsStanding el s → All FitsEntry s.centre.orders.entries
+    → All FitsEntry s.concentrator.controls.entries
+controls_fit laws s {el = el} h all =
+    let l : Link = h.links.above in
+    let controls : List Entry = s.concentrator.controls.entries in
+    let performed : All HasWidths l.performed = performed_fit laws s h all in
     of_orders controls
     (all_counted (pair_eq nat_eq command_eq) laws.orders FitsOrder (orders_in controls)
     (commands_below s.indices l.performed ++ commands_below s.indices el.performed) (λ test. omega (arith, h.behind.relayed.same test))

@@ -92,7 +92,7 @@ lines_after : (on : Link) (Change : ChannelState → ChannelState → Type 0) (o
     → WriteOne old new
 lines_after (Below station) Change old x new w c =
     after old x new w (ap (λ (s : System). s.concentrator) c.after) (ap (λ (s : System). s.centre) c.after)
-lines_after Above Change old x new w c = after old x new w (ap (λ (s : System). s.concentrator) c.1) (ap (λ (s : System). s.centre) c.1)
+lines_after (Above centre) Change old x new w c = after old x new w (ap (λ (s : System). s.concentrator) c.1) (ap (λ (s : System). s.centre) c.1)
 
 -- a substation changes, and what its change makes of the rest
 changes_after : (station : ℕ) (Change : SubstationState → SubstationState → Type 0) (rest : SubstationState → SubstationState → System → System)
@@ -114,7 +114,7 @@ none s = record { concentrator = same_middle s.concentrator; centre = same_centr
 lines_places : (on : Link) (Change : ChannelState → ChannelState → Type 0) (x new : System) → LinesChange on Change x new
     → (new.concentrator ≡ x.concentrator) × (new.centre ≡ x.centre)
 lines_places (Below station) Change x new c = (ap (λ (s : System). s.concentrator) c.after, ap (λ (s : System). s.centre) c.after)
-lines_places Above Change x new c = (ap (λ (s : System). s.concentrator) c.1, ap (λ (s : System). s.centre) c.1)
+lines_places (Above centre) Change x new c = (ap (λ (s : System). s.concentrator) c.1, ap (λ (s : System). s.centre) c.1)
 
 from_same : (old between new : System) → (between.concentrator ≡ old.concentrator) × (between.centre ≡ old.centre) → WriteOne between new
     → WriteOne old new
@@ -157,7 +157,7 @@ module _ (f : Forgets) where
 
   on_link : (on : Link) (old : System) (r : Relaying) → hung_up r ≡ hung_up (relaying_at old on) → WriteOne old (with_relaying old on r)
   on_link (Below station) old r same = with_link_one old station r same
-  on_link Above old r same = with_centre_one old r same
+  on_link (Above centre) old r same = with_centre_one old r same
 
   -- the outstation above takes a step, in which it changes its queue or performs commands
   middle_one : (c : ConcentratorState) (core : Core) (queue : Stock) (controls : Ledger) → restarted_core core ≡ restarted_core c.core
@@ -171,7 +171,7 @@ module _ (f : Forgets) where
       let r : Relaying = link_at old.concentrator station in
       changes_after station _ _ old (with_link old station (relaying.opened r)) new (λ was is s. (refl, refl))
       (with_link_one old station (relaying.opened r) (f.link_opened r)) h
-  opens Above old new h =
+  opens (Above centre) old new h =
       let c : ConcentratorState = old.concentrator in
       after old (with_centre_link (record old { concentrator = _ }) (relaying.opened old.centre.link)) new (record {
         concentrator = middle_one c _ _ _ (f.opened (middle_of c) old.now) (inr refl);
@@ -184,18 +184,18 @@ module _ (f : Forgets) where
       changes_after station _ _ old (with_lost (with_link old station (relaying.hung_up r)) station) new (λ was is s. (refl, refl))
       (middle_only old _ (lost_one old.concentrator station (relaying.hung_up r) (f.link_again r))) h
   hangs_up (Below station) end.Outstation old new h = changes_after station _ _ old old new (λ was is s. (refl, refl)) (none old) h
-  hangs_up Above end.Master old new h =
+  hangs_up (Above centre) end.Master old new h =
       by_places old (with_centre_link old (relaying.hung_up old.centre.link)) new _
       (with_centre_one old (relaying.hung_up old.centre.link) (f.link_again old.centre.link)) h refl refl
-  hangs_up Above end.Outstation old new h =
+  hangs_up (Above centre) end.Outstation old new h =
       let c : ConcentratorState = old.concentrator in
       by_places old (record old { concentrator = record c { core = closed c.core } }) new _
       (middle_only old _ (record { above = f.closes c.core; below = refl; indices = refl; points = refl; one = inl refl })) h refl refl
 
   -- what it says of each case of what came
   heard_one : (c : ConcentratorState) (now : ℕ) (fragment : List ℕ) (x : Case) → case_of c.core fragment ≡ x
-      → ((connection_after (middle_of c) (middle_panel c) now fragment).state.lanes ≡ c.queue)
-      ⊎ (all_added c.indices c.controls (performed_for c.core (middle_panel c) now fragment x) ≡ c.controls)
+      → ((connection_after (middle_of c) (middle_panel c now) now fragment).state.lanes ≡ c.queue)
+      ⊎ (all_added c.indices c.controls (performed_for c.core (middle_panel c now) now fragment x) ≡ c.controls)
   heard_one c now fragment case.PassedOver is = inr refl
   heard_one c now fragment case.Confirms is = inr refl
   heard_one c now fragment case.ConfirmsUnsolicited is = inr refl
@@ -203,14 +203,14 @@ module _ (f : Forgets) where
   heard_one c now fragment case.Again is = inr refl
   heard_one c now fragment case.Waits is = inr refl
   heard_one c now fragment case.Asks is =
-      inl (f.releases (middle_of c) (middle_panel c) now fragment (λ other. cc (sym is ∙ other)) (λ other. cc (sym is ∙ other))).lanes
+      inl (f.releases (middle_of c) (middle_panel c now) now fragment (λ other. cc (sym is ∙ other)) (λ other. cc (sym is ∙ other))).lanes
 
   middle_answers : (given : List (List ℕ)) (old new : System) → MiddleAnswers given old new → WriteOne old new
   middle_answers [] old new same = same_system old new same
   middle_answers (fragment ∷ others) old new m =
       let c : ConcentratorState = old.concentrator in
       after old (record old { concentrator = _ }) new
-      (middle_only old _ (middle_one c _ _ _ (f.received (middle_of c) (middle_panel c) old.now fragment)
+      (middle_only old _ (middle_one c _ _ _ (f.received (middle_of c) (middle_panel c old.now) old.now fragment)
       (heard_one c old.now fragment (case_of c.core fragment) refl)))
       (ap (λ (s : System). s.concentrator) m.after) (ap (λ (s : System). s.centre) m.after)
 
@@ -235,8 +235,8 @@ module _ (f : Forgets) where
         };
         centre = same_centre old.centre;
       }) h.1
-  receives Above now fragment (Ok t) old new is h =
-      after old (taken_on old Above t) new (record {
+  receives (Above centre) now fragment (Ok t) old new is h =
+      after old (taken_on old (Above centre) t) new (record {
         concentrator = same_middle old.concentrator;
         centre = record { link = taken_link old.centre.link now fragment t is; indices = refl; one = inr refl };
       }) (ap (λ (s : System). s.concentrator) h.1.1) (ap (λ (s : System). s.centre) h.1.1)
@@ -252,11 +252,11 @@ module _ (f : Forgets) where
 
   comes : (left : LineState → LineState) (on : Link) (w : Way) (old new : System) → ComesOn left on w old new → WriteOne old new
   comes left (Below station) way.Down old new c = changes_after station _ _ old old new (λ was is s. (refl, refl)) (none old) c.came
-  comes left Above way.Down old new c =
+  comes left (Above centre) way.Down old new c =
       from_same old (record old { above = record old.above { down = left old.above.down; outstation_port = c.port } }) new (refl, refl)
       (middle_answers c.given (record old { above = record old.above { down = left old.above.down; outstation_port = c.port } }) new c.came)
   comes left (Below station) way.Up old new c = comes_up left (Below station) old new c
-  comes left Above way.Up old new c = comes_up left Above old new c
+  comes left (Above centre) way.Up old new c = comes_up left (Above centre) old new c
 
   reads_by : (station : ℕ) (kind : Kind) (index : ℕ) (reading : Reading) (r : Result (Option LaneRow) ChangeFault) (was : SubstationState) (old new : System)
       → ReadsBy r station kind index reading was old new → WriteOne old new
@@ -289,10 +289,10 @@ module _ (f : Forgets) where
         points = refl;
         one = inl refl;
       })) sends
-  relays Above old new (Steps granted sends) =
+  relays (Above centre) old new (Steps granted sends) =
       let r : Relaying = old.centre.link in
-      let step : relaying.Step = step_on old Above in
-      after old (with_centre_link (told old Above step) (relaying.relaying_after r old.now step)) new
+      let step : relaying.Step = step_on old (Above centre) in
+      after old (with_centre_link (told old (Above centre) step) (relaying.relaying_after r old.now step)) new
       (centre_only old _ (record { link = f.link_relayed r old.now step; indices = refl; one = inl refl }))
       (ap (λ (s : System). s.concentrator) sends.1) (ap (λ (s : System). s.centre) sends.1)
   relays on old new (Refuses refused same) = same_system old new same
@@ -311,14 +311,14 @@ module _ (f : Forgets) where
           by_places old (with_lost ticked station) new _
           (middle_only old _ (lost_one old.concentrator station (relaying.ticked r old.now) (f.link_ticked r old.now))) is refl refl
       by false is = by_places old ticked new _ (with_link_one old station (relaying.ticked r old.now) (f.link_ticked r old.now)) is refl refl
-  master_ticks Above old new h =
+  master_ticks (Above centre) old new h =
       let r : Relaying = old.centre.link in
       by_places old (with_centre_link old (relaying.ticked r old.now)) new _
       (with_centre_one old (relaying.ticked r old.now) (f.link_ticked r old.now)) h refl refl
 
   ticks : (on : Link) (old new : System) → OutstationTicks on old new → WriteOne old new
   ticks (Below station) old new h = changes_after station _ _ old old new (λ was is s. (refl, refl)) (none old) h
-  ticks Above old new m =
+  ticks (Above centre) old new m =
       let c : ConcentratorState = old.concentrator in
       after old (record old { concentrator = _ }) new
       (middle_only old _ (middle_one c _ _ _ (f.ticked (middle_of c) old.now) (inr refl)))
@@ -353,12 +353,12 @@ module _ (f : Forgets) where
       if_there (has_station old station) (system.Reads station kind index reading) old new
       (λ c. reads_by station kind index reading (answer_of c.was.core.points kind index reading) c.was old new c.reads) h
   writes_one old new (event.Ask on task) h = if_there (has_link old on) (AsksOn (is_own task) on task) old new (asks (is_own task) on task old new) h
-  writes_one old new (event.Issue station command) h = issues (command_above old.centre.indices station command) station command old new h
+  writes_one old new (event.Issue centre station command) h = issues (command_above old.centre.indices station command) station command old new h
   writes_one old new (event.Relay on) h = if_there (has_link old on) (RelaysOn on) old new (relays on old new) h
   writes_one old new (event.Pass ms) h = by_places old old new _ (none old) h refl refl
   writes_one old new (event.Tick on end.Master) h = if_there (has_link old on) (MasterTicks on) old new (master_ticks on old new) h
   writes_one old new (event.Tick on end.Outstation) h = if_there (has_link old on) (OutstationTicks on) old new (ticks on old new) h
-  writes_one old new (event.Restart place.Centre) h = hangs_up Above end.Master old new h
+  writes_one old new (event.Restart (place.Centre centre)) h = hangs_up (Above centre) end.Master old new h
   writes_one old new (event.Restart place.Concentrator) h = restarts old new h
   writes_one old new (event.Restart (place.Substation station)) h =
       if_there (has_station old station) (SubstationRestarts station) old new

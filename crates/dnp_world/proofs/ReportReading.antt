@@ -28,8 +28,11 @@ all_over_0 rows count from_1 counted =
     ap (λ (xs : List Numbered). take count xs) (all_from_0 rows from_1) ∙ take_all count rows (omega (arith, counted))
 
 -- the rows of the first lanes were gathered
-pub record IsGathering {L : Type 0} (honest : L → Type 0) (is_stopped : L → Bool) (contents : L → Stock) (start lanes : L) (rows : List Numbered) (number : ℕ) : Type 0 where
+pub record IsGathering {L Place : Type 0} (honest : L → Type 0) (is_stopped : L → Bool) (contents : L → Stock) (beside : L → List Stock) (place : L → Place)
+    (start lanes : L) (rows : List Numbered) (number : ℕ) : Type 0 where
+  pub stands : place lanes ≡ place start
   pub held : honest lanes → honest start
+  pub kept : honest lanes → beside lanes ≡ beside start
   pub same : honest lanes → contents lanes ≡ contents start
   pub sound : honest lanes → 0 < number → IsSound (contents lanes)
   pub gathered : honest lanes → rows ≡ flat_map (λ lane. lane.rows) (take number (contents lanes).lanes)

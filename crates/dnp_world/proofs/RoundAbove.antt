@@ -21,9 +21,10 @@ use Rattle.dnp_world.specs.Arriving.{Arrives, HearsAt, IsClearOn, UnderWay, conf
 use Rattle.dnp_world.specs.Channels.{ChannelState, GoDown, are_quiet}
 use Rattle.dnp_world.specs.Movement.{Leave, MovesAbove, Released, Rested}
 use Rattle.dnp_outstation.specs.Polled.{Portion, no_rows, poll_octets}
-use Rattle.dnp_world.specs.Rounds.{IsRound, events_polled, is_quiet_on}
+use Rattle.dnp_world.specs.Rounds.{IsRound, events_polled, is_quiet_above}
 use Rattle.dnp_world.specs.SystemEvents.{LinesChange, MasterReceives, MiddleAnswers, SendsDown, centre_taken, relaying_at, taken_above, with_centre_link}
-use Rattle.dnp_world.specs.Systems.{CentreState, ConcentratorState, History, SubstationState, System, middle_of, middle_panel}
+use Rattle.dnp_world.specs.SystemRuns.{Happens}
+use Rattle.dnp_world.specs.Systems.{CentreState, ConcentratorState, History, SubstationState, System, itself, middle_of, middle_panel}
 use Rattle.dnp_world.specs.declared.event.Link.{Link}
 use Rattle.dnp_world.specs.declared.event.Link.TheVariants.{Above}
 use Rattle.dnp_world.specs.declared.link_event.Way.TheVariants.{Down, Up}
@@ -31,29 +32,25 @@ use Rattle.dnp_world.proofs.RoundBelow.{LineLaws}
 use Rattle.dnp_world.proofs.RoundExchange.{Answer, Exchange, Exchanges, Frees, Passes, StationLaws, master_after}
 use Rattle.dnp_world.proofs.RoundSteps.{asks_so, one_arrives}
 
--- the link between concentrator and centre
-abbrev pub on : Link
-on = Above
-
 -- ---- the two stations
 
 abbrev step_in : ConcentratorState → ℕ → List ℕ → Step
-step_in c now fragment = connection_after (middle_of c) (middle_panel c) now fragment
+step_in c now fragment = connection_after (middle_of c) (middle_panel c now) now fragment
 
 -- the concentrator after a fragment
 abbrev concentrator_after : ConcentratorState → ℕ → List ℕ → ConcentratorState
 concentrator_after c now fragment = record c {
   core = (step_in c now fragment).state.core;
   queue = (step_in c now fragment).state.lanes;
-  controls = all_added c.indices c.controls (performed_in c.core (middle_panel c) now fragment);
+  controls = all_added c.indices c.controls (performed_in c.core (middle_panel c now) now fragment);
 }
 
 -- what is no control performs nothing
-no_commands : (c : ConcentratorState) (now : ℕ) (fragment : List ℕ) → is_control fragment ≡ false → performed_in c.core (middle_panel c) now fragment ≡ []
+no_commands : (c : ConcentratorState) (now : ℕ) (fragment : List ℕ) → is_control fragment ≡ false → performed_in c.core (middle_panel c now) now fragment ≡ []
 no_commands c now fragment none = by (case_of c.core fragment)
   where
-    by : (x : Case) → performed_for c.core (middle_panel c) now fragment x ≡ []
-    by Asks = ap (λ (b : Bool). if b then performed_at c.core (middle_panel c) now fragment else []) none
+    by : (x : Case) → performed_for c.core (middle_panel c now) now fragment x ≡ []
+    by Asks = ap (λ (b : Bool). if b then performed_at c.core (middle_panel c now) now fragment else []) none
     by x = refl
 
 -- what the round leaves alone
@@ -71,9 +68,9 @@ record IsNow (rest : Rest) (c : ConcentratorState) (centre : CentreState) (s : S
   now : s.now ≡ rest.now
 
 module _ (rest : Rest) (c : ConcentratorState) (centre : CentreState) where
-  lines_change : (Change : ChannelState → ChannelState → Type 0) (old new : System) → LinesChange on Change old new → IsNow rest c centre old
+  lines_change : (number : ℕ) (Change : ChannelState → ChannelState → Type 0) (old new : System) → LinesChange (Above number) Change old new → IsNow rest c centre old
       → IsNow rest c centre new
-  lines_change Change old new change n =
+  lines_change number Change old new change n =
       subst (IsNow rest c centre) (sym change.1) record {
         concentrator = n.concentrator;
         centre_is = n.centre_is;
@@ -126,7 +123,7 @@ pub record BeginsAbove (old : System) : Type 0 where
   pub idle : master.is_idle old.centre.link.master ≡ true
   pub quiet : is_quiet old.concentrator.core ≡ true
 
-pub begins_above : (old : System) → is_quiet_on old on ≡ true → BeginsAbove old
+pub begins_above : (old : System) → is_quiet_above old ≡ true → BeginsAbove old
 begins_above old quiet =
     let a = and_parts (master.is_idle old.centre.link.master) (is_quiet old.concentrator.core && are_quiet old.above) quiet in
     record { idle = a.0; quiet = (and_parts (is_quiet old.concentrator.core) (are_quiet old.above) a.1).0 }
@@ -140,8 +137,11 @@ no_events a =
 
 -- ---- the round
 
-module _ (laws : StationLaws) (lines : LineLaws) (old new : System) (begins : BeginsAbove old) (clear : IsClearOn on old)
-    (portion_in : State → Portion) (round : IsRound on old new) where
+module _ (laws : StationLaws) (lines : LineLaws) (number : ℕ) (old new : System) (begins : BeginsAbove old) (clear : IsClearOn (Above number) old)
+    (portion_in : State → Portion) (round : IsRound Happens itself (Above number) old new) where
+  abbrev on : Link
+  on = Above number
+
   abbrev link : Relaying
   link = old.centre.link
 
@@ -168,7 +168,7 @@ module _ (laws : StationLaws) (lines : LineLaws) (old new : System) (begins : Be
   sends = asks_so on old round.asked true poll refl (laws.asks link.master begins.idle) round.asks
 
   once_asked : IsNow rest c0 centre1 round.asked
-  once_asked = lines_change rest c0 centre1 (GoDown (poll ∷ [])) (with_centre_link old asking) round.asked sends
+  once_asked = lines_change rest c0 centre1 number (GoDown (poll ∷ [])) (with_centre_link old asking) round.asked sends
       (link_set rest c0 old.centre asking old
       (record { concentrator = refl; centre_is = refl; substations = refl; history = refl; now = refl }))
 
@@ -190,7 +190,7 @@ module _ (laws : StationLaws) (lines : LineLaws) (old new : System) (begins : Be
   answered answers sent =
       let d = lines.down on (poll ∷ []) [] round.asked round.answered poll_under_way round.down in
       let a : Arrives on Down poll d.0 round.asked round.answered = one_arrives on Down poll d.0 round.asked round.answered d.1 in
-      let heard = lines_change rest c0 centre1 (HearsAt Down) round.asked a.heard a.hears once_asked in
+      let heard = lines_change rest c0 centre1 number (HearsAt Down) round.asked a.heard a.hears once_asked in
       let back : d.0 ≡ answers = a.sends ∙ middle_sends rest c0 centre1 poll a.heard heard ∙ sent in
       record {
         is = middle_steps rest c0 centre1 poll a.heard round.answered a.takes heard;
@@ -219,7 +219,7 @@ module _ (laws : StationLaws) (lines : LineLaws) (old new : System) (begins : Be
     is : IsNow rest c centre new
 
   -- ---- a fragment is exchanged
-  module _ (x : Exchange link.master old.now (middle_of c0) (middle_panel c0) portion) where
+  module _ (x : Exchange link.master old.now (middle_of c0) (middle_panel c0 old.now) portion) where
     abbrev centre2 : CentreState
     centre2 = centre_taken centre1 x.taken
 
@@ -234,7 +234,7 @@ module _ (laws : StationLaws) (lines : LineLaws) (old new : System) (begins : Be
         let before = answered (x.fragment ∷ []) x.sent in
         let u = lines.up on [] (x.fragment ∷ []) round.answered round.taken before.under_way round.up in
         let b : Arrives on Up x.fragment u.0 round.answered round.taken = one_arrives on Up x.fragment u.0 round.answered round.taken u.1 in
-        let heard = lines_change rest c1 centre1 (HearsAt Up) round.answered b.heard b.hears before.is in
+        let heard = lines_change rest c1 centre1 number (HearsAt Up) round.answered b.heard b.hears before.is in
         let got : receive_of (relaying_at b.heard on).master b.heard.now x.fragment ≡ Ok t =
         ap (λ (y : CentreState). receive_of y.link.master b.heard.now x.fragment) heard.centre_is
         ∙ ap (λ (n : ℕ). receive_of asking.master n x.fragment) heard.now
@@ -244,7 +244,7 @@ module _ (laws : StationLaws) (lines : LineLaws) (old new : System) (begins : Be
         subst (λ (r : Result Taking MasterFault). MasterReceives on r b.heard round.taken) got b.takes in
         let sent : u.0 ≡ option_to_list x.confirm = b.sends ∙ ap confirms_of got ∙ ap option_to_list x.confirm_is in
         record {
-          is = lines_change rest c1 centre2 (GoDown (option_to_list t.confirm)) (taken_above b.heard t) round.taken received.1
+          is = lines_change rest c1 centre2 number (GoDown (option_to_list t.confirm)) (taken_above b.heard t) round.taken received.1
               (rows_taken rest c1 centre1 t b.heard heard);
           under_way = subst (λ (down : List (List ℕ)). UnderWay on down [] round.taken) sent u.2;
         }
@@ -255,8 +255,8 @@ module _ (laws : StationLaws) (lines : LineLaws) (old new : System) (begins : Be
     confirms (Some octets) is under_way =
         let d = lines.down on (octets ∷ []) [] round.taken new under_way round.confirms in
         let a : Arrives on Down octets d.0 round.taken new = one_arrives on Down octets d.0 round.taken new d.1 in
-        let heard = lines_change rest c1 centre2 (HearsAt Down) round.taken a.heard a.hears taken.is in
-        let r : Frees portion c0.queue (middle_of c1).performed (step_in c1 old.now octets) = x.frees octets is (middle_of c1).performed (middle_panel c1) in (
+        let heard = lines_change rest c1 centre2 number (HearsAt Down) round.taken a.heard a.hears taken.is in
+        let r : Frees portion c0.queue (middle_of c1).performed (step_in c1 old.now octets) = x.frees octets is (middle_of c1).performed (middle_panel c1 old.now) in (
           concentrator_after c1 old.now octets,
           record {
             left = Released x.released r.lanes;
@@ -290,7 +290,7 @@ module _ (laws : StationLaws) (lines : LineLaws) (old new : System) (begins : Be
 
   pub record Moved (after : master.State) : Type 0 where
     pub moves : MovesAbove portion_in old new
-    pub master_is : (relaying_at new on).master ≡ after
+    pub master_is : new.centre.link.master ≡ after
 
   -- of the centre the link and the journal change
   moved : (c : ConcentratorState) (centre : CentreState) → IsDone c centre
@@ -310,8 +310,8 @@ module _ (laws : StationLaws) (lines : LineLaws) (old new : System) (begins : Be
   abbrev with_journal : CentreState → Archive → CentreState
   with_journal centre journal = record old.centre { link = centre.link; journal = journal }
 
-  pub moves : (answer : Answer link.master old.now (middle_of c0) (middle_panel c0) portion)
-      → Moved (master_after link.master old.now (middle_of c0) (middle_panel c0) portion answer)
+  pub moves : (answer : Answer link.master old.now (middle_of c0) (middle_panel c0 old.now) portion)
+      → Moved (master_after link.master old.now (middle_of c0) (middle_panel c0 old.now) portion answer)
   moves (Exchanges x) =
       let done = confirms x x.confirm refl (taken x).under_way in
       moved done.0 (centre2 x) done.1 (ap (λ (rows : List Row). with_journal (centre2 x) (with_events old.centre.journal rows)) x.events)

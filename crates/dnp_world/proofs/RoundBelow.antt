@@ -20,7 +20,8 @@ use Rattle.dnp_outstation.specs.Polled.{Portion, no_rows, poll_octets}
 use Rattle.dnp_world.specs.Rounds.{Flushes, IsRound, events_polled, is_quiet_at, is_quiet_on}
 use Rattle.dnp_world.specs.SystemEvents.{MasterReceives, SendsDown, concentrator_taken, dropped_for, relaying_at, taken_below, with_link}
 use Rattle.dnp_world.specs.SystemStanding.{IsStanding}
-use Rattle.dnp_world.specs.Systems.{ConcentratorState, History, SubstationState, System, has_station, link_at}
+use Rattle.dnp_world.specs.SystemRuns.{Happens}
+use Rattle.dnp_world.specs.Systems.{ConcentratorState, History, SubstationState, System, has_station, itself, link_at}
 use Rattle.dnp_world.specs.declared.event.Link.{Link}
 use Rattle.dnp_world.specs.declared.event.Link.TheVariants.{Below}
 use Rattle.dnp_world.specs.declared.link_event.Way.TheVariants.{Down, Up}
@@ -32,9 +33,9 @@ pub record LineLaws : Type 0 where
   pub quiet : (on : Link) (s : System) {el : Elsewhere} → IsStanding el s → is_quiet_on s on ≡ true → IsClearOn on s
   pub asked : (on : Link) (fragments down up : List (List ℕ)) (link : Relaying) (old new : System) → UnderWay on down up old
       → SendsDown on fragments link old new → UnderWay on (down ++ fragments) up new
-  pub down : (on : Link) (down up : List (List ℕ)) (old new : System) → UnderWay on down up old → Flushes on Down old new
+  pub down : (on : Link) (down up : List (List ℕ)) (old new : System) → UnderWay on down up old → Flushes Happens itself on Down old new
       → (answers : List (List ℕ)) × Arrive on Down down answers old new × UnderWay on [] (up ++ answers) new
-  pub up : (on : Link) (down up : List (List ℕ)) (old new : System) → UnderWay on down up old → Flushes on Up old new
+  pub up : (on : Link) (down up : List (List ℕ)) (old new : System) → UnderWay on down up old → Flushes Happens itself on Up old new
       → (answers : List (List ℕ)) × Arrive on Up up answers old new × UnderWay on (down ++ answers) [] new
 
 -- ---- what the round begins with
@@ -66,7 +67,7 @@ begins_below station old quiet =
 -- ---- the round
 
 module _ (laws : StationLaws) (lines : LineLaws) (station : ℕ) (old new : System) (begins : BeginsBelow station old)
-    (clear : IsClearOn (Below station) old) (portion_in : State → Portion) (round : IsRound (Below station) old new) where
+    (clear : IsClearOn (Below station) old) (portion_in : State → Portion) (round : IsRound Happens itself (Below station) old new) where
   abbrev on : Link
   on = Below station
 

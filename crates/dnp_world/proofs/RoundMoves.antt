@@ -21,18 +21,18 @@ use Rattle.dnp_world.specs.Behind.{Elsewhere}
 use Rattle.dnp_world.specs.Movement.{MovesAbove, MovesBelow, first_reported, first_rows, passed_rows, is_repeated_at, is_repeated_on}
 use Rattle.dnp_world.specs.OutstationSeen.{IsWell, ShowOctets}
 use Rattle.dnp_world.specs.Planned.{IsAsPlanned}
-use Rattle.dnp_world.specs.Rounds.{IsRound, is_quiet_on}
+use Rattle.dnp_world.specs.Rounds.{IsRound, is_quiet_above, is_quiet_on}
+use Rattle.dnp_world.specs.SystemRuns.{Happens}
 use Rattle.dnp_world.specs.Settled.{IsSettled, may_report}
 use Rattle.dnp_world.specs.Steady.{IsSteadyBeside}
 use Rattle.dnp_world.specs.SystemEvents.{relaying_at}
 use Rattle.dnp_world.specs.SystemStanding.{IsJoinedBelow, IsStanding}
-use Rattle.dnp_world.specs.Systems.{SubstationState, System, link_at, middle_of, middle_panel, panel_of, station_of}
-use Rattle.dnp_world.specs.declared.event.Link.TheVariants.{Below}
+use Rattle.dnp_world.specs.Systems.{SubstationState, System, itself, link_at, middle_of, middle_panel, panel_of, station_of}
+use Rattle.dnp_world.specs.declared.event.Link.TheVariants.{Above, Below}
 use Rattle.dnp_world.proofs.AllQueued.{QueuedLaw, all_are_queued}
 use Rattle.dnp_world.proofs.RepeatedPoll.{ReportLaws, WentOn, repeated}
 use Rattle.dnp_world.proofs.RepeatedRequests.{CaseLaw, went_on}
 use Rattle.dnp_world.proofs.RoundAbove as above
-use Rattle.dnp_world.proofs.RoundAbove.{on}
 use Rattle.dnp_world.proofs.RoundBelow as below
 use Rattle.dnp_world.proofs.RoundBelow.{LineLaws}
 use Rattle.dnp_world.proofs.RoundExchange.{Answer, AreFit, Exchanges, ReleaseLaw, StationLaws, master_after, polled_exchange}
@@ -104,19 +104,19 @@ fit_below stations station old steady begins =
     }
 
 -- the outputs above show no status
-none_shown : (s : System) → ShowOctets (middle_panel s.concentrator)
+none_shown : (s : System) → ShowOctets (middle_panel s.concentrator s.now)
 none_shown s = record { outputs = omega arith; status = λ index low. omega arith }
 
 pub fit_above : StationLaws → (old : System) {el : Elsewhere} → IsSteadyBeside el old → above.BeginsAbove old
-    → AreFit old.centre.link.master (middle_of old.concentrator) (middle_panel old.concentrator)
+    → AreFit old.centre.link.master (middle_of old.concentrator) (middle_panel old.concentrator old.now)
 fit_above stations old steady begins =
     let well : IsWell (middle_of old.concentrator) = steady.standing.above.outstation.well in
-    let shown : ShowOctets (middle_panel old.concentrator) = none_shown old in
+    let shown : ShowOctets (middle_panel old.concentrator old.now) = none_shown old in
     record {
       idle = begins.idle;
       quiet = begins.quiet;
       sound = well.lanes;
-      writable = stations.writable (source_of (middle_of old.concentrator) (middle_panel old.concentrator)) well.points shown.outputs shown.status;
+      writable = stations.writable (source_of (middle_of old.concentrator) (middle_panel old.concentrator old.now)) well.points shown.outputs shown.status;
       seq = steady.standing.above.number;
     }
 
@@ -124,7 +124,7 @@ fit_above stations old steady begins =
 
 pub polled_below : StationLaws → LineLaws → LaneLaws → (station : ℕ) (old new : System) {el : Elsewhere} → IsSteadyBeside el old
     → is_quiet_on old (Below station) ≡ true
-    → IsRound (Below station) old new → is_repeated_on old (Below station) ≡ false → MovesBelow station first_rows old new
+    → IsRound Happens itself (Below station) old new → is_repeated_on old (Below station) ≡ false → MovesBelow station first_rows old new
 polled_below stations lines lanes station old new steady quiet round other =
     let begins : below.BeginsBelow station old = below.begins_below station old quiet in
     let was : SubstationState = begins.was in
@@ -138,15 +138,15 @@ polled_below stations lines lanes station old new steady quiet round other =
     (Exchanges (polled_exchange stations m old.now (station_of was) (panel_of was) fit asked
     (ap (λ (o : Option SubstationState). is_repeated_at o (poll_octets m.seq)) (sym begins.there) ∙ other)))).moves
 
-pub polled_above : StationLaws → LineLaws → LaneLaws → (old new : System) {el : Elsewhere} → IsSteadyBeside el old → is_quiet_on old on ≡ true
-    → IsRound on old new → is_repeated_on old on ≡ false → MovesAbove first_rows old new
-polled_above stations lines lanes old new steady quiet round other =
+pub polled_above : StationLaws → LineLaws → LaneLaws → (centre : ℕ) (old new : System) {el : Elsewhere} → IsSteadyBeside el old
+    → is_quiet_above old ≡ true → IsRound Happens itself (Above centre) old new → is_repeated_on old (Above centre) ≡ false → MovesAbove first_rows old new
+polled_above stations lines lanes centre old new steady quiet round other =
     let begins : above.BeginsAbove old = above.begins_above old quiet in
     let c = old.concentrator in
     let m : master.State = old.centre.link.master in
-    let fit : AreFit m (middle_of c) (middle_panel c) = fit_above stations old steady begins in
-    (above.moves stations lines old new begins (lines.quiet on old steady.standing quiet) first_rows round
-    (Exchanges (polled_exchange stations m old.now (middle_of c) (middle_panel c) fit
+    let fit : AreFit m (middle_of c) (middle_panel c old.now) = fit_above stations old steady begins in
+    (above.moves stations lines centre old new begins (lines.quiet (Above centre) old steady.standing quiet) first_rows round
+    (Exchanges (polled_exchange stations m old.now (middle_of c) (middle_panel c old.now) fit
     (all_polled stations.released (λ row. is_reported m.plan row ≡ true) c.queue fit.sound (lanes.above old steady.standing steady.planned)) other))).moves
 
 -- ---- a poll that is taken for the last request
@@ -162,7 +162,7 @@ record Passed (m : master.State) (now : ℕ) (s : State) (o : Panel) (portion : 
   busy : is_some (master_after m now s o portion answer).request ≡ true
 
 passed_below : StationLaws → LineLaws → (station : ℕ) (old new : System) {el : Elsewhere} → IsSteadyBeside el old → is_quiet_on old (Below station) ≡ true
-    → IsRound (Below station) old new → (begins : below.BeginsBelow station old)
+    → IsRound Happens itself (Below station) old new → (begins : below.BeginsBelow station old)
     → Passed (link_at old.concentrator station).master old.now (station_of begins.was) (panel_of begins.was) no_rows → PassedBelow station old new
 passed_below stations lines station old new steady quiet round begins passed =
     let x = below.moves stations lines station old new begins (lines.quiet (Below station) old steady.standing quiet) (passed_rows (Below station)) round
@@ -170,7 +170,7 @@ passed_below stations lines station old new steady quiet round begins passed =
     record { moves = x.moves; busy = ap (λ (a : master.State). is_some a.request) x.master_is ∙ passed.busy }
 
 pub repeated_below : StationLaws → LineLaws → LaneLaws → ReportLaws → CaseLaw → (station : ℕ) (old new : System) {el : Elsewhere} → IsSteadyBeside el old
-    → is_quiet_on old (Below station) ≡ true → IsRound (Below station) old new → is_repeated_on old (Below station) ≡ true
+    → is_quiet_on old (Below station) ≡ true → IsRound Happens itself (Below station) old new → is_repeated_on old (Below station) ≡ true
     → PassedBelow station old new
 repeated_below stations lines lanes reports cases station old new steady quiet round again =
     let begins : below.BeginsBelow station old = below.begins_below station old quiet in
@@ -197,21 +197,22 @@ repeated_below stations lines lanes reports cases station old new steady quiet r
 -- here at most an unsolicited response moved its rows
 pub record PassedAbove (old new : System) : Type 0 where
   pub moves : MovesAbove first_reported old new
-  pub busy : is_some (relaying_at new on).master.request ≡ true
+  pub busy : is_some new.centre.link.master.request ≡ true
 
-pub repeated_above : StationLaws → LineLaws → LaneLaws → ReportLaws → CaseLaw → (old new : System) {el : Elsewhere} → IsSteadyBeside el old
-    → is_quiet_on old on ≡ true → IsRound on old new → is_repeated_on old on ≡ true → PassedAbove old new
-repeated_above stations lines lanes reports cases old new steady quiet round again =
+pub repeated_above : StationLaws → LineLaws → LaneLaws → ReportLaws → CaseLaw → (centre : ℕ) (old new : System) {el : Elsewhere}
+    → IsSteadyBeside el old → is_quiet_above old ≡ true → IsRound Happens itself (Above centre) old new → is_repeated_on old (Above centre) ≡ true
+    → PassedAbove old new
+repeated_above stations lines lanes reports cases centre old new steady quiet round again =
     let begins : above.BeginsAbove old = above.begins_above old quiet in
     let c = old.concentrator in
     let m : master.State = old.centre.link.master in
-    let fit : AreFit m (middle_of c) (middle_panel c) = fit_above stations old steady begins in
+    let fit : AreFit m (middle_of c) (middle_panel c old.now) = fit_above stations old steady begins in
     let order : IsInOrder c.core = steady.standing.above.outstation.well.order in
     let went : WentOn (middle_of c) =
     went_on stations.again cases (middle_of c) m steady.standing.links.above steady.standing.above.outstation steady.standing.above.master
     steady.standing.behind.above_stands (and_parts c.core.is_open (is_free c.core) begins.quiet).0 fit.idle fit.seq again in
-    let r = repeated reports m old.now (middle_of c) (middle_panel c) fit order
+    let r = repeated reports m old.now (middle_of c) (middle_panel c old.now) fit order
     (all_reported stations.released (λ row. is_reported m.plan row ≡ true) c.queue c.core.enabled fit.sound order.classes (lanes.above old steady.standing steady.planned))
     again went in
-    let x = above.moves stations lines old new begins (lines.quiet on old steady.standing quiet) first_reported round r.answer in
+    let x = above.moves stations lines centre old new begins (lines.quiet (Above centre) old steady.standing quiet) first_reported round r.answer in
     record { moves = x.moves; busy = ap (λ (a : master.State). is_some a.request) x.master_is ∙ r.busy }

@@ -139,9 +139,9 @@ empty_sound book none = record {
   up_to_last = subst (All (λ (x : Entry). x.id ≤ book.last_id)) (sym none) (All-nil (λ (x : Entry). x.id ≤ book.last_id));
 }
 
-pub fresh_in_step : (plan : Plan) (queue : Stock) (journal : Archive) (controls orders : Ledger) → controls.entries ≡ [] → orders.entries ≡ []
-    → InStep (fresh_system plan queue journal controls orders)
-fresh_in_step plan queue journal controls orders none nothing = record {
+pub fresh_in_step : (plan : Plan) (centre : ℕ) (queue : Stock) (journal : Archive) (controls orders : Ledger) → controls.entries ≡ [] → orders.entries ≡ []
+    → InStep (fresh_system plan centre queue journal controls orders)
+fresh_in_step plan centre queue journal controls orders none nothing = record {
   below = λ i. none_in_progress (new_link plan.times) (λ x. refl) controls plan.substations i i;
   above = tt;
   controls = empty_sound controls none;

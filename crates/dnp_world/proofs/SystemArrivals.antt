@@ -1,73 +1,114 @@
 -- What comes up the lines of a system.
-use Rattle.std.proofs.Common.{◌≡◌, ℕ, ◌<◌, true, length, List, [], ◌∷◌, ◌++◌, map, get_or, slice_set, Some, Result, Ok, Err, refl, sym, ap, ◌∙◌, subst, append-nil}
+use Rattle.std.proofs.Common.{◌≡◌, ℕ, ◌<◌, true, length, List, [], ◌∷◌, ◌++◌, map, get_or, slice_set, None, Some, Result, Ok, Err, refl, sym, ap, ◌∙◌, subst, append-nil, arith}
 use Rattle.std.specs.Prelude.{slice_get}
 use Rattle.std.proofs.lemmas.List.{map-set}
 use Rattle.dnp_objects.specs.declared.row.Row.{Row}
 use Rattle.dnp_line.specs.Lines.{LineState}
 use Rattle.dnp_master.specs.declared.fault.MasterFault.{MasterFault}
 use Rattle.dnp_master.specs.Calls.{Taking, receive_of}
+use Rattle.dnp_master.specs.State.{State as MasterState}
+use Rattle.dnp_concentrator.specs.Below.{link_in}
+use Rattle.dnp_concentrator.specs.Two.{at, with_at}
+use Rattle.dnp_concentrator.specs.declared.centre.Centre.{Centre}
+use Rattle.dnp_concentrator.specs.declared.two.Two.{Two}
+use Rattle.dnp_controls.specs.Book.{Ledger}
+use Rattle.dnp_eventbuf.specs.Archive.{Archive}
+use Rattle.dnp_eventbuf.specs.declared.pair.TheConstants.{CENTRES}
+use Rattle.dnp_world.specs.Centres.{ChangesAll, has_link}
 use Rattle.dnp_world.specs.Channels.{ChannelState, state_of}
-use Rattle.dnp_world.specs.MasterEnds.{ComesToMaster, TakesBy, TakesGiven}
+use Rattle.dnp_world.specs.MasterEnds.{ComesToMaster, ListsDropped, TakesBy, TakesGiven, none_dropped}
 use Rattle.dnp_world.specs.SystemEvents.{ComesUp, HasNumbers, MasterReceives, MasterTakes, centre_taken, concentrator_taken, dropped_for, taken_below, with_substation}
-use Rattle.dnp_world.specs.SystemParts.{substation_of}
+use Rattle.dnp_world.specs.SystemParts.{centre_of, substation_of}
 use Rattle.dnp_world.specs.Systems.{CentreState, ConcentratorState, SubstationState, System, has_station, link_at}
+use Rattle.dnp_world.specs.Wholes.{Whole, WholeConcentrator, seen_by}
 use Rattle.dnp_world.specs.declared.channel.Channel.{Channel}
 use Rattle.dnp_world.specs.declared.event.Link.TheVariants.{Above, Below}
 use Rattle.dnp_world.specs.declared.substation.Substation.{Substation}
+use Rattle.dnp_world.specs.steps.WholeSteps as all
+use Rattle.dnp_world.specs.steps.WholeSteps.{HaveNumbers, of_both}
+use Rattle.dnp_world.proofs.CentrePlaces.{centre_view, own_there}
+use Rattle.dnp_world.proofs.EachCentre.{for_both}
 use Rattle.dnp_world.proofs.ListedAt.{set_again, set_here}
 use Rattle.dnp_world.proofs.SystemPlaces.{is_there, there}
 
--- ---- to the centre
+-- ---- to a centre
+
+-- what stands beside what was taken, whatever was
+beside_by : (r : Result Taking MasterFault) (Takes : Taking → Type 0) (Same Beside : Type 0) (old new : ChannelState)
+    → TakesBy r (λ t. Takes t × Beside) (Same × Beside) old new → Beside
+beside_by (Ok t) Takes Same Beside old new took = took.1.1
+beside_by (Err fault) Takes Same Beside old new same = same.1.1
+
+beside_given : (given : List (List ℕ)) (master : MasterState) (now : ℕ) (Takes : Taking → Type 0) (Same Beside : Type 0) (old new : ChannelState)
+    → TakesGiven given master now (λ t. Takes t × Beside) (Same × Beside) old new → Beside
+beside_given [] master now Takes Same Beside old new same = same.1.1
+beside_given (fragment ∷ others) master now Takes Same Beside old new came =
+    beside_by (receive_of master now fragment) Takes Same Beside old new came
 
 -- the system with the link above and what the centre holds
-abbrev with_above : System → CentreState → ChannelState → List Row → System
-with_above s centre lines dropped = record s { centre = centre; above = lines; history = record s.history { dropped = dropped } }
+abbrev with_above : System → CentreState → ChannelState → System
+with_above s centre lines = record s { centre = centre; above = lines }
 
--- what the centre took, and what it did not
-abbrev CentreTakes : System → CentreState → List Row → Taking → Type 0
-CentreTakes old centre dropped t = (centre ≡ centre_taken old.centre t) × (dropped ≡ old.history.dropped ++ [])
+above_same : (old : System) (centre : CentreState) (between lines : ChannelState) → lines ≡ between → centre ≡ old.centre
+    → with_above old centre lines ≡ record old { above = between }
+above_same old centre between lines is same =
+    ap (λ (c : ChannelState). with_above old centre c) is ∙ ap (λ (k : CentreState). with_above old k between) same
 
-abbrev CentreSame : System → CentreState → List Row → Type 0
-CentreSame old centre dropped = (centre ≡ old.centre) × (dropped ≡ old.history.dropped)
+above_by : (number : ℕ) (Beside : Type 0) (old : System) (centre : CentreState) (between lines : ChannelState) (r : Result Taking MasterFault)
+    → TakesBy r (λ t. (centre ≡ centre_taken old.centre t) × Beside) ((centre ≡ old.centre) × Beside) between lines
+    → MasterReceives (Above number) r (record old { above = between }) (with_above old centre lines)
+above_by number Beside old centre between lines (Err fault) (is, same) = above_same old centre between lines is same.0
+above_by number Beside old centre between lines (Ok t) (down, took) =
+    (tt, (down, ap (λ (k : CentreState). with_above old k lines) took.0))
 
-above_same : (old : System) (centre : CentreState) (between lines : ChannelState) (dropped : List Row) → lines ≡ between → CentreSame old centre dropped
-    → with_above old centre lines dropped ≡ record old { above = between }
-above_same old centre between lines dropped is same =
-    ap (λ (c : ChannelState). with_above old centre c dropped) is ∙ ap (λ (k : CentreState). with_above old k between dropped) same.0
-    ∙ ap (λ (rows : List Row). with_above old old.centre between rows) same.1
-
-above_by : (old : System) (centre : CentreState) (between lines : ChannelState) (dropped : List Row) (r : Result Taking MasterFault)
-    → TakesBy r (CentreTakes old centre dropped) (CentreSame old centre dropped) between lines
-    → MasterReceives Above r (record old { above = between }) (with_above old centre lines dropped)
-above_by old centre between lines dropped (Err fault) (is, same) = above_same old centre between lines dropped is same
-above_by old centre between lines dropped (Ok t) (down, took) = (
-  tt,
-  (
-    down,
-    ap (λ (k : CentreState). with_above old k lines dropped) took.0
-        ∙ ap (λ (rows : List Row). with_above old (centre_taken old.centre t) lines rows) (took.1 ∙ append-nil old.history.dropped),
-  ),
-)
-
-above_given : (old : System) (centre : CentreState) (between lines : ChannelState) (dropped : List Row) (given : List (List ℕ))
-    → TakesGiven given old.centre.link.master old.now (CentreTakes old centre dropped) (CentreSame old centre dropped) between lines
-    → MasterTakes Above given (record old { above = between }) (with_above old centre lines dropped)
-above_given old centre between lines dropped [] (is, same) = above_same old centre between lines dropped is same
-above_given old centre between lines dropped (fragment ∷ others) came =
-    above_by old centre between lines dropped (receive_of old.centre.link.master old.now fragment) came
+above_given : (number : ℕ) (Beside : Type 0) (old : System) (centre : CentreState) (between lines : ChannelState) (given : List (List ℕ))
+    → TakesGiven given old.centre.link.master old.now (λ t. (centre ≡ centre_taken old.centre t) × Beside) ((centre ≡ old.centre) × Beside) between lines
+    → MasterTakes (Above number) given (record old { above = between }) (with_above old centre lines)
+above_given number Beside old centre between lines [] (is, same) = above_same old centre between lines is same.0
+above_given number Beside old centre between lines (fragment ∷ others) came =
+    above_by number Beside old centre between lines (receive_of old.centre.link.master old.now fragment) came
 
 -- what comes to the master's end of the lines above is what comes to the centre
-pub comes_above : (left : LineState → LineState) (old : System) (centre : CentreState) (lines : ChannelState) (dropped : List Row)
-    → ComesToMaster left old.centre.link.master old.now (CentreTakes old centre dropped) (CentreSame old centre dropped) old.above lines
-    → ComesUp left Above old (with_above old centre lines dropped)
-comes_above left old centre lines dropped came =
+comes_above : (number : ℕ) (Beside : Type 0) (left : LineState → LineState) (old : System) (centre : CentreState) (lines : ChannelState)
+    → ComesToMaster left old.centre.link.master old.now (λ t. (centre ≡ centre_taken old.centre t) × Beside) ((centre ≡ old.centre) × Beside) old.above lines
+    → ComesUp left (Above number) old (with_above old centre lines)
+comes_above number Beside left old centre lines came =
     let between : ChannelState = record old.above { up = left old.above.up; master_port = came.port } in
     record {
       given = came.given;
       between = record old { above = between };
       heard = (record { heard = came.heard; after = refl }, refl);
-      came = above_given old centre between lines dropped came.given came.came;
+      came = above_given number Beside old centre between lines came.given came.came;
     }
+
+-- as all see it: no rows are dropped
+pub comes_to_centre : {J B : Type 0} (archive : J → Archive) (orders : B → Ledger) (n : ℕ) → n < CENTRES → (left : LineState → LineState) (rest : Whole)
+    (centres : Two (Centre J B)) (above : Two Channel) (before k : Centre J B) (lines_before lines : Channel) (first second : List Row)
+    → before ≡ at n centres → lines_before ≡ at n above
+    → (let was = centre_of archive orders before in let is = centre_of archive orders k in
+    let none = ListsDropped none_dropped rest.history.dropped.first rest.history.dropped.second first second in
+    ComesToMaster left was.link.master rest.now (λ t. (is ≡ centre_taken was t) × none) ((is ≡ was) × none) (state_of lines_before) (state_of lines))
+    → ChangesAll (Some n) (ComesUp left (Above n)) (record rest { centres = of_both (centre_of archive orders) centres; above = of_both state_of above })
+    (record rest {
+      centres = of_both (centre_of archive orders) (with_at n centres k);
+      above = of_both state_of (with_at n above lines);
+      history = record rest.history { dropped = record { first = first; second = second } };
+    })
+comes_to_centre archive orders n low left rest centres above before k lines_before lines first second there lines_there came =
+    let base : System = centre_view archive orders n rest before lines_before in
+    let Dropped : Type 0 = ListsDropped none_dropped rest.history.dropped.first rest.history.dropped.second first second in
+    let none : Dropped = beside_given came.given base.centre.link.master rest.now _ _ Dropped _ (state_of lines) came.came in
+    let is : List Row → List Row → Whole = λ xs ys. record rest {
+      centres = of_both (centre_of archive orders) (with_at n centres k);
+      above = of_both state_of (with_at n above lines);
+      history = record rest.history { dropped = record { first = xs; second = ys } };
+    } in
+    let old : Whole = record rest { centres = of_both (centre_of archive orders) centres; above = of_both state_of above } in
+    subst (λ (new : Whole). ChangesAll (Some n) (ComesUp left (Above n)) old new)
+    (sym (ap (λ (xs : List Row). is xs second) (none.to_first ∙ append-nil rest.history.dropped.first)
+    ∙ ap (λ (ys : List Row). is rest.history.dropped.first ys) (none.to_second ∙ append-nil rest.history.dropped.second)))
+    (own_there archive orders n low (ComesUp left (Above n)) rest centres above before k lines_before lines there lines_there
+    (comes_above n Dropped left base (centre_of archive orders k) (state_of lines) came))
 
 -- ---- to the concentrator
 
@@ -81,7 +122,8 @@ with_below s station is middle dropped = record s {
 
 abbrev MiddleTakes : System → ℕ → ConcentratorState → List Row → Taking → Type 0
 MiddleTakes old station middle dropped t =
-    (HasNumbers old.concentrator station t × (middle ≡ concentrator_taken old.concentrator station t)) × (dropped ≡ old.history.dropped ++ dropped_for old.concentrator station t)
+    (HasNumbers old.concentrator station t × (middle ≡ concentrator_taken old.concentrator station t))
+    × (dropped ≡ old.history.dropped ++ dropped_for old.concentrator station t)
 
 abbrev MiddleSame : System → ConcentratorState → List Row → Type 0
 MiddleSame old middle dropped = (middle ≡ old.concentrator) × (dropped ≡ old.history.dropped)
@@ -146,7 +188,7 @@ comes_at left old station was middle lines dropped at came =
     }
 
 -- what comes to the master's end of a substation's lines is what comes to the concentrator
-pub comes_below : (left : LineState → LineState) (old : System) (station i : ℕ) (xs : List Substation) (was : Substation) (middle : ConcentratorState)
+comes_below : (left : LineState → LineState) (old : System) (station i : ℕ) (xs : List Substation) (was : Substation) (middle : ConcentratorState)
     (lines : Channel) (dropped : List Row) → old.substations ≡ map substation_of xs → i ≡ station → has_station old station ≡ true → was ≡ get_or xs i was
     → ComesToMaster left (link_at old.concentrator station).master old.now (MiddleTakes old station middle dropped) (MiddleSame old middle dropped)
     (state_of was.channel) (state_of lines)
@@ -167,3 +209,61 @@ comes_below left old station i xs was middle lines dropped list same has at came
     subst (λ (ys : List SubstationState). ComesUp left (Below station) old
     (record old { substations = ys; concentrator = middle; history = record old.history { dropped = dropped } })) (sym written)
     (comes_at left old station (substation_of was) middle (state_of lines) dropped here came)
+
+-- ---- as all see it
+
+-- what follows of what was taken
+by_mapped : (r : Result Taking MasterFault) (Takes Takes' : Taking → Type 0) (Same Same' : Type 0) (old new : ChannelState)
+    → ((t : Taking) → Takes t → Takes' t) → (Same → Same') → TakesBy r Takes Same old new → TakesBy r Takes' Same' old new
+by_mapped (Ok t) Takes Takes' Same Same' old new f g (down, took) = (down, f t took)
+by_mapped (Err fault) Takes Takes' Same Same' old new f g (is, same) = (is, g same)
+
+given_mapped : (given : List (List ℕ)) (master : MasterState) (now : ℕ) (Takes Takes' : Taking → Type 0) (Same Same' : Type 0) (old new : ChannelState)
+    → ((t : Taking) → Takes t → Takes' t) → (Same → Same') → TakesGiven given master now Takes Same old new
+    → TakesGiven given master now Takes' Same' old new
+given_mapped [] master now Takes Takes' Same Same' old new f g (is, same) = (is, g same)
+given_mapped (fragment ∷ others) master now Takes Takes' Same Same' old new f g came =
+    by_mapped (receive_of master now fragment) Takes Takes' Same Same' old new f g came
+
+comes_mapped : (left : LineState → LineState) (master : MasterState) (now : ℕ) (Takes Takes' : Taking → Type 0) (Same Same' : Type 0)
+    (old new : ChannelState) → ((t : Taking) → Takes t → Takes' t) → (Same → Same') → ComesToMaster left master now Takes Same old new
+    → ComesToMaster left master now Takes' Same' old new
+comes_mapped left master now Takes Takes' Same Same' old new f g came = record {
+  port = came.port;
+  given = came.given;
+  heard = came.heard;
+  came = given_mapped came.given master now Takes Takes' Same Same' _ new f g came.came;
+}
+
+-- the concentrator takes a substation's rows, and both queues drop what they have no room for
+abbrev AllTake : Whole → ℕ → WholeConcentrator → List Row → List Row → Taking → Type 0
+AllTake old station middle first second t =
+    (HaveNumbers old.concentrator station t × (middle ≡ all.concentrator_taken old.concentrator station t))
+    × ListsDropped (all.dropped_for old.concentrator station t) old.history.dropped.first old.history.dropped.second first second
+
+abbrev AllSame : Whole → WholeConcentrator → List Row → List Row → Type 0
+AllSame old middle first second =
+    (middle ≡ old.concentrator) × ListsDropped none_dropped old.history.dropped.first old.history.dropped.second first second
+
+pub comes_to_concentrator : (left : LineState → LineState) (old : Whole) (station i : ℕ) (xs : List Substation) (was : Substation)
+    (middle : WholeConcentrator) (lines : Channel) (first second : List Row) → old.substations ≡ map substation_of xs → i ≡ station
+    → has_link old (Below station) ≡ true → was ≡ get_or xs i was
+    → ComesToMaster left (link_in old.concentrator.links station).master old.now (AllTake old station middle first second)
+    (AllSame old middle first second) (state_of was.channel) (state_of lines)
+    → ChangesAll None (ComesUp left (Below station)) old (record old {
+      substations = map substation_of (slice_set xs i (record was { channel = lines }));
+      concentrator = middle;
+      history = record old.history { dropped = record { first = first; second = second } };
+    })
+comes_to_concentrator left old station i xs was middle lines first second list same has at came =
+    let master : MasterState = (link_in old.concentrator.links station).master in
+    let seen : ℕ → WholeConcentrator → ConcentratorState = λ n c. (seen_by n (record old { concentrator = c })).concentrator in
+    for_both _
+    (comes_below left (seen_by 0 old) station i xs was (seen 0 middle) lines first list same has at
+    (comes_mapped left master old.now _ _ _ _ (state_of was.channel) (state_of lines)
+    (λ t took. ((λ some. took.0.0 some 0 (omega arith), ap (seen 0) took.0.1), took.1.to_first))
+    (λ kept. (ap (seen 0) kept.0, kept.1.to_first ∙ append-nil old.history.dropped.first)) came))
+    (comes_below left (seen_by 1 old) station i xs was (seen 1 middle) lines second list same has at
+    (comes_mapped left master old.now _ _ _ _ (state_of was.channel) (state_of lines)
+    (λ t took. ((λ some. took.0.0 some 1 (omega arith), ap (seen 1) took.0.1), took.1.to_second))
+    (λ kept. (ap (seen 1) kept.0, kept.1.to_second ∙ append-nil old.history.dropped.second)) came))

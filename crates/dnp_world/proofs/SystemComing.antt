@@ -1,23 +1,33 @@
 -- What comes to the concentrator from above.
-use Rattle.std.proofs.Common.{◌≡◌, ℕ, Bool, List, [], ◌∷◌, refl, sym, ap, ◌∙◌, subst}
+use Rattle.std.proofs.Common.{◌≡◌, ◌==◌, ℕ, zero, suc, ◌<◌, if◌then◌else◌, Bool, true, false, List, [], ◌∷◌, Some, refl, sym, ap, ◌∙◌, subst, arith}
 use Rattle.dnp_objects.specs.declared.command.Command.{Command}
 use Rattle.dnp_controls.specs.Book.{Ledger}
+use Rattle.dnp_eventbuf.specs.Sides.{other_than}
 use Rattle.dnp_eventbuf.specs.Stock.{Stock}
-use Rattle.dnp_outstation.specs.State.{State, Step, Actions}
+use Rattle.dnp_eventbuf.specs.declared.pair.TheConstants.{CENTRES}
+use Rattle.dnp_outstation.specs.State.{Core, State, Step, Actions}
 use Rattle.dnp_outstation.specs.Calls.{performed_in}
 use Rattle.dnp_pointdb.specs.Plan as points
-use Rattle.dnp_concentrator.specs.BookOutputs.{Performs, all_added, book_in, map_in, panel_of}
-use Rattle.dnp_concentrator.specs.Concentrator.{above_of, core_of, links_of, outputs_of, plan_above}
+use Rattle.dnp_concentrator.specs.BookOutputs.{Performs, all_added, book_in, map_in}
+use Rattle.dnp_concentrator.specs.Concentrator.{above_of, core_of, links_of, outputs_of, panel_above, plan_above, queue_of}
 use Rattle.dnp_concentrator.specs.Relaying.{Relaying}
+use Rattle.dnp_concentrator.specs.Reserving.{reserved_by}
+use Rattle.dnp_concentrator.specs.Two.{at, with_at}
 use Rattle.dnp_concentrator.specs.declared.book_outputs.BookOutputs.{BookOutputs}
 use Rattle.dnp_concentrator.specs.declared.concentrator.Concentrator.{Concentrator}
 use Rattle.dnp_concentrator.specs.declared.span.Spans.{Spans}
+use Rattle.dnp_concentrator.specs.declared.two.Two.{Two}
 use Rattle.dnp_line.specs.Lines.{LineState}
 use Rattle.dnp_line.specs.Ports.{PortState}
-use Rattle.dnp_world.specs.Channels.{AnswersTo, ChannelState, ComesToOutstation, GoUp, HavePerformed, left_by}
+use Rattle.dnp_world.specs.Centres.{ChangesAll}
+use Rattle.dnp_world.specs.Channels.{AnswersTo, ChannelState, ComesToOutstation, GoUp, HavePerformed, left_by, state_of}
 use Rattle.dnp_world.specs.SystemEvents.{ComesDownAbove, MiddleAnswers, MiddleSteps}
 use Rattle.dnp_world.specs.SystemParts.{concentrator_of}
 use Rattle.dnp_world.specs.Systems.{ConcentratorState, System}
+use Rattle.dnp_world.specs.Wholes.{Whole, WholeConcentrator, seen_by}
+use Rattle.dnp_world.specs.declared.channel.Channel.{Channel}
+use Rattle.dnp_world.specs.steps.WholeSteps.{KeepsOtherCentre, of_both}
+use Rattle.dnp_world.proofs.CentrePlaces.{StaysApart, middle_there, middle_view}
 
 -- what went up with another line down
 pub relined : (fragments : List (List ℕ)) (old new : ChannelState) (line : LineState) → GoUp fragments old new
@@ -29,74 +39,179 @@ all_in : {A : Type 0} (ledger : A → Ledger) (commands : List Command) (old new
     → (map_in new ≡ map_in old) × (ledger (book_in new) ≡ all_added (map_in old) (ledger (book_in old)) commands)
 all_in {A} ledger [] old new h =
     (ap (λ (o : BookOutputs A). map_in o) (h.idle refl), ap (λ (o : BookOutputs A). ledger (book_in o)) (h.idle refl))
-all_in ledger (command ∷ commands) old new h = h.performed (λ none. absurd (cc))
+all_in ledger (command ∷ commands) old new h = let done = h.performed (λ none. absurd (cc)) in (done.0, done.1)
 
--- the concentrator after a step of its outstation
-stepped : {Q A : Type 0} (stock : Q → Stock) (ledger : A → Ledger) (old new : Concentrator Q A) (state : State) (commands : List Command)
-    → state ≡ above_of stock ledger new → HavePerformed (Performs ledger) commands (outputs_of old) (outputs_of new)
-    → (links_of new ≡ links_of old) × (plan_above new ≡ plan_above old)
-    → concentrator_of stock ledger new ≡ record (concentrator_of stock ledger old) {
+-- the concentrator after a step of its outstation, as the centre sees it
+pub stepped : {Q A : Type 0} (stock : Q → ℕ → Stock) (ledger : A → Ledger) (n : ℕ) (old new : Concentrator Q A) (state : State) (commands : List Command)
+    → state ≡ above_of stock ledger n new → HavePerformed (Performs ledger) commands (outputs_of old) (outputs_of new)
+    → core_of (other_than n) new ≡ core_of (other_than n) old → links_of new ≡ links_of old → plan_above new ≡ plan_above old
+    → middle_view stock ledger n new ≡ record (middle_view stock ledger n old) {
       core = state.core;
       queue = state.lanes;
       controls = all_added (map_in (outputs_of old)) (ledger (book_in (outputs_of old))) commands;
     }
-stepped {Q} {A} stock ledger old new state commands is performs below =
+stepped stock ledger n old new state commands is performs other links plan =
     let both = all_in ledger commands (outputs_of old) (outputs_of new) performs in
-    ap (λ (s : State). record (concentrator_of stock ledger new) { core = s.core; queue = s.lanes }) (sym is)
-    ∙ ap (λ (l : List Relaying). record (concentrator_of stock ledger new) { core = state.core; queue = state.lanes; links = l }) below.0
-    ∙ ap (λ (m : List Spans). record (concentrator_of stock ledger new) { core = state.core; queue = state.lanes; links = links_of old; indices = m }) both.0
-    ∙ ap (λ (p : points.Plan). record (concentrator_of stock ledger old) {
-      core = state.core;
-      queue = state.lanes;
-      controls = ledger (book_in (outputs_of new));
-      points = p;
-    }) below.1
-    ∙ ap (λ (l : Ledger). record (concentrator_of stock ledger old) { core = state.core; queue = state.lanes; controls = l }) both.1
+    let step : ConcentratorState → ConcentratorState = λ c. record c { core = state.core; queue = state.lanes } in
+    let from : ConcentratorState = middle_view stock ledger n new in
+    let to : ConcentratorState = middle_view stock ledger n old in
+    ap (λ (s : State). record from { core = s.core; queue = s.lanes }) (sym is)
+    ∙ ap (λ (k : Core). step (record from { reserved = reserved_by k })) other
+    ∙ ap (λ (l : List Relaying). step (record from { reserved = to.reserved; links = l })) links
+    ∙ ap (λ (m : List Spans). step (record from { reserved = to.reserved; links = to.links; indices = m })) both.0
+    ∙ ap (λ (p : points.Plan). step (record to { controls = from.controls; points = p })) plan
+    ∙ ap (λ (l : Ledger). step (record to { controls = l })) both.1
 
 -- the system with this concentrator
-abbrev with_concentrator : {Q A : Type 0} → (Q → Stock) → (A → Ledger) → System → Concentrator Q A → System
-with_concentrator stock ledger rest c = record rest { concentrator = concentrator_of stock ledger c }
+abbrev with_concentrator : {Q A : Type 0} → (Q → ℕ → Stock) → (A → Ledger) → ℕ → System → Concentrator Q A → System
+with_concentrator stock ledger n rest c = record rest { concentrator = middle_view stock ledger n c }
 
--- what follows of the concentrator's outputs, links and plan of points where these commands were performed
-abbrev Follows : {Q A : Type 0} → (A → Ledger) → Concentrator Q A → Concentrator Q A → List Command → Type 0
-Follows ledger c d commands =
-    HavePerformed (Performs ledger) commands (outputs_of c) (outputs_of d) × (links_of d ≡ links_of c) × (plan_above d ≡ plan_above c)
+-- what follows of the concentrator's outputs, and of what it has for the other centre, where these commands were performed
+abbrev pub Follows : {Q A : Type 0} → (Q → Type 0) → (Q → ℕ → Stock) → (A → Ledger) → ℕ → Concentrator Q A → Concentrator Q A → List Command → Type 0
+Follows honest stock ledger n c d commands =
+    HavePerformed (Performs ledger) commands (outputs_of c) (outputs_of d) × KeepsOtherCentre honest stock n c d
 
-answers : {Q A : Type 0} (stock : Q → Stock) (ledger : A → Ledger) (c d : Concentrator Q A) (rest : System) (port : PortState) (does : Actions) (answered repeats : Bool)
-    (lines : ChannelState) (given : List (List ℕ))
-    → AnswersTo given (Follows ledger c d) (panel_of ledger (outputs_of c)) rest.now (above_of stock ledger c) (above_of stock ledger d) does answered
-    (record rest.above { outstation_port = port }) lines
+-- the other centre sees no more than the commands
+pub stays_apart : {Q A : Type 0} (honest : Q → Type 0) (stock : Q → ℕ → Stock) (ledger : A → Ledger) (n : ℕ) (c d : Concentrator Q A)
+    (commands : List Command) → honest (queue_of d) → Follows honest stock ledger n c d commands → StaysApart stock ledger n commands c d
+stays_apart honest stock ledger n c d commands is (performs, keeps) =
+    let both = all_in ledger commands (outputs_of c) (outputs_of d) performs in
+    record {
+      core = keeps.core;
+      queue = keeps.side is;
+      indices = both.0;
+      points = keeps.plan;
+      controls = both.1;
+      links = keeps.links;
+    }
+
+answers : {Q A : Type 0} (honest : Q → Type 0) (stock : Q → ℕ → Stock) (ledger : A → Ledger) (n : ℕ) (c d : Concentrator Q A) (rest : System)
+    (port : PortState) (does : Actions) (answered repeats : Bool) (lines : ChannelState) (given : List (List ℕ))
+    → AnswersTo given (Follows honest stock ledger n c d) (panel_above ledger n rest.now c) rest.now (above_of stock ledger n c)
+    (above_of stock ledger n d) does answered (record rest.above { outstation_port = port }) lines
     → MiddleAnswers given
-    (record (with_concentrator stock ledger rest c) { above = record rest.above { down = left_by repeats rest.above.down; outstation_port = port } })
-    (record (with_concentrator stock ledger rest d) { above = record lines { down = left_by repeats lines.down } })
-answers stock ledger c d rest port does answered repeats lines [] (none, same, kept, follows) =
+    (record (with_concentrator stock ledger n rest c) {
+      above = record rest.above { down = left_by repeats rest.above.down; outstation_port = port };
+    })
+    (record (with_concentrator stock ledger n rest d) { above = record lines { down = left_by repeats lines.down } })
+answers honest stock ledger n c d rest port does answered repeats lines [] (none, same, kept, follows) =
     ap (λ (k : ConcentratorState). record rest { concentrator = k; above = record lines { down = left_by repeats lines.down } })
-    (stepped stock ledger c d (above_of stock ledger c) [] (sym same) follows.0 (follows.1, follows.2))
-    ∙ ap (λ (l : ChannelState). record (with_concentrator stock ledger rest c) { above = record l { down = left_by repeats l.down } }) kept
-answers stock ledger c d rest port does answered repeats lines (fragment ∷ others) (one, step_is, up, follows) =
+    (stepped stock ledger n c d (above_of stock ledger n c) [] (sym same) follows.0 follows.1.core follows.1.links follows.1.plan)
+    ∙ ap (λ (l : ChannelState). record (with_concentrator stock ledger n rest c) { above = record l { down = left_by repeats l.down } }) kept
+answers honest stock ledger n c d rest port does answered repeats lines (fragment ∷ others) (one, step_is, up, follows) =
     let down : lines.down ≡ rest.above.down = ap (λ (l : ChannelState). l.down) up.after in
     let last : ChannelState = record lines { down = left_by repeats lines.down } in
     let first : ChannelState = record rest.above { down = left_by repeats rest.above.down; outstation_port = port } in
-    let commands : List Command = performed_in (core_of c) (panel_of ledger (outputs_of c)) rest.now fragment in
-    subst (λ (step : Step). MiddleSteps step commands first (record (with_concentrator stock ledger rest c) { above = first })
-    (record (with_concentrator stock ledger rest d) { above = last })) (sym step_is)
+    let commands : List Command = performed_in (core_of n c) (panel_above ledger n rest.now c) rest.now fragment in
+    subst (λ (step : Step). MiddleSteps step commands first (record (with_concentrator stock ledger n rest c) { above = first })
+    (record (with_concentrator stock ledger n rest d) { above = last })) (sym step_is)
     (record {
       sent = subst (λ (l : LineState). GoUp does.send (record rest.above { down = left_by repeats l; outstation_port = port }) last) down
           (relined does.send (record rest.above { outstation_port = port }) lines (left_by repeats lines.down) up);
       after = ap (λ (k : ConcentratorState). record rest { concentrator = k; above = last })
-          (stepped stock ledger c d (above_of stock ledger d) commands refl follows.0 (follows.1, follows.2));
+          (stepped stock ledger n c d (above_of stock ledger n d) commands refl follows.0 follows.1.core follows.1.links follows.1.plan);
     })
 
 -- what comes to the outstation's end of the lines above is what comes to the concentrator
-pub comes_above : {Q A : Type 0} (stock : Q → Stock) (ledger : A → Ledger) (c d : Concentrator Q A) (rest : System) (does : Actions) (answered repeats : Bool)
-    (lines : ChannelState)
-    → ComesToOutstation (Follows ledger c d) (panel_of ledger (outputs_of c)) rest.now (above_of stock ledger c) (above_of stock ledger d) does answered
-    rest.above lines
-    → ComesDownAbove (left_by repeats) (with_concentrator stock ledger rest c)
-    (record (with_concentrator stock ledger rest d) { above = record lines { down = left_by repeats lines.down } })
-comes_above stock ledger c d rest does answered repeats lines came = record {
+pub comes_above : {Q A : Type 0} (honest : Q → Type 0) (stock : Q → ℕ → Stock) (ledger : A → Ledger) (n : ℕ) (c d : Concentrator Q A) (rest : System)
+    (does : Actions) (answered repeats : Bool) (lines : ChannelState)
+    → ComesToOutstation (Follows honest stock ledger n c d) (panel_above ledger n rest.now c) rest.now (above_of stock ledger n c)
+    (above_of stock ledger n d) does answered rest.above lines
+    → ComesDownAbove (left_by repeats) (with_concentrator stock ledger n rest c)
+    (record (with_concentrator stock ledger n rest d) { above = record lines { down = left_by repeats lines.down } })
+comes_above honest stock ledger n c d rest does answered repeats lines came = record {
   port = came.port;
   given = came.given;
   heard = came.heard;
-  came = answers stock ledger c d rest came.port does answered repeats lines came.given came.came;
+  came = answers honest stock ledger n c d rest came.port does answered repeats lines came.given came.came;
 }
+
+-- the commands that were performed for what came
+commands_come : {Q A : Type 0} (honest : Q → Type 0) (stock : Q → ℕ → Stock) (ledger : A → Ledger) (n now : ℕ) (c d : Concentrator Q A)
+    (does : Actions) (answered : Bool) (old new : ChannelState) (given : List (List ℕ))
+    → AnswersTo given (Follows honest stock ledger n c d) (panel_above ledger n now c) now (above_of stock ledger n c) (above_of stock ledger n d) does
+    answered old new → (commands : List Command) × Follows honest stock ledger n c d commands
+commands_come honest stock ledger n now c d does answered old new [] (none, same, kept, follows) = ([], follows)
+commands_come honest stock ledger n now c d does answered old new (fragment ∷ others) (one, step_is, up, follows) =
+    (performed_in (core_of n c) (panel_above ledger n now c) now fragment, follows)
+
+-- what comes to the concentrator from a centre, as all see it
+pub comes_from : {Q A : Type 0} (honest : Q → Type 0) (stock : Q → ℕ → Stock) (ledger : A → Ledger) (n : ℕ) → n < CENTRES → (rest : Whole)
+    (c d : Concentrator Q A) → honest (queue_of d) → (does : Actions) (answered repeats : Bool) (above : Two Channel)
+    (before lines last : Channel) → before ≡ at n above → (state_of last ≡ (let l = state_of lines in record l { down = left_by repeats l.down }))
+    → ComesToOutstation (Follows honest stock ledger n c d) (panel_above ledger n rest.now c) rest.now (above_of stock ledger n c)
+    (above_of stock ledger n d) does answered (state_of before) (state_of lines)
+    → ChangesAll (Some n) (ComesDownAbove (left_by repeats)) (record rest { concentrator = concentrator_of stock ledger c; above = of_both state_of above })
+    (record rest { concentrator = concentrator_of stock ledger d; above = of_both state_of (with_at n above last) })
+comes_from honest stock ledger n low rest c d is does answered repeats above before lines last there settled came =
+    let base : System = record (seen_by n rest) { above = state_of before } in
+    let some = commands_come honest stock ledger n rest.now c d does answered _ (state_of lines) came.given came.came in
+    middle_there stock ledger n low (ComesDownAbove (left_by repeats)) rest c d some.0 (stays_apart honest stock ledger n c d some.0 is some.1) above before
+    last there
+    (subst (λ (l : ChannelState). ComesDownAbove (left_by repeats) (with_concentrator stock ledger n base c)
+    (record (with_concentrator stock ledger n base d) { above = l })) (sym settled)
+    (comes_above honest stock ledger n c d base does answered repeats (state_of lines) came))
+
+-- ---- where nothing came of it
+
+concentrator_same : {Q A : Type 0} (stock : Q → ℕ → Stock) (ledger : A → Ledger) (c d : Concentrator Q A) → core_of 0 d ≡ core_of 0 c
+    → core_of 1 d ≡ core_of 1 c → stock (queue_of d) 0 ≡ stock (queue_of c) 0 → stock (queue_of d) 1 ≡ stock (queue_of c) 1
+    → map_in (outputs_of d) ≡ map_in (outputs_of c) → ledger (book_in (outputs_of d)) ≡ ledger (book_in (outputs_of c)) → plan_above d ≡ plan_above c
+    → links_of d ≡ links_of c → concentrator_of stock ledger d ≡ concentrator_of stock ledger c
+concentrator_same stock ledger c d first second queue other indices controls plan links =
+    let is : WholeConcentrator = concentrator_of stock ledger d in
+    let was : WholeConcentrator = concentrator_of stock ledger c in
+    ap (λ (k : Core). record is { cores = record is.cores { first = k } }) first
+    ∙ ap (λ (k : Core). record is { cores = record was.cores { second = k } }) second
+    ∙ ap (λ (q : Stock). record is { cores = was.cores; queues = record is.queues { first = q } }) queue
+    ∙ ap (λ (q : Stock). record is { cores = was.cores; queues = record was.queues { second = q } }) other
+    ∙ ap (λ (m : List Spans). record is { cores = was.cores; queues = was.queues; indices = m }) indices
+    ∙ ap (λ (l : Ledger). record was { controls = l; points = is.points; links = is.links }) controls
+    ∙ ap (λ (p : points.Plan). record was { points = p; links = is.links }) plan
+    ∙ ap (λ (l : List Relaying). record was { links = l }) links
+
+-- the concentrator stays, where what the centre and the other one see of it does
+concentrator_stays : {Q A : Type 0} (honest : Q → Type 0) (stock : Q → ℕ → Stock) (ledger : A → Ledger) (n : ℕ) → n < CENTRES → (c d : Concentrator Q A)
+    → honest (queue_of d) → map_in (outputs_of d) ≡ map_in (outputs_of c) → ledger (book_in (outputs_of d)) ≡ ledger (book_in (outputs_of c))
+    → KeepsOtherCentre honest stock n c d → above_of stock ledger n d ≡ above_of stock ledger n c
+    → concentrator_of stock ledger d ≡ concentrator_of stock ledger c
+concentrator_stays honest stock ledger zero low c d is indices controls keeps same =
+    concentrator_same stock ledger c d (ap (λ (s : State). s.core) same) keeps.core (ap (λ (s : State). s.lanes) same) (keeps.side is) indices controls
+    keeps.plan keeps.links
+concentrator_stays honest stock ledger (suc zero) low c d is indices controls keeps same =
+    concentrator_same stock ledger c d keeps.core (ap (λ (s : State). s.core) same) (keeps.side is) (ap (λ (s : State). s.lanes) same) indices controls
+    keeps.plan keeps.links
+concentrator_stays honest stock ledger (suc (suc n)) low c d is indices controls keeps same = absurd (omega (arith, low))
+
+lines_stay : (n : ℕ) (above : Two Channel) (before lines : Channel) → before ≡ at n above → state_of lines ≡ state_of before
+    → of_both state_of (with_at n above lines) ≡ of_both state_of above
+lines_stay n above before lines there same = by (n == 0) (same ∙ ap (λ (c : Channel). state_of c) there)
+  where
+    by : (b : Bool) → state_of lines ≡ state_of (if b then above.first else above.second)
+        → of_both state_of (if b then record above { first = lines } else record above { second = lines }) ≡ of_both state_of above
+    by true e = ap (λ (c : ChannelState). record (of_both state_of above) { first = c }) e
+    by false e = ap (λ (c : ChannelState). record (of_both state_of above) { second = c }) e
+
+-- so the whole stays
+pub all_stays : {Q A : Type 0} (honest : Q → Type 0) (stock : Q → ℕ → Stock) (ledger : A → Ledger) (n : ℕ) → n < CENTRES → (rest : Whole)
+    (c d : Concentrator Q A) → honest (queue_of d) → map_in (outputs_of d) ≡ map_in (outputs_of c)
+    → ledger (book_in (outputs_of d)) ≡ ledger (book_in (outputs_of c)) → KeepsOtherCentre honest stock n c d
+    → above_of stock ledger n d ≡ above_of stock ledger n c → (above : Two Channel) (before lines : Channel) → before ≡ at n above
+    → state_of lines ≡ state_of before
+    → record rest { concentrator = concentrator_of stock ledger d; above = of_both state_of (with_at n above lines) }
+    ≡ record rest { concentrator = concentrator_of stock ledger c; above = of_both state_of above }
+all_stays honest stock ledger n low rest c d is indices controls keeps same above before lines there lines_same =
+    ap (λ (k : WholeConcentrator). record rest { concentrator = k; above = of_both state_of (with_at n above lines) })
+    (concentrator_stays honest stock ledger n low c d is indices controls keeps same)
+    ∙ ap (λ (l : Two ChannelState). record rest { concentrator = concentrator_of stock ledger c; above = l })
+    (lines_stay n above before lines there lines_same)
+
+-- also where nothing was performed
+pub all_stays_idle : {Q A : Type 0} (honest : Q → Type 0) (stock : Q → ℕ → Stock) (ledger : A → Ledger) (n : ℕ) → n < CENTRES → (rest : Whole)
+    (c d : Concentrator Q A) → honest (queue_of d) → Follows honest stock ledger n c d [] → above_of stock ledger n d ≡ above_of stock ledger n c
+    → (above : Two Channel) (before lines : Channel) → before ≡ at n above → state_of lines ≡ state_of before
+    → record rest { concentrator = concentrator_of stock ledger d; above = of_both state_of (with_at n above lines) }
+    ≡ record rest { concentrator = concentrator_of stock ledger c; above = of_both state_of above }
+all_stays_idle honest stock ledger n low rest c d is (performs, keeps) same =
+    let both = all_in ledger [] (outputs_of c) (outputs_of d) performs in
+    all_stays honest stock ledger n low rest c d is both.0 both.1 keeps same

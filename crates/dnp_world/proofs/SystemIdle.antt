@@ -1,18 +1,23 @@
 -- What comes over a line that nothing stands on.
 use Rattle.std.proofs.Common.{◌≡◌, ℕ, zero, suc, ◌<◌, Bool, true, List, [], ◌∷◌, ◌++◌, length, drop, Option, Some, None, refl, sym, ap, ◌∙◌, subst, append-nil, slice_set, arith}
 use Rattle.std.specs.Prelude.{if◌then◌else◌, nat_lt, slice_get}
+use Rattle.std.proofs.lemmas.Bool.{and_parts}
 use Rattle.std.proofs.lemmas.Bool.Decides.{nat_tests}
 use Rattle.std.proofs.lemmas.List.{drop_all}
 use Rattle.dnp_objects.specs.declared.command.Command.{Command}
 use Rattle.dnp_objects.specs.declared.row.Row.{Row}
 use Rattle.dnp_line.specs.Lines.{LineState, front_of}
 use Rattle.dnp_world.specs.Channels.{ChannelState, left_by}
+use Rattle.dnp_world.specs.Centres as all
+use Rattle.dnp_world.specs.Centres.{ChangesAll, centre_of, is_there}
 use Rattle.dnp_world.specs.SystemEvents.{ComesDownBelow, ComesOn, IsHeardUp}
 use Rattle.dnp_world.specs.Systems.{SubstationState, System, at_station, front_at, front_on, has_link, has_station}
+use Rattle.dnp_world.specs.Wholes.{Whole, seen_by}
 use Rattle.dnp_world.specs.declared.event.Link.{Link}
 use Rattle.dnp_world.specs.declared.event.Link.TheVariants.{Above, Below}
 use Rattle.dnp_world.specs.declared.link_event.Way.{Way}
 use Rattle.dnp_world.specs.declared.link_event.Way.TheVariants.{Down, Up}
+use Rattle.dnp_world.proofs.CentrePlaces.{low_of, rests_there}
 use Rattle.dnp_world.proofs.IdleLines.{idle_line, idle_port}
 use Rattle.dnp_world.proofs.SystemPlaces.{both_first}
 
@@ -100,11 +105,20 @@ comes_idle repeats (Below station) way s has none =
     idle_below repeats way station s found.0 found.1
     (subst (λ (o : Option SubstationState). front_at way o ≡ None) found.1
     (subst (λ (b : Bool). (if b then front_at way (slice_get s.substations station) else None) ≡ None) has none))
-comes_idle repeats Above Down s has none = record {
+comes_idle repeats (Above centre) Down s has none = record {
   port = s.above.outstation_port;
   given = [];
   heard = idle_port s.above.down s.above.outstation_port none;
   came = sym (ap (λ (l : LineState). record s { above = record s.above { down = l } }) (idle_line repeats s.above.down none));
 }
-comes_idle repeats Above Up s has none =
+comes_idle repeats (Above centre) Up s has none =
     record { given = []; between = s; heard = (idle_up repeats s.above none, refl); came = refl }
+
+-- as all see it
+pub all_idle : (repeats : Bool) (on : Link) (way : Way) (w : Whole) → all.has_link w on ≡ true → all.front_on w on way ≡ None
+    → ChangesAll (centre_of on) (ComesOn (left_by repeats) on way) w w
+all_idle repeats (Below station) way w has none = λ centre low. comes_idle repeats (Below station) way (seen_by centre w) has none
+all_idle repeats (Above n) way w has none =
+    rests_there n (low_of n w has) (ComesOn (left_by repeats) (Above n) way) w
+    (comes_idle repeats (Above n) way (seen_by n w) refl
+    (subst (λ (b : Bool). (if b then front_on (seen_by n w) (Above n) way else None) ≡ None) (and_parts (is_there (Some n)) true has).0 none))

@@ -1,5 +1,5 @@
 -- One substation of a system, where it stands in the list.
-use Rattle.std.proofs.Common.{◌≡◌, ℕ, zero, suc, ◌<◌, Bool, true, false, ◌&&◌, List, [], ◌∷◌, length, map, Some, refl, sym, ap, ◌∙◌, subst, arith, get_or, slice_set}
+use Rattle.std.proofs.Common.{◌≡◌, ℕ, zero, suc, ◌<◌, Bool, true, false, ◌&&◌, List, [], ◌∷◌, length, map, None, Some, refl, sym, ap, ◌∙◌, subst, arith, get_or, slice_set}
 use Rattle.std.specs.Prelude.{slice_get, nat_lt}
 use Rattle.std.proofs.lemmas.Bool.Decides.{nat_tests}
 use Rattle.std.proofs.lemmas.List.{map-set, length-map, set-get_or}
@@ -9,16 +9,24 @@ use Rattle.dnp_outstation.specs.State.{Core}
 use Rattle.dnp_pointdb.specs.Plan as points
 use Rattle.dnp_concentrator.specs.BookOutputs.{book_in, map_in}
 use Rattle.dnp_concentrator.specs.Concentrator.{core_of, links_of, plan_above, KeepsStores}
-use Rattle.dnp_concentrator.specs.Relaying.{Relaying}
+use Rattle.dnp_concentrator.specs.Below.{link_in}
+use Rattle.dnp_concentrator.specs.Relaying.{Relaying, hung_up}
 use Rattle.dnp_concentrator.specs.declared.book_outputs.BookOutputs.{BookOutputs}
 use Rattle.dnp_concentrator.specs.declared.concentrator.Concentrator.{Concentrator}
+use Rattle.dnp_concentrator.specs.declared.two.Two.{Two}
+use Rattle.dnp_world.specs.Centres.{ChangesAll, has_link}
 use Rattle.dnp_world.specs.Channels.{ChannelState, GoDown, state_of}
-use Rattle.dnp_world.specs.SystemEvents.{ChangesAt, LinesChange, same_rest}
+use Rattle.dnp_concentrator.specs.Concentrator.{without_link}
+use Rattle.dnp_world.specs.SystemEvents.{ChangesAt, HangsUpOn, LinesChange, master_gone, same_rest, with_link, with_lost}
 use Rattle.dnp_world.specs.SystemParts.{substation_of, concentrator_of}
-use Rattle.dnp_world.specs.Systems.{SubstationState, ConcentratorState, System, has_station}
+use Rattle.dnp_world.specs.Systems.{SubstationState, ConcentratorState, System, has_station, link_at}
+use Rattle.dnp_world.specs.Wholes.{Whole, WholeConcentrator, seen_by}
 use Rattle.dnp_world.specs.declared.channel.Channel.{Channel}
 use Rattle.dnp_world.specs.declared.event.Link.TheVariants.{Below}
+use Rattle.dnp_world.specs.declared.link_event.End.TheVariants.{Master}
 use Rattle.dnp_world.specs.declared.substation.Substation.{Substation}
+use Rattle.dnp_world.specs.steps.WholeSteps.{of_both}
+use Rattle.dnp_world.proofs.EachCentre.{for_both}
 
 pub there : {A B : Type 0} (f : A → B) (xs : List A) (i : ℕ) (x d : A) → i < length xs → x ≡ get_or xs i d → slice_get (map f xs) i ≡ Some (f x)
 there f [] i x d low is = absurd (omega (arith, low))
@@ -31,8 +39,8 @@ viewed {view = view} is = view
 
 -- one substation was written, and the rest of the system is as `rest` says
 pub changes_at : (station i : ℕ) (Change : SubstationState → SubstationState → Type 0) (rest : SubstationState → SubstationState → System → System)
-    (old new : System) (xs : List Substation) (was is : Substation) → old.substations ≡ map substation_of xs → i ≡ station → i < length xs → was ≡ get_or xs i was
-    → Change (substation_of was) (substation_of is)
+    (old new : System) (xs : List Substation) (was is : Substation) → old.substations ≡ map substation_of xs → i ≡ station → i < length xs
+    → was ≡ get_or xs i was → Change (substation_of was) (substation_of is)
     → new ≡ rest (substation_of was) (substation_of is) (record old { substations = map substation_of (slice_set xs i is) })
     → ChangesAt station Change rest old new
 changes_at station i Change rest old new xs was is list same low at changed after = record {
@@ -53,7 +61,8 @@ both_first false b e = e
 -- there is such a substation
 pub is_there : (s : System) (xs : List Substation) (station : ℕ) → s.substations ≡ map substation_of xs → has_station s station ≡ true → station < length xs
 is_there s xs station list has =
-    let low : nat_lt station (length s.substations) ≡ true = both_first (nat_lt station (length s.substations)) (nat_lt station (length s.concentrator.links)) has in
+    let low : nat_lt station (length s.substations) ≡ true =
+    both_first (nat_lt station (length s.substations)) (nat_lt station (length s.concentrator.links)) has in
     let same : length s.substations ≡ length xs = ap (λ (ys : List SubstationState). length ys) list ∙ length-map xs substation_of in
     let under : station < length s.substations = grind (arith, nat_tests, low) in
     omega (arith, under, same)
@@ -61,21 +70,26 @@ is_there s xs station list has =
 -- ---- the concentrator
 
 -- its readings above and its links become others
-pub concentrator_with : {Q A : Type 0} (stock : Q → Stock) (ledger : A → Ledger) (old new : Concentrator Q A) (core : Core) (links : List Relaying)
-    → core_of new ≡ core → links_of new ≡ links → KeepsStores old new
-    → concentrator_of stock ledger new ≡ record (concentrator_of stock ledger old) { core = core; links = links }
-concentrator_with {Q} {A} stock ledger old new core links core_is links_is stores =
-    ap (λ (k : Core). record (concentrator_of stock ledger new) { core = k }) core_is
-    ∙ ap (λ (k : List Relaying). record (concentrator_of stock ledger new) { core = core; links = k }) links_is
-    ∙ ap (λ (q : Q). record (concentrator_of stock ledger new) { core = core; links = links; queue = stock q }) stores.queue
+pub concentrator_with : {Q A : Type 0} (stock : Q → ℕ → Stock) (ledger : A → Ledger) (old new : Concentrator Q A) (cores : Two Core) (links : List Relaying)
+    → core_of 0 new ≡ cores.first → core_of 1 new ≡ cores.second → links_of new ≡ links → KeepsStores old new
+    → concentrator_of stock ledger new ≡ record (concentrator_of stock ledger old) { cores = cores; links = links }
+concentrator_with {Q} {A} stock ledger old new cores links first_is second_is links_is stores =
+    ap (λ (k : Core). record (concentrator_of stock ledger new) { cores = record { first = k; second = core_of 1 new } }) first_is
+    ∙ ap (λ (k : Core). record (concentrator_of stock ledger new) { cores = record cores { second = k } }) second_is
+    ∙ ap (λ (k : List Relaying). record (concentrator_of stock ledger new) { cores = cores; links = k }) links_is
+    ∙ ap (λ (q : Q). record (concentrator_of stock ledger new) {
+      cores = cores;
+      links = links;
+      queues = record { first = stock q 0; second = stock q 1 };
+    }) stores.queue
     ∙ ap (λ (o : BookOutputs A). record (concentrator_of stock ledger old) {
-      core = core;
+      cores = cores;
       links = links;
       indices = map_in o;
       controls = ledger (book_in o);
       points = plan_above new;
     }) stores.outputs
-    ∙ ap (λ (p : points.Plan). record (concentrator_of stock ledger old) { core = core; links = links; points = p }) stores.plan
+    ∙ ap (λ (p : points.Plan). record (concentrator_of stock ledger old) { cores = cores; links = links; points = p }) stores.plan
 
 -- ---- lines
 
@@ -94,26 +108,47 @@ read_there f (y ∷ ys) zero x d low is = ap f is
 read_there f (y ∷ ys) (suc i) x d low is = read_there f ys i x d (omega (arith, low)) is
 
 -- a substation that is what it was
-pub unchanged_at : (old : System) (xs : List Substation) (station i : ℕ) (was is : Substation) → old.substations ≡ map substation_of xs
-    → i ≡ station → has_station old station ≡ true → was ≡ get_or xs i was → substation_of is ≡ substation_of was
+pub unchanged_at : (old : Whole) (xs : List Substation) (station i : ℕ) (was is : Substation) → old.substations ≡ map substation_of xs
+    → i ≡ station → has_link old (Below station) ≡ true → was ≡ get_or xs i was → substation_of is ≡ substation_of was
     → record old { substations = map substation_of (slice_set xs i is) } ≡ old
 unchanged_at old xs station i was is list at has read same =
-    let low : i < length xs = rw at (is_there old xs station list has) in
+    let low : i < length xs = rw at (is_there (seen_by 0 old) xs station list has) in
     ap (λ (ys : List SubstationState). record old { substations = ys })
     (map-set substation_of xs i is ∙ ap (λ (s : SubstationState). slice_set (map substation_of xs) i s) (same ∙ read_there substation_of xs i was was low read)
     ∙ set-get_or (map substation_of xs) i (substation_of was) ∙ sym list)
 
 -- fragments went down to a substation, and the concentrator is this
-pub sends_at : (station i : ℕ) (fragments : List (List ℕ)) (first : System) (middle : ConcentratorState) (xs : List Substation) (was : Substation) (lines : Channel)
-    → first.substations ≡ map substation_of xs → middle ≡ first.concentrator → i ≡ station → i < length xs → was ≡ get_or xs i was
+pub sends_at : (station i : ℕ) (fragments : List (List ℕ)) (first : System) (middle : ConcentratorState) (xs : List Substation) (was : Substation)
+    (lines : Channel) → first.substations ≡ map substation_of xs → middle ≡ first.concentrator → i ≡ station → i < length xs → was ≡ get_or xs i was
     → GoDown fragments (state_of was.channel) (state_of lines)
     → LinesChange (Below station) (GoDown fragments) first
     (record first { substations = map substation_of (slice_set xs i (record was { channel = lines })); concentrator = middle })
 sends_at station i fragments first middle xs was lines list same_middle same low at changed =
     changes_at station i (λ was is. GoDown fragments was.channel is.channel × (is ≡ record was { channel = is.channel })) same_rest first _ xs was
     (record was { channel = lines }) list same low at (changed, refl)
-    (ap (λ (k : ConcentratorState). record first { substations = map substation_of (slice_set xs i (record was { channel = lines })); concentrator = k }) same_middle)
+    (ap (λ (k : ConcentratorState). record first {
+      substations = map substation_of (slice_set xs i (record was { channel = lines }));
+      concentrator = k;
+    }) same_middle)
 
 -- what went down from lines that were the same went down from these
 pub down_from : (fragments : List (List ℕ)) (old mid new : ChannelState) → mid ≡ old → GoDown fragments mid new → GoDown fragments old new
 down_from fragments old mid new same down = subst (λ (c : ChannelState). GoDown fragments c new) same down
+
+-- the master's end of a substation's link hung up
+pub hangs_up_below : (old : Whole) (station i : ℕ) (xs : List Substation) (was is : Substation) (middle : WholeConcentrator)
+    → old.substations ≡ map substation_of xs → i ≡ station → has_link old (Below station) ≡ true → was ≡ get_or xs i was
+    → substation_of is ≡ master_gone (substation_of was)
+    → middle ≡ record old.concentrator {
+      cores = of_both (λ core. without_link core station) old.concentrator.cores;
+      links = slice_set old.concentrator.links station (hung_up (link_in old.concentrator.links station));
+    }
+    → ChangesAll None (HangsUpOn (Below station) Master) old (record old { substations = map substation_of (slice_set xs i is); concentrator = middle })
+hangs_up_below old station i xs was is middle list same has at gone middle_is =
+    let low : i < length xs = rw same (is_there (seen_by 0 old) xs station list has) in
+    let hung : ℕ → System = λ n. let s = seen_by n old in with_lost (with_link s station (hung_up (link_at s.concentrator station))) station in
+    let new : ℕ → WholeConcentrator → System = λ n c. seen_by n (record old { substations = map substation_of (slice_set xs i is); concentrator = c }) in
+    let Gone : SubstationState → SubstationState → Type 0 = λ before after. after ≡ master_gone before in
+    for_both _
+    (changes_at station i Gone same_rest (hung 0) (new 0 middle) xs was is list same low at gone (ap (new 0) middle_is))
+    (changes_at station i Gone same_rest (hung 1) (new 1 middle) xs was is list same low at gone (ap (new 1) middle_is))

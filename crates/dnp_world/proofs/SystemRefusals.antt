@@ -9,11 +9,15 @@ use Rattle.dnp_master.specs.Calls.{ask_answer, asked_by}
 use Rattle.dnp_master.specs.State.{is_idle}
 use Rattle.dnp_master.specs.declared.fault.AskFault.{AskFault}
 use Rattle.dnp_master.specs.declared.task.Task.{Task}
+use Rattle.dnp_world.specs.Centres as all
+use Rattle.dnp_world.specs.Centres.{ChangesAll, centre_of, seen_at}
 use Rattle.dnp_world.specs.Channels.{ChannelState, GoDown}
 use Rattle.dnp_world.specs.SystemEvents.{AsksOn, IsGranted, LinesChange, RelaysOn, SendsDown, Steps, entries_on, relaying_at, request_of, requests_of, step_on, told, with_relaying}
 use Rattle.dnp_world.specs.Systems.{System, has_link, link_at}
+use Rattle.dnp_world.specs.Wholes.{Whole, seen_by}
 use Rattle.dnp_world.specs.declared.event.Link.{Link}
 use Rattle.dnp_world.specs.declared.event.Link.TheVariants.{Above, Below}
+use Rattle.dnp_world.proofs.CentrePlaces.{low_of, rests_there}
 use Rattle.dnp_world.proofs.SystemIdle.{is_under, member, same_system}
 
 -- ---- a task
@@ -23,7 +27,7 @@ none_down : (c : ChannelState) → GoDown [] c c
 none_down c = record { sent = (refl, refl); after = refl }
 
 still : (on : Link) (s : System) → has_link s on ≡ true → SendsDown on [] (relaying_at s on) s s
-still Above s has = (none_down s.above, refl)
+still (Above centre) s has = (none_down s.above, refl)
 still (Below station) s has =
     let found = member s.substations station (is_under s station has) in
     let same : with_relaying s (Below station) (relaying_at s (Below station)) ≡ s =
@@ -43,7 +47,7 @@ sends_nothing on task s has (Ok octets) none = absurd (false≢true (sym none))
 sends_nothing on task s has (Err fault) none = still on s has
 
 -- a task that the master doesn't ask does nothing
-pub asks_nothing : (own answer : Bool) (on : Link) (task : Task) (s : System) → has_link s on ≡ true
+asks_nothing : (own answer : Bool) (on : Link) (task : Task) (s : System) → has_link s on ≡ true
     → (own ≡ true → answer ≡ is_ok (ask_answer (relaying_at s on).master task)) → answer ≡ false → AsksOn own on task s s
 asks_nothing false answer on task s has answers none = refl
 asks_nothing true answer on task s has answers none =
@@ -52,7 +56,7 @@ asks_nothing true answer on task s has answers none =
 -- ---- a step of relaying
 
 told_none : (on : Link) (s : System) → told s on Waits ≡ s
-told_none Above s = refl
+told_none (Above centre) s = refl
 told_none (Below station) s = refl
 
 waits_by : (on : Link) (s : System) → has_link s on ≡ true → (step : Step) → step ≡ Waits
@@ -70,11 +74,26 @@ step_waits : (on : Link) (s : System) → is_idle (relaying_at s on).master ≡ 
 step_waits (Below station) s busy =
     let r : Relaying = link_at s.concentrator station in
     ap (λ (idle : Bool). if idle then step_by r.progress r.master.selected s.concentrator.controls.entries station else Waits) busy
-step_waits Above s busy =
+step_waits (Above centre) s busy =
     let r : Relaying = s.centre.link in
     ap (λ (idle : Bool). if idle then step_by r.progress r.master.selected s.centre.orders.entries 0 else Waits) busy
 
-pub waits : (on : Link) (s : System) → has_link s on ≡ true → is_idle (relaying_at s on).master ≡ false → RelaysOn on s s
+waits : (on : Link) (s : System) → has_link s on ≡ true → is_idle (relaying_at s on).master ≡ false → RelaysOn on s s
 waits on s has busy =
     let steps = waits_by on s has (step_on s on) (step_waits on s busy) in
     Steps steps.0 steps.1
+
+-- ---- as all see it
+
+pub all_ask_nothing : (own answer : Bool) (on : Link) (task : Task) (w : Whole) → all.has_link w on ≡ true
+    → (own ≡ true → answer ≡ is_ok (ask_answer (relaying_at (seen_at (centre_of on) w) on).master task)) → answer ≡ false
+    → ChangesAll (centre_of on) (AsksOn own on task) w w
+all_ask_nothing own answer (Below station) task w has answers none =
+    λ centre low. asks_nothing own answer (Below station) task (seen_by centre w) has answers none
+all_ask_nothing own answer (Above n) task w has answers none =
+    rests_there n (low_of n w has) (AsksOn own (Above n) task) w (asks_nothing own answer (Above n) task (seen_by n w) refl answers none)
+
+pub all_wait : (on : Link) (w : Whole) → all.has_link w on ≡ true → is_idle (relaying_at (seen_at (centre_of on) w) on).master ≡ false
+    → ChangesAll (centre_of on) (RelaysOn on) w w
+all_wait (Below station) w has busy = λ centre low. waits (Below station) (seen_by centre w) has busy
+all_wait (Above n) w has busy = rests_there n (low_of n w has) (RelaysOn (Above n)) w (waits (Above n) (seen_by n w) refl busy)

@@ -1,10 +1,12 @@
 -- Rounds: lists of events that were done one after the other, and where they stop.
 use Rattle.std.proofs.Common.{◌≡◌, ℕ, true, zero, suc, ◌+◌, ◌<◌, List, [], ◌∷◌, ◌++◌, length, take, inl, inr, Some, refl, sym, ap, ◌∙◌, subst, zero-add, arith}
-use Rattle.std.specs.Prelude.{◌⊎◌, All, is_some, replicate, slice_get}
+use Rattle.std.specs.Prelude.{◌⊎◌, All, replicate, slice_get}
 use Rattle.std.proofs.lemmas.List.{replicate_more, take-replicate}
 use Rattle.dnp_world.specs.Rounds.{Flushes, StopsFlushing, StopsFlushingAll, StopsInRound, StopsInTurn, deliveries, events_polled}
-use Rattle.dnp_world.specs.SystemRuns.{CountsFor, Happens, RunsTo, StopsAfter}
-use Rattle.dnp_world.specs.Systems.{System, front_on, standing_on}
+use Rattle.dnp_world.specs.Centres.{HappensToAll, may_stop}
+use Rattle.dnp_world.specs.SystemRuns.{CountsFor, RunsTo, StopsAfter}
+use Rattle.dnp_world.specs.Systems.{System, standing_on}
+use Rattle.dnp_world.specs.Wholes.{Whole}
 use Rattle.dnp_world.specs.declared.event.Event.{Event}
 use Rattle.dnp_world.specs.declared.event.Event.TheVariants.{Ask, Deliver}
 use Rattle.dnp_world.specs.declared.event.Link.{Link}
@@ -49,29 +51,31 @@ get_same x (suc n) (suc k) low = get_same x n k (omega (arith, low))
 -- ---- lists of events that were done
 
 -- such events were done
-pub record Ran (IsOne : Event → Type 0) (old new : System) : Type 0 where
+pub record Ran (IsOne : Event → Type 0) (old new : Whole) : Type 0 where
   pub events : List Event
   pub all : All IsOne events
-  pub ran : RunsTo old events new
+  pub ran : RunsTo HappensToAll old events new
 
-runs_joined : (old mid new : System) (xs ys : List Event) → RunsTo old xs mid → RunsTo mid ys new → RunsTo old (xs ++ ys) new
-runs_joined old mid new [] ys ran more = subst (λ (s : System). RunsTo s ys new) ran more
+runs_joined : (old mid new : Whole) (xs ys : List Event) → RunsTo HappensToAll old xs mid → RunsTo HappensToAll mid ys new
+    → RunsTo HappensToAll old (xs ++ ys) new
+runs_joined old mid new [] ys ran more = subst (λ (s : Whole). RunsTo HappensToAll s ys new) ran more
 runs_joined old mid new (x ∷ xs) ys ran more = (ran.0, ran.1, runs_joined ran.0 mid new xs ys ran.2 more)
 
 -- one event
-pub ran_one : (P : Event → Type 0) (old new : System) (event : Event) → P event → Happens old event new → Ran P old new
+pub ran_one : (P : Event → Type 0) (old new : Whole) (event : Event) → P event → HappensToAll old event new → Ran P old new
 ran_one P old new event is h = record { events = event ∷ []; all = all_one P event is; ran = (new, h, refl) }
 
 -- what stood on a line
-pub ran_flush : (P : Event → Type 0) (on : Link) (way : Way) (old new : System) → P (Deliver on way) → Flushes on way old new → Ran P old new
-ran_flush P on way old new is ran = record {
-  events = deliveries (standing_on old on way) on way;
-  all = all_same P (Deliver on way) (standing_on old on way) is;
+pub ran_flush : (see : Whole → System) (P : Event → Type 0) (on : Link) (way : Way) (old new : Whole) → P (Deliver on way)
+    → Flushes HappensToAll see on way old new → Ran P old new
+ran_flush see P on way old new is ran = record {
+  events = deliveries (standing_on (see old) on way) on way;
+  all = all_same P (Deliver on way) (standing_on (see old) on way) is;
   ran = ran;
 }
 
 -- one list after another
-pub ran_both : (P : Event → Type 0) (old mid new : System) → Ran P old mid → Ran P mid new → Ran P old new
+pub ran_both : (P : Event → Type 0) (old mid new : Whole) → Ran P old mid → Ran P mid new → Ran P old new
 ran_both P old mid new first more = record {
   events = first.events ++ more.events;
   all = all_joined P first.events more.events first.all more.all;
@@ -81,25 +85,26 @@ ran_both P old mid new first more = record {
 -- ---- lists that stopped
 
 -- so many events were done, and the one behind them was not, whatever stopped the list there
-pub record StaysAfter (old : System) (events : List Event) (done : ℕ) (new : System) : Type 0 where
-  pub before : System
-  pub ran : RunsTo old (take done events) before
+pub record StaysAfter (old : Whole) (events : List Event) (done : ℕ) (new : Whole) : Type 0 where
+  pub before : Whole
+  pub ran : RunsTo HappensToAll old (take done events) before
   pub event : Event
   pub next : slice_get events done ≡ Some event
-  pub counts : CountsFor before event new
+  pub counts : CountsFor HappensToAll before event new
 
-stays_after : (old : System) (events : List Event) (done : ℕ) (new : System) → StopsAfter old events done new → StaysAfter old events done new
+stays_after : (old : Whole) (events : List Event) (done : ℕ) (new : Whole) → StopsAfter HappensToAll may_stop old events done new
+    → StaysAfter old events done new
 stays_after old events done new s = record { before = s.before; ran = s.ran; event = s.event; next = s.next; counts = s.counts }
 
 -- a list of such events stopped
-pub record StopsIn (IsOne : Event → Type 0) (old new : System) : Type 0 where
+pub record StopsIn (IsOne : Event → Type 0) (old new : Whole) : Type 0 where
   pub events : List Event
   pub done : ℕ
   pub all : All IsOne events
   pub stops : StaysAfter old events done new
 
 -- at their first event
-pub stops_at : (P : Event → Type 0) (old new : System) (event : Event) → P event → CountsFor old event new → StopsIn P old new
+pub stops_at : (P : Event → Type 0) (old new : Whole) (event : Event) → P event → CountsFor HappensToAll old event new → StopsIn P old new
 stops_at P old new event is counts = record {
   events = event ∷ [];
   done = 0;
@@ -108,14 +113,14 @@ stops_at P old new event is counts = record {
 }
 
 -- after another was done
-pub stops_after : (P : Event → Type 0) (old mid new : System) → Ran P old mid → StopsIn P mid new → StopsIn P old new
+pub stops_after : (P : Event → Type 0) (old mid new : Whole) → Ran P old mid → StopsIn P mid new → StopsIn P old new
 stops_after P old mid new first s = record {
   events = first.events ++ s.events;
   done = length first.events + s.done;
   all = all_joined P first.events s.events first.all s.all;
   stops = record {
     before = s.stops.before;
-    ran = subst (λ (es : List Event). RunsTo old es s.stops.before) (sym (take_past first.events s.events s.done))
+    ran = subst (λ (es : List Event). RunsTo HappensToAll old es s.stops.before) (sym (take_past first.events s.events s.done))
         (runs_joined old mid s.stops.before first.events (take s.done s.events) first.ran s.stops.ran);
     event = s.stops.event;
     next = get_past first.events s.events s.done ∙ s.stops.next;
@@ -124,47 +129,52 @@ stops_after P old mid new first s = record {
 }
 
 -- a part, or the rest after it
-pub stops_in_turn : (P : Event → Type 0) (Stops Done Rest : System → System → Type 0) → ((old new : System) → Stops old new → StopsIn P old new)
-    → ((old new : System) → Done old new → Ran P old new) → ((old new : System) → Rest old new → StopsIn P old new)
-    → (old new : System) → StopsInTurn Stops Done Rest old new → StopsIn P old new
+pub stops_in_turn : (P : Event → Type 0) (Stops Done Rest : Whole → Whole → Type 0) → ((old new : Whole) → Stops old new → StopsIn P old new)
+    → ((old new : Whole) → Done old new → Ran P old new) → ((old new : Whole) → Rest old new → StopsIn P old new)
+    → (old new : Whole) → StopsInTurn Stops Done Rest old new → StopsIn P old new
 stops_in_turn P Stops Done Rest stops done rest old new (inl s) = stops old new s
 stops_in_turn P Stops Done Rest stops done rest old new (inr (next, d, r)) = stops_after P old next new (done old next d) (rest next new r)
 
 -- ---- deliveries
 
 -- one unit more was delivered
-pub one_delivered : (old mid new : System) (n : ℕ) (on : Link) (way : Way) → RunsTo old (deliveries n on way) mid → Happens mid (Deliver on way) new
-    → RunsTo old (deliveries (n + 1) on way) new
+pub one_delivered : (old mid new : Whole) (n : ℕ) (on : Link) (way : Way) → RunsTo HappensToAll old (deliveries n on way) mid
+    → HappensToAll mid (Deliver on way) new
+    → RunsTo HappensToAll old (deliveries (n + 1) on way) new
 one_delivered old mid new n on way ran h =
-    subst (λ (es : List Event). RunsTo old es new) (replicate_more n (Deliver on way)) (runs_more old mid new (deliveries n on way) (Deliver on way) ran h)
+    subst (λ (es : List Event). RunsTo HappensToAll old es new) (replicate_more n (Deliver on way))
+    (runs_more old mid new (deliveries n on way) (Deliver on way) ran h)
 
 -- so many of all were, and the next one stopped
-pub stops_delivering : (old mid new : System) (n all : ℕ) (on : Link) (way : Way) → n < all → RunsTo old (deliveries n on way) mid
-    → is_some (front_on mid on way) ≡ true → CountsFor mid (Deliver on way) new → StopsAfter old (deliveries all on way) n new
-stops_delivering old mid new n all on way low ran there counts = record {
+pub stops_delivering : (old mid new : Whole) (n all : ℕ) (on : Link) (way : Way) → n < all → RunsTo HappensToAll old (deliveries n on way) mid
+    → may_stop mid (Deliver on way) ≡ true → CountsFor HappensToAll mid (Deliver on way) new
+    → StopsAfter HappensToAll may_stop old (deliveries all on way) n new
+stops_delivering old mid new n all on way low ran may counts = record {
   before = mid;
-  ran = subst (λ (es : List Event). RunsTo old es mid) (sym (take-replicate n all (Deliver on way) (omega (arith, low)))) ran;
+  ran = subst (λ (es : List Event). RunsTo HappensToAll old es mid) (sym (take-replicate n all (Deliver on way) (omega (arith, low)))) ran;
   event = Deliver on way;
   next = get_same (Deliver on way) all n low;
-  may = there;
+  may = may;
   counts = counts;
 }
 
-stops_flushing : (P : Event → Type 0) (on : Link) (way : Way) → P (Deliver on way) → (old new : System) → StopsFlushing on way old new
+stops_flushing : (see : Whole → System) (P : Event → Type 0) (on : Link) (way : Way) → P (Deliver on way) → (old new : Whole)
+    → StopsFlushing HappensToAll see may_stop on way old new
     → StopsIn P old new
-stops_flushing P on way is old new (done, stops) = record {
-  events = deliveries (standing_on old on way) on way;
+stops_flushing see P on way is old new (done, stops) = record {
+  events = deliveries (standing_on (see old) on way) on way;
   done = done;
-  all = all_same P (Deliver on way) (standing_on old on way) is;
-  stops = stays_after old (deliveries (standing_on old on way) on way) done new stops;
+  all = all_same P (Deliver on way) (standing_on (see old) on way) is;
+  stops = stays_after old (deliveries (standing_on (see old) on way) on way) done new stops;
 }
 
-pub stops_flushing_all : (P : Event → Type 0) (on : Link) → ((way : Way) → P (Deliver on way)) → (ways : List Way) (old new : System)
-    → StopsFlushingAll on ways old new → StopsIn P old new
-stops_flushing_all P on is [] old new s = absurd s
-stops_flushing_all P on is (way ∷ ways) old new s =
-    stops_in_turn P (StopsFlushing on way) (Flushes on way) (StopsFlushingAll on ways) (stops_flushing P on way (is way))
-    (λ a b. ran_flush P on way a b (is way)) (stops_flushing_all P on is ways) old new s
+pub stops_flushing_all : (see : Whole → System) (P : Event → Type 0) (on : Link) → ((way : Way) → P (Deliver on way)) → (ways : List Way) (old new : Whole)
+    → StopsFlushingAll HappensToAll see may_stop on ways old new → StopsIn P old new
+stops_flushing_all see P on is [] old new s = absurd s
+stops_flushing_all see P on is (way ∷ ways) old new s =
+    stops_in_turn P (StopsFlushing HappensToAll see may_stop on way) (Flushes HappensToAll see on way) (StopsFlushingAll HappensToAll see may_stop on ways)
+    (stops_flushing see P on way (is way))
+    (λ a b. ran_flush see P on way a b (is way)) (stops_flushing_all see P on is ways) old new s
 
 -- ---- rounds
 
@@ -173,11 +183,12 @@ abbrev pub IsOfRound : Link → Event → Type 0
 IsOfRound on event = (event ≡ Ask on events_polled) ⊎ ((way : Way) × (event ≡ Deliver on way))
 
 -- the poll
-pub ran_poll : (on : Link) (old new : System) → Happens old (Ask on events_polled) new → Ran (IsOfRound on) old new
+pub ran_poll : (on : Link) (old new : Whole) → HappensToAll old (Ask on events_polled) new → Ran (IsOfRound on) old new
 ran_poll on old new h = ran_one (IsOfRound on) old new (Ask on events_polled) (inl refl) h
 
-pub stops_round : (on : Link) (old new : System) → StopsInRound on old new → StopsIn (IsOfRound on) old new
-stops_round on old new s =
-    stops_in_turn (IsOfRound on) (λ a b. CountsFor a (Ask on events_polled) b) (λ a b. Happens a (Ask on events_polled) b)
-    (StopsFlushingAll on (Down ∷ Up ∷ Down ∷ [])) (λ a b. stops_at (IsOfRound on) a b (Ask on events_polled) (inl refl)) (ran_poll on)
-    (stops_flushing_all (IsOfRound on) on (λ way. inr (way, refl)) (Down ∷ Up ∷ Down ∷ [])) old new s
+pub stops_round : (see : Whole → System) (on : Link) (old new : Whole) → StopsInRound HappensToAll see may_stop on old new → StopsIn (IsOfRound on) old new
+stops_round see on old new s =
+    stops_in_turn (IsOfRound on) (λ a b. CountsFor HappensToAll a (Ask on events_polled) b) (λ a b. HappensToAll a (Ask on events_polled) b)
+    (StopsFlushingAll HappensToAll see may_stop on (Down ∷ Up ∷ Down ∷ [])) (λ a b. stops_at (IsOfRound on) a b (Ask on events_polled) (inl refl))
+    (ran_poll on)
+    (stops_flushing_all see (IsOfRound on) on (λ way. inr (way, refl)) (Down ∷ Up ∷ Down ∷ [])) old new s

@@ -1,5 +1,5 @@
 -- Steps of relaying, as what is answered tells them.
-use Rattle.std.proofs.Common.{◌≡◌, ℕ, ◌&&◌, if◌then◌else◌, Bool, true, false, not, List, map, get_or, slice_set, ◌⊎◌, inl, inr, Option, Some, None, Result, Ok, Err, refl, ap, ◌∙◌, subst}
+use Rattle.std.proofs.Common.{◌≡◌, ℕ, ◌&&◌, if◌then◌else◌, Bool, true, false, not, List, map, get_or, slice_set, ◌⊎◌, inl, inr, Option, Some, None, Result, Ok, Err, refl, ap, ◌∙◌, subst, arith}
 use Rattle.std.proofs.lemmas.Bool.{both_ways}
 use Rattle.std.specs.Option.{IsSomeAnd}
 use Rattle.std.specs.Result.{IfErr, IfOk, IsErr, IsOk, OnErr, OnOk}
@@ -29,10 +29,13 @@ use Rattle.dnp_concentrator.specs.declared.progress.Progress.{Progress}
 use Rattle.dnp_concentrator.specs.declared.centre.Centre.{Centre}
 use Rattle.dnp_concentrator.specs.declared.concentrator.Concentrator.{Concentrator}
 use Rattle.dnp_concentrator.specs.declared.span.Spans.{Spans}
+use Rattle.dnp_eventbuf.specs.Sides.{ForEach}
+use Rattle.dnp_world.specs.Centres.{ChangesAll, has_link}
 use Rattle.dnp_world.specs.Channels.{ChannelState, GoDown, state_of}
 use Rattle.dnp_world.specs.SystemEvents.{IsGranted, IsMissing, IsRefused, Refuses, RelaysOn, SendsDown, Steps, entries_on, relaying_at, requests_of, step_on, told, with_relaying}
 use Rattle.dnp_world.specs.SystemParts.{centre_of, concentrator_of, substation_of}
-use Rattle.dnp_world.specs.Systems.{CentreState, ConcentratorState, System, has_station}
+use Rattle.dnp_world.specs.Systems.{CentreState, System}
+use Rattle.dnp_world.specs.Wholes.{Whole, WholeConcentrator, seen_by}
 use Rattle.dnp_world.specs.declared.channel.Channel.{Channel}
 use Rattle.dnp_world.specs.declared.event.Link.{Link}
 use Rattle.dnp_world.specs.declared.event.Link.TheVariants.{Above, Below}
@@ -148,66 +151,94 @@ centre_with {J} archive ledger old new link orders link_is orders_is journal ind
     ∙ ap (λ (m : List Spans). record (centre_of archive ledger old) { link = link; orders = orders; indices = m }) indices
 
 -- the concentrator's links and its book become others
-pub concentrator_told : {Q A : Type 0} (stock : Q → Stock) (ledger : A → Ledger) (old new : Concentrator Q A) (links : List Relaying) (controls : Ledger)
-    → links_of new ≡ links → ledger (book_of new) ≡ controls → core_of new ≡ core_of old → queue_of new ≡ queue_of old → indices_of new ≡ indices_of old
-    → plan_above new ≡ plan_above old
+pub concentrator_told : {Q A : Type 0} (stock : Q → ℕ → Stock) (ledger : A → Ledger) (old new : Concentrator Q A) (links : List Relaying)
+    (controls : Ledger) → links_of new ≡ links → ledger (book_of new) ≡ controls → ForEach (λ centre. core_of centre new ≡ core_of centre old)
+    → queue_of new ≡ queue_of old → indices_of new ≡ indices_of old → plan_above new ≡ plan_above old
     → concentrator_of stock ledger new ≡ record (concentrator_of stock ledger old) { links = links; controls = controls }
-concentrator_told {Q} stock ledger old new links controls links_is controls_is core queue indices plan =
+concentrator_told {Q} stock ledger old new links controls links_is controls_is cores queue indices plan =
+    let first : WholeConcentrator = record (concentrator_of stock ledger new) { links = links; controls = controls } in
+    let second : WholeConcentrator = record (concentrator_of stock ledger old) { links = links; controls = controls } in
     ap (λ (l : List Relaying). record (concentrator_of stock ledger new) { links = l }) links_is
     ∙ ap (λ (o : Ledger). record (concentrator_of stock ledger new) { links = links; controls = o }) controls_is
-    ∙ ap (λ (k : Core). record (concentrator_of stock ledger new) { links = links; controls = controls; core = k }) core
-    ∙ ap (λ (q : Q). record (concentrator_of stock ledger new) { links = links; controls = controls; core = core_of old; queue = stock q }) queue
-    ∙ ap (λ (m : List Spans). record (concentrator_of stock ledger old) { links = links; controls = controls; indices = m; points = plan_above new }) indices
-    ∙ ap (λ (p : points.Plan). record (concentrator_of stock ledger old) { links = links; controls = controls; points = p }) plan
+    ∙ ap (λ (k : Core). record first { cores = record { first = k; second = core_of 1 new } }) (cores 0 (omega arith))
+    ∙ ap (λ (k : Core). record first { cores = record { first = core_of 0 old; second = k } }) (cores 1 (omega arith))
+    ∙ ap (λ (q : Q). record first { cores = second.cores; queues = record { first = stock q 0; second = stock q 1 } }) queue
+    ∙ ap (λ (m : List Spans). record second { indices = m; points = plan_above new }) indices
+    ∙ ap (λ (p : points.Plan). record second { points = p }) plan
 
 -- the system with this concentrator and these substations
-abbrev pub below : {Q A : Type 0} → (Q → Stock) → (A → Ledger) → System → Concentrator Q A → List Substation → System
+abbrev pub below : {Q A : Type 0} → (Q → ℕ → Stock) → (A → Ledger) → Whole → Concentrator Q A → List Substation → Whole
 below stock ledger rest k xs = record rest { concentrator = concentrator_of stock ledger k; substations = map substation_of xs }
 
--- what a step of relaying to a substation makes of the system, by what went down
-pub sends_below : {Q A : Type 0} (stock : Q → Stock) (ledger : A → Ledger) (rest : System) (k d : Concentrator Q A) (station i : ℕ) (xs : List Substation)
-    (was : Substation) (lines : Channel) (answer : Result Relayed BookFault) → i ≡ station → has_station (below stock ledger rest k xs) station ≡ true
-    → was ≡ get_or xs i was
+-- what a step of relaying to a substation makes of the system, by what went down, as a centre sees it
+pub sends_below : {Q A : Type 0} (stock : Q → ℕ → Stock) (ledger : A → Ledger) (rest : Whole) (k d : Concentrator Q A) (station i : ℕ)
+    (xs : List Substation) (was : Substation) (lines : Channel) (answer : Result Relayed BookFault) (number : ℕ) → i ≡ station
+    → has_link (below stock ledger rest k xs) (Below station) ≡ true → was ≡ get_or xs i was
     → OnOk answer (SetsLink k station (relaying_after (link_at k station) rest.now (step_of (link_at k station) (ledger (book_of k)).entries station)) d)
     → OnOk answer (ledger (book_of d) ≡ ledger_after (ledger (book_of k)) (step_of (link_at k station) (ledger (book_of k)).entries station))
-    → core_of d ≡ core_of k → queue_of d ≡ queue_of k → indices_of d ≡ indices_of k → plan_above d ≡ plan_above k
+    → ForEach (λ centre. core_of centre d ≡ core_of centre k) → queue_of d ≡ queue_of k → indices_of d ≡ indices_of k → plan_above d ≡ plan_above k
     → OnOk answer (GoDown (requests_of (step_of (link_at k station) (ledger (book_of k)).entries station) (link_at k station).master.seq)
     (state_of was.channel) (state_of lines))
-    → OnOk answer (Sends (Below station) (below stock ledger rest k xs) (below stock ledger rest d (slice_set xs i (record was { channel = lines }))))
-sends_below stock ledger rest k d station i xs was lines (Err fault) same has at link book core queue indices plan down = tt
-sends_below stock ledger rest k d station i xs was lines (Ok answer) same has at link book core queue indices plan down =
-    let old : System = below stock ledger rest k xs in
+    → OnOk answer (Sends (Below station) (seen_by number (below stock ledger rest k xs))
+    (seen_by number (below stock ledger rest d (slice_set xs i (record was { channel = lines })))))
+sends_below stock ledger rest k d station i xs was lines (Err fault) number same has at link book cores queue indices plan down = tt
+sends_below stock ledger rest k d station i xs was lines (Ok answer) number same has at link book cores queue indices plan down =
+    let old : System = seen_by number (below stock ledger rest k xs) in
     let step : Step = step_on old (Below station) in
     let first : System = with_relaying (told old (Below station) step) (Below station) (relaying_after (relaying_at old (Below station)) old.now step) in
-    sends_at station i (requests_of step (relaying_at old (Below station)).master.seq) first (concentrator_of stock ledger d) xs was lines refl
-    (concentrator_told stock ledger k d first.concentrator.links first.concentrator.controls link book core queue indices plan) same
+    sends_at station i (requests_of step (relaying_at old (Below station)).master.seq) first (seen_by number (below stock ledger rest d xs)).concentrator
+    xs was lines refl
+    (ap (λ (m : WholeConcentrator). (seen_by number (record rest { concentrator = m })).concentrator)
+    (concentrator_told stock ledger k d first.concentrator.links first.concentrator.controls link book cores queue indices plan)) same
     (rw same (is_there old xs station refl has)) at down
 
 -- nothing was relayed, and nothing went down
-pub unmoved_below : {Q A : Type 0} (stock : Q → Stock) (ledger : A → Ledger) (rest : System) (k d : Concentrator Q A) (station i : ℕ) (xs : List Substation)
-    (was : Substation) (lines : Channel) (answer : Result Relayed BookFault) → i ≡ station → has_station (below stock ledger rest k xs) station ≡ true
-    → was ≡ get_or xs i was → OnErr answer (links_of d ≡ links_of k) → OnErr answer (ledger (book_of d) ≡ ledger (book_of k))
-    → core_of d ≡ core_of k → queue_of d ≡ queue_of k → indices_of d ≡ indices_of k → plan_above d ≡ plan_above k
-    → OnErr answer (state_of lines ≡ state_of was.channel)
+pub unmoved_below : {Q A : Type 0} (stock : Q → ℕ → Stock) (ledger : A → Ledger) (rest : Whole) (k d : Concentrator Q A) (station i : ℕ)
+    (xs : List Substation) (was : Substation) (lines : Channel) (answer : Result Relayed BookFault) → i ≡ station
+    → has_link (below stock ledger rest k xs) (Below station) ≡ true → was ≡ get_or xs i was → OnErr answer (links_of d ≡ links_of k)
+    → OnErr answer (ledger (book_of d) ≡ ledger (book_of k)) → ForEach (λ centre. core_of centre d ≡ core_of centre k) → queue_of d ≡ queue_of k
+    → indices_of d ≡ indices_of k → plan_above d ≡ plan_above k → OnErr answer (state_of lines ≡ state_of was.channel)
     → OnErr answer (below stock ledger rest d (slice_set xs i (record was { channel = lines })) ≡ below stock ledger rest k xs)
-unmoved_below stock ledger rest k d station i xs was lines (Ok answer) same has at links book core queue indices plan lines_same = tt
-unmoved_below stock ledger rest k d station i xs was lines (Err fault) same has at links book core queue indices plan lines_same =
+unmoved_below stock ledger rest k d station i xs was lines (Ok answer) same has at links book cores queue indices plan lines_same = tt
+unmoved_below stock ledger rest k d station i xs was lines (Err fault) same has at links book cores queue indices plan lines_same =
     let is : Substation = record was { channel = lines } in
-    ap (λ (m : ConcentratorState). record rest { concentrator = m; substations = map substation_of (slice_set xs i is) })
-    (concentrator_told stock ledger k d (links_of k) (ledger (book_of k)) links book core queue indices plan)
+    ap (λ (m : WholeConcentrator). record rest { concentrator = m; substations = map substation_of (slice_set xs i is) })
+    (concentrator_told stock ledger k d (links_of k) (ledger (book_of k)) links book cores queue indices plan)
     ∙ unchanged_at (below stock ledger rest k xs) xs station i was is refl same has at
     (ap (λ (c : ChannelState). record (substation_of was) { channel = c }) lines_same)
 
+-- a step of relaying to a substation, as all see it, by what was answered
+pub relays_below : (station : ℕ) (old new : Whole) (answer : Result Relayed BookFault) (result : Result (Unit {0}) Cause)
+    → OnOk answer (IsGranted (entries_on (seen_by 0 old) (Below station)) (step_on (seen_by 0 old) (Below station)))
+    → ((number : ℕ) → OnOk answer (Sends (Below station) (seen_by number old) (seen_by number new))) → OnErr answer (new ≡ old)
+    → OnOk result (OnErr answer (IsRefused (entries_on (seen_by 0 old) (Below station)) (step_on (seen_by 0 old) (Below station))))
+    → OnOk result (ChangesAll None (RelaysOn (Below station)) old new)
+relays_below station old new answer (Err cause) granted sends unmoved refused = tt
+relays_below station old new answer (Ok done) granted sends unmoved refused = λ number low. by answer number granted (sends number) unmoved refused
+  where
+    by : (answer : Result Relayed BookFault) (number : ℕ)
+        → OnOk answer (IsGranted (entries_on (seen_by 0 old) (Below station)) (step_on (seen_by 0 old) (Below station)))
+        → OnOk answer (Sends (Below station) (seen_by number old) (seen_by number new)) → OnErr answer (new ≡ old)
+        → OnErr answer (IsRefused (entries_on (seen_by 0 old) (Below station)) (step_on (seen_by 0 old) (Below station)))
+        → RelaysOn (Below station) (seen_by number old) (seen_by number new)
+    by (Ok told) number granted sends unmoved refused = Steps granted sends
+    by (Err fault) number granted sends unmoved refused = Refuses refused (ap (seen_by number) unmoved)
+
+-- what follows of a call's answer does where it is Ok
+pub on_ok : {Answer Fault : Type 0} (result : Result Answer Fault) (X Y : Type 0) → (X → Y) → OnOk result X → OnOk result Y
+on_ok (Ok done) X Y f x = f x
+on_ok (Err fault) X Y f x = tt
+
 -- what a step of relaying to the concentrator makes of the system
-pub sends_above : {J B : Type 0} (archive : J → Archive) (ledger : B → Ledger) (rest : System) (k d : Centre J B) (lines : ChannelState)
+pub sends_above : {J B : Type 0} (archive : J → Archive) (ledger : B → Ledger) (number : ℕ) (rest : System) (k d : Centre J B) (lines : ChannelState)
     (answer : Result Relayed BookFault)
     → OnOk answer (centre.link_of d ≡ relaying_after (centre.link_of k) rest.now (step_of (centre.link_of k) (ledger (centre.book_of k)).entries 0))
     → OnOk answer (ledger (centre.book_of d) ≡ ledger_after (ledger (centre.book_of k)) (step_of (centre.link_of k) (ledger (centre.book_of k)).entries 0))
     → centre.journal_of d ≡ centre.journal_of k → centre.indices_of d ≡ centre.indices_of k
     → OnOk answer (GoDown (requests_of (step_of (centre.link_of k) (ledger (centre.book_of k)).entries 0) (centre.link_of k).master.seq) rest.above lines)
-    → OnOk answer (Sends Above (record rest { centre = centre_of archive ledger k }) (record rest { centre = centre_of archive ledger d; above = lines }))
-sends_above archive ledger rest k d lines (Err fault) link book journal indices down = tt
-sends_above archive ledger rest k d lines (Ok answer) link book journal indices down =
+    → OnOk answer (Sends (Above number) (record rest { centre = centre_of archive ledger k }) (record rest { centre = centre_of archive ledger d; above = lines }))
+sends_above archive ledger number rest k d lines (Err fault) link book journal indices down = tt
+sends_above archive ledger number rest k d lines (Ok answer) link book journal indices down =
     let step : Step = step_of (centre.link_of k) (ledger (centre.book_of k)).entries 0 in (
       down,
       ap (λ (m : CentreState). record rest { centre = m; above = lines })

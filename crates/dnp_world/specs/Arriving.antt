@@ -1,6 +1,6 @@
 -- Definition: fragments that are under way on the lines of a link, and their arrival, each whole, in order, and answered before the
 -- next one comes (IEEE Std 1815-2012: application layer, transport function and data link layer together).
-use Rattle.std.specs.Prelude.{◌≡◌, ℕ, ◌<◌, ◌≤◌, false, if◌then◌else◌, List, [], ◌∷◌, ◌++◌, length, drop, slice_get, Option, Some, None, Result, Ok, Err, option_to_list}
+use Rattle.std.specs.Prelude.{◌≡◌, ◌≢◌, ⊤, ℕ, ◌<◌, ◌≤◌, false, if◌then◌else◌, List, [], ◌∷◌, ◌++◌, length, drop, slice_get, Option, Some, None, Result, Ok, Err, option_to_list}
 use Rattle.dnp_objects.specs.declared.row.Row.{Row}
 use Rattle.dnp_transport.specs.Cuts.{cuts}
 use Rattle.dnp_transport.specs.declared.limits.TheConstants.{MAX_FRAGMENT}
@@ -52,7 +52,14 @@ channel_at (Some s) = Some s.channel
 -- the lines of a link of the plan
 abbrev pub channel_on : System → Link → Option ChannelState
 channel_on s (Below station) = if has_station s station then channel_at (slice_get s.substations station) else None
-channel_on s Above = Some s.above
+channel_on s (Above centre) = Some s.above
+
+-- two links that are not one: there is one above, that of the centre that sees the system
+abbrev pub AreApart : Link → Link → Type 0
+AreApart (Below station) (Below other) = station ≢ other
+AreApart (Below station) (Above centre) = ⊤
+AreApart (Above centre) (Below station) = ⊤
+AreApart (Above centre) (Above other) = ⊥
 
 -- these fragments are under way down and up the link, and nothing else is
 pub record UnderWay (on : Link) (down up : List (List ℕ)) (s : System) : Type 0 where
@@ -86,7 +93,7 @@ pub record SubstationTakes (station : ℕ) (fragment : List ℕ) (old new : Syst
 -- the station at the end of the way takes a fragment, and answers it
 abbrev pub TakesOn : Link → Way → List ℕ → System → System → Type 0
 TakesOn (Below station) way.Down fragment old new = SubstationTakes station fragment old new
-TakesOn Above way.Down fragment old new = MiddleAnswers (fragment ∷ []) old new
+TakesOn (Above centre) way.Down fragment old new = MiddleAnswers (fragment ∷ []) old new
 TakesOn on way.Up fragment old new = MasterTakes on (fragment ∷ []) old new
 
 abbrev pub answers_below : Option SubstationState → ℕ → List ℕ → List (List ℕ)
@@ -100,8 +107,8 @@ confirms_of (Err fault) = []
 -- what it sends back for a fragment
 abbrev pub answers_on : System → Link → Way → List ℕ → List (List ℕ)
 answers_on s (Below station) way.Down fragment = answers_below (slice_get s.substations station) s.now fragment
-answers_on s Above way.Down fragment =
-    (connection_after (middle_of s.concentrator) (middle_panel s.concentrator) s.now fragment).does.send
+answers_on s (Above centre) way.Down fragment =
+    (connection_after (middle_of s.concentrator) (middle_panel s.concentrator s.now) s.now fragment).does.send
 answers_on s on way.Up fragment = confirms_of (receive_of (relaying_at s on).master s.now fragment)
 
 -- its units come, which changes a line and a port, and then the fragment is taken; these fragments are sent back

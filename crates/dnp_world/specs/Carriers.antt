@@ -2,8 +2,8 @@
 use Rattle.std.specs.Prelude.{◌≡◌, ◌⊎◌, Bool, IsTrue, ℕ, List, [], ◌∷◌, Option, Some, None}
 use Rattle.dnp_concentrator.specs.declared.cause.Cause.{Cause}
 use Rattle.dnp_concentrator.specs.declared.cause.Cause.TheVariants.{Device}
-use Rattle.dnp_world.specs.SystemRuns.{Happens}
-use Rattle.dnp_world.specs.Systems.{System, front_on}
+use Rattle.dnp_world.specs.Centres.{HappensToAll, front_on}
+use Rattle.dnp_world.specs.Wholes.{Whole}
 use Rattle.dnp_world.specs.declared.event.Event.{Event}
 use Rattle.dnp_world.specs.declared.event.Event.TheVariants as event
 use Rattle.dnp_world.specs.declared.event.Link.{Link}
@@ -15,15 +15,15 @@ FrontCrosses carries on way None old new = new ≡ old
 FrontCrosses carries on way (Some unit) old new = carries old on way unit new
 
 -- a unit that is delivered crosses the carrier once, and nothing else does
-abbrev pub Crosses : {C : Type 0} → (C → Link → Way → List ℕ → C → Type 0) → System → Event → C → C → Type 0
-Crosses carries s (event.Deliver on way) old new = FrontCrosses carries on way (front_on s on way) old new
-Crosses carries s event old new = new ≡ old
+abbrev pub Crosses : {C : Type 0} → (C → Link → Way → List ℕ → C → Type 0) → Whole → Event → C → C → Type 0
+Crosses carries w (event.Deliver on way) old new = FrontCrosses carries on way (front_on w on way) old new
+Crosses carries w event old new = new ≡ old
 
 -- the events happen one after the other, and what crosses with each
-abbrev pub RunsOver : {C : Type 0} → (C → Link → Way → List ℕ → C → Type 0) → System → List Event → System → C → C → Type 0
+abbrev pub RunsOver : {C : Type 0} → (C → Link → Way → List ℕ → C → Type 0) → Whole → List Event → Whole → C → C → Type 0
 RunsOver carries old [] new before after = (new ≡ old) × (after ≡ before)
 RunsOver carries old (event ∷ events) new before after =
-    (next : System) × (between : _) × Happens old event next × Crosses carries old event before between
+    (next : Whole) × (between : _) × HappensToAll old event next × Crosses carries old event before between
     × RunsOver carries next events new between after
 
 -- a carrier may refuse a unit for this cause

@@ -5,9 +5,8 @@ use Rattle.std.specs.Option.{option_and_then}
 use Rattle.dnp_concentrator.specs.Mapped.{command_below}
 use Rattle.dnp_objects.specs.Status.{success}
 use Rattle.dnp_objects.specs.declared.command.Command.{Command}
-use Rattle.dnp_world.specs.Controls.{found_in, status_on}
+use Rattle.dnp_world.specs.Controls.{found_in, status_of}
 use Rattle.dnp_world.specs.Systems.{System}
-use Rattle.dnp_world.specs.declared.event.Link.TheVariants.{Below, Above}
 
 -- the substation and the command there, with the substation's own index, that a control of the centre's book stands for
 abbrev pub ordered_below : System → ℕ → Option (ℕ × Command)
@@ -20,5 +19,5 @@ pub record ControlMoves (id : ℕ) (old new : System) : Type 0 where
   pub command : Command
   pub ordered : ordered_below old id ≡ Some (station, command)
   pub operated : new.history.operated ≡ old.history.operated ++ (station, command) ∷ []
-  pub above : status_on new Above (Some id) ≡ Some success
-  pub below : status_on new (Below station) (Some (old.concentrator.controls.last_id + 1)) ≡ Some success
+  pub above : status_of new.centre.orders.entries id ≡ Some success
+  pub below : status_of new.concentrator.controls.entries (old.concentrator.controls.last_id + 1) ≡ Some success

@@ -9,10 +9,11 @@ use Rattle.dnp_controls.specs.declared.book.State.TheVariants.{Pending, Spent, F
 use Rattle.dnp_concentrator.specs.Mapped.{command_below}
 use Rattle.dnp_concentrator.specs.declared.progress.Progress.{Progress}
 use Rattle.dnp_objects.specs.Status.{success}
-use Rattle.dnp_world.specs.Rounds.{Flushes, StopsFlushingAll, StopsInTurn, is_quiet_on}
+use Rattle.dnp_world.specs.Rounds.{Flushes, StopsFlushingAll, StopsInTurn, is_quiet_above, is_quiet_below}
 use Rattle.dnp_world.specs.SystemEvents.{entries_on}
-use Rattle.dnp_world.specs.SystemRuns.{CountsFor, Happens}
+use Rattle.dnp_world.specs.SystemRuns.{CountsFor}
 use Rattle.dnp_world.specs.Systems.{System, link_at}
+use Rattle.dnp_world.specs.declared.event.Event.{Event}
 use Rattle.dnp_world.specs.declared.event.Event.TheVariants.{Relay}
 use Rattle.dnp_world.specs.declared.event.Link.{Link}
 use Rattle.dnp_world.specs.declared.event.Link.TheVariants.{Below, Above}
@@ -40,10 +41,14 @@ status_in Pending = None
 status_in Spent = None
 status_in (Finished status) = Some status
 
--- the status with which the book that keeps the controls of the link says that this one finished
+-- the status with which a book says that the control of this id finished
+abbrev pub status_of : List Entry → ℕ → Option ℕ
+status_of entries id = option_and_then (λ entry. status_in entry.state) (found_in entries id)
+
+-- so does the book that keeps the controls of the link
 abbrev pub status_on : System → Link → Option ℕ → Option ℕ
 status_on s on None = None
-status_on s on (Some id) = option_and_then (λ entry. status_in entry.state) (found_in (entries_on s on) id)
+status_on s on (Some id) = status_of (entries_on s on) id
 
 -- the id of the control that the concentrator sends to the substation next
 abbrev pub next_below : System → ℕ → Option ℕ
@@ -53,8 +58,8 @@ next_below s station = option_map (λ entry. entry.id) (next_of s.concentrator.c
 
 -- both links on its way are quiet
 abbrev pub are_quiet_for : System → Option ℕ → Bool
-are_quiet_for s None = is_quiet_on s Above
-are_quiet_for s (Some station) = is_quiet_on s Above && is_quiet_on s (Below station)
+are_quiet_for s None = is_quiet_above s
+are_quiet_for s (Some station) = is_quiet_above s && is_quiet_below s station
 
 abbrev pub is_entry : ℕ → Option Entry → Bool
 is_entry id None = false
@@ -80,92 +85,99 @@ is_next s id = is_next_for s id (station_in s id)
 abbrev pub CanGo : ℕ → System → Type 0
 CanGo id s = (are_quiet_for s (station_in s id) ≡ true) × (is_next s id ≡ true)
 
--- ---- a control that goes all the way
+-- ---- by what an event makes of a system, and how the centre of the control sees that
 
--- a step of relaying over the link, after which the control has finished with no status other than SUCCESS
-pub record Passes (on : Link) (id : Option ℕ) (old new : System) : Type 0 where
-  pub relays : Happens old (Relay on) new
-  pub passes : (status : ℕ) → status_on new on id ≡ Some status → status ≡ success
+module _ {World : Type 0} (Makes : World → Event → World → Type 0) (see : World → System) where
+  -- ---- a control that goes all the way
 
--- such a step, and what comes of it there and back
-pub record PassesBack (on : Link) (id : Option ℕ) (old new : System) : Type 0 where
-  pub relayed : System
-  pub answered : System
-  pub step : Passes on id old relayed
-  pub down : Flushes on Down relayed answered
-  pub up : Flushes on Up answered new
+  -- a step of relaying over the link, after which the control has finished with no status other than SUCCESS
+  pub record Passes (on : Link) (id : Option ℕ) (old new : World) : Type 0 where
+    pub relays : Makes old (Relay on) new
+    pub passes : (status : ℕ) → status_on (see new) on id ≡ Some status → status ≡ success
 
--- three steps: the SELECT, the OPERATE, and what became of it
-pub record IsAccepted (on : Link) (id : Option ℕ) (old new : System) : Type 0 where
-  pub selected : System
-  pub operated : System
-  pub selects : PassesBack on id old selected
-  pub operates : PassesBack on id selected operated
-  pub finishes : Passes on id operated new
+  -- such a step, and what comes of it there and back
+  pub record PassesBack (on : Link) (id : Option ℕ) (old new : World) : Type 0 where
+    pub relayed : World
+    pub answered : World
+    pub step : Passes on id old relayed
+    pub down : Flushes Makes see on Down relayed answered
+    pub up : Flushes Makes see on Up answered new
 
--- above, and then below where the control is for a substation, for which the concentrator has it under an id of its own
-abbrev pub IsControlFor : Option ℕ → ℕ → System → System → Type 0
-IsControlFor None id old new = IsAccepted Above (Some id) old new
-IsControlFor (Some station) id old new =
-    (above : System) × IsAccepted Above (Some id) old above × IsAccepted (Below station) (next_below above station) above new
+  -- three steps: the SELECT, the OPERATE, and what became of it
+  pub record IsAccepted (on : Link) (id : Option ℕ) (old new : World) : Type 0 where
+    pub selected : World
+    pub operated : World
+    pub selects : PassesBack on id old selected
+    pub operates : PassesBack on id selected operated
+    pub finishes : Passes on id operated new
 
-abbrev pub IsControl : ℕ → System → System → Type 0
-IsControl id old new = IsControlFor (station_in old id) id old new
+  -- over the link to this centre, and then below where the control is for a substation, for which the concentrator has it under an id
+  -- of its own
+  abbrev pub IsControlFor : ℕ → Option ℕ → ℕ → World → World → Type 0
+  IsControlFor centre None id old new = IsAccepted (Above centre) (Some id) old new
+  IsControlFor centre (Some station) id old new =
+      (above : World) × IsAccepted (Above centre) (Some id) old above × IsAccepted (Below station) (next_below (see above) station) above new
 
--- ---- a control that a status ends
+  abbrev pub IsControl : ℕ → ℕ → World → World → Type 0
+  IsControl centre id old new = IsControlFor centre (station_in (see old) id) id old new
 
--- a step of relaying told that the control finished with a status other than SUCCESS
-pub record IsTold (on : Link) (id : Option ℕ) (status : ℕ) (old new : System) : Type 0 where
-  pub relays : Happens old (Relay on) new
-  pub says : status_on new on id ≡ Some status
-  pub other : status ≢ success
+  -- ---- a control that a status ends
 
--- one of the three steps over the link told that
-pub data IsRefusedOn (on : Link) (id : Option ℕ) (status : ℕ) (old new : System) : Type 0 where
-  First : IsTold on id status old new → IsRefusedOn on id status old new
-  Second : (selected : System) → PassesBack on id old selected → IsTold on id status selected new → IsRefusedOn on id status old new
-  Third : (selected operated : System) → PassesBack on id old selected → PassesBack on id selected operated → IsTold on id status operated new
-      → IsRefusedOn on id status old new
+  -- a step of relaying told that the control finished with a status other than SUCCESS
+  pub record IsTold (on : Link) (id : Option ℕ) (status : ℕ) (old new : World) : Type 0 where
+    pub relays : Makes old (Relay on) new
+    pub says : status_on (see new) on id ≡ Some status
+    pub other : status ≢ success
 
--- over the link above, or else over the one to its substation
-pub data IsRefusedFor (station : Option ℕ) (id status : ℕ) (old new : System) : Type 0 where
-  AtCentre : IsRefusedOn Above (Some id) status old new → IsRefusedFor station id status old new
-  AtConcentrator : (its : ℕ) (above : System) → station ≡ Some its → IsAccepted Above (Some id) old above
-      → IsRefusedOn (Below its) (next_below above its) status above new → IsRefusedFor station id status old new
+  -- one of the three steps over the link told that
+  pub data IsRefusedOn (on : Link) (id : Option ℕ) (status : ℕ) (old new : World) : Type 0 where
+    First : IsTold on id status old new → IsRefusedOn on id status old new
+    Second : (selected : World) → PassesBack on id old selected → IsTold on id status selected new → IsRefusedOn on id status old new
+    Third : (selected operated : World) → PassesBack on id old selected → PassesBack on id selected operated
+        → IsTold on id status operated new → IsRefusedOn on id status old new
 
-abbrev pub IsRefusedControl : ℕ → ℕ → System → System → Type 0
-IsRefusedControl id status old new = IsRefusedFor (station_in old id) id status old new
+  -- over the link to this centre, or else over the one to its substation
+  pub data IsRefusedFor (centre : ℕ) (station : Option ℕ) (id status : ℕ) (old new : World) : Type 0 where
+    AtCentre : IsRefusedOn (Above centre) (Some id) status old new → IsRefusedFor centre station id status old new
+    AtConcentrator : (its : ℕ) (above : World) → station ≡ Some its → IsAccepted (Above centre) (Some id) old above
+        → IsRefusedOn (Below its) (next_below (see above) its) status above new → IsRefusedFor centre station id status old new
 
--- ---- where a control stops
+  abbrev pub IsRefusedControl : ℕ → ℕ → ℕ → World → World → Type 0
+  IsRefusedControl centre id status old new = IsRefusedFor centre (station_in (see old) id) id status old new
 
--- the step of relaying stops, or it is done and what became of the control can't be read
-abbrev pub StopsRelaying : Link → System → System → Type 0
-StopsRelaying on old new = CountsFor old (Relay on) new ⊎ Happens old (Relay on) new
+  -- ---- where a control stops, by the events at which a list may
 
--- the step, or what comes of it there or back
-abbrev pub StopsBack : Link → Option ℕ → System → System → Type 0
-StopsBack on id old new = StopsInTurn (StopsRelaying on) (Passes on id) (StopsFlushingAll on (Down ∷ Up ∷ [])) old new
+  module _ (may : World → Event → Bool) where
+    -- the step of relaying stops, or it is done and what became of the control can't be read
+    abbrev pub StopsRelaying : Link → World → World → Type 0
+    StopsRelaying on old new = CountsFor Makes old (Relay on) new ⊎ Makes old (Relay on) new
 
--- the SELECT, the OPERATE, or the step that tells what became of it
-abbrev pub StopsOn : Link → Option ℕ → System → System → Type 0
-StopsOn on id old new =
-    StopsInTurn (StopsBack on id) (PassesBack on id) (StopsInTurn (StopsBack on id) (PassesBack on id) (StopsRelaying on)) old new
+    -- the step, or what comes of it there or back
+    abbrev pub StopsBack : Link → Option ℕ → World → World → Type 0
+    StopsBack on id old new = StopsInTurn (StopsRelaying on) (Passes on id) (StopsFlushingAll Makes see may on (Down ∷ Up ∷ [])) old new
 
--- over the link above, or else over the one to its substation
-abbrev pub StopsFor : Option ℕ → ℕ → System → System → Type 0
-StopsFor None id old new = StopsOn Above (Some id) old new
-StopsFor (Some station) id old new =
-    StopsInTurn (StopsOn Above (Some id)) (IsAccepted Above (Some id))
-    (λ (above new : System). StopsOn (Below station) (next_below above station) above new) old new
+    -- the SELECT, the OPERATE, or the step that tells what became of it
+    abbrev pub StopsOn : Link → Option ℕ → World → World → Type 0
+    StopsOn on id old new =
+        StopsInTurn (StopsBack on id) (PassesBack on id) (StopsInTurn (StopsBack on id) (PassesBack on id) (StopsRelaying on)) old new
 
--- ---- how a call ends
+    -- over the link to this centre, or else over the one to its substation
+    abbrev pub StopsFor : ℕ → Option ℕ → ℕ → World → World → Type 0
+    StopsFor centre None id old new = StopsOn (Above centre) (Some id) old new
+    StopsFor centre (Some station) id old new =
+        StopsInTurn (StopsOn (Above centre) (Some id)) (IsAccepted (Above centre) (Some id))
+        (λ (above new : World). StopsOn (Below station) (next_below (see above) station) above new) old new
 
--- Refused is, first of all, a link on its way that isn't quiet, and then a control that isn't next; nothing has happened. Else it
--- goes all the way, or a status ends it, or a store, or a request for memory, refuses: also where the call looks whether it can
--- go, and then nothing has happened.
-abbrev pub ControlEnds : ℕ → System → Result ⊤ ControlFault → System → Type 0
-ControlEnds id old (Ok done) new = CanGo id old × IsControl id old new
-ControlEnds id old (Err control.NotQuiet) new = (are_quiet_for old (station_in old id) ≡ false) × (new ≡ old)
-ControlEnds id old (Err control.NotNext) new = (are_quiet_for old (station_in old id) ≡ true) × (is_next old id ≡ false) × (new ≡ old)
-ControlEnds id old (Err (control.Refused status)) new = CanGo id old × IsRefusedControl id status old new
-ControlEnds id old (Err (control.Fault cause)) new = (new ≡ old) ⊎ (CanGo id old × StopsFor (station_in old id) id old new)
+    -- ---- how a call ends
+
+    -- Refused is, first of all, a link on its way that isn't quiet, and then a control that isn't next; nothing has happened. Else it
+    -- goes all the way, or a status ends it, or a store, or a request for memory, refuses: also where the call looks whether it can
+    -- go, and then nothing has happened.
+    abbrev pub ControlEnds : ℕ → ℕ → World → Result ⊤ ControlFault → World → Type 0
+    ControlEnds centre id old (Ok done) new = CanGo id (see old) × IsControl centre id old new
+    ControlEnds centre id old (Err control.NotQuiet) new = (are_quiet_for (see old) (station_in (see old) id) ≡ false) × (new ≡ old)
+    ControlEnds centre id old (Err control.NotNext) new =
+        (are_quiet_for (see old) (station_in (see old) id) ≡ true) × (is_next (see old) id ≡ false) × (new ≡ old)
+    ControlEnds centre id old (Err (control.Refused status)) new = CanGo id (see old) × IsRefusedControl centre id status old new
+    ControlEnds centre id old (Err (control.Fault cause)) new =
+        (new ≡ old) ⊎ (CanGo id (see old) × StopsFor centre (station_in (see old) id) id old new)

@@ -43,5 +43,9 @@ pub mod Planned
 pub mod Settled
 pub mod Movement
 pub mod Steady
+pub mod Wholes
+pub mod Centres
+pub mod BothSteady
+pub mod WholeMoves
 pub mod Shown
 pub mod steps

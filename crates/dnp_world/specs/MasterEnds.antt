@@ -1,6 +1,7 @@
 -- Definition: what comes up the lines of a link to the master there, and what the master's station does with it (IEEE Std
 -- 1815-2012: application layer, transport function and data link layer together).
-use Rattle.std.specs.Prelude.{◌≡◌, ◌⊎◌, ◌≤◌, ℕ, List, [], ◌∷◌, length, Result, Ok, Err, IfOk, IfErr, OnErr, option_to_list}
+use Rattle.std.specs.Prelude.{◌≡◌, ◌⊎◌, ◌≤◌, ℕ, List, [], ◌∷◌, ◌++◌, length, Result, Ok, Err, IfOk, IfErr, OnErr, option_to_list}
+use Rattle.dnp_concentrator.specs.declared.two.Two.{Two}
 use Rattle.dnp_objects.specs.declared.row.Row.{Row}
 use Rattle.dnp_line.specs.Lines.{LineState, front_of}
 use Rattle.dnp_line.specs.Ports.{PortState}
@@ -13,13 +14,14 @@ use Rattle.dnp_master.specs.State.{State}
 use Rattle.dnp_world.specs.Channels.{ChannelState, GoDown}
 
 -- A call of the station at the master's end with octets of which its master makes this, by the station before and after it
--- and its answer: it takes them, and its stores drop these rows for them. A refusal changes nothing.
-pub record TakesIn {Station : Type 0} (honest : Station → Type 0) (takes : Taking → Type 0) (drops : Taking → List Row) (keeps stays : Type 0)
-    (made : Result Taking MasterFault) (old new : Station) (answer : Result MasterActions MasterFault) : Type 0 where
+-- and its answer: it takes them, and its stores drop these rows for them, to the first centre and to the second. A refusal changes
+-- nothing.
+pub record TakesIn {Station : Type 0} (honest : Station → Type 0) (takes : Taking → Type 0) (drops : Taking → Two (List Row)) (keeps stays : Type 0)
+    (made : Result Taking MasterFault) (old new : Station) (answer : Result (MasterActions × List Row) MasterFault) : Type 0 where
   pub held : honest new → honest old
-  pub taken : honest new → IfOk answer (λ a. IfOk made (λ t. (a ≡ actions_of t (drops t)) × takes t))
+  pub taken : honest new → IfOk answer (λ a. IfOk made (λ t. (a.0 ≡ actions_of t (drops t).first) × (a.1 ≡ (drops t).second) × takes t))
   -- no more rows are dropped than come
-  pub few : IfOk made (λ t. length (drops t) ≤ length t.events)
+  pub few : IfOk made (λ t. (length (drops t).first ≤ length t.events) × (length (drops t).second ≤ length t.events))
   pub kept : honest new → OnErr answer keeps
   -- what the master refuses for itself is refused, and no store is asked; and else what the stores refuse
   pub refused : IfErr made (λ fault. answer ≡ Err fault)
@@ -43,3 +45,13 @@ pub record ComesToMaster (left : LineState → LineState) (master : State) (now 
   pub given : List (List ℕ)
   pub heard : HearsIfAny (front_of old.up) old.master_port port [] given
   pub came : TakesGiven given master now takes same (record old { up = left old.up; master_port = port }) new
+
+-- ---- rows that stores drop
+
+abbrev pub none_dropped : Two (List Row)
+none_dropped = record { first = []; second = [] }
+
+-- they are put after the lists for the first centre and for the second
+pub record ListsDropped (dropped : Two (List Row)) (first second first' second' : List Row) : Type 0 where
+  pub to_first : first' ≡ first ++ dropped.first
+  pub to_second : second' ≡ second ++ dropped.second

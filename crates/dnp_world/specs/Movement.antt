@@ -69,7 +69,7 @@ pub record MovesAbove (portion_in : State → Portion) (old new : System) : Type
 
 abbrev pub MovesOn : Link → (State → Portion) → System → System → Type 0
 MovesOn (Below station) portion_in old new = MovesBelow station portion_in old new
-MovesOn Above portion_in old new = MovesAbove portion_in old new
+MovesOn (Above centre) portion_in old new = MovesAbove portion_in old new
 
 -- the first rows of the lanes
 abbrev pub first_rows : State → Portion
@@ -82,7 +82,7 @@ first_reported s = if may_report s then reported s.lanes s.core.enabled else no_
 -- what moves where the READ is passed over: below nothing, and above the rows of an unsolicited response that the concentrator starts
 abbrev pub passed_rows : Link → State → Portion
 passed_rows (Below station) s = no_rows
-passed_rows Above s = first_reported s
+passed_rows (Above centre) s = first_reported s
 
 -- the READ is, octet for octet, the last request that the outstation remembers of the connection, as it can be where the response to
 -- that had sixteen fragments, or a multiple of sixteen
@@ -92,7 +92,7 @@ is_repeated_at (Some s) octets = is_last_request s.core.session octets
 
 abbrev pub is_repeated_on : System → Link → Bool
 is_repeated_on s (Below station) = is_repeated_at (slice_get s.substations station) (poll_octets (relaying_at s (Below station)).master.seq)
-is_repeated_on s Above = is_last_request s.concentrator.core.session (poll_octets (relaying_at s Above).master.seq)
+is_repeated_on s (Above centre) = is_last_request s.concentrator.core.session (poll_octets s.centre.link.master.seq)
 
 -- What a round moves. A READ that is taken for the last request is passed over, and the master goes on waiting for its answer.
 pub record RoundMoves (on : Link) (old new : System) : Type 0 where

@@ -1,15 +1,17 @@
--- Definition: what a report of a whole system shows: what became of its rows and commands, each beside the number of its
--- substation and with the index there (own rule: IEEE Std 1815-2012 knows no such report).
-use Rattle.std.specs.Prelude.{◌≡◌, ◌^◌, ◌-◌, min, List, length, map, take}
+-- Definition: what a report of a whole system shows of what each centre sees: what became of its rows and commands, each beside the
+-- number of its substation and with the index there (own rule: IEEE Std 1815-2012 knows no such report).
+use Rattle.std.specs.Prelude.{◌≡◌, ℕ, ◌^◌, ◌-◌, min, List, length, map, take}
 use Rattle.std.specs.List.{flat_map}
 use Rattle.std.specs.List.Sorted.{IsPermutation, IsNonDecreasingBy}
+use Rattle.dnp_eventbuf.specs.Sides.{at}
 use Rattle.dnp_eventbuf.specs.declared.numbered.Numbered.{Numbered}
+use Rattle.dnp_objects.specs.declared.row.Row.{Row}
 use Rattle.dnp_eventbuf.specs.Stock.{Stock, lost_in, row_of, rows_in}
 use Rattle.dnp_world.specs.Kept.{lane_rows_of, rows_below}
-use Rattle.dnp_world.specs.Reports as lists
+use Rattle.dnp_world.specs.Reports.{Report}
 use Rattle.dnp_world.specs.Stations.{listed_from}
 use Rattle.dnp_world.specs.Systems.{System}
-use Rattle.dnp_world.specs.declared.report.Report.{Report}
+use Rattle.dnp_world.specs.declared.report.Report as told
 use Rattle.dnp_world.specs.declared.parts.report.TheConstants.{NUMBERS}
 
 -- the rows of all lanes, lane by lane
@@ -20,6 +22,17 @@ all_in s = flat_map (λ lane. lane.rows) s.lanes
 pub record AreById (rows by_id : List Numbered) : Type 0 where
   pub same : IsPermutation rows by_id
   pub in_order : IsNonDecreasingBy (λ x. x.id) by_id
+
+-- the rows of the centre's journal, and those that the queue's full lanes dropped, index map undone
+abbrev pub IsJournalOf : System → List (ℕ × Row) → Type 0
+IsJournalOf s rows = rows ≡ rows_below s.indices (map row_of s.centre.journal.rows)
+
+abbrev pub IsDroppedOf : System → List (ℕ × Row) → Type 0
+IsDroppedOf s rows = rows ≡ rows_below s.indices s.history.dropped
+
+-- the rows of the queue by their ids, index map undone
+abbrev pub IsQueueOf : System → List (ℕ × Row) → Type 0
+IsQueueOf s rows = (queued : List Numbered) × AreById (all_in s.concentrator.queue) queued × (rows ≡ rows_below s.indices (map row_of queued))
 
 -- The lists of the system, index map undone. What counts as lost is told up to the greatest number of a report.
 pub record Shows (s : System) (r : Report) : Type 0 where
@@ -37,22 +50,22 @@ pub record Shows (s : System) (r : Report) : Type 0 where
   pub lost : r.lost ≡ min (lost_in s.concentrator.queue) (2 ^ 64 - 1)
 
 -- As many rows stand in each list of what is above as in the store that it shows: the index map leaves none out.
-pub record ListsAll (s : System) (r : lists.Report) : Type 0 where
+pub record ListsAll (s : System) (r : Report) : Type 0 where
   pub journal : length r.journal ≡ length s.centre.journal.rows
   pub queue : length r.queue ≡ length (rows_in s.concentrator.queue)
   pub dropped : length r.dropped ≡ length s.history.dropped
 
--- its lists, as the laws of a system speak of them
-abbrev pub lists_of : Report → lists.Report
-lists_of r = record {
-  journal = r.journal;
-  queue = r.queue;
-  dropped = r.dropped;
+-- the lists of a report that are of a centre, or shared
+abbrev pub lists_of : ℕ → told.Report → Report
+lists_of centre r = record {
+  journal = at centre r.journal.0 r.journal.1;
+  queue = at centre r.queue.0 r.queue.1;
+  dropped = at centre r.dropped.0 r.dropped.1;
   confirmed = r.confirmed;
   buffered = r.buffered;
   overwritten = r.overwritten;
   gone = r.gone;
   issued = r.issued;
   operated = r.operated;
-  lost = r.lost;
+  lost = at centre r.lost.0 r.lost.1;
 }

@@ -63,7 +63,7 @@ pub record Goes (el : Elsewhere) (made : ℕ → List Row) (old new : System) : 
 
 -- the command that an event issues, where the plan has its output
 abbrev pub issued_by : System → Event → List (ℕ × Command)
-issued_by s (event.Issue station command) = if is_some (command_above s.centre.indices station command) then (station, command) ∷ [] else []
+issued_by s (event.Issue centre station command) = if is_some (command_above s.centre.indices station command) then (station, command) ∷ [] else []
 issued_by s event = []
 
 -- The list of what was issued is what it was, and the commands of these events.

@@ -81,16 +81,16 @@ same_rest was is s = s
 abbrev pub LinesChange : Link → (ChannelState → ChannelState → Type 0) → System → System → Type 0
 LinesChange (Below station) Change old new =
     ChangesAt station (λ was is. Change was.channel is.channel × (is ≡ record was { channel = is.channel })) same_rest old new
-LinesChange Above Change old new = Change old.above new.above × (new ≡ record old { above = new.above })
+LinesChange (Above centre) Change old new = Change old.above new.above × (new ≡ record old { above = new.above })
 
 -- the master of a link, with the control in progress there
 abbrev pub relaying_at : System → Link → Relaying
 relaying_at s (Below station) = link_at s.concentrator station
-relaying_at s Above = s.centre.link
+relaying_at s (Above centre) = s.centre.link
 
 abbrev pub with_relaying : System → Link → Relaying → System
 with_relaying s (Below station) link = with_link s station link
-with_relaying s Above link = with_centre_link s link
+with_relaying s (Above centre) link = with_centre_link s link
 
 -- the master of a link becomes this, and these fragments go down
 abbrev pub SendsDown : Link → List (List ℕ) → Relaying → System → System → Type 0
@@ -121,7 +121,7 @@ abbrev pub OpensOn : Link → System → System → Type 0
 OpensOn (Below station) old new =
     ChangesAt station (λ was is. SubstationSteps (opened_of (station_of was) old.now) (cleared was.channel) was is) same_rest
     (with_link old station (relaying.opened (link_at old.concentrator station))) new
-OpensOn Above old new =
+OpensOn (Above centre) old new =
     MiddleSteps (opened_of (middle_of old.concentrator) old.now) [] (cleared old.above)
     (with_centre_link old (relaying.opened old.centre.link)) new
 
@@ -135,9 +135,9 @@ HangsUpOn (Below station) end.Master old new =
     (with_lost (with_link old station (relaying.hung_up (link_at old.concentrator station))) station) new
 HangsUpOn (Below station) end.Outstation old new =
     ChangesAt station (λ was is. is ≡ record was { core = closed was.core; channel = hung_up_at end.Outstation was.channel }) same_rest old new
-HangsUpOn Above end.Master old new =
+HangsUpOn (Above centre) end.Master old new =
     new ≡ record (with_centre_link old (relaying.hung_up old.centre.link)) { above = hung_up_at end.Master old.above }
-HangsUpOn Above end.Outstation old new =
+HangsUpOn (Above centre) end.Outstation old new =
     new ≡ record old {
       concentrator = record old.concentrator { core = closed old.concentrator.core };
       above = hung_up_at end.Outstation old.above;
@@ -148,6 +148,7 @@ concentrator_restarted s = record s {
   substations = map master_gone s.substations;
   concentrator = record s.concentrator {
     core = restarted_core s.concentrator.core;
+    reserved = (λ now. None);
     links = map relaying.hung_up s.concentrator.links;
   };
   above = hung_up_at end.Outstation s.above;
@@ -196,7 +197,7 @@ abbrev pub MiddleAnswers : List (List ℕ) → System → System → Type 0
 MiddleAnswers [] old new = new ≡ old
 MiddleAnswers (fragment ∷ others) old new =
     let c = old.concentrator in
-    MiddleSteps (connection_after (middle_of c) (middle_panel c) old.now fragment) (performed_in c.core (middle_panel c) old.now fragment)
+    MiddleSteps (connection_after (middle_of c) (middle_panel c old.now) old.now fragment) (performed_in c.core (middle_panel c old.now) old.now fragment)
     old.above old new
 
 -- the front unit comes to the concentrator from above
@@ -233,7 +234,7 @@ taken_above s t = record s { centre = centre_taken s.centre t }
 
 abbrev pub taken_on : System → Link → Taking → System
 taken_on s (Below station) t = taken_below s station t
-taken_on s Above t = taken_above s t
+taken_on s (Above centre) t = taken_above s t
 
 -- the queue has numbers left for a substation's events
 abbrev pub HasNumbers : ConcentratorState → ℕ → Taking → Type 0
@@ -241,7 +242,7 @@ HasNumbers c station t = t.events ≢ [] → exhausts c.queue (queued_rows c.ind
 
 abbrev pub HasNumbersOn : System → Link → Taking → Type 0
 HasNumbersOn s (Below station) t = HasNumbers s.concentrator station t
-HasNumbersOn s Above t = ⊤
+HasNumbersOn s (Above centre) t = ⊤
 
 -- the confirm goes down; what the master refuses for itself is lost
 abbrev pub MasterReceives : Link → Result Taking MasterFault → System → System → Type 0
@@ -266,7 +267,7 @@ pub record ComesUp (left : LineState → LineState) (on : Link) (old new : Syste
 
 abbrev pub ComesOn : (LineState → LineState) → Link → Way → System → System → Type 0
 ComesOn left (Below station) way.Down old new = ComesDownBelow left station old new
-ComesOn left Above way.Down old new = ComesDownAbove left old new
+ComesOn left (Above centre) way.Down old new = ComesDownAbove left old new
 ComesOn left on way.Up old new = ComesUp left on old new
 
 -- ---- losses
@@ -312,17 +313,17 @@ requests_of (relaying.Finishes id status) seq = []
 -- one target is the station below
 abbrev pub step_on : System → Link → relaying.Step
 step_on s (Below station) = relaying.step_of (link_at s.concentrator station) s.concentrator.controls.entries station
-step_on s Above = relaying.step_of s.centre.link s.centre.orders.entries 0
+step_on s (Above centre) = relaying.step_of s.centre.link s.centre.orders.entries 0
 
 abbrev pub told : System → Link → relaying.Step → System
 told s (Below station) step =
     with_middle s (record s.concentrator { controls = relaying.ledger_after s.concentrator.controls step })
-told s Above step = record s { centre = record s.centre { orders = relaying.ledger_after s.centre.orders step } }
+told s (Above centre) step = record s { centre = record s.centre { orders = relaying.ledger_after s.centre.orders step } }
 
 -- the entries of the book that keeps the link's controls
 abbrev pub entries_on : System → Link → List Entry
 entries_on s (Below station) = s.concentrator.controls.entries
-entries_on s Above = s.centre.orders.entries
+entries_on s (Above centre) = s.centre.orders.entries
 
 -- The book grants the step: an OPERATE for a control that is pending, what becomes of a control for one that isn't finished, and what
 -- it isn't asked for.
@@ -368,9 +369,9 @@ MasterTicks (Below station) old new =
     let link = link_at old.concentrator station in
     let ticked = with_link old station (relaying.ticked link old.now) in
     new ≡ (if master.is_timed_out link.master old.now then with_lost ticked station else ticked)
-MasterTicks Above old new = new ≡ with_centre_link old (relaying.ticked old.centre.link old.now)
+MasterTicks (Above centre) old new = new ≡ with_centre_link old (relaying.ticked old.centre.link old.now)
 
 abbrev pub OutstationTicks : Link → System → System → Type 0
 OutstationTicks (Below station) old new =
     ChangesAt station (λ was is. SubstationSteps (tick_of (station_of was) old.now) was.channel was is) same_rest old new
-OutstationTicks Above old new = MiddleSteps (tick_of (middle_of old.concentrator) old.now) [] old.above old new
+OutstationTicks (Above centre) old new = MiddleSteps (tick_of (middle_of old.concentrator) old.now) [] old.above old new

@@ -1,5 +1,5 @@
--- Definition: what a system is, by what its stores say of themselves, and its stores.
-use Rattle.std.specs.Prelude.{Bool, map}
+-- Definition: what a whole system is, by what its stores say of themselves, and its stores.
+use Rattle.std.specs.Prelude.{ℕ, map}
 use Rattle.dnp_eventbuf.specs.Archive.{Archive}
 use Rattle.dnp_eventbuf.specs.Stock.{Stock}
 use Rattle.dnp_controls.specs.Book.{Ledger}
@@ -9,11 +9,13 @@ use Rattle.dnp_concentrator.specs.declared.centre.Centre.{Centre}
 use Rattle.dnp_concentrator.specs.declared.concentrator.Concentrator.{Concentrator}
 use Rattle.dnp_outstation.specs.Parts as outstation
 use Rattle.dnp_world.specs.Channels.{state_of}
-use Rattle.dnp_world.specs.Systems.{SubstationState, ConcentratorState, CentreState, History, System}
+use Rattle.dnp_world.specs.Systems.{SubstationState, CentreState}
 use Rattle.dnp_world.specs.declared.history.History as kept
 use Rattle.dnp_world.specs.declared.parts.Parts.TheInside.{Inside}
 use Rattle.dnp_world.specs.declared.substation.Substation.{Substation}
 use Rattle.dnp_world.specs.Shown.{Shown, Stores}
+use Rattle.dnp_world.specs.Wholes.{Whole, WholeConcentrator, WholeHistory}
+use Rattle.dnp_world.specs.steps.WholeSteps.{of_both}
 
 abbrev pub substation_of : Substation → SubstationState
 substation_of s = record {
@@ -23,10 +25,10 @@ substation_of s = record {
   channel = state_of s.channel;
 }
 
-abbrev pub concentrator_of : {Q A : Type 0} → (Q → Stock) → (A → Ledger) → Concentrator Q A → ConcentratorState
+abbrev pub concentrator_of : {Q A : Type 0} → (Q → ℕ → Stock) → (A → Ledger) → Concentrator Q A → WholeConcentrator
 concentrator_of stock ledger c = record {
-  core = concentrator.core_of c;
-  queue = stock (concentrator.queue_of c);
+  cores = record { first = concentrator.core_of 0 c; second = concentrator.core_of 1 c };
+  queues = record { first = stock (concentrator.queue_of c) 0; second = stock (concentrator.queue_of c) 1 };
   indices = concentrator.indices_of c;
   points = concentrator.plan_above c;
   controls = ledger (concentrator.book_of c);
@@ -41,23 +43,23 @@ centre_of archive ledger c = record {
   orders = ledger (centre.book_of c);
 }
 
-abbrev pub history_of : kept.History → History
+abbrev pub history_of : kept.History → WholeHistory
 history_of h = record {
   confirmed = h.confirmed.items;
   overwritten = h.overwritten.items;
   gone = h.gone.items;
-  dropped = h.dropped.items;
+  dropped = of_both (λ rows. rows.items) h.dropped;
   issued = h.issued.items;
   operated = h.operated.items;
 }
 
-abbrev pub system_of : {Q J A B : Type 0} → (Q → Stock) → (J → Archive) → (A → Ledger) → (B → Ledger) → Inside Q J A B → System
+abbrev pub system_of : {Q J A B : Type 0} → (Q → ℕ → Stock) → (J → Archive) → (A → Ledger) → (B → Ledger) → Inside Q J A B → Whole
 system_of stock archive controls orders p = record {
   indices = p.map;
   substations = map substation_of p.substations.items;
   concentrator = concentrator_of stock controls p.concentrator;
-  centre = centre_of archive orders p.centre;
-  above = state_of p.above;
+  centres = of_both (centre_of archive orders) p.centres;
+  above = of_both state_of p.above;
   now = p.moment;
   history = history_of p.history;
 }
@@ -66,13 +68,13 @@ system_of stock archive controls orders p = record {
 
 abbrev pub stores_of : {Q J A B : Type 0} → Inside Q J A B → Stores Q J A B
 stores_of p = record {
-  queue = concentrator.queue_of p.concentrator;
-  journal = centre.journal_of p.centre;
+  queues = concentrator.queue_of p.concentrator;
+  journals = (centre.journal_of p.centres.first, centre.journal_of p.centres.second);
   controls = concentrator.book_of p.concentrator;
-  orders = centre.book_of p.centre;
+  orders = (centre.book_of p.centres.first, centre.book_of p.centres.second);
 }
 
 -- ---- what contracts see
 
-abbrev pub shown_by : {Q J A B : Type 0} → (Q → Stock) → (J → Archive) → (A → Ledger) → (B → Ledger) → Inside Q J A B → Shown Q J A B
+abbrev pub shown_by : {Q J A B : Type 0} → (Q → ℕ → Stock) → (J → Archive) → (A → Ledger) → (B → Ledger) → Inside Q J A B → Shown Q J A B
 shown_by stock archive controls orders p = record { system = system_of stock archive controls orders p; stores = stores_of p }

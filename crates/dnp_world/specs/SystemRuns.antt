@@ -1,5 +1,5 @@
--- Definition: what an event makes of a system, by what events of its kind do, and lists of events (own rule: IEEE Std 1815-2012
--- speaks of one link at a time).
+-- Definition: what an event makes of a system as one centre sees it, by what events of its kind do; and lists of events, of systems of
+-- any kind (own rule: IEEE Std 1815-2012 speaks of one link at a time).
 use Rattle.std.specs.Prelude.{◌≡◌, ℕ, ◌+◌, ◌^◌, ◌-◌, Bool, true, false, ◌&&◌, List, [], ◌∷◌, min, take, slice_get, Option, Some, None, is_some, is_ok}
 use Rattle.dnp_objects.specs.declared.row.Kind.{Kind}
 use Rattle.dnp_pointdb.specs.declared.reading.Reading.{Reading}
@@ -20,12 +20,13 @@ use Rattle.dnp_world.specs.declared.link_event.End.TheVariants as end
 
 -- ---- the events
 
--- an event of a link of the plan
-abbrev pub IfThere : Bool → (System → System → Type 0) → System → System → Type 0
+-- an event of what is there, and else nothing
+abbrev pub IfThere : {World : Type 0} → Bool → (World → World → Type 0) → World → World → Type 0
 IfThere true Change old new = Change old new
 IfThere false Change old new = new ≡ old
 
--- the event makes `new` of `old`; one that names nothing in the plan does nothing
+-- The event makes `new` of `old`; one that names nothing in the plan does nothing. What names a centre names the one that sees it: what
+-- is at another one is elsewhere.
 abbrev pub Happens : System → Event → System → Type 0
 Happens old (event.Open on) new = IfThere (has_link old on) (OpensOn on) old new
 Happens old (event.HangUp on end) new = IfThere (has_link old on) (HangsUpOn on end) old new
@@ -35,27 +36,17 @@ Happens old (event.Lose on way) new = IfThere (has_link old on) (LosesOn on way)
 Happens old (event.Damage on way octets) new = IfThere (has_link old on) (LinesChange on (DamagesAt way octets)) old new
 Happens old (event.Change station kind index reading) new = IfThere (has_station old station) (Reads station kind index reading) old new
 Happens old (event.Ask on task) new = IfThere (has_link old on) (AsksOn (is_own task) on task) old new
-Happens old (event.Issue station command) new =
+Happens old (event.Issue centre station command) new =
     IssuesBy (command_above old.centre.indices station command) station command old new
 Happens old (event.Relay on) new = IfThere (has_link old on) (RelaysOn on) old new
 Happens old (event.Pass ms) new = new ≡ record old { now = min (old.now + ms) (2 ^ 64 - 1) }
 Happens old (event.Tick on end.Master) new = IfThere (has_link old on) (MasterTicks on) old new
 Happens old (event.Tick on end.Outstation) new = IfThere (has_link old on) (OutstationTicks on) old new
-Happens old (event.Restart place.Centre) new = HangsUpOn Above end.Master old new
+Happens old (event.Restart (place.Centre centre)) new = HangsUpOn (Above centre) end.Master old new
 Happens old (event.Restart place.Concentrator) new = new ≡ concentrator_restarted old
 Happens old (event.Restart (place.Substation station)) new = IfThere (has_station old station) (SubstationRestarts station) old new
 
--- ---- lists of events
-
--- they happen one after the other
-abbrev pub RunsTo : System → List Event → System → Type 0
-RunsTo old [] new = new ≡ old
-RunsTo old (event ∷ events) new = (next : System) × Happens old event next × RunsTo next events new
-
--- an event at which a list stops is lost if it is a delivery, and else left out
-abbrev pub CountsFor : System → Event → System → Type 0
-CountsFor old (event.Deliver on way) new = Happens old (event.Lose on way) new
-CountsFor old event new = new ≡ old
+-- ---- where a list of events may stop
 
 -- the substation is there, and its points take the reading
 abbrev pub takes_reading : Option SubstationState → Kind → ℕ → Reading → Bool
@@ -74,20 +65,33 @@ may_stop s (event.Damage on way octets) = false
 may_stop s (event.Change station kind index reading) =
     has_station s station && takes_reading (slice_get s.substations station) kind index reading
 may_stop s (event.Ask on task) = has_link s on && (is_own task && is_ok (ask_answer (relaying_at s on).master task))
-may_stop s (event.Issue station command) = is_some (command_above s.centre.indices station command)
+may_stop s (event.Issue centre station command) = is_some (command_above s.centre.indices station command)
 may_stop s (event.Relay on) = has_link s on && is_idle (relaying_at s on).master
 may_stop s (event.Pass ms) = false
 may_stop s (event.Tick on end.Master) = false
 may_stop s (event.Tick on end.Outstation) = has_link s on
-may_stop s (event.Restart place.Centre) = false
+may_stop s (event.Restart (place.Centre centre)) = false
 may_stop s (event.Restart place.Concentrator) = false
 may_stop s (event.Restart (place.Substation station)) = has_station s station
 
--- so many events were done, and the list stopped at the one after them, whose refusal has changed nothing
-pub record StopsAfter (old : System) (events : List Event) (done : ℕ) (new : System) : Type 0 where
-  pub before : System
-  pub ran : RunsTo old (take done events) before
-  pub event : Event
-  pub next : slice_get events done ≡ Some event
-  pub may : may_stop before event ≡ true
-  pub counts : CountsFor before event new
+-- ---- lists of events, by what one event makes of a system
+
+module _ {World : Type 0} (Makes : World → Event → World → Type 0) where
+  -- they happen one after the other
+  abbrev pub RunsTo : World → List Event → World → Type 0
+  RunsTo old [] new = new ≡ old
+  RunsTo old (event ∷ events) new = (next : World) × Makes old event next × RunsTo next events new
+
+  -- an event at which a list stops is lost if it is a delivery, and else left out
+  abbrev pub CountsFor : World → Event → World → Type 0
+  CountsFor old (event.Deliver on way) new = Makes old (event.Lose on way) new
+  CountsFor old event new = new ≡ old
+
+  -- so many events were done, and the list stopped at the one after them, whose refusal has changed nothing
+  pub record StopsAfter (can_stop : World → Event → Bool) (old : World) (events : List Event) (done : ℕ) (new : World) : Type 0 where
+    pub before : World
+    pub ran : RunsTo old (take done events) before
+    pub event : Event
+    pub next : slice_get events done ≡ Some event
+    pub may : can_stop before event ≡ true
+    pub counts : CountsFor before event new

@@ -1,5 +1,5 @@
--- Definition: a whole system by what it holds: substations, a concentrator and a centre, the lines between them, the moment,
--- and what became of rows and commands so far (own rule: IEEE Std 1815-2012 speaks of one link at a time).
+-- Definition: a whole system as one centre sees it, by what it holds: substations, a concentrator and the centre, the lines between
+-- them, the moment, and what became of rows and commands so far (own rule: IEEE Std 1815-2012 speaks of one link at a time).
 use Rattle.std.specs.Prelude.{ℕ, Bool, true, ◌&&◌, nat_lt, if◌then◌else◌, List, length, map, slice_get, Option, Some, None}
 use Rattle.dnp_objects.specs.declared.row.Row.{Row}
 use Rattle.dnp_objects.specs.declared.command.Command.{Command}
@@ -50,14 +50,17 @@ pub record ConcentratorState : Type 0 where
   -- the plan of the points above
   pub points : points.Plan
   pub controls : Ledger
+  -- the command whose point a select of another centre reserves, at each moment
+  pub reserved : ℕ → Option Command
   pub links : List Relaying
 
--- the concentrator as the outstation that the centre sees
-abbrev pub middle_of : ConcentratorState → State
-middle_of c = state_of c.core c.queue (book_panel c.indices c.controls)
+-- the concentrator's outputs at a moment
+abbrev pub middle_panel : ConcentratorState → ℕ → Panel
+middle_panel c now = book_panel c.indices (c.reserved now) c.controls
 
-abbrev pub middle_panel : ConcentratorState → Panel
-middle_panel c = book_panel c.indices c.controls
+-- the concentrator as the outstation that the centre sees; what it has performed is no matter of the moment
+abbrev pub middle_of : ConcentratorState → State
+middle_of c = state_of c.core c.queue (book_panel c.indices None c.controls)
 
 abbrev pub link_at : ConcentratorState → ℕ → Relaying
 link_at c station = link_in c.links station
@@ -101,13 +104,18 @@ pub record System : Type 0 where
   pub now : ℕ
   pub history : History
 
+-- what its own centre sees of it
+abbrev pub itself : System → System
+itself s = s
+
 -- there is a substation of this number, and a link to it
 abbrev pub has_station : System → ℕ → Bool
 has_station s station = nat_lt station (length s.substations) && nat_lt station (length s.concentrator.links)
 
+-- a link above is the one of this centre: what happens on another centre's is elsewhere
 abbrev pub has_link : System → Link → Bool
 has_link s (Below station) = has_station s station
-has_link s Above = true
+has_link s (Above centre) = true
 
 -- ---- what stands on the lines
 
@@ -118,7 +126,7 @@ units_at way (Some s) = length (line_of way s.channel).units
 -- how many units stand on the line of a link, none on one outside the plan
 abbrev pub standing_on : System → Link → Way → ℕ
 standing_on s (Below station) way = if has_station s station then units_at way (slice_get s.substations station) else 0
-standing_on s Above way = length (line_of way s.above).units
+standing_on s (Above centre) way = length (line_of way s.above).units
 
 -- ---- the next unit of a line
 
@@ -129,4 +137,4 @@ front_at way (Some s) = front_of (line_of way s.channel)
 -- the octets of the unit that a line of a link gives next, if one stands there; none on one outside the plan
 abbrev pub front_on : System → Link → Way → Option (List ℕ)
 front_on s (Below station) way = if has_station s station then front_at way (slice_get s.substations station) else None
-front_on s Above way = front_of (line_of way s.above)
+front_on s (Above centre) way = front_of (line_of way s.above)

@@ -1,14 +1,15 @@
 //! Laws of what is sent over a quiet link of a system. Each function does nothing, and its contract is a law.
 
-ghost use Rattle.std.specs.Prelude.{◌≡◌, ◌≢◌, ℕ, true, List, [], ◌++◌};
+ghost use Rattle.std.specs.Prelude.{◌≡◌, ℕ, true, List, [], ◌++◌};
 ghost use Rattle.dnp_concentrator.specs.Relaying.{Relaying};
-ghost use Rattle.dnp_world.specs.Arriving.{Arrive, IsClearOn, UnderWay, channel_on};
+ghost use Rattle.dnp_world.specs.Arriving.{AreApart, Arrive, IsClearOn, UnderWay, channel_on};
 ghost use Rattle.dnp_world.specs.Behind.{Elsewhere};
 ghost use Rattle.dnp_world.specs.Channels.{GoDown, GoUp};
 ghost use Rattle.dnp_world.specs.Rounds.{Flushes, is_quiet_on};
 ghost use Rattle.dnp_world.specs.SystemEvents.{LinesChange, SendsDown};
 ghost use Rattle.dnp_world.specs.SystemStanding.{IsStanding};
-ghost use Rattle.dnp_world.specs.Systems.{System};
+ghost use Rattle.dnp_world.specs.SystemRuns.{Happens};
+ghost use Rattle.dnp_world.specs.Systems.{System, itself};
 ghost use Rattle.dnp_world.specs.declared.event.Link.{Link};
 ghost use Rattle.dnp_world.specs.declared.link_event.Way.{Way};
 ghost use Rattle.dnp_world.specs.declared.link_event.Way.TheVariants.{Down, Up};
@@ -28,13 +29,13 @@ pub fn what_is_sent_arrives()
         → LinesChange on (GoUp fragments) old new → UnderWay on down (up ++ fragments) new }
     ensures asked { (on : Link) (fragments down up : List (List ℕ)) (link : Relaying) (old new : System) → UnderWay on down up old
         → SendsDown on fragments link old new → UnderWay on (down ++ fragments) up new }
-    ensures down { (on : Link) (down up : List (List ℕ)) (old new : System) → UnderWay on down up old → Flushes on Down old new
+    ensures down { (on : Link) (down up : List (List ℕ)) (old new : System) → UnderWay on down up old → Flushes Happens itself on Down old new
         → (answers : List (List ℕ)) × Arrive on Down down answers old new × UnderWay on [] (up ++ answers) new }
-    ensures up { (on : Link) (down up : List (List ℕ)) (old new : System) → UnderWay on down up old → Flushes on Up old new
+    ensures up { (on : Link) (down up : List (List ℕ)) (old new : System) → UnderWay on down up old → Flushes Happens itself on Up old new
         → (answers : List (List ℕ)) × Arrive on Up up answers old new × UnderWay on (down ++ answers) [] new }
-    ensures apart { (on other : Link) (way : Way) (fragments answers : List (List ℕ)) (old new : System) → on ≢ other
+    ensures apart { (on other : Link) (way : Way) (fragments answers : List (List ℕ)) (old new : System) → AreApart on other
         → Arrive other way fragments answers old new → channel_on new on ≡ channel_on old on }
-    ensures sent_apart { (on other : Link) (fragments : List (List ℕ)) (link : Relaying) (old new : System) → on ≢ other
+    ensures sent_apart { (on other : Link) (fragments : List (List ℕ)) (link : Relaying) (old new : System) → AreApart on other
         → SendsDown other fragments link old new → channel_on new on ≡ channel_on old on }
 {
     a_unit_spells_one_frame();

@@ -9,7 +9,7 @@ ghost use Rattle.dnp_outstation.specs.Calls.{connection_after, opened_of, perfor
 ghost use Rattle.dnp_outstation.specs.Station.{actions_of};
 ghost use Rattle.dnp_world.specs.Causes.{TellsDevice};
 ghost use Rattle.dnp_world.specs.Channels.{state_of, are_quiet, cleared, fresh_channel, hung_up_at, left_at, left_by, line_of, lost_at, DamagesAt, GoDown, GoUp, ComesToOutstation};
-ghost use Rattle.dnp_world.specs.MasterEnds.{ComesToMaster, TakesBy};
+ghost use Rattle.dnp_world.specs.MasterEnds.{ComesToMaster, ListsDropped, TakesBy, none_dropped};
 
 use crate::ends::{MasterEnd, OutstationEnd};
 use crate::event::Damaged;
@@ -17,7 +17,7 @@ use crate::link_event::{End, Way};
 use crate::listing::count_events;
 use crate::sending::{FRAGMENT_UNITS, hear, send, send_all, send_confirm, shows};
 use crate::stopped::stops_for;
-use dnp_concentrator::Cause;
+use dnp_concentrator::{Cause, Two};
 use dnp_line::{Line, Port};
 use dnp_linkframe::MAX_UNIT;
 use dnp_master::Fragment;
@@ -211,18 +211,20 @@ impl Channel {
         alloc: Global,
         now: u64,
         end: &mut E,
+        number: u8,
     ) -> Result<(), Cause>
+        requires { E.has number }
         ensures held { E.honest end.new → E.honest end.old }
         ensures opened { E.honest end.new → OnOk result (
-            (opened_of (E.state end.old) now ≡ record { state = E.state end.new; does = actions_of actions.new })
+            (opened_of (E.state end.old number) now ≡ record { state = E.state end.new number; does = actions_of actions.new })
             × GoUp (actions_of actions.new).send (cleared (state_of self.old)) (state_of self.new)) }
-        ensures beside { E.follows end.old [] end.new }
-        ensures unchanged { E.honest end.new → OnErr result (E.state end.new ≡ E.state end.old) }
+        ensures beside { E.follows number end.old [] end.new }
+        ensures unchanged { E.honest end.new → OnErr result (E.state end.new number ≡ E.state end.old number) }
         ensures lines { OnErr result (state_of self.new ≡ state_of self.old) }
         ensures device { TellsDevice (E.is_stopped end.old) (E.is_stopped end.new) (result ≡ Err Cause.Device) }
     {
         self.up.reserve(2 * FRAGMENT_UNITS)?;
-        end.opened(actions, alloc, now)?;
+        end.opened(number, actions, alloc, now)?;
         self.clear();
         send_all(&mut self.up, &mut self.outstation_port, &actions.send);
         Ok(())
@@ -236,18 +238,20 @@ impl Channel {
         alloc: Global,
         now: u64,
         end: &mut E,
+        number: u8,
     ) -> Result<(), Cause>
+        requires { E.has number }
         ensures held { E.honest end.new → E.honest end.old }
         ensures ticked { E.honest end.new → OnOk result (
-            (tick_of (E.state end.old) now ≡ record { state = E.state end.new; does = actions_of actions.new })
+            (tick_of (E.state end.old number) now ≡ record { state = E.state end.new number; does = actions_of actions.new })
             × GoUp (actions_of actions.new).send (state_of self.old) (state_of self.new)) }
-        ensures beside { E.follows end.old [] end.new }
-        ensures unchanged { E.honest end.new → OnErr result (E.state end.new ≡ E.state end.old) }
+        ensures beside { E.follows number end.old [] end.new }
+        ensures unchanged { E.honest end.new → OnErr result (E.state end.new number ≡ E.state end.old number) }
         ensures lines { OnErr result (state_of self.new ≡ state_of self.old) }
         ensures device { TellsDevice (E.is_stopped end.old) (E.is_stopped end.new) (result ≡ Err Cause.Device) }
     {
         self.up.reserve(2 * FRAGMENT_UNITS)?;
-        end.tick(actions, alloc, now)?;
+        end.tick(number, actions, alloc, now)?;
         send_all(&mut self.up, &mut self.outstation_port, &actions.send);
         Ok(())
     }
@@ -260,20 +264,22 @@ impl Channel {
         alloc: Global,
         now: u64,
         end: &mut E,
+        number: u8,
     ) -> Result<(), Cause>
+        requires { E.has number }
         ensures held { E.honest end.new → E.honest end.old }
         ensures answered { E.honest end.new → OnOk result ((fragment : List ℕ) × IsShown self.old.outstation_port fragment
-            × (connection_after (E.state end.old) (E.panel end.old) now fragment ≡ record { state = E.state end.new; does = actions_of actions.new })
+            × (connection_after (E.state end.old number) (E.panel end.old number now) now fragment ≡ record { state = E.state end.new number; does = actions_of actions.new })
             × GoUp (actions_of actions.new).send (state_of self.old) (state_of self.new)
-            × E.follows end.old (performed_in (E.state end.old).core (E.panel end.old) now fragment) end.new) }
-        ensures unchanged { E.honest end.new → OnErr result (E.state end.new ≡ E.state end.old) }
-        ensures kept { E.honest end.new → OnErr result (E.keeps end.old end.new) }
+            × E.follows number end.old (performed_in (E.state end.old number).core (E.panel end.old number now) now fragment) end.new) }
+        ensures unchanged { E.honest end.new → OnErr result (E.state end.new number ≡ E.state end.old number) }
+        ensures kept { E.honest end.new → OnErr result (E.keeps number end.old end.new) }
         ensures lines { OnErr result (state_of self.new ≡ state_of self.old) }
         ensures device { TellsDevice (E.is_stopped end.old) (E.is_stopped end.new) (result ≡ Err Cause.Device) }
         ensures before { self.new.before ≡ self.old.before }
     {
         self.up.reserve(2 * FRAGMENT_UNITS)?;
-        end.receive(actions, alloc, now, self.outstation_port.fragment())?;
+        end.receive(number, actions, alloc, now, self.outstation_port.fragment())?;
         send_all(&mut self.up, &mut self.outstation_port, &actions.send);
         Ok(())
     }
@@ -287,12 +293,14 @@ impl Channel {
         alloc: Global,
         now: u64,
         end: &mut E,
+        number: u8,
     ) -> Result<bool, Cause>
+        requires { E.has number }
         ensures held { E.honest end.new → E.honest end.old }
-        ensures came { E.honest end.new → IfOk result (λ answered. ComesToOutstation (λ commands. E.follows end.old commands end.new) (E.panel end.old) now (E.state end.old) (E.state end.new)
+        ensures came { E.honest end.new → IfOk result (λ answered. ComesToOutstation (λ commands. E.follows number end.old commands end.new) (E.panel end.old number now) now (E.state end.old number) (E.state end.new number)
             (actions_of actions.new) answered (state_of self.old) (state_of self.new)) }
-        ensures unchanged { E.honest end.new → OnErr result (E.state end.new ≡ E.state end.old) }
-        ensures kept { E.honest end.new → OnErr result (E.keeps end.old end.new) }
+        ensures unchanged { E.honest end.new → OnErr result (E.state end.new number ≡ E.state end.old number) }
+        ensures kept { E.honest end.new → OnErr result (E.keeps number end.old end.new) }
         ensures lines { OnErr result (state_of self.new ≡ state_of self.old) }
         ensures device { TellsDevice (E.is_stopped end.old) (E.is_stopped end.new) (result ≡ Err Cause.Device) }
     {
@@ -303,7 +311,7 @@ impl Channel {
         let whole = hear(&mut self.outstation_port, unit);
         shows(&self.outstation_port);
         if whole {
-            if let Err(cause) = self.answer(actions, alloc, now, end) {
+            if let Err(cause) = self.answer(actions, alloc, now, end, number) {
                 self.before.copy_into(&mut self.outstation_port);
                 return Err(cause);
             }
@@ -336,28 +344,31 @@ impl Channel {
         link: u8,
         now: u64,
         end: &mut E,
-        dropped: &mut Vec<Row>,
+        dropped: &mut Two<Vec<Row>>,
     ) -> Result<(), Cause>
         requires { E.has end.old link }
         ensures held { E.honest end.new → E.honest end.old }
         ensures took { E.honest end.new → OnOk result ((fragment : List ℕ) × IsShown self.old.master_port fragment
             × TakesBy (receive_of (E.master end.old link) now fragment)
-            (λ t. E.takes end.old link t end.new × (dropped.new.items ≡ dropped.old.items ++ E.drops end.old link t))
-            (E.stays end.old end.new × (dropped.new.items ≡ dropped.old.items)) (state_of self.old) (state_of self.new)) }
+            (λ t. E.takes end.old link t end.new × ListsDropped (E.drops end.old link t) dropped.old.first.items dropped.old.second.items dropped.new.first.items dropped.new.second.items)
+            (E.stays end.old end.new × ListsDropped none_dropped dropped.old.first.items dropped.old.second.items dropped.new.first.items dropped.new.second.items) (state_of self.old) (state_of self.new)) }
         ensures kept { E.honest end.new → OnErr result (E.keeps end.old end.new) }
         ensures lines { OnErr result (state_of self.new ≡ state_of self.old) }
         ensures device { TellsDevice (E.is_stopped end.old) (E.is_stopped end.new) (result ≡ Err Cause.Device) }
-        ensures unlisted { OnErr result (dropped.new.items ≡ dropped.old.items) }
+        ensures unlisted { OnErr result (ListsDropped none_dropped dropped.old.first.items dropped.old.second.items dropped.new.first.items dropped.new.second.items) }
         ensures before { self.new.before ≡ self.old.before }
     {
         what_comes_is_taken_or_passed_over();
         let fragment = self.master_port.fragment();
-        dropped.reserve(count_events(fragment))?;
+        let count = count_events(fragment);
+        dropped.first.reserve(count)?;
+        dropped.second.reserve(count)?;
         self.down.reserve(FRAGMENT_UNITS)?;
         match end.take_in(alloc, link, now, fragment) {
-            Ok(actions) => {
+            Ok((actions, other)) => {
                 self.confirm(actions.send);
-                let _ = dropped.extend_from_slice(actions.dropped.as_slice());
+                let _ = dropped.first.extend_from_slice(actions.dropped.as_slice());
+                let _ = dropped.second.extend_from_slice(other.as_slice());
                 Ok(())
             }
             Err(fault) => stops_for(fault),
@@ -373,17 +384,17 @@ impl Channel {
         now: u64,
         repeats: bool,
         end: &mut E,
-        dropped: &mut Vec<Row>,
+        dropped: &mut Two<Vec<Row>>,
     ) -> Result<(), Cause>
         requires { E.has end.old link }
         ensures held { E.honest end.new → E.honest end.old }
         ensures came { E.honest end.new → OnOk result (ComesToMaster (left_by repeats) (E.master end.old link) now
-            (λ t. E.takes end.old link t end.new × (dropped.new.items ≡ dropped.old.items ++ E.drops end.old link t))
-            (E.stays end.old end.new × (dropped.new.items ≡ dropped.old.items)) (state_of self.old) (state_of self.new)) }
+            (λ t. E.takes end.old link t end.new × ListsDropped (E.drops end.old link t) dropped.old.first.items dropped.old.second.items dropped.new.first.items dropped.new.second.items)
+            (E.stays end.old end.new × ListsDropped none_dropped dropped.old.first.items dropped.old.second.items dropped.new.first.items dropped.new.second.items) (state_of self.old) (state_of self.new)) }
         ensures kept { E.honest end.new → OnErr result (E.keeps end.old end.new) }
         ensures lines { OnErr result (state_of self.new ≡ state_of self.old) }
         ensures device { TellsDevice (E.is_stopped end.old) (E.is_stopped end.new) (result ≡ Err Cause.Device) }
-        ensures unlisted { OnErr result (dropped.new.items ≡ dropped.old.items) }
+        ensures unlisted { OnErr result (ListsDropped none_dropped dropped.old.first.items dropped.old.second.items dropped.new.first.items dropped.new.second.items) }
     {
         self.master_port.copy_into(&mut self.before);
         if self.hear_up() {

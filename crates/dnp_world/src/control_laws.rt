@@ -14,16 +14,21 @@ ghost use Rattle.dnp_master.specs.declared.task.Task.TheVariants as task;
 ghost use Rattle.dnp_objects.specs.declared.command.Command.{Command as CommandValue};
 ghost use Rattle.dnp_outstation.specs.Calls.{connection_after, performed_in};
 ghost use Rattle.dnp_outstation.specs.State.{State};
+ghost use Rattle.dnp_eventbuf.specs.declared.pair.TheConstants.{CENTRES};
 ghost use Rattle.dnp_world.specs.Behind.{Elsewhere};
+ghost use Rattle.dnp_world.specs.BothSteady.{AreSteady};
+ghost use Rattle.dnp_world.specs.Centres.{HappensToAll};
 ghost use Rattle.dnp_world.specs.CommandWidths.{HasWidths};
 ghost use Rattle.dnp_world.specs.ControlAnswers.{Answers, Awaits, CanAnswer, HearsStatus, LeavesRequest, PassesReport, Repeats, WasAsked, operated_by};
 ghost use Rattle.dnp_world.specs.Controls.{CanGo, IsControl, IsRefusedControl};
 ghost use Rattle.dnp_world.specs.ControlsInStep.{InStep};
 ghost use Rattle.dnp_world.specs.ControlMoves.{ControlMoves};
+ghost use Rattle.dnp_world.specs.SystemRuns.{Happens};
 ghost use Rattle.dnp_world.specs.SystemStanding.{IsStanding};
 ghost use Rattle.dnp_world.specs.ControlExchanges.{CanBegin, ChecksAs, Ends, GoesOver, HasSelected, OperateComesTo, SelectComesTo};
 ghost use Rattle.dnp_world.specs.Octets.{uns_in};
-ghost use Rattle.dnp_world.specs.Systems.{System};
+ghost use Rattle.dnp_world.specs.Systems.{System, itself};
+ghost use Rattle.dnp_world.specs.Wholes.{Whole, seen_by};
 
 use crate::arriving_laws::what_is_sent_arrives;
 use dnp_appfragment::laws::{
@@ -123,10 +128,10 @@ pub fn an_accepted_control_operates()
 /// in progress above: the substation that it is for has performed it, once, and both books say SUCCESS of it. One that a status
 /// ends has operated nothing.
 pub fn a_clean_control_operates()
-    ensures moves { (id : ℕ) (old new : System) (el : Elsewhere) → IsStanding el old → InStep old → CanGo id old
-        → IsControl id old new → ControlMoves id old new }
-    ensures rests { (id status : ℕ) (old new : System) (el : Elsewhere) → IsStanding el old → InStep old → CanGo id old
-        → IsRefusedControl id status old new → new.history.operated ≡ old.history.operated }
+    ensures moves { (centre id : ℕ) (old new : System) (el : Elsewhere) → IsStanding el old → InStep old → CanGo id old
+        → IsControl Happens itself centre id old new → ControlMoves id old new }
+    ensures rests { (centre id status : ℕ) (old new : System) (el : Elsewhere) → IsStanding el old → InStep old → CanGo id old
+        → IsRefusedControl Happens itself centre id status old new → new.history.operated ≡ old.history.operated }
 {
     octets_say_their_control_and_function();
     a_header_holds_what_was_put();
@@ -142,4 +147,14 @@ pub fn a_clean_control_operates()
     commands_are_performed_as_they_are_asked();
     a_repeated_request_executes_nothing();
     commands_are_undone();
+}
+
+/// So it is with two centres, as the control's own centre sees it.
+pub fn a_clean_control_operates_for_its_centre()
+    ensures moves { (centre id : ℕ) (old new : Whole) → centre < CENTRES → AreSteady old → CanGo id (seen_by centre old)
+        → IsControl HappensToAll (seen_by centre) centre id old new → ControlMoves id (seen_by centre old) (seen_by centre new) }
+    ensures rests { (centre id status : ℕ) (old new : Whole) → centre < CENTRES → AreSteady old → CanGo id (seen_by centre old)
+        → IsRefusedControl HappensToAll (seen_by centre) centre id status old new → new.history.operated ≡ old.history.operated }
+{
+    a_clean_control_operates();
 }

@@ -15,15 +15,15 @@ use std::marker::Model;
 pub enum Link {
     /// The one between the concentrator and the substation of this number.
     Below(u8),
-    /// The one between the centre and the concentrator.
-    Above,
+    /// The one between the concentrator and the centre of this number, 0 or 1.
+    Above(u8),
 }
 
 /// A station of the system.
 #[derive(Clone, Copy, Debug, PartialEq, Eq)]
 pub enum Place {
-    /// The centre.
-    Centre,
+    /// The centre of this number, 0 or 1.
+    Centre(u8),
     /// The concentrator.
     Concentrator,
     /// The substation of this number.
@@ -68,8 +68,8 @@ impl Damaged {
     }
 }
 
-/// An event of the system. One that names nothing in the plan, is refused by the station that it asks, or finds an empty
-/// line does nothing.
+/// An event of the system. One that names nothing in the plan, or no centre that there is, is refused by the station that it
+/// asks, or finds an empty line does nothing.
 #[derive(Debug, Drop)]
 pub enum Event {
     /// Both lines of this link are cleared, both ports are reset, and both ends are opened.
@@ -99,8 +99,10 @@ pub enum Event {
     /// The master of this link asks a task. `Select` and `Operate`, which belong to whoever keeps the commands, are not
     /// asked.
     Ask(Link, Task),
-    /// A command to an output or setpoint of a substation is issued at the centre.
+    /// A command to an output or setpoint of a substation is issued at a centre.
     Issue {
+        /// The centre's number.
+        centre: u8,
         /// The substation's number.
         substation: u8,
         /// The command, with the index of the substation.
@@ -113,6 +115,6 @@ pub enum Event {
     /// This end of this link looks at its timers.
     Tick(Link, End),
     /// The device of this station starts again, and the station's ends hang up. The lanes of a substation are emptied;
-    /// concentrator and centre keep what they store.
+    /// concentrator and centres keep what they store.
     Restart(Place),
 }

@@ -39,8 +39,8 @@ pub fn what_happened_is_what_stood()
 /// What happened can be reported: in a new system nothing has happened, changes of points make rows that can be written as
 /// events, whatever points they are of, and an event that adds such rows, or none, to what happened keeps it so.
 pub fn what_happened_can_be_reported()
-    ensures at_first { (plan : Plan) (queue : Stock) (journal : Archive) (controls orders : Ledger)
-        → HappenedAsEvents (fresh_system plan queue journal controls orders) }
+    ensures at_first { (plan : Plan) (centre : ℕ) (queue : Stock) (journal : Archive) (controls orders : Ledger)
+        → HappenedAsEvents (fresh_system plan centre queue journal controls orders) }
     ensures made { (points : Database) (events : List LinkEvent) → All IsEvent (rows_made_by points events) }
     ensures goes_on { (old new : System) (came : ℕ → List RowValue) → HappenedAsEvents old → ((station : ℕ) → All IsEvent (came station))
         → IsFate came (report_of old) (report_of new) → HappenedAsEvents new }

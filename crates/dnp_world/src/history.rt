@@ -4,6 +4,7 @@ ghost use Rattle.std.specs.Prelude.{◌≡◌, []};
 ghost use Rattle.dnp_world.specs.SystemParts.{history_of};
 
 use crate::station_list::StationList;
+use dnp_concentrator::Two;
 use dnp_objects::{Command, Row};
 use std::alloc::Global;
 
@@ -16,8 +17,8 @@ pub(crate) struct History {
     pub overwritten: StationList<Row>,
     /// The rows that restarts of substations emptied from their lanes.
     pub gone: StationList<Row>,
-    /// The rows that full lanes of the queue dropped, as they stand above.
-    pub dropped: Vec<Row>,
+    /// The rows that full lanes of the queue for each centre dropped, as they stand above.
+    pub dropped: Two<Vec<Row>>,
     /// The commands that were issued, as they stand at their substations.
     pub issued: StationList<Command>,
     /// The commands that were performed.
@@ -27,13 +28,16 @@ pub(crate) struct History {
 impl History {
     /// Nothing has happened.
     pub fn new(alloc: Global) -> History
-        ensures { history_of result ≡ record { confirmed = []; overwritten = []; gone = []; dropped = []; issued = []; operated = [] } }
+        ensures { history_of result ≡ record { confirmed = []; overwritten = []; gone = []; dropped = record { first = []; second = [] }; issued = []; operated = [] } }
     {
         History {
             confirmed: StationList::new(alloc),
             overwritten: StationList::new(alloc),
             gone: StationList::new(alloc),
-            dropped: Vec::new(alloc),
+            dropped: Two {
+                first: Vec::new(alloc),
+                second: Vec::new(alloc),
+            },
             issued: StationList::new(alloc),
             operated: StationList::new(alloc),
         }

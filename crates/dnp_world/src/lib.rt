@@ -7,6 +7,7 @@
 pub mod arrival_laws;
 pub mod arriving_laws;
 mod carrier;
+pub mod centre_laws;
 mod channel;
 pub mod control_laws;
 mod ends;

@@ -8,12 +8,18 @@ ghost use Rattle.dnp_master.specs.State as master;
 ghost use Rattle.dnp_outstation.specs.Polled.{Offers, poll_octets, polled_rows};
 ghost use Rattle.dnp_outstation.specs.State.{State, Step};
 ghost use Rattle.dnp_world.specs.Behind.{Elsewhere};
+ghost use Rattle.dnp_world.specs.BothSteady.{AreSteady};
+ghost use Rattle.dnp_world.specs.Centres as all;
+ghost use Rattle.dnp_world.specs.Centres.{HappensToAll, centre_of, seen_at};
 ghost use Rattle.dnp_world.specs.Polled.{Takes};
 ghost use Rattle.dnp_world.specs.declared.event.Link.{Link};
 ghost use Rattle.dnp_world.specs.Movement.{RoundMoves};
 ghost use Rattle.dnp_world.specs.Rounds.{IsRound, events_polled, is_quiet_on};
 ghost use Rattle.dnp_world.specs.Steady.{IsSteadyBeside};
-ghost use Rattle.dnp_world.specs.Systems.{System};
+ghost use Rattle.dnp_world.specs.SystemRuns.{Happens};
+ghost use Rattle.dnp_world.specs.Systems.{System, itself};
+ghost use Rattle.dnp_world.specs.WholeMoves.{RoundMovesAll};
+ghost use Rattle.dnp_world.specs.Wholes.{Whole};
 
 use crate::arriving_laws::what_is_sent_arrives;
 use crate::planned_laws::rows_in_lanes_are_asked_for;
@@ -43,7 +49,8 @@ pub fn a_master_takes_what_it_polled()
 /// a response of a multiple of sixteen fragments, nothing moves, but for an unsolicited response that the concentrator starts then,
 /// and the master goes on waiting.
 pub fn a_clean_round_moves_rows()
-    ensures { (on : Link) (old new : System) (el : Elsewhere) → IsSteadyBeside el old → is_quiet_on old on ≡ true → IsRound on old new → RoundMoves on old new }
+    ensures { (on : Link) (old new : System) (el : Elsewhere) → IsSteadyBeside el old → is_quiet_on old on ≡ true
+        → IsRound Happens itself on old new → RoundMoves on old new }
 {
     a_quiet_outstation_offers_its_events();
     a_master_takes_what_it_polled();
@@ -56,4 +63,13 @@ pub fn a_clean_round_moves_rows()
     a_confirm_releases_what_its_fragment_reported();
     commands_are_performed_as_they_are_asked();
     each_case_says_what_came();
+}
+
+/// So it is with two centres, as each of them sees it: over a link below rows come into the queues for both; over one above they go into
+/// that centre's journal, and to the other one nothing moves, but that another point may be reserved.
+pub fn a_clean_round_moves_rows_for_each_centre()
+    ensures { (on : Link) (old new : Whole) → AreSteady old → all.is_quiet_on old on ≡ true
+        → IsRound HappensToAll (seen_at (centre_of on)) on old new → RoundMovesAll on old new }
+{
+    a_clean_round_moves_rows();
 }

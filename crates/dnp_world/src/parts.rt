@@ -1,10 +1,10 @@
 //! The parts of a whole system, and the events that change lines, masters and the moment alone.
 
-ghost use Rattle.std.specs.Prelude.{option_copied, ◌≡◌, ◌+◌, ◌-◌, ◌^◌, true, min};
+ghost use Rattle.std.specs.Prelude.{option_copied, ◌≡◌, ◌<◌, ◌+◌, ◌-◌, ◌^◌, Some, true, min};
 ghost use Rattle.dnp_world.specs.Channels.{DamagesAt};
-ghost use Rattle.dnp_world.specs.SystemEvents.{HangsUpOn, LinesChange, LosesOn, MasterTicks, concentrator_restarted};
+ghost use Rattle.dnp_world.specs.Centres.{ChangesAll, centre_of, front_on, has_link, standing_on};
+ghost use Rattle.dnp_world.specs.SystemEvents.{HangsUpOn, LinesChange, LosesOn, MasterTicks};
 ghost use Rattle.dnp_world.specs.Shown.{StoresAreWell, is_one_stopped};
-ghost use Rattle.dnp_world.specs.Systems.{front_on, has_link, standing_on};
 ghost use Rattle.dnp_world.specs.declared.event.Link.TheVariants as link;
 ghost use Rattle.dnp_world.specs.declared.link_event.End.TheVariants as end;
 
@@ -14,9 +14,9 @@ use crate::history::History;
 use crate::link_event::{End, Way};
 use crate::stored::Stored;
 use crate::substation::Substation;
-use dnp_concentrator::{Centre, Concentrator, IndexMap};
+use dnp_concentrator::{Centre, Concentrator, IndexMap, Two};
 use dnp_controls::Book;
-use dnp_eventbuf::{JournalStore, Lanes};
+use dnp_eventbuf::{CENTRES, JournalStore, PairLanes};
 use dnp_outstation::Actions;
 use std::marker::Model;
 
@@ -28,18 +28,18 @@ mod report;
 mod rounds;
 mod tasks;
 
-/// Substations, a concentrator and a centre, with lines between them, and what became of every row and command.
+/// Substations, a concentrator and two centres, with lines between them, and what became of every row and command.
 ///
 /// A clause sees what [`World`](crate::World) shows of it: the system, by what its stores say of themselves, and the stores.
 #[derive(Drop)]
-pub(crate) struct Parts<Q: Lanes, J: JournalStore, A: Book, B: Book> {
+pub(crate) struct Parts<Q: PairLanes, J: JournalStore, A: Book, B: Book> {
     /// Where the substations' indices stand above.
     pub map: IndexMap,
     pub substations: Vec<Substation>,
     pub concentrator: Concentrator<Q, A>,
-    pub centre: Centre<J, B>,
-    /// The lines between concentrator and centre.
-    pub above: Channel,
+    pub centres: Two<Centre<J, B>>,
+    /// The lines between the concentrator and each centre.
+    pub above: Two<Channel>,
     /// The moment, in milliseconds.
     pub moment: u64,
     /// What a station at an outstation's end did last.
@@ -47,7 +47,7 @@ pub(crate) struct Parts<Q: Lanes, J: JournalStore, A: Book, B: Book> {
     pub history: History,
 }
 
-impl<Q: Lanes, J: JournalStore, A: Book, B: Book> Model for Parts<Q, J, A, B> {
+impl<Q: PairLanes, J: JournalStore, A: Book, B: Book> Model for Parts<Q, J, A, B> {
     ghost use Rattle.dnp_world.specs.Shown.{Shown};
 
     ghost Value = { Shown Q J A B };
@@ -57,13 +57,13 @@ impl<Q: Lanes, J: JournalStore, A: Book, B: Book> Model for Parts<Q, J, A, B> {
     ghost view = { λ p. shown_by Q.contents J.archive A.contents B.contents p };
 }
 
-impl<Q: Lanes, J: JournalStore, A: Book, B: Book> Stored for Parts<Q, J, A, B> {
+impl<Q: PairLanes, J: JournalStore, A: Book, B: Book> Stored for Parts<Q, J, A, B> {
     ghost well = { λ p. StoresAreWell Q.honest J.honest A.honest A.is_stopped B.honest B.is_stopped p.stores };
 
     ghost is_stopped = { λ p. is_one_stopped Q.is_stopped J.is_stopped A.is_stopped B.is_stopped p.stores };
 }
 
-impl<Q: Lanes, J: JournalStore, A: Book, B: Book> Parts<Q, J, A, B> {
+impl<Q: PairLanes, J: JournalStore, A: Book, B: Book> Parts<Q, J, A, B> {
     /// Whether the plan has this link.
     pub fn has(&self, on: Link) -> bool
         ensures { result ≡ has_link self.now.system on }
@@ -73,7 +73,7 @@ impl<Q: Lanes, J: JournalStore, A: Book, B: Book> Parts<Q, J, A, B> {
                 usize::from(station) < self.substations.len()
                     && usize::from(station) < self.concentrator.substations()
             }
-            Link::Above => true,
+            Link::Above(centre) => centre < CENTRES,
         }
     }
 
@@ -86,7 +86,7 @@ impl<Q: Lanes, J: JournalStore, A: Book, B: Book> Parts<Q, J, A, B> {
         }
         match on {
             Link::Below(station) => self.substations[usize::from(station)].channel.standing(way),
-            Link::Above => self.above.standing(way),
+            Link::Above(centre) => self.above.at(centre).standing(way),
         }
     }
 
@@ -99,7 +99,7 @@ impl<Q: Lanes, J: JournalStore, A: Book, B: Book> Parts<Q, J, A, B> {
         }
         match on {
             Link::Below(station) => self.substations[usize::from(station)].channel.front(way),
-            Link::Above => self.above.front(way),
+            Link::Above(centre) => self.above.at(centre).front(way),
         }
     }
 
@@ -107,7 +107,7 @@ impl<Q: Lanes, J: JournalStore, A: Book, B: Book> Parts<Q, J, A, B> {
     pub fn hang_up(&mut self, on: Link, end: End)
         requires { has_link self.old.system on ≡ true }
         ensures stores { self.new.stores ≡ self.old.stores }
-        ensures done { HangsUpOn on end self.old.system self.new.system }
+        ensures done { ChangesAll (centre_of on) (HangsUpOn on end) self.old.system self.new.system }
     {
         match (on, end) {
             (Link::Below(station), End::Master) => {
@@ -119,13 +119,13 @@ impl<Q: Lanes, J: JournalStore, A: Book, B: Book> Parts<Q, J, A, B> {
             (Link::Below(station), End::Outstation) => {
                 self.substations[usize::from(station)].hang_up();
             }
-            (Link::Above, End::Master) => {
-                self.centre.hung_up();
-                self.above.hang_up(end);
+            (Link::Above(centre), End::Master) => {
+                self.centres.at_mut(centre).hung_up();
+                self.above.at_mut(centre).hang_up(end);
             }
-            (Link::Above, End::Outstation) => {
-                self.concentrator.hung_up_above();
-                self.above.hang_up(end);
+            (Link::Above(centre), End::Outstation) => {
+                self.concentrator.hung_up_above(centre);
+                self.above.at_mut(centre).hang_up(end);
             }
         }
     }
@@ -134,11 +134,11 @@ impl<Q: Lanes, J: JournalStore, A: Book, B: Book> Parts<Q, J, A, B> {
     pub fn lose(&mut self, on: Link, way: Way)
         requires { has_link self.old.system on ≡ true }
         ensures stores { self.new.stores ≡ self.old.stores }
-        ensures done { LosesOn on way self.old.system self.new.system }
+        ensures done { ChangesAll (centre_of on) (LosesOn on way) self.old.system self.new.system }
     {
         match on {
             Link::Below(station) => self.substations[usize::from(station)].channel.lose(way),
-            Link::Above => self.above.lose(way),
+            Link::Above(centre) => self.above.at_mut(centre).lose(way),
         }
     }
 
@@ -146,7 +146,7 @@ impl<Q: Lanes, J: JournalStore, A: Book, B: Book> Parts<Q, J, A, B> {
     pub fn damage(&mut self, on: Link, way: Way, octets: &Damaged)
         requires { has_link self.old.system on ≡ true }
         ensures stores { self.new.stores ≡ self.old.stores }
-        ensures done { LinesChange on (DamagesAt way octets.now) self.old.system self.new.system }
+        ensures done { ChangesAll (centre_of on) (LinesChange on (DamagesAt way octets.now)) self.old.system self.new.system }
     {
         match on {
             Link::Below(station) => {
@@ -154,7 +154,7 @@ impl<Q: Lanes, J: JournalStore, A: Book, B: Book> Parts<Q, J, A, B> {
                     .channel
                     .damage(way, octets)
             }
-            Link::Above => self.above.damage(way, octets),
+            Link::Above(centre) => self.above.at_mut(centre).damage(way, octets),
         }
     }
 
@@ -172,24 +172,25 @@ impl<Q: Lanes, J: JournalStore, A: Book, B: Book> Parts<Q, J, A, B> {
     pub fn tick_master(&mut self, on: Link)
         requires { has_link self.old.system on ≡ true }
         ensures stores { self.new.stores ≡ self.old.stores }
-        ensures done { MasterTicks on self.old.system self.new.system }
+        ensures done { ChangesAll (centre_of on) (MasterTicks on) self.old.system self.new.system }
     {
         match on {
             Link::Below(station) => {
                 let _ = self.concentrator.tick_below(station, self.moment);
             }
-            Link::Above => {
-                let _ = self.centre.tick(self.moment);
+            Link::Above(centre) => {
+                let _ = self.centres.at_mut(centre).tick(self.moment);
             }
         }
     }
 
     /// The centre's device starts again: the centre hangs up.
-    pub fn restart_centre(&mut self)
+    pub fn restart_centre(&mut self, centre: u8)
+        requires { centre < CENTRES }
         ensures stores { self.new.stores ≡ self.old.stores }
-        ensures done { HangsUpOn link.Above end.Master self.old.system self.new.system }
+        ensures done { ChangesAll (Some centre) (HangsUpOn (link.Above centre) end.Master) self.old.system self.new.system }
     {
-        self.centre.restart();
-        self.above.hang_up(End::Master);
+        self.centres.at_mut(centre).restart();
+        self.above.at_mut(centre).hang_up(End::Master);
     }
 }

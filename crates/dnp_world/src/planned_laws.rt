@@ -44,8 +44,8 @@ pub fn substations_keep_their_points()
 /// What happens at the substations is of the plan: at first nothing has happened, and the points are those of the plan; a reading
 /// makes a row of a point that the plan has with a class, and all else that happens makes none.
 pub fn what_happens_is_of_the_plan()
-    ensures at_first { (plan : Plan) (queue : Stock) (journal : Archive) (controls orders : Ledger) → KeepsLimits plan
-        → HappenedAsPlanned plan (fresh_system plan queue journal controls orders) }
+    ensures at_first { (plan : Plan) (centre : ℕ) (queue : Stock) (journal : Archive) (controls orders : Ledger) → KeepsLimits plan
+        → HappenedAsPlanned plan (fresh_system plan centre queue journal controls orders) }
     ensures kept { (plan : Plan) (old new : System) (el : Elsewhere) (station : ℕ) (event : Event) → HappenedAsPlanned plan old → Happens old event new
         → Keeps el station [] old new → HappenedAsPlanned plan new }
     ensures read { (plan : Plan) (old new : System) (el : Elsewhere) (station : ℕ) (kind : Kind) (index : ℕ) (reading : Reading) → HappenedAsPlanned plan old
@@ -65,8 +65,8 @@ pub fn what_happens_is_of_the_plan()
 /// Systems stay of their plan: a new one is of the plan that it is made of, and whatever happens, masters keep their points and the
 /// system its index map.
 pub fn systems_stay_as_planned()
-    ensures at_first { (plan : Plan) (queue : Stock) (journal : Archive) (controls orders : Ledger) → KeepsLimits plan
-        → IsAsPlanned (fresh_system plan queue journal controls orders) }
+    ensures at_first { (plan : Plan) (centre : ℕ) (queue : Stock) (journal : Archive) (controls orders : Ledger) → KeepsLimits plan
+        → IsAsPlanned (fresh_system plan centre queue journal controls orders) }
     ensures kept { (old new : System) (el : Elsewhere) (station : ℕ) (event : Event) → IsAsPlanned old → Happens old event new
         → Keeps el station [] old new → IsAsPlanned new }
     ensures read { (old new : System) (el : Elsewhere) (station : ℕ) (kind : Kind) (index : ℕ) (reading : Reading) → IsAsPlanned old

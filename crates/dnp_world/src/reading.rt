@@ -1,7 +1,8 @@
 //! What lanes hold, as a report reads it.
 
-ghost use Rattle.std.specs.Prelude.{◌≡◌, ◌≢◌, Err, ◌++◌, ◌^◌, ◌-◌, IfOk, OnOk, map as all_of, min, option_to_list};
+ghost use Rattle.std.specs.Prelude.{◌≡◌, ◌≢◌, ◌<◌, Err, ◌++◌, ◌^◌, ◌-◌, IfOk, OnOk, map as all_of, min, option_to_list};
 ghost use Rattle.dnp_concentrator.specs.Mapped as mapped;
+ghost use Rattle.dnp_eventbuf.specs.Sides.{AreSame, centre_in, lent_pair, pair_in};
 ghost use Rattle.dnp_eventbuf.specs.Sound.{IsSound};
 ghost use Rattle.dnp_eventbuf.specs.Stock.{lane_at, lost_in, row_of};
 ghost use Rattle.dnp_objects.specs.Lanes.{lane_number};
@@ -11,13 +12,15 @@ ghost use Rattle.dnp_world.specs.ReportShown.{AreById, all_in};
 ghost use Rattle.dnp_world.specs.Systems.{at_station};
 
 use dnp_concentrator::{Cause, IndexMap};
-use dnp_eventbuf::{JournalStore, Lanes, Numbered};
+use dnp_eventbuf::{CENTRES, JournalStore, Lanes, Numbered, PairLanes, Side};
 use dnp_objects::{LANES, Lane, Row};
 use std::alloc::{AllocError, Global};
 
 /// All rows of a lane, in order.
 fn lane_rows<L: Lanes>(alloc: Global, lanes: &mut L, lane: Lane) -> Result<Vec<Numbered>, Cause>
+    ensures place { L.place lanes.new ≡ L.place lanes.old }
     ensures held { L.honest lanes.new → L.honest lanes.old }
+    ensures beside { L.honest lanes.new → L.beside lanes.new ≡ L.beside lanes.old }
     ensures same { L.honest lanes.new → L.contents lanes.new ≡ L.contents lanes.old }
     ensures sound { L.honest lanes.new → IsSound (L.contents lanes.new) }
     ensures rows { L.honest lanes.new → IfOk result (λ rows. rows.items ≡ (lane_at (L.contents lanes.new) (lane_number lane)).rows) }
@@ -31,7 +34,9 @@ fn lane_rows<L: Lanes>(alloc: Global, lanes: &mut L, lane: Lane) -> Result<Vec<N
 
 /// The rows of all lanes, lane by lane.
 pub(crate) fn all_rows<L: Lanes>(alloc: Global, lanes: &mut L) -> Result<Vec<Numbered>, Cause>
+    ensures place { L.place lanes.new ≡ L.place lanes.old }
     ensures held { L.honest lanes.new → L.honest lanes.old }
+    ensures beside { L.honest lanes.new → L.beside lanes.new ≡ L.beside lanes.old }
     ensures same { L.honest lanes.new → L.contents lanes.new ≡ L.contents lanes.old }
     ensures rows { L.honest lanes.new → IfOk result (λ rows. rows.items ≡ all_in (L.contents lanes.new)) }
     ensures device { TellsDevice (L.is_stopped lanes.old) (L.is_stopped lanes.new) (result ≡ Err Cause.Device) }
@@ -48,7 +53,9 @@ pub(crate) fn all_rows<L: Lanes>(alloc: Global, lanes: &mut L) -> Result<Vec<Num
 
 /// The rows of all lanes, by their ids.
 pub(crate) fn rows_by_id<L: Lanes>(alloc: Global, lanes: &mut L) -> Result<Vec<Numbered>, Cause>
+    ensures place { L.place lanes.new ≡ L.place lanes.old }
     ensures held { L.honest lanes.new → L.honest lanes.old }
+    ensures beside { L.honest lanes.new → L.beside lanes.new ≡ L.beside lanes.old }
     ensures same { L.honest lanes.new → L.contents lanes.new ≡ L.contents lanes.old }
     ensures rows { L.honest lanes.new → IfOk result (λ rows. AreById (all_in (L.contents lanes.new)) rows.items) }
     ensures device { TellsDevice (L.is_stopped lanes.old) (L.is_stopped lanes.new) (result ≡ Err Cause.Device) }
@@ -86,6 +93,45 @@ pub(crate) fn lost_rows<L: Lanes>(lanes: &mut L) -> u64
         lost = lost.saturating_add(lanes.lost(lane));
     }
     lost
+}
+
+/// The rows of one side, by their ids. The reference to the store stays where it is, and both sides what they were.
+fn side_rows<Q: PairLanes>(alloc: Global, side: &mut Side<'_, Q>) -> Result<Vec<Numbered>, Cause>
+    ensures lent { (lent_pair side.new).ghost_name ≡ (lent_pair side.old).ghost_name }
+    ensures held { Q.honest (pair_in side.new) → Q.honest (pair_in side.old) }
+    ensures same { Q.honest (pair_in side.new) → AreSame Q.contents (pair_in side.old) (pair_in side.new) }
+    ensures rows { Q.honest (pair_in side.new) → IfOk result (λ rows. AreById (all_in (Q.contents (pair_in side.old) (centre_in side.old))) rows.items) }
+    ensures device { TellsDevice (Q.is_stopped (pair_in side.old)) (Q.is_stopped (pair_in side.new)) (result ≡ Err Cause.Device) }
+    ensures named { result ≢ Err Cause.Exhausted }
+{
+    rows_by_id(alloc, side)
+}
+
+/// The rows that are queued for this centre, by their ids.
+pub(crate) fn queue_rows<Q: PairLanes>(
+    alloc: Global,
+    queue: &mut Q,
+    centre: u8,
+) -> Result<Vec<Numbered>, Cause>
+    requires { centre < CENTRES }
+    ensures held { Q.honest queue.new → Q.honest queue.old }
+    ensures same { Q.honest queue.new → AreSame Q.contents queue.old queue.new }
+    ensures rows { Q.honest queue.new → IfOk result (λ rows. AreById (all_in (Q.contents queue.old centre)) rows.items) }
+    ensures device { TellsDevice (Q.is_stopped queue.old) (Q.is_stopped queue.new) (result ≡ Err Cause.Device) }
+    ensures named { result ≢ Err Cause.Exhausted }
+{
+    let mut side = Side::new(queue, centre);
+    side_rows(alloc, &mut side)
+}
+
+/// How many rows the lanes for this centre count as lost, up to the greatest number that the answer holds.
+pub(crate) fn queue_lost<Q: PairLanes>(queue: &mut Q, centre: u8) -> u64
+    requires { centre < CENTRES }
+    ensures same { queue.new ≡ queue.old }
+    ensures count { Q.honest queue.new → result ≡ min (lost_in (Q.contents queue.old centre)) (2 ^ 64 - 1) }
+{
+    let mut side = Side::new(queue, centre);
+    lost_rows(&mut side)
 }
 
 /// Puts rows of a substation after the list. An error says that it ran out of memory.

@@ -91,7 +91,8 @@ pub fn a_request_goes_by_a_move()
 pub fn relaying_keeps_what_stands()
     ensures below { (old new : System) (el : Elsewhere) (station : ℕ) → has_station old station ≡ true → IsStanding el old → InStep old
         → RelaysOn (link.Below station) old new → Keeps el station [] old new }
-    ensures above { (old new : System) (el : Elsewhere) (station : ℕ) → IsStanding el old → InStep old → RelaysOn link.Above old new
+    ensures above { (centre : ℕ) (old new : System) (el : Elsewhere) (station : ℕ) → IsStanding el old → InStep old
+        → RelaysOn (link.Above centre) old new
         → Keeps el station [] old new }
 {
     lists_are_of_links();
@@ -105,8 +106,8 @@ pub fn relaying_keeps_what_stands()
 /// in step before the first event over empty books.
 pub fn controls_stay_in_step()
     ensures event { (old new : System) (el : Elsewhere) (event : EventValue) → Happens old event new → IsStanding el old → InStep old → InStep new }
-    ensures at_first { (plan : PlanValue) (queue : Stock) (journal : Archive) (controls orders : Ledger)
-        → controls.entries ≡ [] → orders.entries ≡ [] → InStep (fresh_system plan queue journal controls orders) }
+    ensures at_first { (plan : PlanValue) (centre : ℕ) (queue : Stock) (journal : Archive) (controls orders : Ledger)
+        → controls.entries ≡ [] → orders.entries ≡ [] → InStep (fresh_system plan centre queue journal controls orders) }
 {
     ids_go_on();
     indices_above_are_in_range();

@@ -7,15 +7,16 @@ use dnp_objects::{Command, Row};
 /// substation's number, with the index of the substation.
 ///
 /// The events of `buffered` are in order of substation, then lane, then number in the lanes; those of `queue` are in
-/// order of their number there. The other lists are in the order in which it happened.
+/// order of their number there. The other lists are in the order in which it happened. Of two lists, or numbers, the first is
+/// for the first centre.
 #[derive(Debug, Drop)]
 pub struct Report {
-    /// The events in the centre's journal.
-    pub journal: Listed<(u8, Row)>,
-    /// The events in the concentrator's queue.
-    pub queue: Listed<(u8, Row)>,
-    /// The events that full lanes of the concentrator's queue dropped.
-    pub dropped: Listed<(u8, Row)>,
+    /// The events in the journal of each centre.
+    pub journal: (Listed<(u8, Row)>, Listed<(u8, Row)>),
+    /// The events in the concentrator's queue for each centre.
+    pub queue: (Listed<(u8, Row)>, Listed<(u8, Row)>),
+    /// The events that full lanes of the queue for each centre dropped.
+    pub dropped: (Listed<(u8, Row)>, Listed<(u8, Row)>),
     /// The events that confirms released from substations.
     pub confirmed: Listed<(u8, Row)>,
     /// The events in the lanes of substations.
@@ -24,10 +25,10 @@ pub struct Report {
     pub overwritten: Listed<(u8, Row)>,
     /// The events that restarts of substations emptied from their lanes.
     pub gone: Listed<(u8, Row)>,
-    /// The commands that were issued at the centre.
+    /// The commands that were issued at either centre.
     pub issued: Listed<(u8, Command)>,
     /// The commands that outputs of substations performed.
     pub operated: Listed<(u8, Command)>,
-    /// How many events the lanes of the concentrator's queue count as lost.
-    pub lost: u64,
+    /// How many events the lanes of the queue for each centre count as lost.
+    pub lost: (u64, u64),
 }

@@ -50,12 +50,14 @@ pub fn what_comes_to_the_concentrator_keeps_what_stands()
     commands_are_undone();
 }
 
-/// Something stands behind a new system over empty stores: links of the law on which nothing has happened. Its report shows nothing.
+/// Something stands behind a new system over empty stores: links of the law on which nothing has happened, so that the one above has
+/// performed nothing. Its report shows nothing.
 pub fn a_new_system_stands()
-    ensures stands { (plan : Plan) (queue : Stock) (journal : Archive) (controls orders : Ledger) → CanBegin plan
-        → AreEmpty queue journal controls orders → IsStanding alone (fresh_system plan queue journal controls orders) }
-    ensures shows { (plan : Plan) (queue : Stock) (journal : Archive) (controls orders : Ledger)
-        → AreEmpty queue journal controls orders → report_of (fresh_system plan queue journal controls orders) ≡ nothing_shown }
+    ensures stands { (plan : Plan) (centre : ℕ) (queue : Stock) (journal : Archive) (controls orders : Ledger) → CanBegin plan
+        → AreEmpty queue journal controls orders
+        → (standing : IsStanding alone (fresh_system plan centre queue journal controls orders)) × (standing.links.above.performed ≡ []) }
+    ensures shows { (plan : Plan) (centre : ℕ) (queue : Stock) (journal : Archive) (controls orders : Ledger)
+        → AreEmpty queue journal controls orders → report_of (fresh_system plan centre queue journal controls orders) ≡ nothing_shown }
 {
     lists_are_of_links();
     what_no_cause_refuses_is_a_map();
@@ -71,12 +73,14 @@ fn are_all_lanes(capacities: [u32; LANES])
     ensures { length capacities ≡ LANES }
 {}
 
-/// A plan has a capacity for each lane of the queue and of each substation, as its type says. It does nothing.
+/// A plan has a capacity for each lane of the queue for each centre and of each substation, as its type says. It does nothing.
 pub fn plans_have_all_lanes(plan: &SystemPlan)
     ensures queue { length plan.now.queue ≡ LANES }
+    ensures queue2 { length plan.now.queue2 ≡ LANES }
     ensures substations { All HasAllLanes plan.now.substations }
 {
     are_all_lanes(plan.queue);
+    are_all_lanes(plan.queue2);
     for substation in plan.substations.as_slice() {
         are_all_lanes(substation.lanes);
     }

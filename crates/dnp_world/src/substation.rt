@@ -74,7 +74,8 @@ impl Substation {
         ensures stopped { OnErr result (substation_of self.new ≡ substation_of self.old) }
         ensures device { result ≢ Err Cause.Device }
     {
-        self.channel.open(actions, alloc, now, &mut self.outstation)
+        self.channel
+            .open(actions, alloc, now, &mut self.outstation, 0)
     }
 
     /// The outstation looks at its timers.
@@ -84,7 +85,8 @@ impl Substation {
         ensures stopped { OnErr result (substation_of self.new ≡ substation_of self.old) }
         ensures device { result ≢ Err Cause.Device }
     {
-        self.channel.tick(actions, alloc, now, &mut self.outstation)
+        self.channel
+            .tick(actions, alloc, now, &mut self.outstation, 0)
     }
 
     /// The outstation of the substation of this number reads a point. What a full lane dropped for it is put after the list.
@@ -175,7 +177,7 @@ impl Substation {
         let before = self.outstation.outputs().operated().len();
         let answered = self
             .channel
-            .come_down(actions, alloc, now, &mut self.outstation)?;
+            .come_down(actions, alloc, now, &mut self.outstation, 0)?;
         self.channel.settle(Way::Down, repeats);
         if answered {
             history

@@ -25,12 +25,11 @@ ghost use Rattle.dnp_world.specs.declared.link_event.End.TheVariants as end;
 ghost use Rattle.dnp_world.specs.declared.link_event.LinkEvent.TheVariants as event;
 ghost use Rattle.dnp_world.specs.declared.link_event.Way.{Way};
 ghost use Rattle.dnp_world.specs.declared.parts.report.TheConstants.{NUMBERS};
-ghost use Rattle.dnp_world.specs.declared.report.Report.{Report as Shown};
 ghost use Rattle.dnp_world.specs.Behind.{Elsewhere, alone, IsBehind, IsUntouched, Links, Turn, made_at, with_links};
 ghost use Rattle.dnp_world.specs.Channels.{DamagesAt};
 ghost use Rattle.dnp_world.specs.Joined.{rows_made_by};
 ghost use Rattle.dnp_world.specs.Kept.{AreMapped, Kept, commands_below, nothing_kept, order_of, orders_in, report_of, rows_below, shown_of, used_orders};
-ghost use Rattle.dnp_world.specs.ReportShown.{ListsAll, Shows, lists_of};
+ghost use Rattle.dnp_world.specs.ReportShown.{ListsAll, Shows};
 ghost use Rattle.dnp_world.specs.OneLinkEvents.{is_own};
 ghost use Rattle.dnp_world.specs.Reports.{Holds, IsFate, Report as ReportValue};
 ghost use Rattle.dnp_world.specs.Steady.{IsSteadyBeside};
@@ -85,11 +84,11 @@ pub fn what_stands_is_shown()
 /// as its numbers reach. They reach far enough for a steady system, which has no more substations than a plan, and counts as many
 /// rows as lost as stand in a list of the report. So what holds at every moment holds of the report.
 pub fn what_a_report_shows_is_kept()
-    ensures queue { (s : System) (r : Shown) → Shows s r → IsPermutation r.queue (report_of s).queue }
-    ensures others { (s : System) (r : Shown) → Shows s r → length s.substations ≤ NUMBERS → lost_in s.concentrator.queue < 2 ^ 64
-        → lists_of r ≡ record (report_of s) { queue = r.queue } }
-    ensures holds { (s : System) (el : Elsewhere) (r : Shown) → Shows s r → length r.dropped < 2 ^ 64 → ∥ IsSteadyBeside el s ∥₁ → Holds (lists_of r) }
-    ensures all { (s : System) (el : Elsewhere) (r : Shown) → Shows s r → ∥ IsSteadyBeside el s ∥₁ → ListsAll s (lists_of r) }
+    ensures queue { (s : System) (r : ReportValue) → Shows s r → IsPermutation r.queue (report_of s).queue }
+    ensures others { (s : System) (r : ReportValue) → Shows s r → length s.substations ≤ NUMBERS → lost_in s.concentrator.queue < 2 ^ 64
+        → r ≡ record (report_of s) { queue = r.queue } }
+    ensures holds { (s : System) (el : Elsewhere) (r : ReportValue) → Shows s r → length r.dropped < 2 ^ 64 → ∥ IsSteadyBeside el s ∥₁ → Holds r }
+    ensures all { (s : System) (el : Elsewhere) (r : ReportValue) → Shows s r → ∥ IsSteadyBeside el s ∥₁ → ListsAll s r }
 {
     lists_are_of_links();
     what_stands_is_shown();
@@ -144,21 +143,21 @@ pub fn calls_below_keep_what_stands()
 /// Events on the link between concentrator and centre at which no row is taken and no fragment comes to the concentrator: a line
 /// loses its front unit or is damaged, an end hangs up or looks at its timer, both are opened, or the centre asks a task of its own.
 pub fn events_above_keep_what_stands()
-    ensures lost { (old new : System) (el : Elsewhere) (station : ℕ) (way : Way) → IsStanding el old
-        → LosesOn link.Above way old new → Keeps el station [] old new }
-    ensures damaged { (old new : System) (el : Elsewhere) (station : ℕ) (way : Way) (octets : List ℕ) → IsStanding el old
-        → LinesChange link.Above (DamagesAt way octets) old new → Keeps el station [] old new }
-    ensures centre_hung_up { (old new : System) (el : Elsewhere) (station : ℕ) → IsStanding el old
-        → HangsUpOn link.Above end.Master old new → Keeps el station [] old new }
-    ensures concentrator_hung_up { (old new : System) (el : Elsewhere) (station : ℕ) → IsStanding el old
-        → HangsUpOn link.Above end.Outstation old new → Keeps el station [] old new }
-    ensures opened { (old new : System) (el : Elsewhere) (station : ℕ) → IsStanding el old → OpensOn link.Above old new → Keeps el station [] old new }
-    ensures centre_ticked { (old new : System) (el : Elsewhere) (station : ℕ) → IsStanding el old → MasterTicks link.Above old new
+    ensures lost { (centre : ℕ) (old new : System) (el : Elsewhere) (station : ℕ) (way : Way) → IsStanding el old
+        → LosesOn (link.Above centre) way old new → Keeps el station [] old new }
+    ensures damaged { (centre : ℕ) (old new : System) (el : Elsewhere) (station : ℕ) (way : Way) (octets : List ℕ) → IsStanding el old
+        → LinesChange (link.Above centre) (DamagesAt way octets) old new → Keeps el station [] old new }
+    ensures centre_hung_up { (centre : ℕ) (old new : System) (el : Elsewhere) (station : ℕ) → IsStanding el old
+        → HangsUpOn (link.Above centre) end.Master old new → Keeps el station [] old new }
+    ensures concentrator_hung_up { (centre : ℕ) (old new : System) (el : Elsewhere) (station : ℕ) → IsStanding el old
+        → HangsUpOn (link.Above centre) end.Outstation old new → Keeps el station [] old new }
+    ensures opened { (centre : ℕ) (old new : System) (el : Elsewhere) (station : ℕ) → IsStanding el old → OpensOn (link.Above centre) old new → Keeps el station [] old new }
+    ensures centre_ticked { (centre : ℕ) (old new : System) (el : Elsewhere) (station : ℕ) → IsStanding el old → MasterTicks (link.Above centre) old new
         → Keeps el station [] old new }
-    ensures concentrator_ticked { (old new : System) (el : Elsewhere) (station : ℕ) → IsStanding el old
-        → OutstationTicks link.Above old new → Keeps el station [] old new }
-    ensures asked { (old new : System) (el : Elsewhere) (station : ℕ) (task : Task) → IsStanding el old
-        → AsksOn (is_own task) link.Above task old new → Keeps el station [] old new }
+    ensures concentrator_ticked { (centre : ℕ) (old new : System) (el : Elsewhere) (station : ℕ) → IsStanding el old
+        → OutstationTicks (link.Above centre) old new → Keeps el station [] old new }
+    ensures asked { (centre : ℕ) (old new : System) (el : Elsewhere) (station : ℕ) (task : Task) → IsStanding el old
+        → AsksOn (is_own task) (link.Above centre) task old new → Keeps el station [] old new }
 {
     lists_are_of_links();
     events_without_a_sink_are_moves();
@@ -169,10 +168,10 @@ pub fn events_above_keep_what_stands()
 /// So does what comes to the centre, where the unit leaves the line and where it stays there: the rows that the centre takes come into
 /// its journal.
 pub fn what_comes_to_the_centre_keeps_what_stands()
-    ensures delivered { (old new : System) (el : Elsewhere) (station : ℕ) → IsStanding el old
-        → ComesUp delivered_on link.Above old new → Keeps el station [] old new }
-    ensures repeated { (old new : System) (el : Elsewhere) (station : ℕ) → IsStanding el old
-        → ComesUp repeated_on link.Above old new → Keeps el station [] old new }
+    ensures delivered { (centre : ℕ) (old new : System) (el : Elsewhere) (station : ℕ) → IsStanding el old
+        → ComesUp delivered_on (link.Above centre) old new → Keeps el station [] old new }
+    ensures repeated { (centre : ℕ) (old new : System) (el : Elsewhere) (station : ℕ) → IsStanding el old
+        → ComesUp repeated_on (link.Above centre) old new → Keeps el station [] old new }
 {
     lists_are_of_links();
     events_without_a_sink_are_moves();

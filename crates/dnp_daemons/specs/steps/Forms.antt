@@ -5,8 +5,19 @@ use Rattle.dnp_daemons.specs.declared.script.forms.Form.{Form}
 use Rattle.dnp_daemons.specs.declared.script.forms.Form.TheVariants as forms
 use Rattle.dnp_daemons.specs.declared.script.forms.Slot.{Slot}
 use Rattle.dnp_daemons.specs.declared.script.forms.Slot.TheVariants as slots
+use Rattle.dnp_daemons.specs.declared.script.which.WhichCentre.{WhichCentre}
+use Rattle.dnp_daemons.specs.declared.script.which.WhichCentre.TheVariants.{First, Second}
 use Rattle.dnp_daemons.specs.Numbers.{number_below, integer_within}
 use Rattle.dnp_daemons.specs.Names.{is, substation_named, link_named, place_named, end_named, way_named, kind_named, classes_named, flags_named, time_named, octets_named}
+
+-- the words of a centre's lines
+abbrev pub control_verb : WhichCentre → List ℕ
+control_verb First = codes "control"
+control_verb Second = codes "control2"
+
+abbrev pub issue_verb : WhichCentre → List ℕ
+issue_verb First = codes "issue"
+issue_verb Second = codes "issue2"
 
 -- the word that lines of the form begin with
 abbrev pub verb_of : Form → List ℕ
@@ -26,12 +37,12 @@ verb_of forms.Enable = codes "enable"
 verb_of forms.Disable = codes "disable"
 verb_of forms.SetTime = codes "time"
 verb_of forms.Pass = codes "pass"
-verb_of forms.Control = codes "control"
+verb_of (forms.Control centre) = control_verb centre
 verb_of forms.Restart = codes "restart"
 verb_of forms.Change = codes "change"
-verb_of forms.Set16 = codes "issue"
-verb_of forms.Set32 = codes "issue"
-verb_of forms.Block = codes "issue"
+verb_of (forms.Set16 centre) = issue_verb centre
+verb_of (forms.Set32 centre) = issue_verb centre
+verb_of (forms.Block centre) = issue_verb centre
 
 -- lines of the form lose, repeat and damage no unit
 abbrev pub is_gentle : Form → Bool
@@ -62,13 +73,13 @@ slots_behind forms.Enable = slots.Link ∷ slots.Classes ∷ []
 slots_behind forms.Disable = slots.Link ∷ slots.Classes ∷ []
 slots_behind forms.SetTime = slots.Link ∷ slots.Number64 ∷ []
 slots_behind forms.Pass = slots.Number64 ∷ []
-slots_behind forms.Control = slots.Number64 ∷ []
+slots_behind (forms.Control centre) = slots.Number64 ∷ []
 slots_behind forms.Restart = slots.Station ∷ []
 slots_behind forms.Change =
     slots.Substation ∷ slots.Kind ∷ slots.Number16 ∷ slots.Integer64 ∷ slots.Flags ∷ slots.Time ∷ []
-slots_behind forms.Set16 = slots.Substation ∷ slots.Set16 ∷ slots.Number16 ∷ slots.Integer16 ∷ []
-slots_behind forms.Set32 = slots.Substation ∷ slots.Set32 ∷ slots.Number16 ∷ slots.Integer32 ∷ []
-slots_behind forms.Block =
+slots_behind (forms.Set16 centre) = slots.Substation ∷ slots.Set16 ∷ slots.Number16 ∷ slots.Integer16 ∷ []
+slots_behind (forms.Set32 centre) = slots.Substation ∷ slots.Set32 ∷ slots.Number16 ∷ slots.Integer32 ∷ []
+slots_behind (forms.Block centre) =
     slots.Substation ∷ slots.Block ∷ slots.Number16 ∷ slots.Number8 ∷ slots.Number8 ∷ slots.Number32 ∷ slots.Number32 ∷ []
 
 -- what the words say
@@ -116,8 +127,9 @@ taken n (word ∷ words) (slot ∷ more) = if takes n slot word then taken n wor
 abbrev pub all_forms : List Form
 all_forms =
     forms.Open ∷ forms.Clear ∷ forms.Relay ∷ forms.Round ∷ forms.HangUp ∷ forms.Tick ∷ forms.Deliver ∷ forms.Repeat ∷ forms.Lose ∷ forms.Flush
-    ∷ forms.Damage ∷ forms.Poll ∷ forms.Enable ∷ forms.Disable ∷ forms.SetTime ∷ forms.Pass ∷ forms.Control ∷ forms.Restart ∷ forms.Change
-    ∷ forms.Set16 ∷ forms.Set32 ∷ forms.Block ∷ []
+    ∷ forms.Damage ∷ forms.Poll ∷ forms.Enable ∷ forms.Disable ∷ forms.SetTime ∷ forms.Pass ∷ forms.Control First ∷ forms.Control Second
+    ∷ forms.Restart ∷ forms.Change ∷ forms.Set16 First ∷ forms.Set32 First ∷ forms.Block First
+    ∷ forms.Set16 Second ∷ forms.Set32 Second ∷ forms.Block Second ∷ []
 
 -- the most that this counts of those of them that pass the test
 abbrev pub most_of : (Form → Bool) → (Form → ℕ) → List Form → ℕ

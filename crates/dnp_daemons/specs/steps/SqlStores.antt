@@ -15,19 +15,24 @@ use Rattle.dnp_store.specs.JournalKept as journal_words
 use Rattle.dnp_store.specs.BookKept as book_words
 use Rattle.sqlite.specs.Steps.{over_memory}
 
--- they hold nothing, in lanes of these capacities, and are well
-pub record AreNew (capacities : List ℕ) (stores : SqlStores) : Type 0 where
-  pub queue : stores.queue.sides.first ≡ empty_stock capacities
-  pub journal : held_archive over_memory stores.journal ≡ empty_archive
+-- they hold nothing, in lanes of these capacities for the first centre and for the second
+pub record AreNew (first second : List ℕ) (stores : SqlStores) : Type 0 where
+  pub queue : stores.queues.sides.first ≡ empty_stock first
+  pub queue2 : stores.queues.sides.second ≡ empty_stock second
+  pub journal : held_archive over_memory stores.journals.0 ≡ empty_archive
+  pub journal2 : held_archive over_memory stores.journals.1 ≡ empty_archive
   pub controls : stores.controls.ledger ≡ empty_ledger
-  pub orders : stores.orders.ledger ≡ empty_ledger
+  pub orders : stores.orders.0.ledger ≡ empty_ledger
+  pub orders2 : stores.orders.1.ledger ≡ empty_ledger
 
 -- none of them has answered Device
 pub record AreWell (stores : SqlStores) : Type 0 where
-  pub queue : queue_words.IsHonest over_memory stores.queue
-  pub journal : journal_words.IsHonest over_memory stores.journal
+  pub queues : queue_words.IsHonest over_memory stores.queues
+  pub journal : journal_words.IsHonest over_memory stores.journals.0
+  pub journal2 : journal_words.IsHonest over_memory stores.journals.1
   pub controls : book_words.IsHonest over_memory stores.controls
-  pub orders : book_words.IsHonest over_memory stores.orders
+  pub orders : book_words.IsHonest over_memory stores.orders.0
+  pub orders2 : book_words.IsHonest over_memory stores.orders.1
 
 -- why no system was made, where a store was not: a new database of another form is a device that failed
 abbrev pub unmade_for : OpenFault → ScriptStop

@@ -5,8 +5,9 @@ ghost use Rattle.dnp_daemons.specs.ScriptWorlds.{law_of_worlds};
 ghost use Rattle.dnp_world.specs.Carriers.{Crosses};
 
 use crate::run::scripted::Scripted;
+use crate::script::WhichCentre;
 use dnp_controls::Book;
-use dnp_eventbuf::{JournalStore, Lanes};
+use dnp_eventbuf::{JournalStore, PairLanes};
 use dnp_world::{
     Carrier, Cause, ControlFault, Event, Link, Report, RoundFault, Stored, Way, World,
 };
@@ -15,17 +16,18 @@ use std::slice;
 
 /// A system, and what carries the units of its lines from one station to another.
 #[derive(Drop)]
-pub(crate) struct Carried<Q: Lanes, J: JournalStore, A: Book, B: Book, C> {
+pub(crate) struct Carried<Q: PairLanes, J: JournalStore, A: Book, B: Book, C> {
     /// The system.
     pub world: World<Q, J, A, B>,
     /// What carries its units.
     pub carrier: C,
 }
 
-impl<Q: Lanes, J: JournalStore, A: Book, B: Book, C: Carrier> Scripted for Carried<Q, J, A, B, C> {
-    ghost use Rattle.dnp_world.specs.Systems.{System};
+impl<Q: PairLanes, J: JournalStore, A: Book, B: Book, C: Carrier> Scripted
+    for Carried<Q, J, A, B, C> {
+    ghost use Rattle.dnp_world.specs.Wholes.{Whole};
 
-    ghost State = { System };
+    ghost State = { Whole };
 
     ghost state = { λ s. s.world.system };
 
@@ -59,8 +61,14 @@ impl<Q: Lanes, J: JournalStore, A: Book, B: Book, C: Carrier> Scripted for Carri
         self.world.clean_round_by(alloc, link, &mut self.carrier)
     }
 
-    fn clean_control(&mut self, alloc: Global, id: u64) -> Result<(), ControlFault> {
-        self.world.clean_control_by(alloc, id, &mut self.carrier)
+    fn clean_control(
+        &mut self,
+        alloc: Global,
+        centre: WhichCentre,
+        id: u64,
+    ) -> Result<(), ControlFault> {
+        self.world
+            .clean_control_by(alloc, centre.number(), id, &mut self.carrier)
     }
 
     fn report(&mut self, alloc: Global) -> Result<Report, Cause> {

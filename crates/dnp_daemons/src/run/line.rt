@@ -7,7 +7,7 @@ ghost use Rattle.dnp_daemons.specs.steps.Lines.{LineEnds, line_result};
 
 use crate::run::printing::{print_control, print_round};
 use crate::run::scripted::Scripted;
-use crate::script::ScriptLine;
+use crate::script::{ScriptLine, WhichCentre};
 use dnp_streams::NotWritten;
 use dnp_world::{Cause, ControlFault, Event, Link, RoundFault, Way};
 use std::alloc::Global;
@@ -70,18 +70,19 @@ fn round<S: Scripted, W: Write>(
 fn control<S: Scripted, W: Write>(
     alloc: Global,
     system: &mut S,
+    centre: WhichCentre,
     id: u64,
     out: &mut W,
 ) -> Result<(), LineStop>
     ensures held { S.honest system.new → S.honest system.old }
-    ensures ends { S.honest system.new → LineEnds S.law (S.state system.old) (ScriptLine.Control id) result (S.state system.new) (W.contents out.old) (W.contents out.new) }
+    ensures ends { S.honest system.new → LineEnds S.law (S.state system.old) (ScriptLine.Control centre id) result (S.state system.new) (W.contents out.old) (W.contents out.new) }
     ensures runs_on { result ≢ Err LineStop.Stopped → S.is_stopped system.new ≡ S.is_stopped system.old }
 {
-    match system.clean_control(alloc, id) {
-        Ok(()) => printed(print_control(id, None, out)),
-        Err(ControlFault::NotQuiet) => printed(print_control(id, Some(1), out)),
-        Err(ControlFault::NotNext) => printed(print_control(id, Some(2), out)),
-        Err(ControlFault::Refused(_)) => printed(print_control(id, Some(3), out)),
+    match system.clean_control(alloc, centre, id) {
+        Ok(()) => printed(print_control(centre, id, None, out)),
+        Err(ControlFault::NotQuiet) => printed(print_control(centre, id, Some(1), out)),
+        Err(ControlFault::NotNext) => printed(print_control(centre, id, Some(2), out)),
+        Err(ControlFault::Refused(_)) => printed(print_control(centre, id, Some(3), out)),
         Err(ControlFault::Fault(_)) => Err(LineStop::Stopped),
     }
 }
@@ -107,6 +108,6 @@ pub(crate) fn run_line<S: Scripted, W: Write>(
             Err(_) => Err(LineStop::Stopped),
         },
         ScriptLine::Round(link) => round(alloc, system, *link, out),
-        ScriptLine::Control(id) => control(alloc, system, *id, out),
+        ScriptLine::Control(centre, id) => control(alloc, system, *centre, *id, out),
     }
 }

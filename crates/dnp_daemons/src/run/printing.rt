@@ -3,8 +3,9 @@
 ghost use Rattle.std.specs.Prelude.{◌≡◌, ℕ, List, ◌++◌, OnOk, OnErr, map};
 ghost use Rattle.std.specs.List.{concat};
 ghost use Rattle.std.specs.Io.KnownBytes.{Appends};
-ghost use Rattle.dnp_daemons.specs.ScriptTexts.{outcome_line, round_line, control_line};
+ghost use Rattle.dnp_daemons.specs.ScriptTexts.{above_word, outcome_line, round_line, control_line};
 
+use crate::script::WhichCentre;
 use dnp_streams::{NotWritten, write_out};
 use dnp_world::Link;
 use itoa::Buffer;
@@ -46,6 +47,13 @@ fn print_outcome<W: Write>(
     }
 }
 
+/// The word for the link to the centre of this number.
+fn word_above(centre: u8) -> &'static [u8]
+    ensures { result.now ≡ above_word centre }
+{
+    if centre == 0 { b"above" } else { b"above2" }
+}
+
 /// Prints how a round came out.
 pub(crate) fn print_round<W: Write>(
     link: Link,
@@ -61,20 +69,25 @@ pub(crate) fn print_round<W: Write>(
             let mut digits = Buffer::new();
             print_outcome(b"round", digits.format(substation).as_bytes(), refusal, out)
         }
-        Link::Above => print_outcome(b"round", b"above", refusal, out),
+        Link::Above(centre) => print_outcome(b"round", word_above(centre), refusal, out),
     }
 }
 
 /// Prints how a control came out.
 pub(crate) fn print_control<W: Write>(
+    centre: WhichCentre,
     id: u64,
     refusal: Option<u8>,
     out: &mut W,
 ) -> Result<(), NotWritten>
-    ensures whole { OnOk result (Appends (W.contents out.old) (W.contents out.new) (control_line id refusal)) }
-    ensures part { OnErr result ((part rest : List ℕ) × (control_line id refusal ≡ part ++ rest)
+    ensures whole { OnOk result (Appends (W.contents out.old) (W.contents out.new) (control_line centre id refusal)) }
+    ensures part { OnErr result ((part rest : List ℕ) × (control_line centre id refusal ≡ part ++ rest)
         × Appends (W.contents out.old) (W.contents out.new) part) }
 {
     let mut digits = Buffer::new();
-    print_outcome(b"control", digits.format(id).as_bytes(), refusal, out)
+    let id = digits.format(id).as_bytes();
+    match centre {
+        WhichCentre::First => print_outcome(b"control", id, refusal, out),
+        WhichCentre::Second => print_outcome(b"control2", id, refusal, out),
+    }
 }

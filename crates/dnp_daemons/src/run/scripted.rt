@@ -4,6 +4,7 @@ ghost use Rattle.std.specs.Prelude.{◌≡◌, ◌≢◌, Bool, Err, IfOk, OnErr
 ghost use Rattle.dnp_daemons.specs.Scripted.{Law};
 ghost use Rattle.dnp_world.specs.Causes.{TellsDevice};
 
+use crate::script::WhichCentre;
 use dnp_world::{Cause, ControlFault, Event, Link, Report, RoundFault, Way};
 use std::alloc::Global;
 
@@ -44,10 +45,15 @@ pub trait Scripted {
         ensures done { honest self.new → law.rounds (state self.old) link result (state self.new) }
         ensures runs_on { result ≢ Err (RoundFault.Fault Cause.Device) → is_stopped self.new ≡ is_stopped self.old };
 
-    /// The control of this number, from the centre to its output and back.
-    fn clean_control(&mut self, alloc: Global, id: u64) -> Result<(), ControlFault>
+    /// The control of this number in this centre's book, from there to its output and back.
+    fn clean_control(
+        &mut self,
+        alloc: Global,
+        centre: WhichCentre,
+        id: u64,
+    ) -> Result<(), ControlFault>
         ensures held { honest self.new → honest self.old }
-        ensures done { honest self.new → law.controls (state self.old) id result (state self.new) }
+        ensures done { honest self.new → law.controls (state self.old) centre id result (state self.new) }
         ensures runs_on { result ≢ Err (ControlFault.Fault Cause.Device) → is_stopped self.new ≡ is_stopped self.old };
 
     /// What became of all events and commands so far.

@@ -1,17 +1,18 @@
 //! A script over a system in memory.
 
 use crate::run::scripted::Scripted;
+use crate::script::WhichCentre;
 use dnp_controls::Book;
-use dnp_eventbuf::{JournalStore, Lanes};
+use dnp_eventbuf::{JournalStore, PairLanes};
 use dnp_world::{Cause, ControlFault, Event, Link, Report, RoundFault, Stored, Way, World};
 use std::alloc::Global;
 use std::slice;
 
-impl<Q: Lanes, J: JournalStore, A: Book, B: Book> Scripted for World<Q, J, A, B> {
+impl<Q: PairLanes, J: JournalStore, A: Book, B: Book> Scripted for World<Q, J, A, B> {
     ghost use Rattle.dnp_daemons.specs.ScriptWorlds.{law_of_worlds};
-    ghost use Rattle.dnp_world.specs.Systems.{System};
+    ghost use Rattle.dnp_world.specs.Wholes.{Whole};
 
-    ghost State = { System };
+    ghost State = { Whole };
 
     ghost state = { λ world. world.system };
 
@@ -36,8 +37,13 @@ impl<Q: Lanes, J: JournalStore, A: Book, B: Book> Scripted for World<Q, J, A, B>
         self.clean_round(alloc, link)
     }
 
-    fn clean_control(&mut self, alloc: Global, id: u64) -> Result<(), ControlFault> {
-        self.clean_control(alloc, id)
+    fn clean_control(
+        &mut self,
+        alloc: Global,
+        centre: WhichCentre,
+        id: u64,
+    ) -> Result<(), ControlFault> {
+        self.clean_control(alloc, centre.number(), id)
     }
 
     fn report(&mut self, alloc: Global) -> Result<Report, Cause> {

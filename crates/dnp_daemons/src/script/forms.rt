@@ -1,7 +1,7 @@
 //! The forms of a script's lines, word by word.
 
 ghost use Rattle.std.specs.Prelude.{◌≡◌};
-ghost use Rattle.dnp_daemons.specs.steps.Forms.{is_gentle, slots_of, takes, verb_of};
+ghost use Rattle.dnp_daemons.specs.steps.Forms.{control_verb, is_gentle, issue_verb, slots_of, takes, verb_of};
 
 use crate::script::names::{
     classes_in, end_in, flags_in, kind_in, link_in, octets_in, place_in, substation_in, time_in,
@@ -10,15 +10,17 @@ use crate::script::names::{
 use crate::script::numbers::{
     integer_in, integer16_in, integer32_in, number_in, number8_in, number16_in, number32_in,
 };
+use crate::script::which::WhichCentre;
 use Slot::{
     Block, Classes, End, Flags, Integer16, Integer32, Integer64, Kind, Link, Number8, Number16,
     Number32, Number64, Octets, Set16, Set32, Station, Substation, Time, Verb, Way,
 };
+use WhichCentre::{First, Second};
 
 /// How many forms there are.
-pub(crate) const FORMS: usize = 22;
+pub(crate) const FORMS: usize = 26;
 
-/// A form of a line: that of the word that it begins with, and with `issue` that of its third word.
+/// A form of a line: that of the word that it begins with, and where a command is issued that of its third word.
 #[derive(Clone, Copy, Debug, PartialEq, Eq)]
 pub(crate) enum Form {
     /// `open L`
@@ -53,18 +55,18 @@ pub(crate) enum Form {
     SetTime,
     /// `pass MS`
     Pass,
-    /// `control ID`
-    Control,
+    /// `control ID`, or `control2 ID`
+    Control(WhichCentre),
     /// `restart S`
     Restart,
     /// `change S KIND I VALUE FLAGS TIME`
     Change,
-    /// `issue S set16 I VALUE`
-    Set16,
-    /// `issue S set32 I VALUE`
-    Set32,
-    /// `issue S block I CODE COUNT ON OFF`
-    Block,
+    /// `issue S set16 I VALUE`, or the same with `issue2`
+    Set16(WhichCentre),
+    /// `issue S set32 I VALUE`, or the same with `issue2`
+    Set32(WhichCentre),
+    /// `issue S block I CODE COUNT ON OFF`, or the same with `issue2`
+    Block(WhichCentre),
 }
 
 /// What a word of a line says.
@@ -114,6 +116,26 @@ pub(crate) enum Slot {
     Integer64,
 }
 
+/// The word of a centre's lines for a clean control.
+fn control_word(centre: WhichCentre) -> &'static str
+    ensures { result.now ≡ control_verb centre }
+{
+    match centre {
+        First => "control",
+        Second => "control2",
+    }
+}
+
+/// The word of a centre's lines that issue a command.
+fn issue_word(centre: WhichCentre) -> &'static str
+    ensures { result.now ≡ issue_verb centre }
+{
+    match centre {
+        First => "issue",
+        Second => "issue2",
+    }
+}
+
 impl Form {
     /// All forms.
     pub(crate) const ALL: [Form; FORMS] = [
@@ -133,12 +155,16 @@ impl Form {
         Form::Disable,
         Form::SetTime,
         Form::Pass,
-        Form::Control,
+        Form::Control(First),
+        Form::Control(Second),
         Form::Restart,
         Form::Change,
-        Form::Set16,
-        Form::Set32,
-        Form::Block,
+        Form::Set16(First),
+        Form::Set32(First),
+        Form::Block(First),
+        Form::Set16(Second),
+        Form::Set32(Second),
+        Form::Block(Second),
     ];
 
     /// The word that its lines begin with.
@@ -162,10 +188,10 @@ impl Form {
             Form::Disable => "disable",
             Form::SetTime => "time",
             Form::Pass => "pass",
-            Form::Control => "control",
+            Form::Control(centre) => control_word(centre),
             Form::Restart => "restart",
             Form::Change => "change",
-            Form::Set16 | Form::Set32 | Form::Block => "issue",
+            Form::Set16(centre) | Form::Set32(centre) | Form::Block(centre) => issue_word(centre),
         }
     }
 
@@ -197,12 +223,12 @@ impl Form {
             Form::Disable => &[Verb(Form::Disable), Link, Classes],
             Form::SetTime => &[Verb(Form::SetTime), Link, Number64],
             Form::Pass => &[Verb(Form::Pass), Number64],
-            Form::Control => &[Verb(Form::Control), Number64],
+            Form::Control(centre) => slots_of_a_control(centre),
             Form::Restart => &[Verb(Form::Restart), Station],
             Form::Change => slots_of_a_change(),
-            Form::Set16 => &[Verb(Form::Set16), Substation, Set16, Number16, Integer16],
-            Form::Set32 => &[Verb(Form::Set32), Substation, Set32, Number16, Integer32],
-            Form::Block => slots_of_a_block(),
+            Form::Set16(centre) => slots_of_a_set16(centre),
+            Form::Set32(centre) => slots_of_a_set32(centre),
+            Form::Block(centre) => slots_of_a_block(centre),
         }
     }
 }
@@ -222,20 +248,86 @@ fn slots_of_a_change() -> &'static [Slot]
     ]
 }
 
-/// What the words of a line `issue` with a block say.
-fn slots_of_a_block() -> &'static [Slot]
-    ensures { result.now ≡ slots_of Form.Block }
+/// What the words of a line `control` say, or of one `control2`.
+fn slots_of_a_control(centre: WhichCentre) -> &'static [Slot]
+    ensures { result.now ≡ slots_of (Form.Control centre) }
 {
-    &[
-        Verb(Form::Block),
-        Substation,
-        Block,
-        Number16,
-        Number8,
-        Number8,
-        Number32,
-        Number32,
-    ]
+    match centre {
+        First => &[Verb(Form::Control(First)), Number64],
+        Second => &[Verb(Form::Control(Second)), Number64],
+    }
+}
+
+/// What the words of a line say that issues a command to a setpoint of 16 bits.
+fn slots_of_a_set16(centre: WhichCentre) -> &'static [Slot]
+    ensures { result.now ≡ slots_of (Form.Set16 centre) }
+{
+    match centre {
+        First => &[
+            Verb(Form::Set16(First)),
+            Substation,
+            Set16,
+            Number16,
+            Integer16,
+        ],
+        Second => &[
+            Verb(Form::Set16(Second)),
+            Substation,
+            Set16,
+            Number16,
+            Integer16,
+        ],
+    }
+}
+
+/// What the words of a line say that issues a command to a setpoint of 32 bits.
+fn slots_of_a_set32(centre: WhichCentre) -> &'static [Slot]
+    ensures { result.now ≡ slots_of (Form.Set32 centre) }
+{
+    match centre {
+        First => &[
+            Verb(Form::Set32(First)),
+            Substation,
+            Set32,
+            Number16,
+            Integer32,
+        ],
+        Second => &[
+            Verb(Form::Set32(Second)),
+            Substation,
+            Set32,
+            Number16,
+            Integer32,
+        ],
+    }
+}
+
+/// What the words of a line say that issues a command to a binary output.
+fn slots_of_a_block(centre: WhichCentre) -> &'static [Slot]
+    ensures { result.now ≡ slots_of (Form.Block centre) }
+{
+    match centre {
+        First => &[
+            Verb(Form::Block(First)),
+            Substation,
+            Block,
+            Number16,
+            Number8,
+            Number8,
+            Number32,
+            Number32,
+        ],
+        Second => &[
+            Verb(Form::Block(Second)),
+            Substation,
+            Block,
+            Number16,
+            Number8,
+            Number8,
+            Number32,
+            Number32,
+        ],
+    }
 }
 
 impl Slot {

@@ -160,6 +160,7 @@ fn event_reason(event: &Event, plan: &Plan) -> Option<IdleReason>
             }
         }
         Event::Issue {
+            centre: _,
             substation,
             command,
         } => {

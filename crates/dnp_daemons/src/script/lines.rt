@@ -1,7 +1,7 @@
 //! One line of a script.
 
 ghost use Rattle.std.specs.Prelude.{◌≡◌, ◌∷◌, [], IfOk, map};
-ghost use Rattle.dnp_daemons.specs.ScriptLines.{at_link, at_end, at_way, at_link_with, at_word, reading_named, setpoint_named, block_named, change_named, issue_named, damage_named, at_index, issue_said, line_named, reading_of};
+ghost use Rattle.dnp_daemons.specs.ScriptLines.{at_link, at_end, at_way, at_link_with, at_word, reading_named, setpoint_named, block_named, change_named, issue_named, issuer_named, damage_named, at_index, issue_said, line_named, reading_of};
 
 use crate::script::ScriptLine;
 use crate::script::names::{
@@ -11,6 +11,7 @@ use crate::script::names::{
 use crate::script::numbers::{
     integer_in, integer16_in, integer32_in, number_in, number8_in, number16_in, number32_in,
 };
+use crate::script::which::WhichCentre;
 use crate::script::words::words_in;
 use dnp_master::Task;
 use dnp_objects::Command;
@@ -80,7 +81,8 @@ fn word_line(verb: &str, word: &str, substations: usize) -> Option<ScriptLine>
 {
     match verb {
         "pass" => Some(ScriptLine::One(Event::Pass(number_in(word)?))),
-        "control" => Some(ScriptLine::Control(number_in(word)?)),
+        "control" => Some(ScriptLine::Control(WhichCentre::First, number_in(word)?)),
+        "control2" => Some(ScriptLine::Control(WhichCentre::Second, number_in(word)?)),
         "restart" => Some(ScriptLine::One(Event::Restart(place_in(word, substations)?))),
         _ => link_line(verb, link_in(word, substations)?),
     }
@@ -140,6 +142,17 @@ fn block_in(
     })
 }
 
+/// The number of the centre at which a line of this verb issues a command.
+fn issuer_in(verb: &str) -> Option<u8>
+    ensures { result ≡ issuer_named verb.now }
+{
+    match verb {
+        "issue" => Some(0),
+        "issue2" => Some(1),
+        _ => None,
+    }
+}
+
 /// The issue of a command.
 #[tactic(auto, unfolding(crate::specs::ScriptLines::issue_named))]
 fn issue_line(
@@ -150,10 +163,8 @@ fn issue_line(
 ) -> Option<ScriptLine>
     ensures { result ≡ issue_named substations verb.now substation.now command }
 {
-    if verb != "issue" {
-        return None;
-    }
     Some(ScriptLine::One(Event::Issue {
+        centre: issuer_in(verb)?,
         substation: substation_in(substation, substations)?,
         command: command?,
     }))
@@ -299,6 +310,7 @@ pub fn issue_in(text: &str, substations: usize) -> Option<(u8, Command)>
         Some(
             ScriptLine::One(
                 Event::Issue {
+                    centre: _,
                     substation,
                     command,
                 },

@@ -25,22 +25,24 @@ pub(crate) fn substation_in(word: &str, substations: usize) -> Option<u8>
     }
 }
 
-/// A link: `above`, or the number of a substation.
+/// A link: `above` or `above2`, or the number of a substation.
 pub(crate) fn link_in(word: &str, substations: usize) -> Option<Link>
     ensures { result ≡ link_named substations word.now }
 {
-    if word == "above" {
-        return Some(Link::Above);
+    match word {
+        "above" => Some(Link::Above(0)),
+        "above2" => Some(Link::Above(1)),
+        _ => Some(Link::Below(substation_in(word, substations)?)),
     }
-    Some(Link::Below(substation_in(word, substations)?))
 }
 
-/// A station: `centre`, `concentrator`, or the number of a substation.
+/// A station: `centre`, `centre2`, `concentrator`, or the number of a substation.
 pub(crate) fn place_in(word: &str, substations: usize) -> Option<Place>
     ensures { result ≡ place_named substations word.now }
 {
     match word {
-        "centre" => Some(Place::Centre),
+        "centre" => Some(Place::Centre(0)),
+        "centre2" => Some(Place::Centre(1)),
         "concentrator" => Some(Place::Concentrator),
         _ => Some(Place::Substation(substation_in(word, substations)?)),
     }

@@ -44,11 +44,11 @@ impl Display for Wanted {
         let last = self.1.saturating_sub(1);
         match self.0 {
             Slot::Verb(form) => f.write_str(form.verb()),
-            Slot::Link => write!(f, "above or a substation's number, 0 to {last},"),
+            Slot::Link => write!(f, "above, above2 or a substation's number, 0 to {last},"),
             Slot::Substation => write!(f, "a substation's number, 0 to {last},"),
             Slot::Station => write!(
                 f,
-                "centre, concentrator or a substation's number, 0 to {last},"
+                "centre, centre2, concentrator or a substation's number, 0 to {last},"
             ),
             Slot::End => f.write_str("master or outstation"),
             Slot::Way => f.write_str("down or up"),

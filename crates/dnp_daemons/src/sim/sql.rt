@@ -26,14 +26,14 @@ use std::io::Write;
 /// The stores of a system, in databases in memory.
 #[derive(Drop)]
 struct SqlStores {
-    /// The concentrator's queue.
-    queue: Queue<MemStore>,
-    /// The centre's journal.
-    journal: Journal<MemStore>,
+    /// The concentrator's queue for both centres.
+    queues: Queue<MemStore>,
+    /// The journal of each centre.
+    journals: (Journal<MemStore>, Journal<MemStore>),
     /// The concentrator's book of controls.
     controls: ControlBook<MemStore>,
-    /// The centre's book of controls.
-    orders: ControlBook<MemStore>,
+    /// The book of controls of each centre.
+    orders: (ControlBook<MemStore>, ControlBook<MemStore>),
 }
 
 /// Why no system was made, where a store was not.
@@ -49,17 +49,20 @@ fn unmade(fault: OpenFault) -> ScriptStop
 }
 
 impl SqlStores {
-    /// Stores that hold nothing, the queue with lanes of these capacities for each of two centres, of which the second
-    /// is not served yet.
-    fn new(alloc: Global, capacities: [u32; LANES]) -> Result<SqlStores, OpenFault>
-        requires { All (λ capacity. (1 ≤ capacity) × (capacity ≤ MAX_CAPACITY)) capacities }
-        ensures { IfOk result (AreNew capacities) }
+    /// Stores that hold nothing, the queue with lanes of these capacities for the first centre, and of those for the second.
+    fn new(alloc: Global, first: [u32; LANES], second: [u32; LANES]) -> Result<SqlStores, OpenFault>
+        requires first { All (λ capacity. (1 ≤ capacity) × (capacity ≤ MAX_CAPACITY)) first }
+        requires second { All (λ capacity. (1 ≤ capacity) × (capacity ≤ MAX_CAPACITY)) second }
+        ensures { IfOk result (AreNew first second) }
     {
         Ok(SqlStores {
-            queue: Queue::in_memory(alloc, capacities, capacities)?,
-            journal: Journal::in_memory(alloc)?,
+            queues: Queue::in_memory(alloc, first, second)?,
+            journals: (Journal::in_memory(alloc)?, Journal::in_memory(alloc)?),
             controls: ControlBook::in_memory(alloc)?,
-            orders: ControlBook::in_memory(alloc)?,
+            orders: (
+                ControlBook::in_memory(alloc)?,
+                ControlBook::in_memory(alloc)?,
+            ),
         })
     }
 
@@ -67,10 +70,12 @@ impl SqlStores {
     fn are_well(&self) -> bool
         ensures { IsTrue result → AreWell self.now }
     {
-        self.queue.is_well()
-            && self.journal.is_well()
+        self.queues.is_well()
+            && self.journals.0.is_well()
+            && self.journals.1.is_well()
             && self.controls.is_well()
-            && self.orders.is_well()
+            && self.orders.0.is_well()
+            && self.orders.1.is_well()
     }
 }
 
@@ -88,7 +93,7 @@ pub(super) fn simulate_sql<C: Carrier + Drop, W: Write>(
     ensures ends { result ≢ Err (ScriptStop.Fault Device) → (lines : List ScriptLine) → Says script.now lines → PlanEnds plan.now lines result (W.contents out.old) (W.contents out.new) }
     ensures named { result ≢ Err (ScriptStop.Fault Exhausted) }
 {
-    match SqlStores::new(alloc, plan.queue) {
+    match SqlStores::new(alloc, plan.queue, plan.queue2) {
         Ok(stores) => simulate_over(alloc, plan, script, stores, carrier, out),
         Err(fault) => Err(unmade(fault)),
     }
@@ -105,28 +110,28 @@ fn simulate_over<C: Carrier + Drop, W: Write>(
 ) -> Result<(), ScriptStop>
     requires limits { KeepsLimits plan.now }
     requires fits { (lines : List ScriptLine) × Says script.now lines }
-    requires new { AreNew plan.now.queue stores }
+    requires new { AreNew plan.now.queue plan.now.queue2 stores }
     ensures ends { result ≢ Err (ScriptStop.Fault Device) → (lines : List ScriptLine) → Says script.now lines → PlanEnds plan.now lines result (W.contents out.old) (W.contents out.new) }
     ensures named { result ≢ Err (ScriptStop.Fault Exhausted) }
 {
     plans_have_all_lanes(plan);
     lanes_stay_sound();
     let SqlStores {
-        queue,
-        journal,
+        queues,
+        journals,
         controls,
         orders,
     } = stores;
-    let made = World::new(alloc, plan, queue, journal, controls, orders);
+    let made = World::new(alloc, plan, queues, journals, controls, orders);
     match made {
         Ok(world) => {
             let mut carried = Carried { world, carrier };
             let result = run_to_report(alloc, &mut carried, script, out);
             let Carried { world, carrier: _ } = carried;
-            let (queue, journal, controls, orders) = world.into_stores();
+            let (queues, journals, controls, orders) = world.into_stores();
             let stores = SqlStores {
-                queue,
-                journal,
+                queues,
+                journals,
                 controls,
                 orders,
             };

@@ -158,6 +158,7 @@ fn key_fault(
     match key {
         PlanKey::Unsolicited => Ok(bool_fault(table, substation, key)),
         PlanKey::Queue => list_fault(alloc, table, substation, key, Some(LANES)),
+        PlanKey::Queue2 => list_fault(alloc, table, substation, key, Some(LANES)),
         PlanKey::Lanes => list_fault(alloc, table, substation, key, Some(LANES)),
         PlanKey::Binary => list_fault(alloc, table, substation, key, None),
         PlanKey::Counter => list_fault(alloc, table, substation, key, None),
@@ -196,6 +197,7 @@ fn own_fault(alloc: Global, table: &Value) -> Result<Option<PlanPlace>, AllocErr
         PlanKey::Retries,
         PlanKey::Unsolicited,
         PlanKey::Queue,
+        PlanKey::Queue2,
     ];
     first_fault(alloc, table, None, &keys)
 }

@@ -14,7 +14,7 @@ use toml::value::Array;
 pub(crate) const SUBSTATION_KEYS: usize = 8;
 
 /// How many keys a plan has beside its substations' own.
-pub(crate) const PLAN_KEYS: usize = 7;
+pub(crate) const PLAN_KEYS: usize = 8;
 
 /// The values of a substation's keys, whole numbers of any size.
 #[derive(Debug, Drop)]
@@ -52,6 +52,8 @@ pub(crate) struct PlanFields {
     pub unsolicited: bool,
     /// `queue`, one for each lane.
     pub queue: Listed<i64>,
+    /// `queue2`, one for each lane.
+    pub queue2: Listed<i64>,
     /// Each `substation`.
     pub substations: Listed<SubFields>,
 }
@@ -232,6 +234,9 @@ pub(crate) fn plan_fields(alloc: Global, table: &Value) -> Result<Option<PlanFie
     let Some(queue) = so_many(integers_at(alloc, table, "queue")?, LANES) else {
         return Ok(None);
     };
+    let Some(queue2) = so_many(integers_at(alloc, table, "queue2")?, LANES) else {
+        return Ok(None);
+    };
     let Some(substations) = substations_at(alloc, table)? else {
         return Ok(None);
     };
@@ -245,6 +250,7 @@ pub(crate) fn plan_fields(alloc: Global, table: &Value) -> Result<Option<PlanFie
         retries,
         unsolicited,
         queue,
+        queue2,
         substations,
     }))
 }

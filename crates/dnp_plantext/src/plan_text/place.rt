@@ -22,6 +22,8 @@ pub enum PlanKey {
     Unsolicited,
     /// `queue`
     Queue,
+    /// `queue2`
+    Queue2,
     /// `substation`
     Substation,
     /// `lanes`
@@ -56,6 +58,7 @@ impl PlanKey {
             PlanKey::Retries => "retries",
             PlanKey::Unsolicited => "unsolicited",
             PlanKey::Queue => "queue",
+            PlanKey::Queue2 => "queue2",
             PlanKey::Substation => "substation",
             PlanKey::Lanes => "lanes",
             PlanKey::Binary => "binary",

@@ -149,6 +149,7 @@ pub(crate) fn range_fault(fields: &PlanFields) -> Option<PlanPlace>
         .or(number_fault(None, PlanKey::SelectMs, fields.select_ms, 1, MAX_TIMER_MS))
         .or(number_fault(None, PlanKey::Retries, fields.retries, 0, retries))
         .or(item_fault(None, PlanKey::Queue, fields.queue.as_slice(), 1, rows))
+        .or(item_fault(None, PlanKey::Queue2, fields.queue2.as_slice(), 1, rows))
         .or(count_fault(substations.len()))
         .or(subs_range_fault(substations))
 }

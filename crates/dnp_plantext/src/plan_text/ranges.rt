@@ -202,12 +202,16 @@ pub(crate) fn plan_in(alloc: Global, fields: &PlanFields) -> Result<Option<Plan>
     let Some(queue) = capacities_in(alloc, fields.queue.as_slice())? else {
         return Ok(None);
     };
+    let Some(queue2) = capacities_in(alloc, fields.queue2.as_slice())? else {
+        return Ok(None);
+    };
     let Some(substations) = sub_plans(alloc, substations)? else {
         return Ok(None);
     };
     Ok(Some(Plan {
         times,
         queue,
+        queue2,
         substations,
     }))
 }

@@ -22,7 +22,7 @@ impl Display for OneOf {
         match self.0 {
             PlanKey::Unsolicited => f.write_str("true or false"),
             PlanKey::Retries => write!(f, "a whole number from 0 to {MAX_RETRIES}"),
-            PlanKey::Queue | PlanKey::Lanes => {
+            PlanKey::Queue | PlanKey::Queue2 | PlanKey::Lanes => {
                 write!(f, "a whole number from 1 to {MAX_CAPACITY}")
             }
             PlanKey::Binary | PlanKey::Counter | PlanKey::Analog => {
@@ -47,7 +47,10 @@ impl Display for WholeOf {
     fn fmt<W: Write>(&self, f: &mut Formatter<W>) -> fmt::Result {
         match self.0 {
             PlanKey::Substation => write!(f, "a list of 1 to {MAX_SUBSTATIONS} tables"),
-            PlanKey::Queue | PlanKey::Lanes => write!(f, "a list of {LANES} whole numbers"),
+            PlanKey::Queue | PlanKey::Queue2 | PlanKey::Lanes => write!(
+                f,
+                "a list of {LANES} whole numbers"
+            ),
             PlanKey::Binary | PlanKey::Counter | PlanKey::Analog => {
                 write!(f, "a list of at most {MAX_POINTS} classes")
             }
@@ -133,6 +136,16 @@ fn write_shared<W: Write>(f: &mut Formatter<W>, place: &PlanPlace, other: usize)
     )
 }
 
+/// Writes how a key is added that plans for one centre didn't have.
+fn write_how_to_add<W: Write>(f: &mut Formatter<W>, key: PlanKey) -> fmt::Result {
+    match key {
+        PlanKey::Queue2 => f.write_str(
+            ": it has the same form as queue, for the second centre; to add it, write the line of queue once more, as queue2 = [..]",
+        ),
+        _ => Ok(()),
+    }
+}
+
 /// Writes the key or the item, what stands there, and what belongs there.
 fn write_place<W: Write>(f: &mut Formatter<W>, place: &PlanPlace, unknown: &str) -> fmt::Result {
     if let Some(number) = place.substation {
@@ -142,7 +155,10 @@ fn write_place<W: Write>(f: &mut Formatter<W>, place: &PlanPlace, unknown: &str)
     let found = place.found;
     match (found, place.item) {
         (Found::Unknown, _) => write!(f, "unknown key {}", Quoted(unknown)),
-        (Found::Missing, _) => write!(f, "{name} is missing"),
+        (Found::Missing, _) => {
+            write!(f, "{name} is missing")?;
+            write_how_to_add(f, place.key)
+        }
         (Found::Indices(span), _) => write_wide(f, place, span),
         (Found::Shared(other), _) => write_shared(f, place, other),
         (_, Some(item)) => {

@@ -40,6 +40,7 @@ pub(crate) fn unknown_key(
             PlanKey::Retries,
             PlanKey::Unsolicited,
             PlanKey::Queue,
+            PlanKey::Queue2,
             PlanKey::Substation,
         ];
         return other_key(alloc, table, &keys);

@@ -2,15 +2,14 @@
 use Rattle.std.proofs.Common.{◌≡◌, Ok, sym, ap, ◌∙◌, arith}
 use Rattle.std.specs.Prelude.{Result}
 use Rattle.dnp_eventbuf.specs.Archive.{with_events}
-use Rattle.dnp_eventbuf.specs.Stock.{with_rows}
+use Rattle.dnp_eventbuf.specs.Stock.{Stock, with_rows}
 use Rattle.dnp_master.specs.Calls.{Taking, receive_of}
 use Rattle.dnp_master.specs.declared.fault.MasterFault.{MasterFault}
-use Rattle.dnp_outstation.specs.Station.{with_points}
-use Rattle.dnp_concentrator.specs.Below.{link_in, readings_set}
+use Rattle.dnp_concentrator.specs.Below.{link_in}
 use Rattle.dnp_concentrator.specs.Mapped.{queued_rows}
 use Rattle.dnp_concentrator.specs.Relaying.{Relaying, received}
 use Rattle.dnp_streams.specs.streams.Centres.{centre_opens, centre_receives}
-use Rattle.dnp_streams.specs.streams.Concentrators.{BelowSeen, below_opens, below_receives, with_link}
+use Rattle.dnp_streams.specs.streams.Concentrators.{BelowSeen, below_opens, below_receives, both, with_link, with_readings}
 use Rattle.dnp_streams.specs.streams.Concentrators.BelowReceives.{Taken, Missing}
 use Rattle.dnp_streams.specs.streams.Masters.{answer_taking}
 use Rattle.dnp_streams.specs.streams.OneWay.{OpensOneWay, ReceivesOneWay}
@@ -38,8 +37,8 @@ below_opens_one_way old new other now a b first second = (first.answered ∙ sym
 abbrev taken_below : BelowSeen → Taking → BelowSeen
 taken_below old t = record old {
   links = with_link old (λ (link : Relaying). received link t);
-  core = with_points old.core (readings_set old.indices old.substation (readings_set old.indices old.substation old.core.points t.events) t.statics);
-  queue = with_rows old.queue (queued_rows old.indices old.points old.substation t.events);
+  cores = both (with_readings old t) old.cores;
+  queues = both (λ (queue : Stock). with_rows queue (queued_rows old.indices old.points old.substation t.events)) old.queues;
 }
 
 pub below_receives_one_way : ReceivesOneWay below_receives

@@ -17,7 +17,7 @@ same_seen : (a b : State) (p q : Panel) → a ≡ b → p ≡ q → seen a p ≡
 same_seen a b p q states panels = cc
 
 -- one step, one answer and one state
-same_step : (step : Step) (a b : State) (does does' : Actions) (answer answer' : Answer) → step ≡ record { state = a; does = does }
+pub same_step : (step : Step) (a b : State) (does does' : Actions) (answer answer' : Answer) → step ≡ record { state = a; does = does }
     → step ≡ record { state = b; does = does' }
     → answer ≡ answer_by does → answer' ≡ answer_by does' → (answer ≡ answer') × (a ≡ b)
 same_step step a b does does' answer answer' first second is is' =

@@ -31,32 +31,48 @@ pub answered : (answer : Answer) (actions : MasterActions) (t : Taking) (dropped
 answered answer actions t dropped is by =
     is ∙ ap (λ (a : MasterActions). record { send = option_to_list a.send; close = false; taken = a.taken; outcome = a.outcome }) by
 
+abbrev below : ℕ → List Relaying → Core → Core → List Spans → points.Plan → Stock → Stock → Ledger → BelowSeen
+below at links core other indices plan queue more book = record {
+  substation = at;
+  links = links;
+  cores = record { first = core; second = other };
+  indices = indices;
+  points = plan;
+  queues = record { first = queue; second = more };
+  controls = book;
+}
+
 -- a link of a concentrator is seen as its parts are
-pub seen : (at : ℕ) (links links' : List Relaying) (core core' : Core) (indices indices' : List Spans) (plan plan' : points.Plan)
-    (queue queue' : Stock) (book book' : Ledger)
-    → links ≡ links' → core ≡ core' → indices ≡ indices' → plan ≡ plan' → queue ≡ queue' → book ≡ book'
-    → ◌≡◌ {A = BelowSeen} record { substation = at; links = links; core = core; indices = indices; points = plan; queue = queue; controls = book }
-    record { substation = at; links = links'; core = core'; indices = indices'; points = plan'; queue = queue'; controls = book' }
-seen at links links' core core' indices indices' plan plan' queue queue' book book' links_are core_is indices_are plan_is queue_is book_is =
-    ap (λ (ls : List Relaying). record { substation = at; links = ls; core = core; indices = indices; points = plan; queue = queue; controls = book }) links_are
-    ∙ ap (λ (k : Core). record { substation = at; links = links'; core = k; indices = indices; points = plan; queue = queue; controls = book }) core_is
-    ∙ ap (λ (s : List Spans). record { substation = at; links = links'; core = core'; indices = s; points = plan; queue = queue; controls = book }) indices_are
-    ∙ ap (λ (p : points.Plan). record { substation = at; links = links'; core = core'; indices = indices'; points = p; queue = queue; controls = book }) plan_is
-    ∙ ap (λ (q : Stock). record { substation = at; links = links'; core = core'; indices = indices'; points = plan'; queue = q; controls = book }) queue_is
-    ∙ ap (λ (b : Ledger). record { substation = at; links = links'; core = core'; indices = indices'; points = plan'; queue = queue'; controls = b }) book_is
+pub seen : (at : ℕ) (links links' : List Relaying) (core core' other other' : Core) (indices indices' : List Spans) (plan plan' : points.Plan)
+    (queue queue' more more' : Stock) (book book' : Ledger)
+    → links ≡ links' → core ≡ core' → other ≡ other' → indices ≡ indices' → plan ≡ plan' → queue ≡ queue' → more ≡ more' → book ≡ book'
+    → below at links core other indices plan queue more book ≡ below at links' core' other' indices' plan' queue' more' book'
+seen at links links' core core' other other' indices indices' plan plan' queue queue' more more' book book' links_are core_is other_is indices_are plan_is
+    queue_is more_is book_is =
+    ap (λ (ls : List Relaying). below at ls core other indices plan queue more book) links_are
+    ∙ ap (λ (k : Core). below at links' k other indices plan queue more book) core_is
+    ∙ ap (λ (k : Core). below at links' core' k indices plan queue more book) other_is
+    ∙ ap (λ (s : List Spans). below at links' core' other' s plan queue more book) indices_are
+    ∙ ap (λ (p : points.Plan). below at links' core' other' indices' p queue more book) plan_is
+    ∙ ap (λ (q : Stock). below at links' core' other' indices' plan' q more book) queue_is
+    ∙ ap (λ (q : Stock). below at links' core' other' indices' plan' queue' q book) more_is
+    ∙ ap (λ (b : Ledger). below at links' core' other' indices' plan' queue' more' b) book_is
 
 -- a step of relaying below is seen as its parts are
-pub relayed_below : (result : Result Relayed BookFault) (now at : ℕ) (links links' : List Relaying) (core core' : Core)
-    (indices indices' : List Spans) (plan plan' : points.Plan) (queue queue' : Stock) (book book' : Ledger)
+pub relayed_below : (result : Result Relayed BookFault) (now at : ℕ) (links links' : List Relaying) (core core' other other' : Core)
+    (indices indices' : List Spans) (plan plan' : points.Plan) (queue queue' more more' : Stock) (book book' : Ledger)
     → at < length links → IfOk result (λ relayed. Tells (link_in links at).master.seq (step_of (link_in links at) book.entries at) relayed)
     → OnOk result (links' ≡ slice_set links at (relaying_after (link_in links at) now (step_of (link_in links at) book.entries at)))
     → OnOk result (book' ≡ ledger_after book (step_of (link_in links at) book.entries at))
-    → IfOk result (λ relayed. IfSent relayed (IsSpentBy book book')) → core' ≡ core → indices' ≡ indices → plan' ≡ plan → queue' ≡ queue
-    → IfOk result (λ relayed. RelaysBelow (record { substation = at; links = links; core = core; indices = indices; points = plan; queue = queue; controls = book })
-    now relayed (record { substation = at; links = links'; core = core'; indices = indices'; points = plan'; queue = queue'; controls = book' }))
-relayed_below (Ok relayed) now at links links' core core' indices indices' plan plan' queue queue' book book' there told set moved spent core_is indices_are
-    plans queues =
-    Stepped there told (seen at links' _ core' core indices' indices plan' plan queue' queue book' _ set core_is indices_are plans queues moved) spent
-relayed_below (Err fault) now at links links' core core' indices indices' plan plan' queue queue' book book' there told set moved spent core_is indices_are
-    plans queues =
+    → IfOk result (λ relayed. IfSent relayed (IsSpentBy book book')) → core' ≡ core → other' ≡ other → indices' ≡ indices → plan' ≡ plan
+    → queue' ≡ queue → more' ≡ more
+    → IfOk result (λ relayed. RelaysBelow (below at links core other indices plan queue more book)
+    now relayed (below at links' core' other' indices' plan' queue' more' book'))
+relayed_below (Ok relayed) now at links links' core core' other other' indices indices' plan plan' queue queue' more more' book book' there told set moved
+    spent core_is other_is indices_are plans queues mores =
+    Stepped there told
+    (seen at links' _ core' core other' other indices' indices plan' plan queue' queue more' more book' _ set core_is other_is indices_are plans queues mores
+    moved) spent
+relayed_below (Err fault) now at links links' core core' other other' indices indices' plan plan' queue queue' more more' book book' there told set moved
+    spent core_is other_is indices_are plans queues mores =
     told

@@ -1,11 +1,13 @@
 -- Definition: what stations on streams were lent: a concentrator, or a station and a clock; and what of that no call of theirs
 -- changes.
 use base.Fml.{GName}
-use Rattle.std.specs.Prelude.{ℕ, List}
+use Rattle.std.specs.Prelude.{ℕ, if◌then◌else◌, List}
 use Rattle.std.specs.Borrow.{MutBor}
-use Rattle.dnp_concentrator.specs.Concentrator.{links_of}
+use Rattle.dnp_concentrator.specs.Concentrator.{core_of, links_of}
 use Rattle.dnp_concentrator.specs.Relaying.{Relaying}
 use Rattle.dnp_concentrator.specs.declared.concentrator.Concentrator.{Concentrator}
+use Rattle.dnp_eventbuf.specs.Sides.{other_than}
+use Rattle.dnp_outstation.specs.State.{Core}
 use Rattle.dnp_streams.specs.declared.stream.above.Above.{Above}
 use Rattle.dnp_streams.specs.declared.stream.below.Below.{Below}
 use Rattle.dnp_streams.specs.declared.stream.clocked.Clocked.{Clocked}
@@ -14,13 +16,25 @@ use Rattle.dnp_streams.specs.declared.stream.clocked.Clocked.{Clocked}
 abbrev pub lent_above : {Q B : Type 0} → Above Q B → MutBor (Concentrator Q B)
 lent_above s = s.concentrator
 
--- the reference by which it holds that, and the links below, which are not the outstation's
+-- the number of the centre towards which it is the outstation
+abbrev pub centre_of : {Q B : Type 0} → Above Q B → ℕ
+centre_of s = if s.is_second then 1 else 0
+
+-- the reference by which it holds the concentrator, that number, and what is not the outstation's: the links below, and the outstation
+-- towards the other centre
 pub record KeptAbove : Type 0 where
   pub reference : GName
+  pub centre : ℕ
   pub links : List Relaying
+  pub other : Core
 
 abbrev pub kept_above : {Q B : Type 0} → Above Q B → KeptAbove
-kept_above s = record { reference = s.concentrator.ghost_name; links = links_of s.concentrator.now }
+kept_above s = record {
+  reference = s.concentrator.ghost_name;
+  centre = centre_of s;
+  links = links_of s.concentrator.now;
+  other = core_of (other_than (centre_of s)) s.concentrator.now;
+}
 
 -- the concentrator whose link it is, and the number of the substation at the link's other end
 abbrev pub lent_below : {Q B : Type 0} → Below Q B → MutBor (Concentrator Q B)

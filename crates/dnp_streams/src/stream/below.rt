@@ -1,7 +1,7 @@
 //! One link of a concentrator to a substation, on a stream.
 
 ghost use Rattle.std.specs.Prelude.{◌≡◌, ◌≢◌, ◌<◌, ◌⊎◌, All, Err, IfErr, IfOk, IsTrue, OnErr, OnOk, false, nat_lt, length};
-ghost use Rattle.dnp_eventbuf.specs.Stock.{exhausts};
+ghost use Rattle.dnp_eventbuf.specs.Sides.{either_exhausts};
 ghost use Rattle.dnp_concentrator.specs.Concentrator.{book_of, links_of, queue_of, queued_at, taking_at};
 ghost use Rattle.dnp_concentrator.specs.declared.cause.Cause.TheVariants as cause;
 ghost use Rattle.dnp_streams.specs.declared.stream.station.StationFault.TheVariants as told;
@@ -15,7 +15,7 @@ use crate::stream::master::{fault_of, nothing};
 use crate::stream::station::{Answer, Station, StationFault};
 use dnp_concentrator::{Concentrator, Relayed};
 use dnp_controls::{Book, BookFault};
-use dnp_eventbuf::Lanes;
+use dnp_eventbuf::PairLanes;
 use dnp_master::{AskFault, Fragment, Task};
 use std::alloc::Global;
 
@@ -29,7 +29,7 @@ pub struct Below<'a, Q, B> {
     substation: u8,
 }
 
-impl<'a, Q: Lanes, B: Book> Below<'a, Q, B> {
+impl<'a, Q: PairLanes, B: Book> Below<'a, Q, B> {
     /// The link of the concentrator to the substation with this number.
     pub fn new(concentrator: &'a mut Concentrator<Q, B>, substation: u8) -> Self
         ensures lent { (lent_below result).now ≡ concentrator.old }
@@ -50,7 +50,7 @@ impl<'a, Q: Lanes, B: Book> Below<'a, Q, B> {
     }
 }
 
-impl<'a, Q: Lanes, B: Book> Station for Below<'a, Q, B> {
+impl<'a, Q: PairLanes, B: Book> Station for Below<'a, Q, B> {
     ghost use Rattle.dnp_concentrator.specs.Concentrator.{book_of, queue_of};
     ghost use Rattle.dnp_streams.specs.streams.Asking.{below_asking};
     ghost use Rattle.dnp_streams.specs.streams.Concentrators.{BelowSeen, below_hung_up, below_opens, below_receives, below_seen};
@@ -104,7 +104,7 @@ impl<'a, Q: Lanes, B: Book> Station for Below<'a, Q, B> {
         ensures exhausted_first { Q.honest (queue_of (lent_below self.new).now) → result ≡ Err (told.Cause cause.Memory)
             → (queue_of (lent_below self.new).now ≡ queue_of (lent_below self.old).now)
             ⊎ IfOk (taking_at (lent_below self.old).now (substation_of self.old) now octets.now) (λ t.
-            exhausts (Q.contents (queue_of (lent_below self.old).now)) (queued_at (lent_below self.old).now (substation_of self.old) t.events) ≡ false) }
+            either_exhausts (Q.contents (queue_of (lent_below self.old).now)) (queued_at (lent_below self.old).now (substation_of self.old) t.events) ≡ false) }
     {
         let mut answer = KeptAnswer::new(alloc);
         self.receive_into(&mut answer, alloc, now, octets)?;
@@ -138,7 +138,7 @@ impl<'a, Q: Lanes, B: Book> Station for Below<'a, Q, B> {
         ensures exhausted_first { Q.honest (queue_of (lent_below self.new).now) → result ≡ Err (told.Cause cause.Memory)
             → (queue_of (lent_below self.new).now ≡ queue_of (lent_below self.old).now)
             ⊎ IfOk (taking_at (lent_below self.old).now (substation_of self.old) now octets.now) (λ t.
-            exhausts (Q.contents (queue_of (lent_below self.old).now)) (queued_at (lent_below self.old).now (substation_of self.old) t.events) ≡ false) }
+            either_exhausts (Q.contents (queue_of (lent_below self.old).now)) (queued_at (lent_below self.old).now (substation_of self.old) t.events) ≡ false) }
     {
         if !self.is_there() {
             answer.put(nothing());
@@ -148,7 +148,7 @@ impl<'a, Q: Lanes, B: Book> Station for Below<'a, Q, B> {
             .concentrator
             .receive_below(alloc, self.substation, now, octets)
         {
-            Ok(actions) => {
+            Ok((actions, _)) => {
                 answer.take(&actions);
                 Ok(())
             }
@@ -163,7 +163,7 @@ impl<'a, Q: Lanes, B: Book> Station for Below<'a, Q, B> {
     }
 }
 
-impl<'a, Q: Lanes, B: Book> Asker for Below<'a, Q, B> {
+impl<'a, Q: PairLanes, B: Book> Asker for Below<'a, Q, B> {
     fn ask(&mut self, now: u64, task: Task) -> Result<Fragment, AskFault> {
         if !self.is_there() {
             return Err(AskFault::Closed);

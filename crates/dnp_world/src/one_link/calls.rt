@@ -16,7 +16,7 @@ use super::OneLink;
 use crate::link_event::{End, Way};
 use crate::listing::rows_waiting;
 use crate::sending::{FRAGMENT_UNITS, send_all};
-use dnp_concentrator::Cause;
+use dnp_concentrator::{Cause, Two};
 use dnp_eventbuf::{Lanes, Sink};
 use dnp_master::Task;
 use dnp_objects::Kind;
@@ -49,6 +49,7 @@ impl<L: Lanes, S: Sink> OneLink<L, S> {
             alloc,
             self.moment,
             &mut self.outstation,
+            0,
         )?;
         self.channel.settle(Way::Down, repeats);
         if answered {
@@ -71,7 +72,10 @@ impl<L: Lanes, S: Sink> OneLink<L, S> {
         if self.channel.front(Way::Up).is_none() {
             return Ok(());
         }
-        let mut dropped = Vec::new(alloc);
+        let mut dropped = Two {
+            first: Vec::new(alloc),
+            second: Vec::new(alloc),
+        };
         self.channel.come_up(
             alloc,
             0,
@@ -142,7 +146,13 @@ impl<L: Lanes, S: Sink> OneLink<L, S> {
         ensures done { L.honest (lanes_of self.new) → OnOk result (HappensOn S.takes no_panel (link_of L.contents self.old) event.Open (link_of L.contents self.new)) }
         ensures stopped { L.honest (lanes_of self.new) → OnErr result (link_of L.contents self.new ≡ link_of L.contents self.old) }
     {
-        self.channel.open(&mut self.actions, alloc, self.moment, &mut self.outstation)?;
+        self.channel.open(
+            &mut self.actions,
+            alloc,
+            self.moment,
+            &mut self.outstation,
+            0,
+        )?;
         self.receiver.master.opened();
         Ok(())
     }
@@ -269,7 +279,13 @@ impl<L: Lanes, S: Sink> OneLink<L, S> {
         ensures stopped { L.honest (lanes_of self.new) → OnErr result (link_of L.contents self.new ≡ link_of L.contents self.old) }
     {
         a_confirm_releases_what_its_fragment_reported();
-        self.channel.tick(&mut self.actions, alloc, self.moment, &mut self.outstation)?;
+        self.channel.tick(
+            &mut self.actions,
+            alloc,
+            self.moment,
+            &mut self.outstation,
+            0,
+        )?;
         Ok(())
     }
 

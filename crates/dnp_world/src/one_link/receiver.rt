@@ -7,6 +7,7 @@ ghost use Rattle.dnp_objects.specs.declared.row.Row.{Row as RowValue};
 ghost use Rattle.dnp_master.specs.Sinks.{IsSinkFault};
 ghost use Rattle.dnp_world.specs.contracts.one_link.receiver.Receiver.{the_row};
 ghost use Rattle.dnp_world.specs.Causes.{TellsDevice};
+ghost use Rattle.dnp_world.specs.MasterEnds.{none_dropped};
 ghost use Rattle.dnp_world.specs.OneLinkParts.{KeepsBeside, ReceiverTakes, receiver_with};
 
 use crate::ends::MasterEnd;
@@ -84,7 +85,7 @@ impl<S: Sink> MasterEnd for Receiver<S> {
 
     ghost takes = { λ old link t new. ReceiverTakes S.takes t old new };
 
-    ghost drops = { λ r link t. [] };
+    ghost drops = { λ r link t. none_dropped };
 
     ghost keeps = { λ old new. KeepsBeside S.keeps old new };
 
@@ -100,9 +101,10 @@ impl<S: Sink> MasterEnd for Receiver<S> {
         _link: u8,
         now: u64,
         octets: &[u8],
-    ) -> Result<MasterActions, MasterFault> {
+    ) -> Result<(MasterActions, Rows), MasterFault> {
         let looked = self.master.look(alloc, now, octets)?;
         self.give(alloc, looked.events(), looked.statics())?;
-        Ok(self.master.settle(looked, Rows::new(alloc)))
+        let actions = self.master.settle(looked, Rows::new(alloc));
+        Ok((actions, Rows::new(alloc)))
     }
 }

@@ -1,16 +1,16 @@
-//! A control on its way from the centre to its substation, over quiet links.
+//! A control on its way from a centre to its substation, over quiet links.
 
-ghost use Rattle.std.specs.Prelude.{◌≡◌, ◌≢◌, ◌⊎◌, ◌-◌, [], true, false, Err, IfErr, IfOk, IfSome, IsTrue, OnOk, Some, ℕ};
+ghost use Rattle.std.specs.Prelude.{◌≡◌, ◌≢◌, ◌⊎◌, ◌<◌, ◌-◌, [], true, false, Err, IfErr, IfOk, IfSome, IsTrue, OnOk, Some, ℕ};
 ghost use Rattle.std.specs.Option.{option_and_then, option_map};
 ghost use Rattle.dnp_controls.specs.Book.{next_of, rows_of};
 ghost use Rattle.dnp_objects.specs.Status.{success};
 ghost use Rattle.dnp_world.specs.Carriers.{TellsDeviceOver};
 ghost use Rattle.dnp_world.specs.Causes.{TellsDevice};
-ghost use Rattle.dnp_world.specs.Rounds.{is_quiet_on};
+ghost use Rattle.dnp_world.specs.Centres.{HappensToAll, centre_of, has_link, is_quiet_on, is_there, may_stop, seen_at};
 ghost use Rattle.dnp_world.specs.declared.event.Link.TheVariants as link;
 ghost use Rattle.dnp_world.specs.steps.ControlSteps.{EndsBy};
 ghost use Rattle.dnp_world.specs.Controls.{ControlEnds, IsAccepted, IsControlFor, IsRefusedFor, IsRefusedOn, IsTold, Passes, PassesBack, StopsBack, StopsFor, StopsOn, StopsRelaying, are_quiet_for, first_with, found_in, is_free_below, is_next_for, next_below, station_in, status_in, status_on};
-ghost use Rattle.dnp_world.specs.Systems.{has_station};
+ghost use Rattle.dnp_world.specs.Wholes.{seen_by};
 
 use super::Parts;
 use crate::carrier::Carrier;
@@ -20,11 +20,11 @@ use crate::round_fault::ControlFault;
 use crate::stored::Stored;
 use dnp_concentrator::Cause;
 use dnp_controls::{Book, Entry, State};
-use dnp_eventbuf::{JournalStore, Lanes};
+use dnp_eventbuf::{CENTRES, JournalStore, PairLanes};
 use dnp_objects::Status;
 use std::alloc::Global;
 
-/// The target of all controls in the centre's book: the station below.
+/// The target of all controls in a centre's book: the station below.
 const STATION_BELOW: u8 = 0;
 
 /// The first of the rows, if it is the entry of this id.
@@ -105,15 +105,16 @@ fn refused_by(status: Option<Status>) -> Result<(), ControlFault>
     }
 }
 
-impl<Q: Lanes, J: JournalStore, A: Book, B: Book> Parts<Q, J, A, B> {
+impl<Q: PairLanes, J: JournalStore, A: Book, B: Book> Parts<Q, J, A, B> {
     /// The entry of this id in the centre's book.
-    fn entry_above(&mut self, alloc: Global, id: u64) -> Result<Option<Entry>, Cause>
+    fn entry_above(&mut self, alloc: Global, centre: u8, id: u64) -> Result<Option<Entry>, Cause>
+        requires { centre < CENTRES }
         ensures held { ⟦<Self as Stored>⟧.well self.new → ⟦<Self as Stored>⟧.well self.old }
         ensures same { ⟦<Self as Stored>⟧.well self.new → self.new.system ≡ self.old.system }
-        ensures value { ⟦<Self as Stored>⟧.well self.new → IfOk result (λ entry. entry ≡ found_in self.old.system.centre.orders.entries id) }
+        ensures value { ⟦<Self as Stored>⟧.well self.new → IfOk result (λ entry. entry ≡ found_in (seen_by centre self.old.system).centre.orders.entries id) }
         ensures device { TellsDevice (⟦<Self as Stored>⟧.is_stopped self.old) (⟦<Self as Stored>⟧.is_stopped self.new) (result ≡ Err Cause.Device) }
     {
-        let book = self.centre.book();
+        let book = self.centres.at_mut(centre).book();
         entry_with(alloc, book, id)
     }
 
@@ -129,14 +130,15 @@ impl<Q: Lanes, J: JournalStore, A: Book, B: Book> Parts<Q, J, A, B> {
     }
 
     /// The centre's next pending control.
-    fn next_above(&mut self, alloc: Global) -> Result<Option<Entry>, Cause>
+    fn next_above(&mut self, alloc: Global, centre: u8) -> Result<Option<Entry>, Cause>
+        requires { centre < CENTRES }
         ensures held { ⟦<Self as Stored>⟧.well self.new → ⟦<Self as Stored>⟧.well self.old }
         ensures same { ⟦<Self as Stored>⟧.well self.new → self.new.system ≡ self.old.system }
-        ensures value { ⟦<Self as Stored>⟧.well self.new → IfOk result (λ entry. entry ≡ next_of self.old.system.centre.orders.entries 0) }
+        ensures value { ⟦<Self as Stored>⟧.well self.new → IfOk result (λ entry. entry ≡ next_of (seen_by centre self.old.system).centre.orders.entries 0) }
         ensures device { TellsDevice (⟦<Self as Stored>⟧.is_stopped self.old) (⟦<Self as Stored>⟧.is_stopped self.new) (result ≡ Err Cause.Device) }
         ensures memory { result ≡ Err Cause.Memory → IsTrue B.asks_memory }
     {
-        let book = self.centre.book();
+        let book = self.centres.at_mut(centre).book();
         next_for(alloc, book, STATION_BELOW)
     }
 
@@ -144,7 +146,7 @@ impl<Q: Lanes, J: JournalStore, A: Book, B: Book> Parts<Q, J, A, B> {
     fn next_below(&mut self, alloc: Global, station: u8) -> Result<Option<u64>, Cause>
         ensures held { ⟦<Self as Stored>⟧.well self.new → ⟦<Self as Stored>⟧.well self.old }
         ensures same { ⟦<Self as Stored>⟧.well self.new → self.new.system ≡ self.old.system }
-        ensures value { ⟦<Self as Stored>⟧.well self.new → IfOk result (λ id. id ≡ next_below self.old.system station) }
+        ensures value { ⟦<Self as Stored>⟧.well self.new → IfOk result (λ id. id ≡ next_below (seen_by 0 self.old.system) station) }
         ensures device { TellsDevice (⟦<Self as Stored>⟧.is_stopped self.old) (⟦<Self as Stored>⟧.is_stopped self.new) (result ≡ Err Cause.Device) }
         ensures memory { result ≡ Err Cause.Memory → IsTrue A.asks_memory }
     {
@@ -153,13 +155,14 @@ impl<Q: Lanes, J: JournalStore, A: Book, B: Book> Parts<Q, J, A, B> {
     }
 
     /// The substation that the control of this id in the centre's book is for.
-    fn station_of(&mut self, alloc: Global, id: u64) -> Result<Option<u8>, Cause>
+    fn station_of(&mut self, alloc: Global, centre: u8, id: u64) -> Result<Option<u8>, Cause>
+        requires { centre < CENTRES }
         ensures held { ⟦<Self as Stored>⟧.well self.new → ⟦<Self as Stored>⟧.well self.old }
         ensures same { ⟦<Self as Stored>⟧.well self.new → self.new.system ≡ self.old.system }
-        ensures value { ⟦<Self as Stored>⟧.well self.new → IfOk result (λ station. station ≡ station_in self.old.system id) }
+        ensures value { ⟦<Self as Stored>⟧.well self.new → IfOk result (λ station. station ≡ station_in (seen_by centre self.old.system) id) }
         ensures device { TellsDevice (⟦<Self as Stored>⟧.is_stopped self.old) (⟦<Self as Stored>⟧.is_stopped self.new) (result ≡ Err Cause.Device) }
     {
-        let Some(entry) = self.entry_above(alloc, id)? else {
+        let Some(entry) = self.entry_above(alloc, centre, id)? else {
             return Ok(None);
         };
         match self.map.command_below(&entry.command) {
@@ -168,22 +171,23 @@ impl<Q: Lanes, J: JournalStore, A: Book, B: Book> Parts<Q, J, A, B> {
         }
     }
 
-    /// Whether the link above is quiet, and that to the substation.
-    fn are_quiet(&self, station: Option<u8>) -> bool
-        ensures { result ≡ are_quiet_for self.now.system station }
+    /// Whether the link to the centre is quiet, and that to the substation.
+    fn are_quiet(&self, centre: u8, station: Option<u8>) -> bool
+        requires { centre < CENTRES }
+        ensures { result ≡ are_quiet_for (seen_by centre self.now.system) station }
     {
         match station {
-            Some(station) => self.quiet(Link::Above) && self.quiet(Link::Below(station)),
-            None => self.quiet(Link::Above),
+            Some(station) => self.quiet(Link::Above(centre)) && self.quiet(Link::Below(station)),
+            None => self.quiet(Link::Above(centre)),
         }
     }
 
     /// Whether the concentrator has no control pending or in progress for the substation, which is one of the plan.
     fn is_free(&mut self, alloc: Global, station: u8) -> Result<bool, Cause>
-        requires { has_station self.old.system station ≡ true }
+        requires { has_link self.old.system (link.Below station) ≡ true }
         ensures held { ⟦<Self as Stored>⟧.well self.new → ⟦<Self as Stored>⟧.well self.old }
         ensures same { ⟦<Self as Stored>⟧.well self.new → self.new.system ≡ self.old.system }
-        ensures value { ⟦<Self as Stored>⟧.well self.new → IfOk result (λ free. free ≡ is_free_below self.old.system (Some station)) }
+        ensures value { ⟦<Self as Stored>⟧.well self.new → IfOk result (λ free. free ≡ is_free_below (seen_by 0 self.old.system) (Some station)) }
         ensures device { TellsDevice (⟦<Self as Stored>⟧.is_stopped self.old) (⟦<Self as Stored>⟧.is_stopped self.new) (result ≡ Err Cause.Device) }
         ensures memory { result ≡ Err Cause.Memory → IsTrue A.asks_memory }
     {
@@ -192,13 +196,28 @@ impl<Q: Lanes, J: JournalStore, A: Book, B: Book> Parts<Q, J, A, B> {
         Ok(next.is_none() && idle)
     }
 
+    /// The id of the control that is in progress on the link to this centre.
+    fn in_progress_above(&self, centre: u8) -> Option<u64>
+        requires { centre < CENTRES }
+        ensures { result ≡ option_map (λ p. p.id) (seen_by centre self.now.system).centre.link.progress }
+    {
+        self.centres.at(centre).in_progress()
+    }
+
     /// Whether the control of this id, which is for this substation of the plan, is the centre's next pending one, no other
     /// is in progress there, and the concentrator has none pending or in progress for that substation.
-    fn is_next(&mut self, alloc: Global, id: u64, station: Option<u8>) -> Result<bool, Cause>
-        requires { IfSome station (λ s. has_station self.old.system s ≡ true) }
+    fn is_next(
+        &mut self,
+        alloc: Global,
+        centre: u8,
+        id: u64,
+        station: Option<u8>,
+    ) -> Result<bool, Cause>
+        requires centre { centre < CENTRES }
+        requires planned { IfSome station (λ s. has_link self.old.system (link.Below s) ≡ true) }
         ensures held { ⟦<Self as Stored>⟧.well self.new → ⟦<Self as Stored>⟧.well self.old }
         ensures same { ⟦<Self as Stored>⟧.well self.new → self.new.system ≡ self.old.system }
-        ensures value { ⟦<Self as Stored>⟧.well self.new → IfOk result (λ next. next ≡ is_next_for self.old.system id station) }
+        ensures value { ⟦<Self as Stored>⟧.well self.new → IfOk result (λ next. next ≡ is_next_for (seen_by centre self.old.system) id station) }
         ensures device { TellsDevice (⟦<Self as Stored>⟧.is_stopped self.old) (⟦<Self as Stored>⟧.is_stopped self.new) (result ≡ Err Cause.Device) }
         ensures memory { result ≡ Err Cause.Memory → IsTrue A.asks_memory ⊎ IsTrue B.asks_memory }
     {
@@ -206,8 +225,8 @@ impl<Q: Lanes, J: JournalStore, A: Book, B: Book> Parts<Q, J, A, B> {
             Some(station) => self.is_free(alloc, station)?,
             None => true,
         };
-        let alone = self.centre.in_progress().unwrap_or(id) == id;
-        let next = self.next_above(alloc)?;
+        let alone = self.in_progress_above(centre).unwrap_or(id) == id;
+        let next = self.next_above(alloc, centre)?;
         Ok(id_of(next) == Some(id) && alone && free)
     }
 
@@ -218,9 +237,10 @@ impl<Q: Lanes, J: JournalStore, A: Book, B: Book> Parts<Q, J, A, B> {
         on: Link,
         id: Option<u64>,
     ) -> Result<Option<Status>, Cause>
+        requires { is_there (centre_of on) ≡ true }
         ensures held { ⟦<Self as Stored>⟧.well self.new → ⟦<Self as Stored>⟧.well self.old }
         ensures same { ⟦<Self as Stored>⟧.well self.new → self.new.system ≡ self.old.system }
-        ensures value { ⟦<Self as Stored>⟧.well self.new → IfOk result (λ status. status ≡ status_on self.old.system on id) }
+        ensures value { ⟦<Self as Stored>⟧.well self.new → IfOk result (λ status. status ≡ status_on (seen_at (centre_of on) self.old.system) on id) }
         ensures device { TellsDevice (⟦<Self as Stored>⟧.is_stopped self.old) (⟦<Self as Stored>⟧.is_stopped self.new) (result ≡ Err Cause.Device) }
     {
         let Some(id) = id else {
@@ -228,7 +248,7 @@ impl<Q: Lanes, J: JournalStore, A: Book, B: Book> Parts<Q, J, A, B> {
         };
         let entry = match on {
             Link::Below(_) => self.entry_below(alloc, id)?,
-            Link::Above => self.entry_above(alloc, id)?,
+            Link::Above(centre) => self.entry_above(alloc, centre, id)?,
         };
         Ok(status_of(entry))
     }
@@ -236,9 +256,10 @@ impl<Q: Lanes, J: JournalStore, A: Book, B: Book> Parts<Q, J, A, B> {
     /// A step of relaying over the link. Refused where it finished the control of this id with another status than
     /// SUCCESS.
     fn relay_one(&mut self, alloc: Global, on: Link, id: Option<u64>) -> Result<(), ControlFault>
+        requires { is_there (centre_of on) ≡ true }
         ensures held { ⟦<Self as Stored>⟧.well self.new → ⟦<Self as Stored>⟧.well self.old }
-        ensures done { ⟦<Self as Stored>⟧.well self.new → OnOk result (Passes on id self.old.system self.new.system) }
-        ensures ended { ⟦<Self as Stored>⟧.well self.new → IfErr result (EndsBy (λ status. IsTold on id status self.old.system self.new.system) (StopsRelaying on self.old.system self.new.system)) }
+        ensures done { ⟦<Self as Stored>⟧.well self.new → OnOk result (Passes HappensToAll (seen_at (centre_of on)) on id self.old.system self.new.system) }
+        ensures ended { ⟦<Self as Stored>⟧.well self.new → IfErr result (EndsBy (λ status. IsTold HappensToAll (seen_at (centre_of on)) on id status self.old.system self.new.system) (StopsRelaying HappensToAll (seen_at (centre_of on)) may_stop on self.old.system self.new.system)) }
         ensures device { TellsDevice (⟦<Self as Stored>⟧.is_stopped self.old) (⟦<Self as Stored>⟧.is_stopped self.new) (result ≡ Err (ControlFault.Fault Cause.Device)) }
     {
         self.happen(alloc, &Event::Relay(on))?;
@@ -255,9 +276,10 @@ impl<Q: Lanes, J: JournalStore, A: Book, B: Book> Parts<Q, J, A, B> {
         id: Option<u64>,
         carrier: &mut C,
     ) -> Result<(), ControlFault>
+        requires { is_there (centre_of on) ≡ true }
         ensures held { ⟦<Self as Stored>⟧.well self.new → ⟦<Self as Stored>⟧.well self.old }
-        ensures done { ⟦<Self as Stored>⟧.well self.new → OnOk result (PassesBack on id self.old.system self.new.system) }
-        ensures ended { ⟦<Self as Stored>⟧.well self.new → IfErr result (EndsBy (λ status. IsTold on id status self.old.system self.new.system) (StopsBack on id self.old.system self.new.system)) }
+        ensures done { ⟦<Self as Stored>⟧.well self.new → OnOk result (PassesBack HappensToAll (seen_at (centre_of on)) on id self.old.system self.new.system) }
+        ensures ended { ⟦<Self as Stored>⟧.well self.new → IfErr result (EndsBy (λ status. IsTold HappensToAll (seen_at (centre_of on)) on id status self.old.system self.new.system) (StopsBack HappensToAll (seen_at (centre_of on)) may_stop on id self.old.system self.new.system)) }
         ensures device { TellsDeviceOver C.refuses (⟦<Self as Stored>⟧.is_stopped self.old) (⟦<Self as Stored>⟧.is_stopped self.new) (result ≡ Err (ControlFault.Fault Cause.Device)) }
     {
         self.relay_one(alloc, on, id)?;
@@ -274,9 +296,10 @@ impl<Q: Lanes, J: JournalStore, A: Book, B: Book> Parts<Q, J, A, B> {
         id: Option<u64>,
         carrier: &mut C,
     ) -> Result<(), ControlFault>
+        requires { is_there (centre_of on) ≡ true }
         ensures held { ⟦<Self as Stored>⟧.well self.new → ⟦<Self as Stored>⟧.well self.old }
-        ensures done { ⟦<Self as Stored>⟧.well self.new → OnOk result (IsAccepted on id self.old.system self.new.system) }
-        ensures ended { ⟦<Self as Stored>⟧.well self.new → IfErr result (EndsBy (λ status. IsRefusedOn on id status self.old.system self.new.system) (StopsOn on id self.old.system self.new.system)) }
+        ensures done { ⟦<Self as Stored>⟧.well self.new → OnOk result (IsAccepted HappensToAll (seen_at (centre_of on)) on id self.old.system self.new.system) }
+        ensures ended { ⟦<Self as Stored>⟧.well self.new → IfErr result (EndsBy (λ status. IsRefusedOn HappensToAll (seen_at (centre_of on)) on id status self.old.system self.new.system) (StopsOn HappensToAll (seen_at (centre_of on)) may_stop on id self.old.system self.new.system)) }
         ensures device { TellsDeviceOver C.refuses (⟦<Self as Stored>⟧.is_stopped self.old) (⟦<Self as Stored>⟧.is_stopped self.new) (result ≡ Err (ControlFault.Fault Cause.Device)) }
     {
         self.exchange(alloc, on, id, carrier)?;
@@ -285,20 +308,22 @@ impl<Q: Lanes, J: JournalStore, A: Book, B: Book> Parts<Q, J, A, B> {
         Ok(())
     }
 
-    /// The control of this id goes over the link above, and then over the one to its substation.
+    /// The control of this id goes over the link to its centre, and then over the one to its substation.
     fn relay_all<C: Carrier>(
         &mut self,
         alloc: Global,
+        centre: u8,
         id: u64,
         station: Option<u8>,
         carrier: &mut C,
     ) -> Result<(), ControlFault>
+        requires { centre < CENTRES }
         ensures held { ⟦<Self as Stored>⟧.well self.new → ⟦<Self as Stored>⟧.well self.old }
-        ensures done { ⟦<Self as Stored>⟧.well self.new → OnOk result (IsControlFor station id self.old.system self.new.system) }
-        ensures ended { ⟦<Self as Stored>⟧.well self.new → IfErr result (EndsBy (λ status. IsRefusedFor station id status self.old.system self.new.system) (StopsFor station id self.old.system self.new.system)) }
+        ensures done { ⟦<Self as Stored>⟧.well self.new → OnOk result (IsControlFor HappensToAll (seen_by centre) centre station id self.old.system self.new.system) }
+        ensures ended { ⟦<Self as Stored>⟧.well self.new → IfErr result (EndsBy (λ status. IsRefusedFor HappensToAll (seen_by centre) centre station id status self.old.system self.new.system) (StopsFor HappensToAll (seen_by centre) may_stop centre station id self.old.system self.new.system)) }
         ensures device { TellsDeviceOver C.refuses (⟦<Self as Stored>⟧.is_stopped self.old) (⟦<Self as Stored>⟧.is_stopped self.new) (result ≡ Err (ControlFault.Fault Cause.Device)) }
     {
-        self.relay_through(alloc, Link::Above, Some(id), carrier)?;
+        self.relay_through(alloc, Link::Above(centre), Some(id), carrier)?;
         let Some(station) = station else {
             return Ok(());
         };
@@ -313,24 +338,26 @@ impl<Q: Lanes, J: JournalStore, A: Book, B: Book> Parts<Q, J, A, B> {
     pub(crate) fn clean_control<C: Carrier>(
         &mut self,
         alloc: Global,
+        centre: u8,
         id: u64,
         carrier: &mut C,
     ) -> Result<(), ControlFault>
+        requires { centre < CENTRES }
         ensures held { ⟦<Self as Stored>⟧.well self.new → ⟦<Self as Stored>⟧.well self.old }
-        ensures ends { ⟦<Self as Stored>⟧.well self.new → ControlEnds id self.old.system result self.new.system }
+        ensures ends { ⟦<Self as Stored>⟧.well self.new → ControlEnds HappensToAll (seen_by centre) may_stop centre id self.old.system result self.new.system }
         ensures device { TellsDeviceOver C.refuses (⟦<Self as Stored>⟧.is_stopped self.old) (⟦<Self as Stored>⟧.is_stopped self.new) (result ≡ Err (ControlFault.Fault Cause.Device)) }
-        ensures not_quiet_above { is_quiet_on self.old.system link.Above ≡ false → result ≡ Err ControlFault.NotQuiet }
+        ensures not_quiet_above { is_quiet_on self.old.system (link.Above centre) ≡ false → result ≡ Err ControlFault.NotQuiet }
     {
-        if !self.quiet(Link::Above) {
+        if !self.quiet(Link::Above(centre)) {
             return Err(ControlFault::NotQuiet);
         }
-        let station = self.station_of(alloc, id)?;
-        if !self.are_quiet(station) {
+        let station = self.station_of(alloc, centre, id)?;
+        if !self.are_quiet(centre, station) {
             return Err(ControlFault::NotQuiet);
         }
-        if !self.is_next(alloc, id, station)? {
+        if !self.is_next(alloc, centre, id, station)? {
             return Err(ControlFault::NotNext);
         }
-        self.relay_all(alloc, id, station, carrier)
+        self.relay_all(alloc, centre, id, station, carrier)
     }
 }

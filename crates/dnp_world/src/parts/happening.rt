@@ -4,8 +4,8 @@ ghost use Rattle.std.specs.Prelude.{◌≡◌, ◌⊎◌, true, is_some, Err, If
 ghost use Rattle.dnp_world.specs.Carriers.{Crosses, FrontCrosses, RunsOver, TellsDeviceOver};
 ghost use Rattle.dnp_world.specs.Causes.{IsStoppedBy, TellsDevice};
 ghost use Rattle.dnp_world.specs.SystemEvents.{ComesOn};
-ghost use Rattle.dnp_world.specs.SystemRuns.{CountsFor, Happens, RunsTo, StopsAfter, may_stop};
-ghost use Rattle.dnp_world.specs.Systems.{front_on, has_link};
+ghost use Rattle.dnp_world.specs.SystemRuns.{CountsFor, RunsTo, StopsAfter};
+ghost use Rattle.dnp_world.specs.Centres.{ChangesAll, HappensToAll, centre_of, front_on, has_link, may_stop};
 ghost use Rattle.dnp_world.specs.declared.event.Event.TheVariants as event;
 ghost use Rattle.dnp_line.specs.Lines.{delivered_on};
 
@@ -17,16 +17,16 @@ use crate::stopped::Stopped;
 use crate::stored::Stored;
 use dnp_concentrator::Cause;
 use dnp_controls::Book;
-use dnp_eventbuf::{JournalStore, Lanes};
+use dnp_eventbuf::{CENTRES, JournalStore, PairLanes};
 use std::alloc::Global;
 
-impl<Q: Lanes, J: JournalStore, A: Book, B: Book> Parts<Q, J, A, B> {
+impl<Q: PairLanes, J: JournalStore, A: Book, B: Book> Parts<Q, J, A, B> {
     /// The front unit of this way of the link comes to its end. Where that is refused, the unit is lost.
     fn deliver(&mut self, alloc: Global, on: Link, way: Way) -> Result<(), Cause>
         requires { has_link self.old.system on ≡ true }
         ensures held { ⟦<Self as Stored>⟧.well self.new → ⟦<Self as Stored>⟧.well self.old }
-        ensures done { ⟦<Self as Stored>⟧.well self.new → OnOk result (ComesOn delivered_on on way self.old.system self.new.system) }
-        ensures stopped { ⟦<Self as Stored>⟧.well self.new → OnErr result (CountsFor self.old.system (event.Deliver on way) self.new.system) }
+        ensures done { ⟦<Self as Stored>⟧.well self.new → OnOk result (ChangesAll (centre_of on) (ComesOn delivered_on on way) self.old.system self.new.system) }
+        ensures stopped { ⟦<Self as Stored>⟧.well self.new → OnErr result (CountsFor HappensToAll self.old.system (event.Deliver on way) self.new.system) }
         ensures there { OnErr result (is_some (front_on self.old.system on way) ≡ true) }
         ensures device { TellsDevice (⟦<Self as Stored>⟧.is_stopped self.old) (⟦<Self as Stored>⟧.is_stopped self.new) (result ≡ Err Cause.Device) }
     {
@@ -42,8 +42,8 @@ impl<Q: Lanes, J: JournalStore, A: Book, B: Book> Parts<Q, J, A, B> {
     /// One event happens.
     pub(crate) fn happen(&mut self, alloc: Global, event: &Event) -> Result<(), Cause>
         ensures held { ⟦<Self as Stored>⟧.well self.new → ⟦<Self as Stored>⟧.well self.old }
-        ensures done { ⟦<Self as Stored>⟧.well self.new → OnOk result (Happens self.old.system event.now self.new.system) }
-        ensures stopped { ⟦<Self as Stored>⟧.well self.new → OnErr result (CountsFor self.old.system event.now self.new.system) }
+        ensures done { ⟦<Self as Stored>⟧.well self.new → OnOk result (HappensToAll self.old.system event.now self.new.system) }
+        ensures stopped { ⟦<Self as Stored>⟧.well self.new → OnErr result (CountsFor HappensToAll self.old.system event.now self.new.system) }
         ensures named { OnErr result (may_stop self.old.system event.now ≡ true) }
         ensures device { TellsDevice (⟦<Self as Stored>⟧.is_stopped self.old) (⟦<Self as Stored>⟧.is_stopped self.new) (result ≡ Err Cause.Device) }
     {
@@ -67,11 +67,14 @@ impl<Q: Lanes, J: JournalStore, A: Book, B: Book> Parts<Q, J, A, B> {
                 self.change(alloc, *substation, *kind, *index, *reading)?
             }
             Event::Issue {
+                centre,
                 substation,
                 command,
-            } => self.issue(alloc, *substation, command)?,
+            } if *centre < CENTRES => self.issue(alloc, *centre, *substation, command)?,
             Event::Pass(ms) => self.pass(*ms),
-            Event::Restart(Place::Centre) => self.restart_centre(),
+            Event::Restart(Place::Centre(centre)) if *centre < CENTRES => {
+                self.restart_centre(*centre)
+            }
             Event::Restart(Place::Concentrator) => self.restart_concentrator(alloc),
             Event::Restart(Place::Substation(station)) if self.has(Link::Below(*station)) => {
                 self.restart_substation(alloc, *station)?
@@ -108,7 +111,7 @@ impl<Q: Lanes, J: JournalStore, A: Book, B: Book> Parts<Q, J, A, B> {
     /// The unit that the event brings to its end, if it brings one, is lost.
     fn lose_for(&mut self, event: &Event)
         ensures stores { self.new.stores ≡ self.old.stores }
-        ensures counts { CountsFor self.old.system event.now self.new.system }
+        ensures counts { CountsFor HappensToAll self.old.system event.now self.new.system }
     {
         match event {
             Event::Deliver(on, way) if self.has(*on) => self.lose(*on, *way),
@@ -124,8 +127,8 @@ impl<Q: Lanes, J: JournalStore, A: Book, B: Book> Parts<Q, J, A, B> {
         carrier: &mut C,
     ) -> Result<(), Cause>
         ensures held { ⟦<Self as Stored>⟧.well self.new → ⟦<Self as Stored>⟧.well self.old }
-        ensures done { ⟦<Self as Stored>⟧.well self.new → OnOk result (Happens self.old.system event.now self.new.system) }
-        ensures stopped { ⟦<Self as Stored>⟧.well self.new → OnErr result (CountsFor self.old.system event.now self.new.system) }
+        ensures done { ⟦<Self as Stored>⟧.well self.new → OnOk result (HappensToAll self.old.system event.now self.new.system) }
+        ensures stopped { ⟦<Self as Stored>⟧.well self.new → OnErr result (CountsFor HappensToAll self.old.system event.now self.new.system) }
         ensures named { OnErr result (may_stop self.old.system event.now ≡ true) }
         ensures carried { OnOk result (Crosses C.carries self.old.system event.now carrier.old carrier.new) }
         ensures refused { IfErr result (λ cause. C.refuses carrier.old cause carrier.new ⊎ Crosses C.carries self.old.system event.now carrier.old carrier.new) }
@@ -147,8 +150,8 @@ impl<Q: Lanes, J: JournalStore, A: Book, B: Book> Parts<Q, J, A, B> {
         carrier: &mut C,
     ) -> Result<(), Stopped>
         ensures held { ⟦<Self as Stored>⟧.well self.new → ⟦<Self as Stored>⟧.well self.old }
-        ensures done { ⟦<Self as Stored>⟧.well self.new → OnOk result (RunsTo self.old.system events.now self.new.system) }
-        ensures stopped { ⟦<Self as Stored>⟧.well self.new → IfErr result (λ stopped. StopsAfter self.old.system events.now stopped.done self.new.system) }
+        ensures done { ⟦<Self as Stored>⟧.well self.new → OnOk result (RunsTo HappensToAll self.old.system events.now self.new.system) }
+        ensures stopped { ⟦<Self as Stored>⟧.well self.new → IfErr result (λ stopped. StopsAfter HappensToAll may_stop self.old.system events.now stopped.done self.new.system) }
         ensures carried { ⟦<Self as Stored>⟧.well self.new → OnOk result (RunsOver C.carries self.old.system events.now self.new.system carrier.old carrier.new) }
         ensures device { TellsDeviceOver C.refuses (⟦<Self as Stored>⟧.is_stopped self.old) (⟦<Self as Stored>⟧.is_stopped self.new) (IsStoppedBy Cause.Device result) }
     {

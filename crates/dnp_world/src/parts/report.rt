@@ -1,27 +1,31 @@
 //! What became of all rows and commands.
 
-ghost use Rattle.std.specs.Prelude.{◌≡◌, ◌≢◌, ◌++◌, ◌^◌, ◌<◌, List, Err, IfOk, OnOk, length, map as all_of, take};
-ghost use Rattle.dnp_eventbuf.specs.Stock.{row_of};
-ghost use Rattle.dnp_eventbuf.specs.declared.numbered.Numbered.{Numbered as NumberedValue};
+ghost use Rattle.std.specs.Prelude.{◌≡◌, ◌≢◌, ◌++◌, ◌^◌, ◌-◌, ◌<◌, Err, IfOk, OnOk, length, map as all_of, min, take};
+ghost use Rattle.dnp_eventbuf.specs.Sides.{ForEach, at};
+ghost use Rattle.dnp_eventbuf.specs.Stock.{lost_in};
 ghost use Rattle.dnp_world.specs.Causes.{TellsDevice};
-ghost use Rattle.dnp_world.specs.Kept.{lane_rows_of, rows_below as mapped_below};
-ghost use Rattle.dnp_world.specs.ReportShown.{AreById, Shows, all_in};
+ghost use Rattle.dnp_world.specs.Kept.{lane_rows_of};
+ghost use Rattle.dnp_world.specs.ReportShown.{AreById, IsDroppedOf, IsJournalOf, IsQueueOf, Shows, all_in, lists_of};
 ghost use Rattle.dnp_world.specs.Stations.{listed_from};
 ghost use Rattle.dnp_world.specs.SystemParts.{substation_of};
 ghost use Rattle.dnp_world.specs.Systems.{at_station};
+ghost use Rattle.dnp_world.specs.Wholes.{seen_by};
 
 use super::Parts;
 use crate::reading::{
-    all_rows, journal_rows, lost_rows, numbered_below, put_rows_of, rows_below, rows_by_id,
+    all_rows, journal_rows, numbered_below, put_rows_of, queue_lost, queue_rows, rows_below,
 };
 use crate::report::Report;
 use crate::stored::Stored;
 use crate::substation::Substation;
 use dnp_concentrator::{Cause, Listed};
 use dnp_controls::Book;
-use dnp_eventbuf::{JournalStore, Lanes};
-use dnp_objects::Row;
+use dnp_eventbuf::{CENTRES, JournalStore, Numbered, PairLanes};
+use dnp_objects::{Command, Row};
 use std::alloc::{AllocError, Global};
+
+/// A list of rows for each centre.
+type BothRows = (Listed<(u8, Row)>, Listed<(u8, Row)>);
 
 /// How many substations a report can name: each number is an octet.
 const NUMBERS: usize = 256;
@@ -31,6 +35,16 @@ fn copied<T: Copy>(alloc: Global, list: &[(u8, T)]) -> Result<Listed<(u8, T)>, A
     ensures { IfOk result (λ copy. copy ≡ list.now) }
 {
     Ok(Listed::new(Vec::from_slice(alloc, list)?))
+}
+
+/// Copies of the lists of what became of rows and commands of substations.
+#[derive(Drop)]
+struct Copies {
+    confirmed: Listed<(u8, Row)>,
+    overwritten: Listed<(u8, Row)>,
+    gone: Listed<(u8, Row)>,
+    issued: Listed<(u8, Command)>,
+    operated: Listed<(u8, Command)>,
 }
 
 /// Puts the rows in the lanes of the substation of this number after the list, lane by lane.
@@ -65,56 +79,175 @@ fn buffered_rows(alloc: Global, substations: &mut [Substation]) -> Result<Vec<(u
     Ok(list)
 }
 
-impl<Q: Lanes, J: JournalStore, A: Book, B: Book> Parts<Q, J, A, B> {
-    /// The journal's rows.
-    fn journal_below(&mut self, alloc: Global) -> Result<Vec<(u8, Row)>, Cause>
+impl<Q: PairLanes, J: JournalStore, A: Book, B: Book> Parts<Q, J, A, B> {
+    /// The rows of the centre's journal, as they stand above.
+    fn journal_for(&mut self, alloc: Global, centre: u8) -> Result<Vec<Numbered>, Cause>
+        requires { centre < CENTRES }
         ensures held { ⟦<Self as Stored>⟧.well self.new → ⟦<Self as Stored>⟧.well self.old }
         ensures same { ⟦<Self as Stored>⟧.well self.new → self.new.system ≡ self.old.system }
-        ensures rows { ⟦<Self as Stored>⟧.well self.new → IfOk result (λ rows. rows.items ≡ (let s = self.old.system in mapped_below s.indices (all_of row_of s.centre.journal.rows))) }
+        ensures rows { ⟦<Self as Stored>⟧.well self.new → IfOk result (λ rows. rows.items ≡ (seen_by centre self.old.system).centre.journal.rows) }
         ensures device { TellsDevice (⟦<Self as Stored>⟧.is_stopped self.old) (⟦<Self as Stored>⟧.is_stopped self.new) (result ≡ Err Cause.Device) }
         ensures named { result ≢ Err Cause.Exhausted }
     {
-        let rows = journal_rows(alloc, self.centre.journal())?;
+        let journal = self.centres.at_mut(centre).journal();
+        journal_rows(alloc, journal)
+    }
+
+    /// The rows of the centre's journal.
+    fn journal_below(&mut self, alloc: Global, centre: u8) -> Result<Vec<(u8, Row)>, Cause>
+        requires { centre < CENTRES }
+        ensures held { ⟦<Self as Stored>⟧.well self.new → ⟦<Self as Stored>⟧.well self.old }
+        ensures same { ⟦<Self as Stored>⟧.well self.new → self.new.system ≡ self.old.system }
+        ensures rows { ⟦<Self as Stored>⟧.well self.new → IfOk result (λ rows. IsJournalOf (seen_by centre self.old.system) rows.items) }
+        ensures device { TellsDevice (⟦<Self as Stored>⟧.is_stopped self.old) (⟦<Self as Stored>⟧.is_stopped self.new) (result ≡ Err Cause.Device) }
+        ensures named { result ≢ Err Cause.Exhausted }
+    {
+        let rows = self.journal_for(alloc, centre)?;
         Ok(numbered_below(alloc, &self.map, rows.as_slice())?)
     }
 
-    /// The queue's rows, by their ids.
-    fn queue_below(&mut self, alloc: Global) -> Result<Vec<(u8, Row)>, Cause>
+    /// The rows of the queue for the centre, by their ids, as they stand above.
+    fn queue_for(&mut self, alloc: Global, centre: u8) -> Result<Vec<Numbered>, Cause>
+        requires { centre < CENTRES }
         ensures held { ⟦<Self as Stored>⟧.well self.new → ⟦<Self as Stored>⟧.well self.old }
         ensures same { ⟦<Self as Stored>⟧.well self.new → self.new.system ≡ self.old.system }
-        ensures rows { ⟦<Self as Stored>⟧.well self.new → IfOk result (λ rows. let s = self.old.system in
-            (queued : List NumberedValue) × AreById (all_in s.concentrator.queue) queued × (rows.items ≡ mapped_below s.indices (all_of row_of queued))) }
+        ensures rows { ⟦<Self as Stored>⟧.well self.new → IfOk result (λ rows. AreById (all_in (seen_by centre self.old.system).concentrator.queue) rows.items) }
         ensures device { TellsDevice (⟦<Self as Stored>⟧.is_stopped self.old) (⟦<Self as Stored>⟧.is_stopped self.new) (result ≡ Err Cause.Device) }
         ensures named { result ≢ Err Cause.Exhausted }
     {
-        let rows = rows_by_id(alloc, self.concentrator.queue())?;
+        let queue = self.concentrator.queue();
+        queue_rows(alloc, queue, centre)
+    }
+
+    /// The rows of the queue for the centre, by their ids.
+    fn queue_below(&mut self, alloc: Global, centre: u8) -> Result<Vec<(u8, Row)>, Cause>
+        requires { centre < CENTRES }
+        ensures held { ⟦<Self as Stored>⟧.well self.new → ⟦<Self as Stored>⟧.well self.old }
+        ensures same { ⟦<Self as Stored>⟧.well self.new → self.new.system ≡ self.old.system }
+        ensures rows { ⟦<Self as Stored>⟧.well self.new → IfOk result (λ rows. IsQueueOf (seen_by centre self.old.system) rows.items) }
+        ensures device { TellsDevice (⟦<Self as Stored>⟧.is_stopped self.old) (⟦<Self as Stored>⟧.is_stopped self.new) (result ≡ Err Cause.Device) }
+        ensures named { result ≢ Err Cause.Exhausted }
+    {
+        let rows = self.queue_for(alloc, centre)?;
         Ok(numbered_below(alloc, &self.map, rows.as_slice())?)
+    }
+
+    /// How many rows the lanes of the queue for the centre count as lost.
+    fn lost_for(&mut self, centre: u8) -> u64
+        requires { centre < CENTRES }
+        ensures same { self.new ≡ self.old }
+        ensures value { ⟦<Self as Stored>⟧.well self.new → result ≡ min (lost_in (seen_by centre self.old.system).concentrator.queue) (2 ^ 64 - 1) }
+    {
+        let queue = self.concentrator.queue();
+        queue_lost(queue, centre)
+    }
+
+    /// The rows of both centres' journals.
+    fn journals_below(&mut self, alloc: Global) -> Result<BothRows, Cause>
+        ensures held { ⟦<Self as Stored>⟧.well self.new → ⟦<Self as Stored>⟧.well self.old }
+        ensures same { ⟦<Self as Stored>⟧.well self.new → self.new.system ≡ self.old.system }
+        ensures rows { ⟦<Self as Stored>⟧.well self.new → IfOk result (λ lists. ForEach (λ centre. IsJournalOf (seen_by centre self.old.system) (at centre lists.0 lists.1))) }
+        ensures device { TellsDevice (⟦<Self as Stored>⟧.is_stopped self.old) (⟦<Self as Stored>⟧.is_stopped self.new) (result ≡ Err Cause.Device) }
+        ensures named { result ≢ Err Cause.Exhausted }
+    {
+        let first = self.journal_below(alloc, 0)?;
+        let second = self.journal_below(alloc, 1)?;
+        Ok((Listed::new(first), Listed::new(second)))
+    }
+
+    /// The rows of the queue for each centre, by their ids.
+    fn queues_below(&mut self, alloc: Global) -> Result<BothRows, Cause>
+        ensures held { ⟦<Self as Stored>⟧.well self.new → ⟦<Self as Stored>⟧.well self.old }
+        ensures same { ⟦<Self as Stored>⟧.well self.new → self.new.system ≡ self.old.system }
+        ensures rows { ⟦<Self as Stored>⟧.well self.new → IfOk result (λ lists. ForEach (λ centre. IsQueueOf (seen_by centre self.old.system) (at centre lists.0 lists.1))) }
+        ensures device { TellsDevice (⟦<Self as Stored>⟧.is_stopped self.old) (⟦<Self as Stored>⟧.is_stopped self.new) (result ≡ Err Cause.Device) }
+        ensures named { result ≢ Err Cause.Exhausted }
+    {
+        let first = self.queue_below(alloc, 0)?;
+        let second = self.queue_below(alloc, 1)?;
+        Ok((Listed::new(first), Listed::new(second)))
+    }
+
+    /// The rows that full lanes of the queue for each centre dropped.
+    fn dropped_below(&self, alloc: Global) -> Result<BothRows, AllocError>
+        ensures rows { IfOk result (λ lists. ForEach (λ centre. IsDroppedOf (seen_by centre self.now.system) (at centre lists.0 lists.1))) }
+        ensures counted { IfOk result (λ lists. ForEach (λ centre. length (at centre lists.0 lists.1) < 2 ^ 64)) }
+    {
+        let first = rows_below(alloc, &self.map, self.history.dropped.first.as_slice())?;
+        let second = rows_below(alloc, &self.map, self.history.dropped.second.as_slice())?;
+        Ok((Listed::new(first), Listed::new(second)))
+    }
+
+    /// How many rows the lanes of the queue for each centre count as lost.
+    fn lost_for_both(&mut self) -> (u64, u64)
+        ensures same { self.new ≡ self.old }
+        ensures value { ⟦<Self as Stored>⟧.well self.new → ForEach (λ centre.
+            at centre result.0 result.1 ≡ min (lost_in (seen_by centre self.old.system).concentrator.queue) (2 ^ 64 - 1)) }
+    {
+        (self.lost_for(0), self.lost_for(1))
+    }
+
+    /// The rows in the lanes of the first substations, as many as a report can name.
+    fn buffered(&mut self, alloc: Global) -> Result<Listed<(u8, Row)>, Cause>
+        ensures same { self.new ≡ self.old }
+        ensures rows { IfOk result (λ rows. rows ≡ listed_from lane_rows_of 0 (take NUMBERS self.old.system.substations)) }
+        ensures named { result ≢ Err Cause.Exhausted }
+        ensures device { result ≢ Err Cause.Device }
+    {
+        let rows = buffered_rows(alloc, &mut self.substations)?;
+        Ok(Listed::new(rows))
+    }
+
+    /// Copies of the lists of what became of rows and commands of substations.
+    fn copies(&self, alloc: Global) -> Result<Copies, AllocError>
+        ensures confirmed { IfOk result (λ copies. copies.confirmed ≡ self.now.system.history.confirmed) }
+        ensures overwritten { IfOk result (λ copies. copies.overwritten ≡ self.now.system.history.overwritten) }
+        ensures gone { IfOk result (λ copies. copies.gone ≡ self.now.system.history.gone) }
+        ensures issued { IfOk result (λ copies. copies.issued ≡ self.now.system.history.issued) }
+        ensures operated { IfOk result (λ copies. copies.operated ≡ self.now.system.history.operated) }
+    {
+        Ok(Copies {
+            confirmed: copied(alloc, self.history.confirmed.as_slice())?,
+            overwritten: copied(alloc, self.history.overwritten.as_slice())?,
+            gone: copied(alloc, self.history.gone.as_slice())?,
+            issued: copied(alloc, self.history.issued.as_slice())?,
+            operated: copied(alloc, self.history.operated.as_slice())?,
+        })
     }
 
     /// What became of all rows and commands so far.
     pub(crate) fn report(&mut self, alloc: Global) -> Result<Report, Cause>
         ensures held { ⟦<Self as Stored>⟧.well self.new → ⟦<Self as Stored>⟧.well self.old }
         ensures same { ⟦<Self as Stored>⟧.well self.new → self.new.system ≡ self.old.system }
-        ensures shows { ⟦<Self as Stored>⟧.well self.new → IfOk result (Shows self.old.system) }
-        ensures counted { IfOk result (λ report. length report.dropped < 2 ^ 64) }
+        ensures shows { ⟦<Self as Stored>⟧.well self.new → IfOk result (λ report. ForEach (λ centre. Shows (seen_by centre self.old.system) (lists_of centre report))) }
+        ensures counted { IfOk result (λ report. ForEach (λ centre. length (lists_of centre report).dropped < 2 ^ 64)) }
         ensures device { TellsDevice (⟦<Self as Stored>⟧.is_stopped self.old) (⟦<Self as Stored>⟧.is_stopped self.new) (result ≡ Err Cause.Device) }
         ensures named { result ≢ Err Cause.Exhausted }
     {
-        let journal = self.journal_below(alloc)?;
-        let queue = self.queue_below(alloc)?;
-        let buffered = buffered_rows(alloc, &mut self.substations)?;
-        let dropped = rows_below(alloc, &self.map, self.history.dropped.as_slice())?;
+        let journal = self.journals_below(alloc)?;
+        let queue = self.queues_below(alloc)?;
+        let buffered = self.buffered(alloc)?;
+        let dropped = self.dropped_below(alloc)?;
+        let copies = self.copies(alloc)?;
+        let lost = self.lost_for_both();
+        let Copies {
+            confirmed,
+            overwritten,
+            gone,
+            issued,
+            operated,
+        } = copies;
         Ok(Report {
-            journal: Listed::new(journal),
-            queue: Listed::new(queue),
-            dropped: Listed::new(dropped),
-            confirmed: copied(alloc, self.history.confirmed.as_slice())?,
-            buffered: Listed::new(buffered),
-            overwritten: copied(alloc, self.history.overwritten.as_slice())?,
-            gone: copied(alloc, self.history.gone.as_slice())?,
-            issued: copied(alloc, self.history.issued.as_slice())?,
-            operated: copied(alloc, self.history.operated.as_slice())?,
-            lost: lost_rows(self.concentrator.queue()),
+            journal,
+            queue,
+            dropped,
+            confirmed,
+            buffered,
+            overwritten,
+            gone,
+            issued,
+            operated,
+            lost,
         })
     }
 }

@@ -1,8 +1,9 @@
 //! Polls over quiet links, with all that comes of them.
 
-ghost use Rattle.std.specs.Prelude.{◌≡◌, ◌≢◌, ◌↔◌, false, Err, IfErr, OnErr, OnOk};
+ghost use Rattle.std.specs.Prelude.{◌≡◌, ◌≢◌, ◌↔◌, false, true, Err, IfErr, OnErr, OnOk};
 ghost use Rattle.dnp_world.specs.Carriers.{TellsDeviceOver};
-ghost use Rattle.dnp_world.specs.Rounds.{Flushes, IsRound, StopsFlushing, StopsInRound, is_quiet_on};
+ghost use Rattle.dnp_world.specs.Centres.{HappensToAll, centre_of, is_quiet_on, is_there, may_stop, seen_at};
+ghost use Rattle.dnp_world.specs.Rounds.{Flushes, IsRound, StopsFlushing, StopsInRound};
 
 use super::Parts;
 use crate::carrier::Carrier;
@@ -12,11 +13,11 @@ use crate::round_fault::RoundFault;
 use crate::stored::Stored;
 use dnp_concentrator::Cause;
 use dnp_controls::Book;
-use dnp_eventbuf::{JournalStore, Lanes};
+use dnp_eventbuf::{JournalStore, PairLanes};
 use dnp_master::{Classes, Task};
 use std::alloc::Global;
 
-impl<Q: Lanes, J: JournalStore, A: Book, B: Book> Parts<Q, J, A, B> {
+impl<Q: PairLanes, J: JournalStore, A: Book, B: Book> Parts<Q, J, A, B> {
     /// Whether the link is one of the plan, and quiet: both ends are open, both lines carry nothing and are whole, the
     /// master awaits no response, and the outstation awaits no confirm and holds no READ.
     pub(crate) fn quiet(&self, on: Link) -> bool
@@ -30,8 +31,10 @@ impl<Q: Lanes, J: JournalStore, A: Book, B: Book> Parts<Q, J, A, B> {
                 self.concentrator.idle_below(station)
                     && self.substations[usize::from(station)].quiet()
             }
-            Link::Above => {
-                self.centre.idle() && self.concentrator.quiet_above() && self.above.quiet()
+            Link::Above(centre) => {
+                self.centres.at(centre).idle()
+                    && self.concentrator.quiet_above(centre)
+                    && self.above.at(centre).quiet()
             }
         }
     }
@@ -44,9 +47,10 @@ impl<Q: Lanes, J: JournalStore, A: Book, B: Book> Parts<Q, J, A, B> {
         way: Way,
         carrier: &mut C,
     ) -> Result<(), Cause>
+        requires { is_there (centre_of on) ≡ true }
         ensures held { ⟦<Self as Stored>⟧.well self.new → ⟦<Self as Stored>⟧.well self.old }
-        ensures done { ⟦<Self as Stored>⟧.well self.new → OnOk result (Flushes on way self.old.system self.new.system) }
-        ensures stopped { ⟦<Self as Stored>⟧.well self.new → OnErr result (StopsFlushing on way self.old.system self.new.system) }
+        ensures done { ⟦<Self as Stored>⟧.well self.new → OnOk result (Flushes HappensToAll (seen_at (centre_of on)) on way self.old.system self.new.system) }
+        ensures stopped { ⟦<Self as Stored>⟧.well self.new → OnErr result (StopsFlushing HappensToAll (seen_at (centre_of on)) may_stop on way self.old.system self.new.system) }
         ensures device { TellsDeviceOver C.refuses (⟦<Self as Stored>⟧.is_stopped self.old) (⟦<Self as Stored>⟧.is_stopped self.new) (result ≡ Err Cause.Device) }
     {
         for _ in 0..self.standing(on, way) {
@@ -63,9 +67,10 @@ impl<Q: Lanes, J: JournalStore, A: Book, B: Book> Parts<Q, J, A, B> {
         on: Link,
         carrier: &mut C,
     ) -> Result<(), Cause>
+        requires { is_there (centre_of on) ≡ true }
         ensures held { ⟦<Self as Stored>⟧.well self.new → ⟦<Self as Stored>⟧.well self.old }
-        ensures done { ⟦<Self as Stored>⟧.well self.new → OnOk result (IsRound on self.old.system self.new.system) }
-        ensures stopped { ⟦<Self as Stored>⟧.well self.new → OnErr result (StopsInRound on self.old.system self.new.system) }
+        ensures done { ⟦<Self as Stored>⟧.well self.new → OnOk result (IsRound HappensToAll (seen_at (centre_of on)) on self.old.system self.new.system) }
+        ensures stopped { ⟦<Self as Stored>⟧.well self.new → OnErr result (StopsInRound HappensToAll (seen_at (centre_of on)) may_stop on self.old.system self.new.system) }
         ensures device { TellsDeviceOver C.refuses (⟦<Self as Stored>⟧.is_stopped self.old) (⟦<Self as Stored>⟧.is_stopped self.new) (result ≡ Err Cause.Device) }
     {
         let classes = Classes([false, true, true, true]);
@@ -86,8 +91,8 @@ impl<Q: Lanes, J: JournalStore, A: Book, B: Book> Parts<Q, J, A, B> {
         ensures held { ⟦<Self as Stored>⟧.well self.new → ⟦<Self as Stored>⟧.well self.old }
         ensures not_quiet { (result ≡ Err RoundFault.NotQuiet) ↔ (is_quiet_on self.old.system on ≡ false) }
         ensures unchanged { result ≡ Err RoundFault.NotQuiet → self.new ≡ self.old }
-        ensures done { ⟦<Self as Stored>⟧.well self.new → OnOk result (IsRound on self.old.system self.new.system) }
-        ensures stopped { ⟦<Self as Stored>⟧.well self.new → IfErr result (λ fault. fault ≢ RoundFault.NotQuiet → StopsInRound on self.old.system self.new.system) }
+        ensures done { ⟦<Self as Stored>⟧.well self.new → OnOk result (IsRound HappensToAll (seen_at (centre_of on)) on self.old.system self.new.system) }
+        ensures stopped { ⟦<Self as Stored>⟧.well self.new → IfErr result (λ fault. fault ≢ RoundFault.NotQuiet → StopsInRound HappensToAll (seen_at (centre_of on)) may_stop on self.old.system self.new.system) }
         ensures device { TellsDeviceOver C.refuses (⟦<Self as Stored>⟧.is_stopped self.old) (⟦<Self as Stored>⟧.is_stopped self.new) (result ≡ Err (RoundFault.Fault Cause.Device)) }
     {
         if !self.quiet(on) {

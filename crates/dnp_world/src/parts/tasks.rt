@@ -1,8 +1,9 @@
 //! The events of a system that ask tasks, and the commands that are issued and relayed.
 
-ghost use Rattle.std.specs.Prelude.{◌≡◌, ◌⊎◌, ◌≤◌, ◌<◌, ◌∷◌, [], ℕ, List, length, true, IfErr, IfOk, IsErr, ◌≢◌, IsTrue, MatchResult, OnErr, OnOk, Result, Ok, Err, ◌&&◌, Some, is_ok, is_some, slice_get};
+ghost use Rattle.std.specs.Prelude.{◌≡◌, ◌⊎◌, ◌≤◌, ◌<◌, ◌∷◌, [], ℕ, List, length, true, IfErr, IfOk, IsErr, ◌≢◌, IsTrue, MatchResult, OnErr, OnOk, Result, Ok, Err, ◌&&◌, None, Some, is_ok, is_some, slice_get};
 ghost use Rattle.dnp_appfragment.specs.Fragments.{Asked, IsRequest};
 ghost use Rattle.dnp_concentrator.specs.Mapped.{command_above};
+ghost use Rattle.dnp_eventbuf.specs.Sides.{at};
 ghost use Rattle.dnp_concentrator.specs.Relayed.{Tells, asks_book};
 ghost use Rattle.dnp_concentrator.specs.Relaying.{Step};
 ghost use Rattle.dnp_line.specs.Lines.{room_of};
@@ -12,11 +13,13 @@ ghost use Rattle.dnp_world.specs.Causes.{TellsDevice, cause_of_relaying};
 ghost use Rattle.dnp_world.specs.Channels.{GoDown, state_of};
 ghost use Rattle.dnp_world.specs.CommandWidths.{HasWidths};
 ghost use Rattle.dnp_world.specs.OneLinkEvents.{is_own};
+ghost use Rattle.dnp_world.specs.Centres.{ChangesAll, centre_of, has_link, seen_at};
 ghost use Rattle.dnp_world.specs.SystemEvents.{AsksOn, IssuesBy, Reads, RelaysOn, request_of, requests_of, relaying_at};
 ghost use Rattle.dnp_master.specs.Calls.{ask_answer};
 ghost use Rattle.dnp_master.specs.State.{is_idle};
 ghost use Rattle.dnp_world.specs.SystemRuns.{takes_reading};
-ghost use Rattle.dnp_world.specs.Systems.{has_link, has_station, link_at};
+ghost use Rattle.dnp_world.specs.Systems.{link_at};
+ghost use Rattle.dnp_world.specs.Wholes.{seen_by};
 ghost use Rattle.dnp_world.specs.declared.event.Link.TheVariants as link;
 
 use super::Parts;
@@ -26,7 +29,7 @@ use crate::sending::{FRAGMENT_UNITS, send};
 use crate::stored::Stored;
 use dnp_concentrator::{Cause, IssueFault, Relayed};
 use dnp_controls::{Book, BookFault};
-use dnp_eventbuf::{JournalStore, Lanes};
+use dnp_eventbuf::{CENTRES, JournalStore, PairLanes};
 use dnp_master::{AskFault, Task};
 use dnp_objects::{Command, Kind};
 use dnp_pointdb::Reading;
@@ -138,12 +141,12 @@ fn send_relayed(channel: &mut Channel, relayed: &Result<Relayed, BookFault>) -> 
     }
 }
 
-impl<Q: Lanes, J: JournalStore, A: Book, B: Book> Parts<Q, J, A, B> {
+impl<Q: PairLanes, J: JournalStore, A: Book, B: Book> Parts<Q, J, A, B> {
     /// The concentrator's master of a substation asks a task of its own. What it refuses does nothing.
     fn ask_below(&mut self, station: u8, task: Task) -> Result<(), Cause>
-        requires { has_station self.old.system station ≡ true }
+        requires { has_link self.old.system (link.Below station) ≡ true }
         ensures held { ⟦<Self as Stored>⟧.well self.new → ⟦<Self as Stored>⟧.well self.old }
-        ensures done { ⟦<Self as Stored>⟧.well self.new → OnOk result (AsksOn true (link.Below station) task self.old.system self.new.system) }
+        ensures done { ⟦<Self as Stored>⟧.well self.new → OnOk result (ChangesAll None (AsksOn true (link.Below station) task) self.old.system self.new.system) }
         ensures stopped { ⟦<Self as Stored>⟧.well self.new → OnErr result (self.new.system ≡ self.old.system) }
         ensures device { TellsDevice (⟦<Self as Stored>⟧.is_stopped self.old) (⟦<Self as Stored>⟧.is_stopped self.new) (result ≡ Err Cause.Device) }
     {
@@ -157,36 +160,40 @@ impl<Q: Lanes, J: JournalStore, A: Book, B: Book> Parts<Q, J, A, B> {
         Ok(())
     }
 
-    /// The centre asks a task of its own. What it refuses does nothing.
-    fn ask_above(&mut self, task: Task) -> Result<(), Cause>
+    /// This centre asks a task of its own. What it refuses does nothing.
+    fn ask_above(&mut self, centre: u8, task: Task) -> Result<(), Cause>
+        requires { centre < CENTRES }
         ensures held { ⟦<Self as Stored>⟧.well self.new → ⟦<Self as Stored>⟧.well self.old }
-        ensures done { ⟦<Self as Stored>⟧.well self.new → OnOk result (AsksOn true link.Above task self.old.system self.new.system) }
+        ensures done { ⟦<Self as Stored>⟧.well self.new → OnOk result (ChangesAll (Some centre) (AsksOn true (link.Above centre) task) self.old.system self.new.system) }
         ensures stopped { ⟦<Self as Stored>⟧.well self.new → OnErr result (self.new.system ≡ self.old.system) }
         ensures device { TellsDevice (⟦<Self as Stored>⟧.is_stopped self.old) (⟦<Self as Stored>⟧.is_stopped self.new) (result ≡ Err Cause.Device) }
     {
-        self.above.reserve_down()?;
+        let channel = self.above.at_mut(centre);
+        channel.reserve_down()?;
+        let request = &mut channel.request;
         let asked = self
-            .centre
-            .ask_into(&mut self.above.request, self.moment, task);
-        send_asked(&mut self.above, &asked);
+            .centres
+            .at_mut(centre)
+            .ask_into(request, self.moment, task);
+        send_asked(channel, &asked);
         Ok(())
     }
 
     /// Whether the master of the link is open and awaits no response.
     fn idle(&self, on: Link) -> bool
         requires { has_link self.now.system on ≡ true }
-        ensures { result ≡ is_idle (relaying_at self.now.system on).master }
+        ensures { result ≡ is_idle (relaying_at (seen_at (centre_of on) self.now.system) on).master }
     {
         match on {
             Link::Below(station) => self.concentrator.idle_below(station),
-            Link::Above => self.centre.idle(),
+            Link::Above(centre) => self.centres.at(centre).idle(),
         }
     }
 
     /// Whether the master of the link asks a task of its own now.
     fn asks(&self, on: Link, task: &Task) -> bool
         requires { has_link self.now.system on ≡ true }
-        ensures { is_own task.now ≡ true → result ≡ is_ok (ask_answer (relaying_at self.now.system on).master task.now) }
+        ensures { is_own task.now ≡ true → result ≡ is_ok (ask_answer (relaying_at (seen_at (centre_of on) self.now.system) on).master task.now) }
     {
         self.idle(on) && task.is_good()
     }
@@ -195,9 +202,9 @@ impl<Q: Lanes, J: JournalStore, A: Book, B: Book> Parts<Q, J, A, B> {
     pub(crate) fn ask(&mut self, on: Link, task: Task) -> Result<(), Cause>
         requires { has_link self.old.system on ≡ true }
         ensures held { ⟦<Self as Stored>⟧.well self.new → ⟦<Self as Stored>⟧.well self.old }
-        ensures done { ⟦<Self as Stored>⟧.well self.new → OnOk result (AsksOn (is_own task) on task self.old.system self.new.system) }
+        ensures done { ⟦<Self as Stored>⟧.well self.new → OnOk result (ChangesAll (centre_of on) (AsksOn (is_own task) on task) self.old.system self.new.system) }
         ensures stopped { ⟦<Self as Stored>⟧.well self.new → OnErr result (self.new.system ≡ self.old.system) }
-        ensures named { OnErr result ((is_own task && is_ok (ask_answer (relaying_at self.old.system on).master task)) ≡ true) }
+        ensures named { OnErr result ((is_own task && is_ok (ask_answer (relaying_at (seen_at (centre_of on) self.old.system) on).master task)) ≡ true) }
         ensures device { TellsDevice (⟦<Self as Stored>⟧.is_stopped self.old) (⟦<Self as Stored>⟧.is_stopped self.new) (result ≡ Err Cause.Device) }
     {
         if matches!(task, Task::Select(_) | Task::Operate(_)) {
@@ -208,20 +215,20 @@ impl<Q: Lanes, J: JournalStore, A: Book, B: Book> Parts<Q, J, A, B> {
         }
         match on {
             Link::Below(station) => self.ask_below(station, task)?,
-            Link::Above => self.ask_above(task)?,
+            Link::Above(centre) => self.ask_above(centre, task)?,
         }
         Ok(())
     }
 
     /// A step of relaying the concentrator's controls to a substation.
     fn relay_below(&mut self, alloc: Global, station: u8) -> Result<(), Cause>
-        requires { has_station self.old.system station ≡ true }
+        requires { has_link self.old.system (link.Below station) ≡ true }
         ensures held { ⟦<Self as Stored>⟧.well self.new → ⟦<Self as Stored>⟧.well self.old }
-        ensures done { ⟦<Self as Stored>⟧.well self.new → OnOk result (RelaysOn (link.Below station) self.old.system self.new.system) }
+        ensures done { ⟦<Self as Stored>⟧.well self.new → OnOk result (ChangesAll None (RelaysOn (link.Below station)) self.old.system self.new.system) }
         ensures stopped { ⟦<Self as Stored>⟧.well self.new → OnErr result (self.new.system ≡ self.old.system) }
         ensures device { TellsDevice (⟦<Self as Stored>⟧.is_stopped self.old) (⟦<Self as Stored>⟧.is_stopped self.new) (result ≡ Err Cause.Device) }
         ensures never { result ≢ Err Cause.Exhausted }
-        ensures dead { asks_book (link_at self.old.system.concentrator station) ≡ true → IsTrue (A.is_stopped self.old.stores.controls) → IsErr result }
+        ensures dead { asks_book (link_at (seen_by 0 self.old.system).concentrator station) ≡ true → IsTrue (A.is_stopped self.old.stores.controls) → IsErr result }
     {
         let channel = &mut self.substations[usize::from(station)].channel;
         channel.reserve_down()?;
@@ -229,27 +236,29 @@ impl<Q: Lanes, J: JournalStore, A: Book, B: Book> Parts<Q, J, A, B> {
         send_relayed(channel, &relayed)
     }
 
-    /// A step of relaying the centre's controls to the concentrator.
-    fn relay_above(&mut self, alloc: Global) -> Result<(), Cause>
+    /// A step of relaying this centre's controls to the concentrator.
+    fn relay_above(&mut self, alloc: Global, centre: u8) -> Result<(), Cause>
+        requires { centre < CENTRES }
         ensures held { ⟦<Self as Stored>⟧.well self.new → ⟦<Self as Stored>⟧.well self.old }
-        ensures done { ⟦<Self as Stored>⟧.well self.new → OnOk result (RelaysOn link.Above self.old.system self.new.system) }
+        ensures done { ⟦<Self as Stored>⟧.well self.new → OnOk result (ChangesAll (Some centre) (RelaysOn (link.Above centre)) self.old.system self.new.system) }
         ensures stopped { ⟦<Self as Stored>⟧.well self.new → OnErr result (self.new.system ≡ self.old.system) }
         ensures device { TellsDevice (⟦<Self as Stored>⟧.is_stopped self.old) (⟦<Self as Stored>⟧.is_stopped self.new) (result ≡ Err Cause.Device) }
         ensures never { result ≢ Err Cause.Exhausted }
-        ensures dead { asks_book self.old.system.centre.link ≡ true → IsTrue (B.is_stopped self.old.stores.orders) → IsErr result }
+        ensures dead { asks_book (seen_by centre self.old.system).centre.link ≡ true → IsTrue (B.is_stopped (at centre self.old.stores.orders.0 self.old.stores.orders.1)) → IsErr result }
     {
-        self.above.reserve_down()?;
-        let relayed = self.centre.relay(alloc, self.moment);
-        send_relayed(&mut self.above, &relayed)
+        let channel = self.above.at_mut(centre);
+        channel.reserve_down()?;
+        let relayed = self.centres.at_mut(centre).relay(alloc, self.moment);
+        send_relayed(channel, &relayed)
     }
 
     /// A step of relaying over the link. A master that is closed or awaits a response waits, and nothing is asked.
     pub(crate) fn relay(&mut self, alloc: Global, on: Link) -> Result<(), Cause>
         requires { has_link self.old.system on ≡ true }
         ensures held { ⟦<Self as Stored>⟧.well self.new → ⟦<Self as Stored>⟧.well self.old }
-        ensures done { ⟦<Self as Stored>⟧.well self.new → OnOk result (RelaysOn on self.old.system self.new.system) }
+        ensures done { ⟦<Self as Stored>⟧.well self.new → OnOk result (ChangesAll (centre_of on) (RelaysOn on) self.old.system self.new.system) }
         ensures stopped { ⟦<Self as Stored>⟧.well self.new → OnErr result (self.new.system ≡ self.old.system) }
-        ensures named { OnErr result (is_idle (relaying_at self.old.system on).master ≡ true) }
+        ensures named { OnErr result (is_idle (relaying_at (seen_at (centre_of on) self.old.system) on).master ≡ true) }
         ensures device { TellsDevice (⟦<Self as Stored>⟧.is_stopped self.old) (⟦<Self as Stored>⟧.is_stopped self.new) (result ≡ Err Cause.Device) }
         ensures never { result ≢ Err Cause.Exhausted }
     {
@@ -258,7 +267,7 @@ impl<Q: Lanes, J: JournalStore, A: Book, B: Book> Parts<Q, J, A, B> {
         }
         match on {
             Link::Below(station) => self.relay_below(alloc, station)?,
-            Link::Above => self.relay_above(alloc)?,
+            Link::Above(centre) => self.relay_above(alloc, centre)?,
         }
         Ok(())
     }
@@ -272,9 +281,9 @@ impl<Q: Lanes, J: JournalStore, A: Book, B: Book> Parts<Q, J, A, B> {
         index: u16,
         reading: Reading,
     ) -> Result<(), Cause>
-        requires { has_station self.old.system station ≡ true }
+        requires { has_link self.old.system (link.Below station) ≡ true }
         ensures held { ⟦<Self as Stored>⟧.well self.new → ⟦<Self as Stored>⟧.well self.old }
-        ensures done { ⟦<Self as Stored>⟧.well self.new → OnOk result (Reads station kind index reading self.old.system self.new.system) }
+        ensures done { ⟦<Self as Stored>⟧.well self.new → OnOk result (ChangesAll None (Reads station kind index reading) self.old.system self.new.system) }
         ensures stopped { ⟦<Self as Stored>⟧.well self.new → OnErr result (self.new.system ≡ self.old.system) }
         ensures named { OnErr result (takes_reading (slice_get self.old.system.substations station) kind index reading ≡ true) }
         ensures device { TellsDevice (⟦<Self as Stored>⟧.is_stopped self.old) (⟦<Self as Stored>⟧.is_stopped self.new) (result ≡ Err Cause.Device) }
@@ -293,29 +302,31 @@ impl<Q: Lanes, J: JournalStore, A: Book, B: Book> Parts<Q, J, A, B> {
         Ok(())
     }
 
-    /// A command is issued at the centre. One to no output does nothing, and asks for no memory.
+    /// A command is issued at this centre. One to no output does nothing, and asks for no memory.
     pub(crate) fn issue(
         &mut self,
         alloc: Global,
+        centre: u8,
         station: u8,
         command: &Command,
     ) -> Result<(), Cause>
+        requires { centre < CENTRES }
         ensures held { ⟦<Self as Stored>⟧.well self.new → ⟦<Self as Stored>⟧.well self.old }
-        ensures done { ⟦<Self as Stored>⟧.well self.new → OnOk result (IssuesBy (command_above self.old.system.centre.indices station command.now) station command.now self.old.system self.new.system) }
+        ensures done { ⟦<Self as Stored>⟧.well self.new → OnOk result (ChangesAll (Some centre) (λ s t. IssuesBy (command_above s.centre.indices station command.now) station command.now s t) self.old.system self.new.system) }
         ensures stopped { ⟦<Self as Stored>⟧.well self.new → OnErr result (self.new.system ≡ self.old.system) }
-        ensures named { OnErr result (is_some (command_above self.old.system.centre.indices station command.now) ≡ true) }
+        ensures named { OnErr result (is_some (command_above (seen_by centre self.old.system).centre.indices station command.now) ≡ true) }
         // Exhausted only where the book has no number left; out of memory before the book is asked, or where it has one.
-        ensures exhausted { ⟦<Self as Stored>⟧.well self.new → result ≡ Err Cause.Exhausted → MAX_ID ≤ self.old.system.centre.orders.last_id }
+        ensures exhausted { ⟦<Self as Stored>⟧.well self.new → result ≡ Err Cause.Exhausted → MAX_ID ≤ (seen_by centre self.old.system).centre.orders.last_id }
         ensures exhausted_first { ⟦<Self as Stored>⟧.well self.new → result ≡ Err Cause.Memory
-            → (self.new.stores ≡ self.old.stores) ⊎ (self.old.system.centre.orders.last_id < MAX_ID) }
+            → (self.new.stores ≡ self.old.stores) ⊎ ((seen_by centre self.old.system).centre.orders.last_id < MAX_ID) }
         ensures device { TellsDevice (⟦<Self as Stored>⟧.is_stopped self.old) (⟦<Self as Stored>⟧.is_stopped self.new) (result ≡ Err Cause.Device) }
     {
         has_widths(command);
-        if !self.centre.has_output(station, command) {
+        if !self.centres.at(centre).has_output(station, command) {
             return Ok(());
         }
         self.history.issued.reserve(1)?;
-        match self.centre.issue(alloc, station, command) {
+        match self.centres.at_mut(centre).issue(alloc, station, command) {
             Ok(_) => {
                 self.history.issued.put(station, *command);
                 Ok(())

@@ -24,9 +24,18 @@ returns-in_err-write_count-clause-part g c =
     let operated = next_written issued (rw c.as_slice-2.ensures at c.in_ok-write_list-2.ensures.whole) in
     of_fault c.from_residual-in_err-write_count.result (next_cut _ operated c.in_err-write_count.ensures.part)
 
+pub returns-in_err-write_count-2-clause-part : goal.returns-in_err-write_count-2-clause-part
+returns-in_err-write_count-2-clause-part g c =
+    let lists = next_written (unwritten _ c.args.report.now) c.in_ok-write_lists.ensures.whole in
+    let issued = next_written lists (rw c.as_slice.ensures at c.in_ok-write_list.ensures.whole) in
+    let operated = next_written issued (rw c.as_slice-2.ensures at c.in_ok-write_list-2.ensures.whole) in
+    let lost = next_written operated c.in_ok-write_count.ensures.whole in
+    of_fault c.from_residual-in_err-write_count-2.result (next_cut _ lost c.in_err-write_count-2.ensures.part)
+
 pub returns-clause-whole : goal.returns-clause-whole
 returns-clause-whole g c =
     let lists = next_written (unwritten _ c.args.report.now) c.in_ok-write_lists.ensures.whole in
     let issued = next_written lists (rw c.as_slice.ensures at c.in_ok-write_list.ensures.whole) in
     let operated = next_written issued (rw c.as_slice-2.ensures at c.in_ok-write_list-2.ensures.whole) in
-    all_written (next_written operated c.in_ok-write_count.ensures.whole)
+    let lost = next_written operated c.in_ok-write_count.ensures.whole in
+    all_written (next_written lost c.in_ok-write_count-2.ensures.whole)

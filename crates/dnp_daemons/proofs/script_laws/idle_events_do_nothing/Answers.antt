@@ -1,4 +1,4 @@
-use Rattle.dnp_daemons.proofs.Idling.{idle_event}
+use Rattle.dnp_daemons.proofs.IdleScripts.{idle_event}
 use Rattle.dnp_daemons.proofs.script_laws.idle_events_do_nothing.Goals as goal
 
 pub returns : goal.returns

@@ -30,8 +30,8 @@ goes_on : RowTests → (old new : System) (came : ℕ → List Row) → Happened
 goes_on tests old new came events each fate = all_fated tests RowIsEvent came (report_of old) (report_of new) fate each events
 
 pub returns-clause-at_first : goal.returns-clause-at_first
-returns-clause-at_first c plan queue journal controls orders =
-    subst (All RowIsEvent) (sym (none_happened plan queue journal controls orders)) (All-nil RowIsEvent)
+returns-clause-at_first c plan centre queue journal controls orders =
+    subst (All RowIsEvent) (sym (none_happened plan centre queue journal controls orders)) (All-nil RowIsEvent)
 
 pub returns-clause-made : goal.returns-clause-made
 returns-clause-made c = all_made_events c.a_change_makes_what_its_lane_takes.ensures

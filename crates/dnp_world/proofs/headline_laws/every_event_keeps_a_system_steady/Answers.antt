@@ -4,6 +4,7 @@ use Rattle.std.specs.Prelude.{⊤, ◌+◌, ◌^◌, ◌-◌, if◌then◌else�
 use Rattle.dnp_objects.specs.declared.row.Kind.{Kind}
 use Rattle.dnp_pointdb.specs.declared.reading.Reading.{Reading}
 use Rattle.dnp_world.specs.Behind.{Elsewhere, made_at}
+use Rattle.dnp_world.specs.Kept.{report_of}
 use Rattle.dnp_world.specs.Steady.{Goes, IsSteadyBeside}
 use Rattle.dnp_world.specs.SystemEvents.{Reads}
 use Rattle.dnp_world.specs.SystemRuns.{Happens, IfThere}
@@ -17,7 +18,7 @@ use Rattle.dnp_world.specs.declared.link_event.End.TheVariants as end
 use Rattle.dnp_world.specs.declared.link_event.Way.TheVariants as way
 use Rattle.dnp_world.specs.declared.link_event.LinkEvent.TheVariants as link_event
 use Rattle.dnp_world.proofs.EventPoints.{made_by, made_once, read_at}
-use Rattle.dnp_world.proofs.Lasting.{goes_as}
+use Rattle.dnp_world.proofs.Lasting.{fate_as}
 use Rattle.dnp_world.proofs.headline_laws.every_event_keeps_a_system_steady.Goals as goal
 
 -- what an event keeps behind the system, where it is none that makes a row
@@ -72,49 +73,56 @@ keeps : goal.After-substations_stay_settled → (old new : System) (el : Elsewhe
     → KeepsBehind el old event new
 keeps c old new el (event.Open (Below station)) s h =
     there c (has_station old station) _ old new station s (λ is e. c.calls_below_keep_what_stands.ensures.opened old new el station is s.standing e) h
-keeps c old new el (event.Open Above) s h = (0, c.events_above_keep_what_stands.ensures.opened old new el 0 s.standing h)
+keeps c old new el (event.Open (Above centre)) s h = (0, c.events_above_keep_what_stands.ensures.opened centre old new el 0 s.standing h)
 keeps c old new el (event.HangUp (Below station) end.Master) s h =
     there c (has_station old station) _ old new station s (λ is e. c.calls_below_keep_what_stands.ensures.hung_up old new el station is s.standing e) h
 keeps c old new el (event.HangUp (Below station) end.Outstation) s h =
     there c (has_station old station) _ old new station s (λ is e. c.events_below_keep_what_stands.ensures.hung_up old new el station s.standing e) h
-keeps c old new el (event.HangUp Above end.Master) s h = (0, c.events_above_keep_what_stands.ensures.centre_hung_up old new el 0 s.standing h)
-keeps c old new el (event.HangUp Above end.Outstation) s h = (0, c.events_above_keep_what_stands.ensures.concentrator_hung_up old new el 0 s.standing h)
+keeps c old new el (event.HangUp (Above centre) end.Master) s h = (0, c.events_above_keep_what_stands.ensures.centre_hung_up centre old new el 0 s.standing h)
+keeps c old new el (event.HangUp (Above centre) end.Outstation) s h =
+    (0, c.events_above_keep_what_stands.ensures.concentrator_hung_up centre old new el 0 s.standing h)
 keeps c old new el (event.Deliver (Below station) way.Down) s h =
     there c (has_station old station) _ old new station s (λ is e. c.events_below_keep_what_stands.ensures.delivered old new el station s.standing e) h
 keeps c old new el (event.Deliver (Below station) way.Up) s h =
     there c (has_station old station) _ old new station s
     (λ is e. c.what_comes_from_a_substation_keeps_what_stands.ensures.delivered old new el station is s.standing s.happened e) h
-keeps c old new el (event.Deliver Above way.Down) s h = (0, c.what_comes_to_the_concentrator_keeps_what_stands.ensures.delivered old new el 0 s.standing h)
-keeps c old new el (event.Deliver Above way.Up) s h = (0, c.what_comes_to_the_centre_keeps_what_stands.ensures.delivered old new el 0 s.standing h)
+keeps c old new el (event.Deliver (Above centre) way.Down) s h =
+    (0, c.what_comes_to_the_concentrator_keeps_what_stands.ensures.delivered old new el 0 s.standing h)
+keeps c old new el (event.Deliver (Above centre) way.Up) s h =
+    (0, c.what_comes_to_the_centre_keeps_what_stands.ensures.delivered centre old new el 0 s.standing h)
 keeps c old new el (event.Repeat (Below station) way.Down) s h =
     there c (has_station old station) _ old new station s (λ is e. c.events_below_keep_what_stands.ensures.repeated old new el station s.standing e) h
 keeps c old new el (event.Repeat (Below station) way.Up) s h =
     there c (has_station old station) _ old new station s
     (λ is e. c.what_comes_from_a_substation_keeps_what_stands.ensures.repeated old new el station is s.standing s.happened e) h
-keeps c old new el (event.Repeat Above way.Down) s h = (0, c.what_comes_to_the_concentrator_keeps_what_stands.ensures.repeated old new el 0 s.standing h)
-keeps c old new el (event.Repeat Above way.Up) s h = (0, c.what_comes_to_the_centre_keeps_what_stands.ensures.repeated old new el 0 s.standing h)
+keeps c old new el (event.Repeat (Above centre) way.Down) s h =
+    (0, c.what_comes_to_the_concentrator_keeps_what_stands.ensures.repeated old new el 0 s.standing h)
+keeps c old new el (event.Repeat (Above centre) way.Up) s h =
+    (0, c.what_comes_to_the_centre_keeps_what_stands.ensures.repeated centre old new el 0 s.standing h)
 keeps c old new el (event.Lose (Below station) w) s h =
     there c (has_station old station) _ old new station s (λ is e. c.events_below_keep_what_stands.ensures.lost old new el station w s.standing e) h
-keeps c old new el (event.Lose Above w) s h = (0, c.events_above_keep_what_stands.ensures.lost old new el 0 w s.standing h)
+keeps c old new el (event.Lose (Above centre) w) s h = (0, c.events_above_keep_what_stands.ensures.lost centre old new el 0 w s.standing h)
 keeps c old new el (event.Damage (Below station) w octets) s h =
     there c (has_station old station) _ old new station s (λ is e. c.calls_below_keep_what_stands.ensures.damaged old new el station w octets s.standing e) h
-keeps c old new el (event.Damage Above w octets) s h = (0, c.events_above_keep_what_stands.ensures.damaged old new el 0 w octets s.standing h)
+keeps c old new el (event.Damage (Above centre) w octets) s h = (0, c.events_above_keep_what_stands.ensures.damaged centre old new el 0 w octets s.standing h)
 keeps c old new el (event.Change station kind index reading) s h = tt
 keeps c old new el (event.Ask (Below station) task) s h =
     there c (has_station old station) _ old new station s (λ is e. c.calls_below_keep_what_stands.ensures.asked old new el station task is s.standing e) h
-keeps c old new el (event.Ask Above task) s h = (0, c.events_above_keep_what_stands.ensures.asked old new el 0 task s.standing h)
-keeps c old new el (event.Issue station command) s h = (station, c.other_events_keep_what_stands.ensures.issued old new el station command s.standing h)
+keeps c old new el (event.Ask (Above centre) task) s h = (0, c.events_above_keep_what_stands.ensures.asked centre old new el 0 task s.standing h)
+keeps c old new el (event.Issue centre station command) s h =
+    (station, c.other_events_keep_what_stands.ensures.issued old new el station command s.standing h)
 keeps c old new el (event.Relay (Below station)) s h =
     there c (has_station old station) _ old new station s (λ is e. c.relaying_keeps_what_stands.ensures.below old new el station is s.standing s.controls e) h
-keeps c old new el (event.Relay Above) s h = (0, c.relaying_keeps_what_stands.ensures.above old new el 0 s.standing s.controls h)
+keeps c old new el (event.Relay (Above centre)) s h = (0, c.relaying_keeps_what_stands.ensures.above centre old new el 0 s.standing s.controls h)
 keeps c old new el (event.Pass ms) s h = (0, c.other_events_keep_what_stands.ensures.passed old new el (min (old.now + ms) (2 ^ 64 - 1)) 0 s.standing h)
 keeps c old new el (event.Tick (Below station) end.Master) s h =
     there c (has_station old station) _ old new station s (λ is e. c.calls_below_keep_what_stands.ensures.ticked old new el station is s.standing e) h
 keeps c old new el (event.Tick (Below station) end.Outstation) s h =
     there c (has_station old station) _ old new station s (λ is e. c.events_below_keep_what_stands.ensures.ticked old new el station s.standing e) h
-keeps c old new el (event.Tick Above end.Master) s h = (0, c.events_above_keep_what_stands.ensures.centre_ticked old new el 0 s.standing h)
-keeps c old new el (event.Tick Above end.Outstation) s h = (0, c.events_above_keep_what_stands.ensures.concentrator_ticked old new el 0 s.standing h)
-keeps c old new el (event.Restart place.Centre) s h = (0, c.events_above_keep_what_stands.ensures.centre_hung_up old new el 0 s.standing h)
+keeps c old new el (event.Tick (Above centre) end.Master) s h = (0, c.events_above_keep_what_stands.ensures.centre_ticked centre old new el 0 s.standing h)
+keeps c old new el (event.Tick (Above centre) end.Outstation) s h =
+    (0, c.events_above_keep_what_stands.ensures.concentrator_ticked centre old new el 0 s.standing h)
+keeps c old new el (event.Restart (place.Centre centre)) s h = (0, c.events_above_keep_what_stands.ensures.centre_hung_up centre old new el 0 s.standing h)
 keeps c old new el (event.Restart place.Concentrator) s h = (0, c.a_restart_of_the_concentrator_keeps_what_stands.ensures old new el 0 s.standing h)
 keeps c old new el (event.Restart (place.Substation station)) s h =
     there c (has_station old station) _ old new station s (λ is e. c.events_below_keep_what_stands.ensures.restarted old new el station s.standing e) h
@@ -125,4 +133,6 @@ goes c old new el (event.Change station kind index reading) s h = reads c (has_s
 goes c old new el e s h = none c old new e s h (keeps c old new el e s h)
 
 pub returns : goal.returns
-returns c = λ old new el event s h. goes_as (made_by old event) _ old new (λ i. sym (made_once old event i)) (goes c old new el event s h)
+returns c = λ old new el event s h.
+    let g : Goes el (made_by old event) old new = goes c old new el event s h in
+    record { steady = g.steady; fate = fate_as (made_by old event) _ (report_of old) (report_of new) (λ i. sym (made_once old event i)) g.fate }

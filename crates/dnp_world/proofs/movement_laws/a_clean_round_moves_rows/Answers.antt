@@ -4,7 +4,8 @@ use Rattle.dnp_world.specs.Behind.{Elsewhere}
 use Rattle.dnp_world.specs.Movement.{RoundMoves, is_repeated_on}
 use Rattle.dnp_world.specs.Rounds.{IsRound, is_quiet_on}
 use Rattle.dnp_world.specs.Steady.{IsSteadyBeside}
-use Rattle.dnp_world.specs.Systems.{System}
+use Rattle.dnp_world.specs.SystemRuns.{Happens}
+use Rattle.dnp_world.specs.Systems.{System, itself}
 use Rattle.dnp_world.specs.declared.event.Link.{Link}
 use Rattle.dnp_world.specs.declared.event.Link.TheVariants.{Below, Above}
 use Rattle.dnp_world.proofs.RoundBelow.{LineLaws}
@@ -51,7 +52,7 @@ reports_of c = record {
 }
 
 moves : goal.After-each_case_says_what_came → (on : Link) (old new : System) {el : Elsewhere} → IsSteadyBeside el old → is_quiet_on old on ≡ true
-    → IsRound on old new → RoundMoves on old new
+    → IsRound Happens itself on old new → RoundMoves on old new
 moves c (Below station) old new steady quiet round = record {
   polled = polled_below (stations_of c) (lines_of c) (lanes_of c) station old new steady quiet round;
   repeated = λ again. (passed again).moves;
@@ -60,14 +61,14 @@ moves c (Below station) old new steady quiet round = record {
   where
     passed : is_repeated_on old (Below station) ≡ true → PassedBelow station old new
     passed = repeated_below (stations_of c) (lines_of c) (lanes_of c) (reports_of c) c.each_case_says_what_came.ensures station old new steady quiet round
-moves c Above old new steady quiet round = record {
-  polled = polled_above (stations_of c) (lines_of c) (lanes_of c) old new steady quiet round;
+moves c (Above centre) old new steady quiet round = record {
+  polled = polled_above (stations_of c) (lines_of c) (lanes_of c) centre old new steady quiet round;
   repeated = λ again. (passed again).moves;
   busy = λ again. (passed again).busy;
 }
   where
-    passed : is_repeated_on old Above ≡ true → PassedAbove old new
-    passed = repeated_above (stations_of c) (lines_of c) (lanes_of c) (reports_of c) c.each_case_says_what_came.ensures old new steady quiet round
+    passed : is_repeated_on old (Above centre) ≡ true → PassedAbove old new
+    passed = repeated_above (stations_of c) (lines_of c) (lanes_of c) (reports_of c) c.each_case_says_what_came.ensures centre old new steady quiet round
 
 pub returns : goal.returns
 returns c = moves c

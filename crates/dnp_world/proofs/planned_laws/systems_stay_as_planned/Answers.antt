@@ -20,10 +20,10 @@ goes_on old new h keeps happened = record {
 }
 
 pub returns-clause-at_first : goal.returns-clause-at_first
-returns-clause-at_first c plan queue journal controls orders limits = record {
+returns-clause-at_first c plan centre queue journal controls orders limits = record {
   plan = plan;
   limits = limits;
-  happened = c.what_happens_is_of_the_plan.ensures.at_first plan queue journal controls orders limits;
+  happened = c.what_happens_is_of_the_plan.ensures.at_first plan centre queue journal controls orders limits;
   indices = refl;
   below = masters_ask plan.times plan.substations;
   above = refl;

@@ -69,9 +69,9 @@ made_planned makes plan s station kind index reading was planned there =
     by (Some x) h = all_reported x was.core.points kind index reading h
 
 pub returns-clause-at_first : goal.returns-clause-at_first
-returns-clause-at_first c plan queue journal controls orders limits = record {
+returns-clause-at_first c plan centre queue journal controls orders limits = record {
   points = new_planned c.points_are_those_of_the_plan.ensures.class plan.times 0 plan.substations limits.substations;
-  rows = subst (All (IsPlanned plan)) (sym (none_happened plan queue journal controls orders)) (All-nil (IsPlanned plan));
+  rows = subst (All (IsPlanned plan)) (sym (none_happened plan centre queue journal controls orders)) (All-nil (IsPlanned plan));
 }
 
 pub returns-clause-kept : goal.returns-clause-kept

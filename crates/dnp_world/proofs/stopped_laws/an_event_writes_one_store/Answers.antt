@@ -1,5 +1,6 @@
 -- The laws that the body calls are what the lemmas ask for.
 use Rattle.dnp_world.proofs.Reopening.{Forgets, writes_one}
+use Rattle.dnp_world.proofs.Restarted.{all_write}
 use Rattle.dnp_world.proofs.stopped_laws.an_event_writes_one_store.Goals as goal
 
 laws_of : goal.After-a_confirm_releases_what_its_fragment_reported → Forgets
@@ -21,5 +22,8 @@ laws_of c = record {
   releases = c.a_confirm_releases_what_its_fragment_reported.ensures.others;
 }
 
-pub returns : goal.returns
-returns c = writes_one (laws_of c)
+pub returns-clause-seen : goal.returns-clause-seen
+returns-clause-seen c = writes_one (laws_of c)
+
+pub returns-clause-whole : goal.returns-clause-whole
+returns-clause-whole c = all_write (writes_one (laws_of c))

@@ -1,5 +1,5 @@
 -- A sorted list that is filtered is a filtered list in another order; the rest is the same, as the numbers reach far enough.
-use Rattle.std.proofs.Common.{◌≡◌, true, ◌∙◌, ◌<◌, ◌≤◌, ◌^◌, ◌-◌, ◌⊎◌, inl, inr, ℕ, List, length, get_or, map, min, Option, Some, None, sym, ap, subst, arith}
+use Rattle.std.proofs.Common.{◌≡◌, refl, true, ◌∙◌, ◌<◌, ◌≤◌, ◌^◌, ◌-◌, ◌⊎◌, inl, inr, ℕ, List, length, get_or, map, min, Option, Some, None, sym, ap, subst, arith}
 use Rattle.std.specs.Prelude.{IfSome, slice_get}
 use Rattle.std.specs.List.Sorted.{IsPermutation}
 use Rattle.std.specs.Option.{IsSomeAnd}
@@ -14,13 +14,11 @@ use Rattle.dnp_eventbuf.specs.Stock.{lost_in, row_of}
 use Rattle.dnp_objects.specs.declared.row.Row.{Row}
 use Rattle.dnp_world.specs.Kept.{lane_rows_of, report_of, rows_below}
 use Rattle.dnp_world.specs.Planned.{HasClassesBelow, IsAsPlanned}
-use Rattle.dnp_world.specs.ReportShown.{ListsAll, Shows, all_in, lists_of}
-use Rattle.dnp_world.specs.Reports as lists
-use Rattle.dnp_world.specs.Reports.{Holds}
+use Rattle.dnp_world.specs.ReportShown.{ListsAll, Shows, all_in}
+use Rattle.dnp_world.specs.Reports.{Holds, Report}
 use Rattle.dnp_world.specs.Stations.{listed_from}
 use Rattle.dnp_world.specs.Systems.{SubstationState, System}
 use Rattle.dnp_world.specs.declared.parts.report.TheConstants.{NUMBERS}
-use Rattle.dnp_world.specs.declared.report.Report.{Report}
 use Rattle.dnp_world.proofs.ReportLists.{filtered_permutation}
 use Rattle.dnp_world.proofs.ReportReading.{all_rows_in}
 use Rattle.dnp_world.proofs.SystemCounts.{counted_all, same_permutation}
@@ -36,9 +34,9 @@ in_another_order s r shows =
     (IsPermutation-sym all rows (IsPermutation-map row_of (all_in s.concentrator.queue) shows.queued shows.by_id.same))))
 
 same_others : (s : System) (r : Report) → Shows s r → length s.substations ≤ NUMBERS → lost_in s.concentrator.queue < 2 ^ 64
-    → lists_of r ≡ record (report_of s) { queue = r.queue }
+    → r ≡ record (report_of s) { queue = r.queue }
 same_others s r shows few counted =
-    let kept : lists.Report = record (report_of s) { queue = r.queue } in
+    let kept : Report = record (report_of s) { queue = r.queue } in
     let buffered : r.buffered ≡ listed_from lane_rows_of 0 s.substations =
     shows.buffered ∙ ap (λ (ys : List SubstationState). listed_from lane_rows_of 0 ys) (take_all NUMBERS s.substations few) in
     let least : min (lost_in s.concentrator.queue) (2 ^ 64 - 1) ≡ lost_in s.concentrator.queue = omega (arith, counted) in
@@ -50,6 +48,18 @@ same_others s r shows few counted =
     let gone = shows.gone in
     let issued = shows.issued in
     let operated = shows.operated in
+    let itself : r ≡ record {
+      journal = r.journal;
+      queue = r.queue;
+      dropped = r.dropped;
+      confirmed = r.confirmed;
+      buffered = r.buffered;
+      overwritten = r.overwritten;
+      gone = r.gone;
+      issued = r.issued;
+      operated = r.operated;
+      lost = r.lost;
+    } = refl in
     cc
 
 pub returns-clause-queue : goal.returns-clause-queue
@@ -91,10 +101,10 @@ pub returns-clause-holds : goal.returns-clause-holds
 returns-clause-holds c = λ s el r shows counted some.
     let holds : Holds (report_of s) = c.what_stands_is_shown.ensures.holds s el (∥∥₁_map some (λ steady. steady.standing)) in
     let few : length s.substations ≤ NUMBERS = ∥∥₁_elim some (few_once s) (λ steady. few_substations s steady.planned) in
-    subst (λ (l : lists.Report). Holds l) (sym (same_others s r shows few (few_lost s r shows holds counted)))
+    subst (λ (l : Report). Holds l) (sym (same_others s r shows few (few_lost s r shows holds counted)))
     (c.lists_are_of_links.ensures.reordered (report_of s) r.queue (in_another_order s r shows) holds)
 
-all_shown : (s : System) (r : Report) → Shows s r → ListsAll s (report_of s) → ListsAll s (lists_of r)
+all_shown : (s : System) (r : Report) → Shows s r → ListsAll s (report_of s) → ListsAll s r
 all_shown s r shows all = record {
   journal = ap (λ (rows : List (ℕ × Row)). length rows) shows.journal ∙ all.journal;
   queue = sym (counted_all r.queue) ∙ (same_permutation r.queue (report_of s).queue (in_another_order s r shows)).same (λ _. true)

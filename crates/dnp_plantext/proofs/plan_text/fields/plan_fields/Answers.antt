@@ -13,6 +13,7 @@ returns c = put_together (view c.args.table.now) _ (record {
   retries = search rules;
   unsolicited = search rules;
   queue = search rules;
+  queue2 = search rules;
   substations = search rules;
   keys = search rules;
 })

@@ -12,7 +12,7 @@ returns-in_default-clause-came g c = λ honest.
       port = old.outstation_port;
       given = [];
       heard = heard_none old.down old.outstation_port c.in_default.ensures;
-      came = (refl, refl, refl, g.met.E.OutstationEnd.follows_itself _);
+      came = (refl, refl, refl, g.met.E.OutstationEnd.follows_itself c.args.number _);
     }
 
 pub returns-in_default-answer-clause-came : goal.returns-in_default-answer-clause-came
@@ -35,5 +35,5 @@ returns-else-whole-clause-came g c = λ honest.
       given = [];
       heard = heard_part old.down c.in-Some.unit.now old.outstation_port c.hear-whole.new.port c.hear-whole.result c.shows.ensures.0 c.in-Some.ensures
           c.hear-whole.ensures c.shows.ensures.1 c.if-whole.false;
-      came = (c.if-whole.false, refl, refl, g.met.E.OutstationEnd.follows_itself _);
+      came = (c.if-whole.false, refl, refl, g.met.E.OutstationEnd.follows_itself c.args.number _);
     }

@@ -1,8 +1,7 @@
 -- The front unit is heard, and what it completes is taken in.
-use Rattle.std.proofs.Common.{List, refl}
-use Rattle.dnp_objects.specs.declared.row.Row.{Row}
+use Rattle.std.proofs.Common.{refl}
 use Rattle.dnp_world.specs.Channels.{state_of}
-use Rattle.dnp_world.proofs.MasterTakes.{came_part, came_whole}
+use Rattle.dnp_world.proofs.MasterTakes.{came_part, came_whole, none_listed}
 use Rattle.dnp_world.proofs.channel.Channel.come_up.Goals as goal
 use Rattle.dnp_world.proofs.channel.Channel.come_up.Goals.{then-hear_up+in_default, else-hear_up}
 
@@ -21,6 +20,6 @@ returns-clause-came g c =
       | else-hear_up w ↦
           rw (w.end-is, w.dropped-is)
           (λ well. came_part master c.args.now _ _ c.args.repeats c.hear_up.result c.hear_up.ensures.shown.0 old heard (state_of c.settle.new.self)
-          c.hear_up.ensures.heard c.hear_up.ensures.rest w.if-hear_up.false c.hear_up.ensures.shown.1 (g.met.E.MasterEnd.stays_itself _, refl {A = List Row})
-          (rw w.self-is at c.settle.ensures))
+          c.hear_up.ensures.heard c.hear_up.ensures.rest w.if-hear_up.false c.hear_up.ensures.shown.1
+          (g.met.E.MasterEnd.stays_itself _, none_listed _ _ _ _ refl refl) (rw w.self-is at c.settle.ensures))
     ]

@@ -1,28 +1,26 @@
 -- What the centre's call promises, as the master's end of a link promises it.
-use Rattle.std.proofs.Common.{arith}
+use Rattle.std.proofs.Common.{Err, Ok}
+use Rattle.std.proofs.lemmas.Result.{err_from_is_err_and}
 use Rattle.dnp_concentrator.specs.Centre.{link_of}
 use Rattle.dnp_master.specs.Calls.{receive_of}
-use Rattle.dnp_world.proofs.MasterTakes.{any_ok, book_before, kept_above, named_by, taken_above, unasked_by}
+use Rattle.dnp_world.proofs.EndTakes.{centre_takes}
 use Rattle.dnp_world.proofs.ends.CentreMasterEnd.take_in.Goals as goal
+
+pub returns-in_err-actions-clause-takes : goal.returns-in_err-actions-clause-takes
+returns-in_err-actions-clause-takes g c =
+    let old = c.args.self.now in
+    let call = c.in_err-actions.ensures in
+    let p = err_from_is_err_and c.from_residual.result c.from_residual.ensures.1 in
+    rw (p.1, p.2)
+    (centre_takes g.J.Sink.honest g.J.Sink.is_stopped g.J.JournalStore.archive g.B.Book.honest g.B.Book.is_stopped g.B.Book.contents old
+    c.receive.new.self (receive_of (link_of old).master c.args.now c.args.octets.now) (Err _) _ call.refused call.named call.unchanged call.link
+    call.actions call.stored call.journal call.book call.indices)
 
 pub returns-clause-takes : goal.returns-clause-takes
 returns-clause-takes g c =
-    let archive = g.J.JournalStore.archive in
-    let ledger = g.B.Book.contents in
     let old = c.args.self.now in
-    let new = c.receive.new.self in
-    let answer = c.receive.result in
-    let call = c.receive.ensures in
-    let made = receive_of (link_of old).master c.args.now c.args.octets.now in
-    record {
-      held = λ well.
-          let book = book_before g.B.Book.honest g.B.Book.is_stopped _ _ call.book (well.1, well.2) in
-          (call.journal.held well.0, book.0, book.1);
-      taken = λ well. taken_above archive ledger old new made answer (call.actions well.0) call.link (call.stored well.0) call.book call.indices;
-      few = any_ok made _ (λ t. omega arith);
-      kept = λ well. kept_above archive ledger old new answer call.unchanged (call.journal.unchanged well.0) call.book call.indices;
-      refused = call.refused;
-      unasked = λ well. unasked_by answer made _ call.refused
-          (kept_above archive ledger old new answer call.unchanged (call.journal.unchanged well.0) call.book call.indices);
-      named = named_by answer made _ call.named;
-    }
+    let call = c.in_ok-actions.ensures in
+    rw c.new.ensures
+    (centre_takes g.J.Sink.honest g.J.Sink.is_stopped g.J.JournalStore.archive g.B.Book.honest g.B.Book.is_stopped g.B.Book.contents old
+    c.receive.new.self (receive_of (link_of old).master c.args.now c.args.octets.now) (Ok _) (Unit {0}) call.refused call.named call.unchanged call.link
+    call.actions call.stored call.journal call.book call.indices)

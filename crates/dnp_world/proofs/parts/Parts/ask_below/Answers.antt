@@ -1,12 +1,14 @@
 -- What is asked goes down to the substation, and the concentrator's link to it goes on.
-use Rattle.std.proofs.Common.{refl, ap}
+use Rattle.std.proofs.Common.{ℕ, ◌<◌, refl, ap, arith}
+use Rattle.dnp_eventbuf.specs.declared.pair.TheConstants.{CENTRES}
 use Rattle.dnp_concentrator.specs.Relaying.{asking}
 use Rattle.dnp_master.specs.Calls.{ask_answer}
 use Rattle.dnp_master.specs.Requests.{request_for}
 use Rattle.dnp_world.specs.Channels.{ChannelState, state_of}
 use Rattle.dnp_world.specs.SystemEvents.{request_of, with_link}
 use Rattle.dnp_world.specs.SystemParts.{substation_of}
-use Rattle.dnp_world.specs.Systems.{link_at}
+use Rattle.dnp_concentrator.specs.Below.{link_in}
+use Rattle.dnp_world.specs.Wholes.{WholeConcentrator, seen_by}
 use Rattle.dnp_world.proofs.OneLinkRuns.{any_err}
 use Rattle.dnp_world.proofs.SystemPlaces.{concentrator_with, down_from, is_there, sends_at, unchanged_at, viewed}
 use Rattle.dnp_world.proofs.parts.Parts.ask_below.Goals as goal
@@ -23,19 +25,21 @@ returns-in_err-reserve_down-clause-stopped g c = λ well.
 
 pub returns-clause-done : goal.returns-clause-done
 returns-clause-done g c = λ well.
-    let stock = g.Q.Lanes.contents in
+    let stock = g.Q.PairLanes.contents in
     let ledger = g.A.Book.contents in
     let old = (viewed c.self.view_is).system in
     let station = c.args.station in
     let xs = c.self.inside.substations.items in
     let was = c.index_mut.result.now in
-    let link = link_at old.concentrator station in
+    let link = link_in old.concentrator.links station in
     let answer = ask_answer link.master c.args.task in
-    let first = with_link old station (asking link old.now c.args.task) in
+    let asked = asking link old.now c.args.task in
+    let middle = concentrator_with stock ledger c.self.inside.concentrator c.ask_below_into-asked.new.self old.concentrator.cores _
+    (c.ask_below_into-asked.ensures.cores 0 (omega arith)) (c.ask_below_into-asked.ensures.cores 1 (omega arith)) c.ask_below_into-asked.ensures.link
+    c.ask_below_into-asked.ensures.stores in
     rw (← c.self.view_is)
-    (sends_at station c.from.result (request_of answer) first _ xs was c.send_asked.new.channel refl
-    (concentrator_with stock ledger c.self.inside.concentrator c.ask_below_into-asked.new.self first.concentrator.core first.concentrator.links
-    c.ask_below_into-asked.ensures.core c.ask_below_into-asked.ensures.link c.ask_below_into-asked.ensures.stores) c.from.ensures
-    (rw c.from.ensures (is_there old xs station refl (rw (← c.self.view_is) at c.requires))) c.index_mut.ensures.value
+    (λ (centre : ℕ) (low : centre < CENTRES). sends_at station c.from.result (request_of answer) (with_link (seen_by centre old) station asked) _ xs was
+    c.send_asked.new.channel refl (ap (λ (m : WholeConcentrator). (seen_by centre (record old { concentrator = m })).concentrator) middle) c.from.ensures
+    (rw c.from.ensures (is_there (seen_by 0 old) xs station refl (rw (← c.self.view_is) at c.requires))) c.index_mut.ensures.value
     (down_from (request_of answer) (state_of was.channel) (state_of c.reserve_down.new.self) (state_of c.send_asked.new.channel) c.reserve_down.ensures.same
     (c.send_asked.ensures answer (request_for link.master.seq c.args.task) c.ask_below_into-asked.ensures.answer c.ask_below_into-asked.ensures.reads)))

@@ -2,17 +2,24 @@
 use Rattle.std.proofs.Common.{◌≡◌, true, inl, refl, rules, sym, ◌∙◌, subst}
 use Rattle.std.specs.Prelude.{Option, ℕ}
 use Rattle.std.proofs.lemmas.Result.{err_from_is_err_and}
+use Rattle.dnp_world.specs.Centres.{HappensToAll, may_stop}
 use Rattle.dnp_world.specs.Controls.{CanGo, ControlEnds, are_quiet_for, is_next_for, station_in}
-use Rattle.dnp_world.specs.Systems.{System}
+use Rattle.dnp_world.specs.Wholes.{Whole, seen_by}
+use Rattle.dnp_world.proofs.CentreReads.{quiet_own}
 use Rattle.dnp_world.proofs.SystemControls.{control_of, not_quiet, planned}
 use Rattle.dnp_world.proofs.parts.Parts.clean_control.Goals as goal
 
 pub returns-then-not-quiet-clause-ends : goal.returns-then-not-quiet-clause-ends
 returns-then-not-quiet-clause-ends g c = λ well.
-    let old = c.args.self.now.system in (not_quiet old (station_in old c.args.id) (sym c.quiet.ensures ∙ c.if-not-quiet.true), refl)
+    let old = c.args.self.now.system in
+    let quiet = sym (quiet_own c.args.centre c.requires old) ∙ sym c.quiet.ensures ∙ c.if-not-quiet.true in
+    (not_quiet (seen_by c.args.centre old) (station_in (seen_by c.args.centre old) c.args.id) quiet, refl)
 
 pub is_next-requires : goal.is_next-requires
-is_next-requires g c = planned c.station_of.new.self.system c.in_ok-station.station (sym c.are_quiet.ensures ∙ search rules)
+is_next-requires g c = record {
+  centre = c.requires;
+  planned = planned (seen_by c.args.centre c.station_of.new.self.system) c.in_ok-station.station (sym c.are_quiet.ensures ∙ search rules);
+}
 
 pub returns-in_err-station-clause-ends : goal.returns-in_err-station-clause-ends
 returns-in_err-station-clause-ends g c = λ well.
@@ -27,6 +34,8 @@ returns-in_err-is_next-clause-ends g c = λ well.
 pub returns-clause-ends : goal.returns-clause-ends
 returns-clause-ends g c = λ well.
     let id = c.args.id in
+    let centre = c.args.centre in
+    let see = seen_by centre in
     let station = c.in_ok-station.station in
     let old = c.args.self.now.system in
     let found = c.station_of.new.self.system in
@@ -36,13 +45,14 @@ returns-clause-ends g c = λ well.
     let first = c.is_next.ensures.held before in
     let was : found ≡ old = c.station_of.ensures.same first in
     let same : read ≡ old = c.is_next.ensures.same before ∙ was in
-    let is : station ≡ station_in old id = c.in_ok-station.ensures.value first in
-    let quiet : are_quiet_for found station ≡ true = sym c.are_quiet.ensures ∙ search rules in
-    let next : is_next_for found id station ≡ true = sym (c.in_ok-is_next.ensures.value before) ∙ search rules in
-    let can : CanGo id old = (
-      subst (λ (s : System). are_quiet_for s (station_in old id) ≡ true) was (subst (λ (x : Option ℕ). are_quiet_for found x ≡ true) is quiet),
-      subst (λ (s : System). is_next_for s id (station_in old id) ≡ true) was (subst (λ (x : Option ℕ). is_next_for found id x ≡ true) is next),
+    let is : station ≡ station_in (see old) id = c.in_ok-station.ensures.value first in
+    let quiet : are_quiet_for (see found) station ≡ true = sym c.are_quiet.ensures ∙ search rules in
+    let next : is_next_for (see found) id station ≡ true = sym (c.in_ok-is_next.ensures.value before) ∙ search rules in
+    let can : CanGo id (see old) = (
+      subst (λ (s : Whole). are_quiet_for (see s) (station_in (see old) id) ≡ true) was (subst (λ (x : Option ℕ). are_quiet_for (see found) x ≡ true) is quiet),
+      subst (λ (s : Whole). is_next_for (see s) id (station_in (see old) id) ≡ true) was (subst
+          (λ (x : Option ℕ). is_next_for (see found) id x ≡ true) is next),
     ) in
-    subst (λ (s : System). ControlEnds id s c.relay_all.result new) same
-    (control_of id station read new c.relay_all.result (subst (CanGo id) (sym same) can)
-    (subst (λ (s : System). station ≡ station_in s id) (sym same) is) (c.relay_all.ensures.done well) (c.relay_all.ensures.ended well))
+    subst (λ (s : Whole). ControlEnds HappensToAll see may_stop centre id s c.relay_all.result new) same
+    (control_of see centre id station read new c.relay_all.result (subst (λ (s : Whole). CanGo id (see s)) (sym same) can)
+    (subst (λ (s : Whole). station ≡ station_in (see s) id) (sym same) is) (c.relay_all.ensures.done well) (c.relay_all.ensures.ended well))

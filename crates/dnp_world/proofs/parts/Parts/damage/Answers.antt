@@ -1,13 +1,26 @@
--- Of a substation's link its lines are written.
-use Rattle.std.proofs.Common.{refl}
+-- The lines of the link are written.
+use Rattle.std.proofs.Common.{ℕ, ◌<◌, refl}
+use Rattle.dnp_eventbuf.specs.declared.pair.TheConstants.{CENTRES}
 use Rattle.dnp_world.specs.Channels.{DamagesAt}
-use Rattle.dnp_world.proofs.SystemPlaces.{lines_change_at}
+use Rattle.dnp_world.specs.Wholes.{seen_by}
+use Rattle.dnp_world.proofs.CentrePlaces.{lines_change_above, low_of}
+use Rattle.dnp_world.proofs.SystemPlaces.{lines_change_at, viewed}
 use Rattle.dnp_world.proofs.parts.Parts.damage.Goals as goal
 
 pub returns-in-Below-clause-done : goal.returns-in-Below-clause-done
 returns-in-Below-clause-done g c =
     let planned = rw (← c.self.view_is, c.in-Below.is) at c.requires in
     rw (c.in-Below.is, ← c.self.view_is)
-    (lines_change_at c.in-Below.station c.from.result (DamagesAt c.args.way c.args.octets.now) _ c.self.inside.substations.items
+    (λ (centre : ℕ) (low : centre < CENTRES). lines_change_at c.in-Below.station c.from.result (DamagesAt c.args.way c.args.octets.now)
+    (seen_by centre (viewed c.self.view_is).system) c.self.inside.substations.items
     c.index_mut.result.now c.damage.new.self refl c.from.ensures planned
     c.index_mut.ensures.value c.damage.ensures)
+
+pub returns-in-Above-clause-done : goal.returns-in-Above-clause-done
+returns-in-Above-clause-done g c =
+    let old = (viewed c.self.view_is).system in
+    let n = c.in-Above.centre in
+    let planned = rw (← c.self.view_is, c.in-Above.is) at c.requires in
+    rw (c.in-Above.is, ← c.self.view_is)
+    (lines_change_above n (low_of n old planned) (DamagesAt c.args.way c.args.octets.now) old c.self.inside.above c.at_mut.result.now
+    c.damage-in-Above.new.self c.at_mut.ensures.value c.damage-in-Above.ensures)

@@ -1,11 +1,17 @@
 -- What is asked of the link goes down to the concentrator, as the step of the centre's controls says.
 use Rattle.std.proofs.Common.{◌∙◌}
 use Rattle.std.proofs.lemmas.Result.{on_err_weaker}
+use Rattle.dnp_concentrator.specs.Centre.{link_of}
+use Rattle.dnp_concentrator.specs.Concentrator.{book_of, queue_of}
 use Rattle.dnp_concentrator.specs.Relaying.{step_of}
 use Rattle.dnp_world.specs.Channels.{state_of}
+use Rattle.dnp_world.specs.SystemEvents.{RelaysOn}
+use Rattle.dnp_world.specs.SystemParts.{centre_of}
 use Rattle.dnp_world.specs.declared.event.Link.TheVariants.{Above}
+use Rattle.dnp_world.proofs.CentrePlaces.{centre_view, own_there}
+use Rattle.dnp_world.proofs.CentreStores.{well_there}
 use Rattle.dnp_world.proofs.SystemPlaces.{viewed}
-use Rattle.dnp_world.proofs.SystemTasks.{down_by, granted_by, refused_by, relays_by, sends_above, stops_by, unmoved_above}
+use Rattle.dnp_world.proofs.SystemTasks.{down_by, granted_by, on_ok, refused_by, relays_by, sends_above, unmoved_above}
 use Rattle.dnp_world.proofs.parts.Parts.relay_above.Goals as goal
 
 pub returns-clause-done : goal.returns-clause-done
@@ -13,33 +19,30 @@ returns-clause-done g c = λ well.
     let archive = g.J.JournalStore.archive in
     let ledger = g.B.Book.contents in
     let old = (viewed c.self.view_is).system in
+    let n = c.args.centre in
+    let was = c.at_mut.result.now in
+    let k = c.relay-relayed.new.self in
+    let before = c.at_mut-channel.result.now in
+    let lines = c.send_relayed.new.channel in
+    let middle = c.self.inside.concentrator in
+    let own = well_there g.Q.PairLanes.honest g.J.Sink.honest g.A.Book.honest g.A.Book.is_stopped g.B.Book.honest g.B.Book.is_stopped (queue_of middle)
+    (book_of middle) n c.self.inside.centres k well in
+    let honest = own.1.is in
     let answer = c.relay-relayed.result in
     let relay = c.relay-relayed.ensures in
-    let link = old.centre.link in
-    let entries = old.centre.orders.entries in
+    let base = centre_view archive ledger n old was before in
+    let link = link_of was in
+    let entries = (centre_of archive ledger was).orders.entries in
     let step = step_of link entries 0 in
-    let down = down_by answer step link.master.seq old.above (state_of c.reserve_down.new.self) (state_of c.send_relayed.new.channel)
-    c.reserve_down.ensures.same (relay.told well.orders_is) c.send_relayed.ensures.sent in
+    let down = down_by answer step link.master.seq (state_of before) (state_of c.reserve_down.new.self) (state_of lines) c.reserve_down.ensures.same
+    (relay.told honest) c.send_relayed.ensures.sent in
     rw (← c.self.view_is)
-    (relays_by Above old _ answer c.send_relayed.result
-    (granted_by answer step link.master.seq old.centre.orders (relay.told well.orders_is) (relay.granted well.orders_is))
-    (sends_above archive ledger old c.self.inside.centre c.relay-relayed.new.self (state_of c.send_relayed.new.channel) answer (relay.link well.orders_is)
-    (relay.ledger well.orders_is) relay.journal relay.indices down)
-    (unmoved_above archive ledger old c.self.inside.centre c.relay-relayed.new.self (state_of c.send_relayed.new.channel) answer relay.unchanged
-    (relay.book.unchanged well.orders_is) relay.journal relay.indices
+    (on_ok c.send_relayed.result _ _
+    (own_there archive ledger n c.requires (RelaysOn (Above n)) old c.self.inside.centres c.self.inside.above was k before lines c.at_mut.ensures.value
+    c.at_mut-channel.ensures.value)
+    (relays_by (Above n) base _ answer c.send_relayed.result
+    (granted_by answer step link.master.seq (centre_of archive ledger was).orders (relay.told honest) (relay.granted honest))
+    (sends_above archive ledger n base was k (state_of lines) answer (relay.link honest) (relay.ledger honest) relay.journal relay.indices down)
+    (unmoved_above archive ledger base was k (state_of lines) answer relay.unchanged (relay.book.unchanged honest) relay.journal relay.indices
     (on_err_weaker answer (λ same. same ∙ c.reserve_down.ensures.same) c.send_relayed.ensures.same))
-    (refused_by answer c.send_relayed.result link entries 0 _ c.send_relayed.ensures.passed relay.unasked (relay.no_control well.orders_is)
-    (relay.past well.orders_is)))
-
-pub returns-clause-stopped : goal.returns-clause-stopped
-returns-clause-stopped g c = λ well.
-    let archive = g.J.JournalStore.archive in
-    let ledger = g.B.Book.contents in
-    let old = (viewed c.self.view_is).system in
-    let answer = c.relay-relayed.result in
-    let relay = c.relay-relayed.ensures in
-    rw (← c.self.view_is)
-    (stops_by answer c.send_relayed.result _ c.send_relayed.ensures.stopped
-    (unmoved_above archive ledger old c.self.inside.centre c.relay-relayed.new.self (state_of c.send_relayed.new.channel) answer relay.unchanged
-    (relay.book.unchanged well.orders_is) relay.journal relay.indices
-    (on_err_weaker answer (λ same. same ∙ c.reserve_down.ensures.same) c.send_relayed.ensures.same)))
+    (refused_by answer c.send_relayed.result link entries 0 _ c.send_relayed.ensures.passed relay.unasked (relay.no_control honest) (relay.past honest))))

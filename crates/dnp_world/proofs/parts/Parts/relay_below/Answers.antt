@@ -1,14 +1,13 @@
 -- What is asked of the link goes down to the substation, as the step of its controls says.
-use Rattle.std.proofs.Common.{refl, ap, ◌∙◌}
+use Rattle.std.proofs.Common.{ℕ, refl, ap, ◌∙◌}
 use Rattle.std.proofs.lemmas.Result.{on_err_weaker}
+use Rattle.dnp_concentrator.specs.Below.{link_in}
 use Rattle.dnp_concentrator.specs.Relaying.{step_of}
 use Rattle.dnp_world.specs.Channels.{ChannelState, state_of}
 use Rattle.dnp_world.specs.SystemParts.{substation_of}
-use Rattle.dnp_world.specs.Systems.{link_at}
-use Rattle.dnp_world.specs.declared.event.Link.TheVariants.{Below}
 use Rattle.dnp_world.proofs.OneLinkRuns.{any_err}
 use Rattle.dnp_world.proofs.SystemPlaces.{unchanged_at, viewed}
-use Rattle.dnp_world.proofs.SystemTasks.{down_by, granted_by, refused_by, relays_by, sends_below, stops_by, unmoved_below}
+use Rattle.dnp_world.proofs.SystemTasks.{down_by, granted_by, refused_by, relays_below, sends_below, stops_by, unmoved_below}
 use Rattle.dnp_world.proofs.parts.Parts.relay_below.Goals as goal
 
 pub returns-in_err-reserve_down-clause-stopped : goal.returns-in_err-reserve_down-clause-stopped
@@ -25,25 +24,25 @@ returns-clause-done g c = λ well.
     let ledger = g.A.Book.contents in
     let old = (viewed c.self.view_is).system in
     let was = c.index_mut.result.now in
-    let link = link_at old.concentrator c.args.station in
+    let link = link_in old.concentrator.links c.args.station in
     let entries = old.concentrator.controls.entries in
     let step = step_of link entries c.args.station in
     let answer = c.relay-relayed.result in
     let relay = c.relay-relayed.ensures in
     let down = down_by answer step link.master.seq (state_of was.channel) (state_of c.reserve_down.new.self) (state_of c.send_relayed.new.channel)
-    c.reserve_down.ensures.same (relay.told well.controls_is) c.send_relayed.ensures.sent in
+    c.reserve_down.ensures.same (relay.told well.controls_are.is) c.send_relayed.ensures.sent in
     rw (← c.self.view_is)
-    (relays_by (Below c.args.station) old _ answer c.send_relayed.result
-    (granted_by answer step link.master.seq old.concentrator.controls (relay.told well.controls_is) (relay.granted well.controls_is))
-    (sends_below g.Q.Lanes.contents ledger old c.self.inside.concentrator c.relay-relayed.new.self c.args.station c.from.result c.self.inside.substations.items
-    was c.send_relayed.new.channel answer c.from.ensures (rw (← c.self.view_is) at c.requires) c.index_mut.ensures.value (relay.link well.controls_is)
-    (relay.ledger well.controls_is) relay.core relay.queue relay.indices relay.plan down)
-    (unmoved_below g.Q.Lanes.contents ledger old c.self.inside.concentrator c.relay-relayed.new.self c.args.station c.from.result
+    (relays_below c.args.station old _ answer c.send_relayed.result
+    (granted_by answer step link.master.seq old.concentrator.controls (relay.told well.controls_are.is) (relay.granted well.controls_are.is))
+    (λ (number : ℕ). sends_below g.Q.PairLanes.contents ledger old c.self.inside.concentrator c.relay-relayed.new.self c.args.station c.from.result c.self.inside.substations.items
+    was c.send_relayed.new.channel answer number c.from.ensures (rw (← c.self.view_is) at c.requires) c.index_mut.ensures.value (relay.link well.controls_are.is)
+    (relay.ledger well.controls_are.is) relay.cores relay.queue relay.indices relay.plan down)
+    (unmoved_below g.Q.PairLanes.contents ledger old c.self.inside.concentrator c.relay-relayed.new.self c.args.station c.from.result
     c.self.inside.substations.items was c.send_relayed.new.channel answer c.from.ensures (rw (← c.self.view_is) at c.requires) c.index_mut.ensures.value
-    relay.unchanged (relay.book.unchanged well.controls_is) relay.core relay.queue relay.indices relay.plan
+    relay.unchanged (relay.book.unchanged well.controls_are.is) relay.cores relay.queue relay.indices relay.plan
     (on_err_weaker answer (λ same. same ∙ c.reserve_down.ensures.same) c.send_relayed.ensures.same))
-    (refused_by answer c.send_relayed.result link entries c.args.station _ c.send_relayed.ensures.passed relay.unasked (relay.no_control well.controls_is)
-    (relay.past well.controls_is)))
+    (refused_by answer c.send_relayed.result link entries c.args.station _ c.send_relayed.ensures.passed relay.unasked (relay.no_control well.controls_are.is)
+    (relay.past well.controls_are.is)))
 
 pub returns-clause-stopped : goal.returns-clause-stopped
 returns-clause-stopped g c = λ well.
@@ -54,7 +53,7 @@ returns-clause-stopped g c = λ well.
     let relay = c.relay-relayed.ensures in
     rw (← c.self.view_is)
     (stops_by answer c.send_relayed.result _ c.send_relayed.ensures.stopped
-    (unmoved_below g.Q.Lanes.contents ledger old c.self.inside.concentrator c.relay-relayed.new.self c.args.station c.from.result
+    (unmoved_below g.Q.PairLanes.contents ledger old c.self.inside.concentrator c.relay-relayed.new.self c.args.station c.from.result
     c.self.inside.substations.items was c.send_relayed.new.channel answer c.from.ensures (rw (← c.self.view_is) at c.requires) c.index_mut.ensures.value
-    relay.unchanged (relay.book.unchanged well.controls_is) relay.core relay.queue relay.indices relay.plan
+    relay.unchanged (relay.book.unchanged well.controls_are.is) relay.cores relay.queue relay.indices relay.plan
     (on_err_weaker answer (λ same. same ∙ c.reserve_down.ensures.same) c.send_relayed.ensures.same)))

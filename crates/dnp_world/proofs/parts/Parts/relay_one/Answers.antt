@@ -1,8 +1,8 @@
 -- A step stops at its event, or before the book is read.
 use Rattle.std.proofs.Common.{inl, inr, sym, subst}
 use Rattle.std.proofs.lemmas.Result.{err_from_is_err_and}
-use Rattle.dnp_world.specs.SystemRuns.{Happens}
-use Rattle.dnp_world.specs.Systems.{System}
+use Rattle.dnp_world.specs.Centres.{HappensToAll}
+use Rattle.dnp_world.specs.Wholes.{Whole}
 use Rattle.dnp_world.specs.declared.event.Event.TheVariants.{Relay}
 use Rattle.dnp_world.proofs.parts.Parts.relay_one.Goals as goal
 
@@ -16,5 +16,5 @@ returns-in_err-status-clause-ended g c = λ well.
     let old = c.args.self.now.system in
     let p = err_from_is_err_and c.from_residual-in_err-status.result c.from_residual-in_err-status.ensures.1 in
     rw (p.1, p.2)
-    (inr (subst (λ (s : System). Happens old (Relay c.args.on) s) (sym (c.status_on.ensures.same well))
+    (inr (subst (λ (s : Whole). HappensToAll old (Relay c.args.on) s) (sym (c.status_on.ensures.same well))
     (c.in_ok-happen.ensures.done (c.status_on.ensures.held well))))

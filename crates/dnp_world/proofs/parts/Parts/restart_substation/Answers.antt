@@ -1,7 +1,9 @@
 -- One substation is written, and what was in its lanes is listed.
-use Rattle.std.proofs.Common.{◌∙◌, ℕ, List, refl, ap, map, slice_set}
+use Rattle.std.proofs.Common.{◌∙◌, ℕ, ◌<◌, List, refl, ap, map, slice_set}
+use Rattle.dnp_eventbuf.specs.declared.pair.TheConstants.{CENTRES}
 use Rattle.dnp_objects.specs.declared.row.Row.{Row}
 use Rattle.dnp_world.specs.SystemParts.{substation_of, history_of}
+use Rattle.dnp_world.specs.Wholes.{seen_by}
 use Rattle.dnp_world.proofs.OneLinkRuns.{any_err}
 use Rattle.dnp_world.proofs.SystemPlaces.{changes_at, is_there, unchanged_at, viewed}
 use Rattle.dnp_world.proofs.parts.Parts.restart_substation.Goals as goal
@@ -25,9 +27,10 @@ returns-clause-done g c = λ well.
     let old = (viewed c.self.view_is).system in
     let xs = c.self.inside.substations.items in
     rw (← c.self.view_is)
-    (changes_at c.args.station c.from.result _ _ old _ xs c.index_mut-substation.result.now c.restart.new.self refl
-    c.from.ensures (rw c.from.ensures (is_there old xs c.args.station refl planned)) c.index_mut-substation.ensures.value c.in_ok-restart.ensures.done
-    (ap (λ (rows : List (ℕ × Row)). record old {
+    (λ (centre : ℕ) (low : centre < CENTRES). changes_at c.args.station c.from.result _ _ (seen_by centre old) _ xs
+    c.index_mut-substation.result.now c.restart.new.self refl c.from.ensures
+    (rw c.from.ensures (is_there (seen_by 0 old) xs c.args.station refl planned)) c.index_mut-substation.ensures.value c.in_ok-restart.ensures.done
+    (ap (λ (rows : List (ℕ × Row)). seen_by centre (record old {
       substations = map substation_of (slice_set xs c.from.result c.restart.new.self);
       history = record (history_of c.self.inside.history) { gone = rows };
-    }) c.in_ok-restart.ensures.listed))
+    })) c.in_ok-restart.ensures.listed))

@@ -1,30 +1,70 @@
 -- A new system is the fresh one of its plan, which is steady.
-use Rattle.std.proofs.Common.{rules, ◌≡◌, sym, subst}
-use Rattle.dnp_world.specs.FreshSystems.{fresh_system}
+use Rattle.std.proofs.Common.{rules, ap, ◌∙◌, arith, refl, sym, subst}
+use Rattle.dnp_concentrator.specs.declared.addresses.TheConstants.{CONCENTRATOR_ABOVE}
+use Rattle.dnp_concentrator.specs.declared.two.Two.{Two}
+use Rattle.dnp_controls.specs.Book.{Ledger}
+use Rattle.dnp_eventbuf.specs.Archive.{Archive}
+use Rattle.dnp_eventbuf.specs.Stock.{Stock}
+use Rattle.dnp_world.specs.BothSteady.{AreSteady}
+use Rattle.dnp_world.specs.Channels.{fresh_channel}
 use Rattle.dnp_world.specs.NewSystems.{CanBegin}
-use Rattle.dnp_world.specs.Steady.{IsSteady}
-use Rattle.dnp_world.specs.SystemParts.{system_of}
-use Rattle.dnp_world.specs.Systems.{System}
+use Rattle.dnp_world.proofs.EachCentre.{for_both}
+use Rattle.dnp_world.proofs.NewWholes.{new_whole}
 use Rattle.dnp_world.proofs.world.World.new.Goals as goal
+
+pub returns-clause-fresh : goal.returns-clause-fresh
+returns-clause-fresh g c =
+    new_whole g.Q.PairLanes.contents g.J.JournalStore.archive g.A.Book.contents g.B.Book.contents c.args.plan.now c.args.queues c.args.journals
+    c.args.controls c.args.orders
+    (record {
+      map = c.in_ok-map.map;
+      substations = c.in-Ok.substations;
+      concentrator = c.in_ok-concentrator.concentrator;
+      centres = record { first = c.in_ok-first.first; second = c.in_ok-second.second };
+      above = record { first = c.new-5.result; second = c.new-6.result };
+      moment = 0;
+      actions = c.none.result;
+      history = c.new-7.result;
+    })
+    (record {
+      indices = c.in_ok-map.ensures.found;
+      substations = c.in-Ok.ensures;
+      concentrator = record {
+        cores = c.in_ok-concentrator.ensures.cores;
+        points = c.in_ok-concentrator.ensures.plan;
+        indices = c.in_ok-concentrator.ensures.indices;
+        links = c.in_ok-concentrator.ensures.links;
+        queue = c.in_ok-concentrator.ensures.queue;
+        book = c.in_ok-concentrator.ensures.book;
+      };
+      first = record {
+        link = c.in_ok-first.ensures.link;
+        indices = c.in_ok-first.ensures.indices;
+        journal_is = c.in_ok-first.ensures.journal;
+        book = c.in_ok-first.ensures.book;
+      };
+      second = record {
+        link = c.in_ok-second.ensures.link;
+        indices = c.in_ok-second.ensures.indices;
+        journal_is = c.in_ok-second.ensures.journal;
+        book = c.in_ok-second.ensures.book;
+      };
+      first_lines = c.new-5.ensures ∙ ap (fresh_channel CONCENTRATOR_ABOVE) c.centre_address.ensures;
+      second_lines = c.new-6.ensures ∙ ap (fresh_channel CONCENTRATOR_ABOVE) c.centre_address-2.ensures;
+      moment = refl;
+      history = c.new-7.ensures;
+    })
 
 pub invariant_of-result : goal.invariant_of-result
 invariant_of-result g c = λ well.
     let plan = c.args.plan.now in
-    let queue = g.Q.Lanes.contents c.args.queue in
-    let journal = g.J.JournalStore.archive c.args.journal in
+    let queues : Two Stock = record { first = g.Q.PairLanes.contents c.args.queues 0; second = g.Q.PairLanes.contents c.args.queues 1 } in
+    let journals : Two Archive = record { first = g.J.JournalStore.archive c.args.journals.0; second = g.J.JournalStore.archive c.args.journals.1 } in
     let controls = g.A.Book.contents c.args.controls in
-    let orders = g.B.Book.contents c.args.orders in
-    let new : System = system_of g.Q.Lanes.contents g.J.JournalStore.archive g.A.Book.contents g.B.Book.contents (record {
-      map = c.in_ok-map.map;
-      substations = c.in-Ok.substations;
-      concentrator = c.in_ok-concentrator.concentrator;
-      centre = c.in_ok-centre.centre;
-      above = c.new-4.result;
-      moment = 0;
-      actions = c.none.result;
-      history = c.new-5.result;
-    }) in
-    let fresh : new ≡ fresh_system plan queue journal controls orders = search rules in
+    let orders : Two Ledger = record { first = g.B.Book.contents c.args.orders.0; second = g.B.Book.contents c.args.orders.1 } in
     let begins : CanBegin plan = search rules in
-    let honest : g.J.Sink.honest c.args.journal = subst g.J.Sink.honest c.in_ok-centre.ensures.journal well.journal_is in
-    ∣ subst IsSteady (sym fresh) (c.steady_systems_stay_steady.ensures.at_first plan queue journal controls orders begins (c.requires.empty honest)) ∣₁
+    let first : g.J.Sink.honest c.args.journals.0 = subst g.J.Sink.honest c.in_ok-first.ensures.journal well.first_journal in
+    let second : g.J.Sink.honest c.args.journals.1 = subst g.J.Sink.honest c.in_ok-second.ensures.journal well.second_journal in
+    let empty = c.requires.empty first second in
+    ∣ subst AreSteady (sym (returns-clause-fresh g c))
+    (c.steady_systems_stay_steady.ensures.at_first plan queues journals controls orders begins (for_both _ (empty 0 (omega arith)) (empty 1 (omega arith)))) ∣₁

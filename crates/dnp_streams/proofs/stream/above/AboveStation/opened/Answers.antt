@@ -1,18 +1,25 @@
-use Rattle.std.proofs.Common.{refl}
+use Rattle.std.proofs.Common.{ℕ, refl, subst}
+use Rattle.dnp_streams.specs.streams.Concentrators.{above_seen, seen_at}
+use Rattle.dnp_streams.specs.streams.Outstations.{RefusesOpening}
 use Rattle.dnp_streams.proofs.streams.Refused.{no_message_above, no_number_above, passed_on}
 use Rattle.dnp_streams.proofs.streams.Told.{lanes_device, lanes_tell_device}
 use Rattle.dnp_streams.proofs.stream.above.AboveStation.opened.Goals as goal
 
 pub returns-in-Err-clause-refused : goal.returns-in-Err-clause-refused
-returns-in-Err-clause-refused g c honest = record {
-  unsolicited = c.in-Err.ensures.leaves.asks refl;
-  announced = c.in-Err.ensures.asks_announced refl;
-  rows = c.in-Err.ensures.asks_rows honest.0 refl;
-  message = no_message_above c.cause_of.result c.from.result c.cause_of.ensures;
-  exhausted =
-      no_number_above c.cause_of.result c.from.result c.cause_of.ensures
-      (passed_on c.in-Err.fault c.from.result c.from.ensures c.in-Err.ensures.leaves.look.named);
-}
+returns-in-Err-clause-refused g c honest =
+    let old = c.args.self.now.concentrator.now in
+    let Refused : ℕ → Type 0 = λ centre.
+    RefusesOpening (seen_at (above_seen g.Q.PairLanes.contents g.B.Book.contents old centre) c.args.now) c.args.now c.cause_of.result in
+    let refused : Refused c.centre-centre.result = record {
+      unsolicited = c.in-Err.ensures.leaves.asks refl;
+      announced = c.in-Err.ensures.asks_announced refl;
+      rows = c.in-Err.ensures.asks_rows honest.0 refl;
+      message = no_message_above c.cause_of.result c.from.result c.cause_of.ensures;
+      exhausted =
+          no_number_above c.cause_of.result c.from.result c.cause_of.ensures
+          (passed_on c.in-Err.fault c.from.result c.from.ensures c.in-Err.ensures.leaves.look.named);
+    } in
+    subst Refused c.centre-centre.ensures.number refused
 
 pub returns-in-Err-clause-stopped : goal.returns-in-Err-clause-stopped
 returns-in-Err-clause-stopped g c = λ is.

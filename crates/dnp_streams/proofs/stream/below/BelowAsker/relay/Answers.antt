@@ -1,4 +1,4 @@
-use Rattle.std.proofs.Common.{rules, ◌<◌, length, ap}
+use Rattle.std.proofs.Common.{rules, ◌<◌, length, ap, arith}
 use Rattle.dnp_concentrator.specs.Concentrator.{book_of, core_of, indices_of, links_of, plan_above, queue_of}
 use Rattle.dnp_streams.proofs.streams.Taken.{relayed_below}
 use Rattle.std.proofs.lemmas.Result.{IfErr-weaker}
@@ -13,11 +13,14 @@ returns-clause-relayed g c honest =
     let new = c.relay.new.self in
     let at = c.args.self.now.substation in
     let there : at < length (links_of old) = search rules in
-    relayed_below c.relay.result c.args.now at (links_of old) (links_of new) (core_of old) (core_of new) (indices_of old) (indices_of new)
-    (plan_above old) (plan_above new) (g.Q.Lanes.contents (queue_of old)) (g.Q.Lanes.contents (queue_of new))
-    (g.B.Book.contents (book_of old)) (g.B.Book.contents (book_of new)) there
+    let contents = g.Q.PairLanes.contents in
+    let queue = c.relay.ensures.queue in
+    relayed_below c.relay.result c.args.now at (links_of old) (links_of new) (core_of 0 old) (core_of 0 new) (core_of 1 old) (core_of 1 new)
+    (indices_of old) (indices_of new) (plan_above old) (plan_above new) (contents (queue_of old) 0) (contents (queue_of new) 0)
+    (contents (queue_of old) 1) (contents (queue_of new) 1) (g.B.Book.contents (book_of old)) (g.B.Book.contents (book_of new)) there
     (c.relay.ensures.told honest.1) (c.relay.ensures.link honest.1) (c.relay.ensures.ledger honest.1) (c.relay.ensures.spent honest.1)
-    c.relay.ensures.core c.relay.ensures.indices c.relay.ensures.plan (ap g.Q.Lanes.contents c.relay.ensures.queue)
+    (c.relay.ensures.cores 0 (omega arith)) (c.relay.ensures.cores 1 (omega arith)) c.relay.ensures.indices c.relay.ensures.plan
+    (ap (λ q. contents q 0) queue) (ap (λ q. contents q 1) queue)
 
 pub returns-clause-refused : goal.returns-clause-refused
 returns-clause-refused g c honest =

@@ -9,6 +9,6 @@ returns-clause-answered g c honest =
     let old = c.args.self.now in
     let new = c.receive_into.new.self in
     subst
-    (λ (answer : Answer). BelowReceives (below_seen g.Q.Lanes.contents g.B.Book.contents (lent_below old).now (substation_of old)) c.args.now c.args.octets.now answer
-    (below_seen g.Q.Lanes.contents g.B.Book.contents (lent_below new).now (substation_of new)))
+    (λ (answer : Answer). BelowReceives (below_seen g.Q.PairLanes.contents g.B.Book.contents (lent_below old).now (substation_of old)) c.args.now c.args.octets.now answer
+    (below_seen g.Q.PairLanes.contents g.B.Book.contents (lent_below new).now (substation_of new)))
     (sym c.into_answer.ensures) (c.in_ok-receive_into.ensures.answered honest)

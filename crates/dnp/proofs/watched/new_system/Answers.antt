@@ -1,7 +1,0 @@
-use Rattle.dnp.proofs.NewStores.{new_stores}
-use Rattle.dnp.proofs.watched.new_system.Goals as goal
-
-pub new-made-requires-clause-empty : goal.new-made-requires-clause-empty
-new-made-requires-clause-empty c = λ honest.
-    rw (c.in-Ok.ensures, c.new-2.ensures, c.new-3.ensures, c.new-4.ensures)
-    (new_stores c.lanes_stay_sound.ensures.made c.args.plan.now c.requires c.plans_have_all_lanes.ensures.queue)

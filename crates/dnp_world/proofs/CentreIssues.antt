@@ -1,0 +1,89 @@
+-- A command that is issued at one of the two centres, or that names no output.
+use Rattle.std.proofs.Common.{◌≡◌, ℕ, ◌<◌, ◌++◌, Bool, true, false, List, [], ◌∷◌, Option, Some, None, refl, sym, ap, ◌∙◌, subst}
+use Rattle.std.specs.Prelude.{IfSome, is_some}
+use Rattle.std.proofs.lemmas.Bool.{false≢true}
+use Rattle.dnp_concentrator.specs.Centre.{book_of, indices_of, journal_of, link_of}
+use Rattle.dnp_concentrator.specs.Mapped.{command_above}
+use Rattle.dnp_concentrator.specs.Two.{at, with_at}
+use Rattle.dnp_concentrator.specs.declared.centre.Centre.{Centre}
+use Rattle.dnp_concentrator.specs.declared.two.Two.{Two}
+use Rattle.dnp_controls.specs.Book.{Ledger, added}
+use Rattle.dnp_eventbuf.specs.Archive.{Archive}
+use Rattle.dnp_eventbuf.specs.declared.pair.TheConstants.{CENTRES}
+use Rattle.dnp_objects.specs.declared.command.Command.{Command}
+use Rattle.dnp_objects.specs.declared.limits.TheConstants.{MAX_ID}
+use Rattle.dnp_world.specs.Centres.{ChangesAll}
+use Rattle.dnp_world.specs.CommandWidths.{HasWidths}
+use Rattle.dnp_world.specs.SystemEvents.{IssuesBy}
+use Rattle.dnp_world.specs.SystemParts.{centre_of}
+use Rattle.dnp_world.specs.Systems.{CentreState, System}
+use Rattle.dnp_world.specs.Wholes.{Whole, seen_by}
+use Rattle.dnp_world.specs.steps.WholeSteps.{of_both}
+use Rattle.dnp_world.proofs.CentrePlaces.{centre_there, issued_there, kept_there}
+use Rattle.dnp_world.proofs.SystemTasks.{centre_with}
+
+-- it is issued at the centre that a system has
+abbrev pub Issues : ℕ → Command → System → System → Type 0
+Issues station command s t = IssuesBy (command_above s.centre.indices station command) station command s t
+
+-- one to no output does nothing
+idle : (above : Option Command) (station : ℕ) (command : Command) (s : System) → is_some above ≡ false → IssuesBy above station command s s
+idle None station command s none = refl
+idle (Some above) station command s none = absurd (false≢true (sym none))
+
+-- one to an output stands in the book, and is listed
+stands : {J B : Type 0} (archive : J → Archive) (orders : B → Ledger) (above : Option Command) (station : ℕ) (command : Command) (rest : System)
+    (was k : Centre J B) → is_some above ≡ true → (orders (book_of was)).last_id < MAX_ID → HasWidths command
+    → IfSome above (λ its. orders (book_of k) ≡ added (orders (book_of was)) 0 its) → link_of k ≡ link_of was → journal_of k ≡ journal_of was
+    → indices_of k ≡ indices_of was
+    → IssuesBy above station command (record rest { centre = centre_of archive orders was }) (record rest {
+      centre = centre_of archive orders k;
+      history = record rest.history { issued = rest.history.issued ++ (station, command) ∷ [] };
+    })
+stands archive orders None station command rest was k some left widths book link journal indices = absurd (false≢true some)
+stands archive orders (Some above) station command rest was k some left widths book link journal indices = (
+  left,
+  widths,
+  ap (λ (m : CentreState). record rest {
+    centre = m;
+    history = record rest.history { issued = rest.history.issued ++ (station, command) ∷ [] };
+  }) (centre_with archive orders was k (link_of was) (added (orders (book_of was)) 0 above) link book journal indices),
+)
+
+module _ {J B : Type 0} (archive : J → Archive) (orders : B → Ledger) (n : ℕ) (low : n < CENTRES) (rest : Whole) (centres : Two (Centre J B))
+    (station : ℕ) (command : Command) (was : Centre J B) (there : was ≡ at n centres) where
+  -- so it is at one of the two: it does nothing
+  pub issues_nothing : (has : Bool) → has ≡ is_some (command_above (indices_of was) station command) → has ≡ false
+      → ChangesAll (Some n) (Issues station command) (record rest { centres = of_both (centre_of archive orders) centres })
+      (record rest { centres = of_both (centre_of archive orders) centres })
+  issues_nothing has looked none =
+      let set : Two (Centre J B) → Whole = λ t. record rest { centres = of_both (centre_of archive orders) t } in
+      subst (λ (t : Two (Centre J B)). ChangesAll (Some n) (Issues station command) (set centres) (set t)) (kept_there n centres was was there refl)
+      (centre_there archive orders n low (Issues station command) rest centres was was there
+      (idle (command_above (indices_of was) station command) station command _ (sym looked ∙ none)))
+
+  -- or it stands in that one's book
+  pub issues_there : (seen k : Centre J B) (has : Bool) (listed items : List (ℕ × Command)) → seen ≡ at n centres
+      → has ≡ is_some (command_above (indices_of seen) station command) → has ≡ true → (orders (book_of was)).last_id < MAX_ID → HasWidths command
+      → IfSome (command_above (indices_of was) station command) (λ above. orders (book_of k) ≡ added (orders (book_of was)) 0 above)
+      → link_of k ≡ link_of was → journal_of k ≡ journal_of was → indices_of k ≡ indices_of was
+      → listed ≡ rest.history.issued → items ≡ listed ++ (station, command) ∷ []
+      → ChangesAll (Some n) (Issues station command) (record rest { centres = of_both (centre_of archive orders) centres }) (record rest {
+        centres = of_both (centre_of archive orders) (with_at n centres k);
+        history = record rest.history { issued = items };
+      })
+  issues_there seen k has listed items seen_there looked some left widths book link journal indices same put =
+      let new : List (ℕ × Command) → Whole = λ issued. record rest {
+        centres = of_both (centre_of archive orders) (with_at n centres k);
+        history = record rest.history { issued = issued };
+      } in
+      let found : is_some (command_above (indices_of was) station command) ≡ true =
+      subst (λ (c : Centre J B). is_some (command_above (indices_of c) station command) ≡ true) (seen_there ∙ sym there) (sym looked ∙ some) in
+      let all : items ≡ rest.history.issued ++ (station, command) ∷ [] =
+      put ∙ ap (λ (xs : List (ℕ × Command)). xs ++ (station, command) ∷ []) same in
+      subst
+      (λ (xs : List (ℕ × Command)). ChangesAll (Some n) (Issues station command) (record rest { centres = of_both (centre_of archive orders) centres })
+      (new xs)) (sym all)
+      (issued_there archive orders n low (Issues station command) rest centres was k ((station, command) ∷ []) there
+      (stands archive orders (command_above (indices_of was) station command) station command (seen_by n rest) was k found left widths book link journal
+      indices))

@@ -1,0 +1,212 @@
+-- Calls of a system's stations, as each centre sees what they make of it.
+use Rattle.std.proofs.Common.{◌≡◌, ℕ, ◌<◌, Bool, true, false, List, [], None, Some, refl, sym, ap, ◌∙◌, subst, map, slice_set}
+use Rattle.std.specs.Prelude.{if◌then◌else◌}
+use Rattle.dnp_concentrator.specs.Below.{link_in}
+use Rattle.dnp_concentrator.specs.BookOutputs.{book_in, map_in}
+use Rattle.dnp_concentrator.specs.Centre as centre
+use Rattle.dnp_concentrator.specs.Concentrator.{above_of, core_of, links_of, outputs_of, plan_above, queue_of, without_link}
+use Rattle.dnp_concentrator.specs.Relaying as relaying
+use Rattle.dnp_concentrator.specs.Reserving.{reserved_by}
+use Rattle.dnp_concentrator.specs.Two.{at, with_at}
+use Rattle.dnp_concentrator.specs.declared.book_outputs.BookOutputs.{BookOutputs}
+use Rattle.dnp_concentrator.specs.declared.centre.Centre.{Centre}
+use Rattle.dnp_concentrator.specs.declared.concentrator.Concentrator.{Concentrator}
+use Rattle.dnp_concentrator.specs.declared.two.Two.{Two}
+use Rattle.dnp_controls.specs.Book.{Ledger}
+use Rattle.dnp_eventbuf.specs.Archive.{Archive}
+use Rattle.dnp_eventbuf.specs.Sides.{other_than}
+use Rattle.dnp_eventbuf.specs.Stock.{Stock}
+use Rattle.dnp_eventbuf.specs.declared.pair.TheConstants.{CENTRES}
+use Rattle.dnp_master.specs.State as master
+use Rattle.dnp_outstation.specs.Calls.{opened_of, restarted_core, tick_of}
+use Rattle.dnp_outstation.specs.Connection.{closed}
+use Rattle.dnp_outstation.specs.State.{Actions, Core, Step}
+use Rattle.dnp_pointdb.specs.Plan as points
+use Rattle.dnp_world.specs.Centres.{ChangesAll}
+use Rattle.dnp_world.specs.Channels.{ChannelState, GoUp, cleared, hung_up_at, state_of}
+use Rattle.dnp_world.specs.SystemEvents.{HangsUpOn, MasterTicks, MiddleSteps, OpensOn, OutstationTicks, concentrator_restarted, master_gone, with_centre_link, with_link, with_lost}
+use Rattle.dnp_world.specs.SystemParts.{centre_of, concentrator_of}
+use Rattle.dnp_world.specs.Systems.{CentreState, ConcentratorState, SubstationState, System, link_at}
+use Rattle.dnp_world.specs.Wholes.{Whole, WholeConcentrator, seen_by}
+use Rattle.dnp_world.specs.declared.channel.Channel.{Channel}
+use Rattle.dnp_world.specs.declared.event.Link.TheVariants.{Above, Below}
+use Rattle.dnp_world.specs.declared.link_event.End.TheVariants.{Master, Outstation}
+use Rattle.dnp_world.specs.steps.WholeSteps.{of_both}
+use Rattle.dnp_world.proofs.CentrePlaces.{StaysApart, both_seen, centre_there, centre_view, link_there, middle_seen, middle_there, middle_view, own_there}
+use Rattle.dnp_world.proofs.EachCentre.{for_both}
+use Rattle.dnp_world.proofs.SystemComing.{Follows, stays_apart, stepped}
+
+-- ---- of a centre
+
+-- the centre with its link so, and nothing else
+abbrev pub Relinked : {J B : Type 0} → (J → Archive) → (B → Ledger) → Centre J B → relaying.Relaying → Centre J B → Type 0
+Relinked archive orders was link k = centre_of archive orders k ≡ record (centre_of archive orders was) { link = link }
+
+pub ticks_at_centre : {J B : Type 0} (archive : J → Archive) (orders : B → Ledger) (n : ℕ) → n < CENTRES → (rest : Whole) (centres : Two (Centre J B))
+    (was k : Centre J B) → was ≡ at n centres → Relinked archive orders was (relaying.ticked (centre.link_of was) rest.now) k
+    → ChangesAll (Some n) (MasterTicks (Above n)) (record rest { centres = of_both (centre_of archive orders) centres })
+    (record rest { centres = of_both (centre_of archive orders) (with_at n centres k) })
+ticks_at_centre archive orders n low rest centres was k there ticked =
+    centre_there archive orders n low (MasterTicks (Above n)) rest centres was k there
+    (ap (λ (m : CentreState). record (seen_by n rest) { centre = m }) ticked)
+
+pub hangs_up_at_centre : {J B : Type 0} (archive : J → Archive) (orders : B → Ledger) (n : ℕ) → n < CENTRES → (rest : Whole) (centres : Two (Centre J B))
+    (above : Two Channel) (was k : Centre J B) (before lines : Channel) → was ≡ at n centres → before ≡ at n above
+    → Relinked archive orders was (relaying.hung_up (centre.link_of was)) k → state_of lines ≡ hung_up_at Master (state_of before)
+    → ChangesAll (Some n) (HangsUpOn (Above n) Master) (record rest { centres = of_both (centre_of archive orders) centres; above = of_both state_of above })
+    (record rest { centres = of_both (centre_of archive orders) (with_at n centres k); above = of_both state_of (with_at n above lines) })
+hangs_up_at_centre archive orders n low rest centres above was k before lines there lines_there gone hung =
+    own_there archive orders n low (HangsUpOn (Above n) Master) rest centres above was k before lines there lines_there
+    (ap (λ (m : CentreState). record (seen_by n rest) { centre = m; above = state_of lines }) gone
+    ∙ ap (λ (l : ChannelState). let s : System = centre_view archive orders n rest was before in
+    record (with_centre_link s (relaying.hung_up (centre.link_of was))) { above = l }) hung)
+
+-- ---- of the concentrator, where it serves a centre
+
+pub hangs_up_at_middle : {Q A : Type 0} (stock : Q → ℕ → Stock) (ledger : A → Ledger) (n : ℕ) → n < CENTRES → (rest : Whole) (c d : Concentrator Q A)
+    (above : Two Channel) (before lines : Channel) → before ≡ at n above → core_of n d ≡ closed (core_of n c)
+    → core_of (other_than n) d ≡ core_of (other_than n) c → queue_of d ≡ queue_of c → outputs_of d ≡ outputs_of c → links_of d ≡ links_of c
+    → plan_above d ≡ plan_above c → state_of lines ≡ hung_up_at Outstation (state_of before)
+    → ChangesAll (Some n) (HangsUpOn (Above n) Outstation) (record rest { concentrator = concentrator_of stock ledger c; above = of_both state_of above })
+    (record rest { concentrator = concentrator_of stock ledger d; above = of_both state_of (with_at n above lines) })
+hangs_up_at_middle {Q} {A} stock ledger n low rest c d above before lines there core other queue outputs links plan hung =
+    let is : ConcentratorState = middle_view stock ledger n d in
+    let was : ConcentratorState = record (middle_view stock ledger n c) { core = closed (core_of n c) } in
+    let closes : is ≡ was =
+    ap (λ (k : Core). record is { core = k }) core
+    ∙ ap (λ (k : Core). record is { core = was.core; reserved = reserved_by k }) other
+    ∙ ap (λ (q : Q). record is { core = was.core; reserved = was.reserved; queue = stock q n }) queue
+    ∙ ap (λ (o : BookOutputs A). record was { indices = map_in o; controls = ledger (book_in o); points = is.points; links = is.links }) outputs
+    ∙ ap (λ (l : List relaying.Relaying). record was { points = is.points; links = l }) links
+    ∙ ap (λ (p : points.Plan). record was { points = p }) plan in
+    let stays : StaysApart stock ledger n [] c d = record {
+      core = other;
+      queue = ap (λ (q : Q). stock q (other_than n)) queue;
+      indices = ap (λ (o : BookOutputs A). map_in o) outputs;
+      points = plan;
+      controls = ap (λ (o : BookOutputs A). ledger (book_in o)) outputs;
+      links = links;
+    } in
+    middle_there stock ledger n low (HangsUpOn (Above n) Outstation) rest c d [] stays above before lines there
+    (ap (λ (k : ConcentratorState). record (seen_by n rest) { concentrator = k; above = state_of lines }) closes
+    ∙ ap (λ (l : ChannelState). record (seen_by n rest) { concentrator = was; above = l }) hung)
+
+pub ticks_at_middle : {Q A : Type 0} (honest : Q → Type 0) (stock : Q → ℕ → Stock) (ledger : A → Ledger) (n : ℕ) → n < CENTRES → (rest : Whole)
+    (c d : Concentrator Q A) → honest (queue_of d) → Follows honest stock ledger n c d [] → (does : Actions)
+    → tick_of (above_of stock ledger n c) rest.now ≡ record { state = above_of stock ledger n d; does = does } → (above : Two Channel)
+    (before lines : Channel) → before ≡ at n above → GoUp does.send (state_of before) (state_of lines)
+    → ChangesAll (Some n) (OutstationTicks (Above n)) (record rest { concentrator = concentrator_of stock ledger c; above = of_both state_of above })
+    (record rest { concentrator = concentrator_of stock ledger d; above = of_both state_of (with_at n above lines) })
+ticks_at_middle honest stock ledger n low rest c d is follows does step_is above before lines there up =
+    middle_there stock ledger n low (OutstationTicks (Above n)) rest c d [] (stays_apart honest stock ledger n c d [] is follows) above before lines there
+    (subst (λ (step : Step). MiddleSteps step [] (state_of before) (middle_seen stock ledger n rest c before) (middle_seen stock ledger n rest d lines))
+    (sym step_is)
+    (record {
+      sent = up;
+      after = ap (λ (k : ConcentratorState). record (seen_by n rest) { concentrator = k; above = state_of lines })
+          (stepped stock ledger n c d (above_of stock ledger n d) [] refl follows.0 follows.1.core follows.1.links follows.1.plan);
+    }))
+
+pub opens_above : {Q J A B : Type 0} (honest : Q → Type 0) (stock : Q → ℕ → Stock) (archive : J → Archive) (ledger : A → Ledger) (orders : B → Ledger)
+    (n : ℕ) → n < CENTRES → (rest : Whole) (c d : Concentrator Q A) → honest (queue_of d) → Follows honest stock ledger n c d [] → (does : Actions)
+    → opened_of (above_of stock ledger n c) rest.now ≡ record { state = above_of stock ledger n d; does = does } → (centres : Two (Centre J B))
+    (above : Two Channel) (was k : Centre J B) (before lines : Channel) → was ≡ at n centres → before ≡ at n above
+    → GoUp does.send (cleared (state_of before)) (state_of lines) → Relinked archive orders was (relaying.opened (centre.link_of was)) k
+    → ChangesAll (Some n) (OpensOn (Above n))
+    (record rest {
+      concentrator = concentrator_of stock ledger c;
+      centres = of_both (centre_of archive orders) centres;
+      above = of_both state_of above;
+    })
+    (record rest {
+      concentrator = concentrator_of stock ledger d;
+      centres = of_both (centre_of archive orders) (with_at n centres k);
+      above = of_both state_of (with_at n above lines);
+    })
+opens_above honest stock archive ledger orders n low rest c d is follows does step_is centres above was k before lines there lines_there up opened =
+    let first : System = with_centre_link (both_seen stock archive ledger orders n rest c was before) (relaying.opened (centre.link_of was)) in
+    let new : System = both_seen stock archive ledger orders n rest d k lines in
+    link_there stock archive ledger orders n low (OpensOn (Above n)) rest c d [] (stays_apart honest stock ledger n c d [] is follows) centres above was k
+    before lines there lines_there
+    (subst (λ (step : Step). MiddleSteps step [] (cleared (state_of before)) first new) (sym step_is)
+    (record {
+      sent = up;
+      after = ap (λ (m : ConcentratorState). record new { concentrator = m })
+          (stepped stock ledger n c d (above_of stock ledger n d) [] refl follows.0 follows.1.core follows.1.links follows.1.plan)
+          ∙ ap (λ (m : CentreState). record new {
+            concentrator = record (middle_view stock ledger n c) {
+              core = (above_of stock ledger n d).core;
+              queue = (above_of stock ledger n d).lanes;
+            };
+            centre = m;
+          }) opened;
+    }))
+
+-- ---- of the concentrator, for all
+
+pub restarts_all : {Q A : Type 0} (stock : Q → ℕ → Stock) (ledger : A → Ledger) (rest : Whole) (c d : Concentrator Q A)
+    (substations : List SubstationState) (above : Two Channel) (first second : Channel) → core_of 0 d ≡ restarted_core (core_of 0 c)
+    → core_of 1 d ≡ restarted_core (core_of 1 c) → queue_of d ≡ queue_of c → outputs_of d ≡ outputs_of c → links_of d ≡ map relaying.hung_up (links_of c)
+    → plan_above d ≡ plan_above c → substations ≡ map master_gone rest.substations → state_of first ≡ hung_up_at Outstation (state_of above.first)
+    → state_of second ≡ hung_up_at Outstation (state_of above.second)
+    → ChangesAll None (λ s t. t ≡ concentrator_restarted s) (record rest { concentrator = concentrator_of stock ledger c; above = of_both state_of above })
+    (record rest {
+      substations = substations;
+      concentrator = concentrator_of stock ledger d;
+      above = record { first = state_of first; second = state_of second };
+    })
+restarts_all {Q} {A} stock ledger rest c d substations above first second first_core second_core queue outputs links plan gone first_hung second_hung =
+    let was : WholeConcentrator = concentrator_of stock ledger c in
+    let is : WholeConcentrator = concentrator_of stock ledger d in
+    let cores : Two Core = of_both restarted_core was.cores in
+    let to : WholeConcentrator = record was { cores = cores; links = map relaying.hung_up was.links } in
+    let same : is ≡ to =
+    ap (λ (k : Core). record is { cores = record is.cores { first = k } }) first_core
+    ∙ ap (λ (k : Core). record is { cores = record cores { second = k } }) second_core
+    ∙ ap (λ (q : Q). record is { cores = cores; queues = record { first = stock q 0; second = stock q 1 } }) queue
+    ∙ ap (λ (o : BookOutputs A). record to { indices = map_in o; controls = ledger (book_in o); points = is.points; links = is.links }) outputs
+    ∙ ap (λ (p : points.Plan). record to { points = p; links = is.links }) plan
+    ∙ ap (λ (l : List relaying.Relaying). record to { links = l }) links in
+    let new : List SubstationState → WholeConcentrator → ChannelState → ChannelState → Whole = λ ys k a b. record rest {
+      substations = ys;
+      concentrator = k;
+      above = record { first = a; second = b };
+    } in
+    let all : new substations is (state_of first) (state_of second)
+    ≡ new (map master_gone rest.substations) to (hung_up_at Outstation (state_of above.first)) (hung_up_at Outstation (state_of above.second)) =
+    ap (λ (ys : List SubstationState). new ys is (state_of first) (state_of second)) gone
+    ∙ ap (λ (k : WholeConcentrator). new (map master_gone rest.substations) k (state_of first) (state_of second)) same
+    ∙ ap (λ (l : ChannelState). new (map master_gone rest.substations) to l (state_of second)) first_hung
+    ∙ ap (λ (l : ChannelState). new (map master_gone rest.substations) to (hung_up_at Outstation (state_of above.first)) l) second_hung in
+    for_both _ (ap (λ (w : Whole). seen_by 0 w) all) (ap (λ (w : Whole). seen_by 1 w) all)
+
+-- its master of a substation looks at its timer
+abbrev ticked_below : ℕ → Whole → Bool → WholeConcentrator
+ticked_below station old timed_out = record old.concentrator {
+  cores = of_both (λ core. if timed_out then without_link core station else core) old.concentrator.cores;
+  links = slice_set old.concentrator.links station (relaying.ticked (link_in old.concentrator.links station) old.now);
+}
+
+abbrev ticked_seen : ℕ → ℕ → Whole → Bool → System
+ticked_seen n station old timed_out =
+    let s = seen_by n old in
+    let ticked = with_link s station (relaying.ticked (link_at s.concentrator station) s.now) in
+    if timed_out then with_lost ticked station else ticked
+
+pub ticks_below : (station : ℕ) (old : Whole) (middle : WholeConcentrator) (timed_out : Bool)
+    → timed_out ≡ master.is_timed_out (link_in old.concentrator.links station).master old.now → middle ≡ ticked_below station old timed_out
+    → ChangesAll None (MasterTicks (Below station)) old (record old { concentrator = middle })
+ticks_below station old middle timed_out closes is =
+    for_both _ (subst (λ (b : Bool). new 0 ≡ ticked_seen 0 station old b) closes (first timed_out is))
+    (subst (λ (b : Bool). new 1 ≡ ticked_seen 1 station old b) closes (second timed_out is))
+  where
+    new : ℕ → System
+    new n = seen_by n (record old { concentrator = middle })
+
+    first : (b : Bool) → middle ≡ ticked_below station old b → new 0 ≡ ticked_seen 0 station old b
+    first true is = ap (λ (k : WholeConcentrator). seen_by 0 (record old { concentrator = k })) is
+    first false is = ap (λ (k : WholeConcentrator). seen_by 0 (record old { concentrator = k })) is
+
+    second : (b : Bool) → middle ≡ ticked_below station old b → new 1 ≡ ticked_seen 1 station old b
+    second true is = ap (λ (k : WholeConcentrator). seen_by 1 (record old { concentrator = k })) is
+    second false is = ap (λ (k : WholeConcentrator). seen_by 1 (record old { concentrator = k })) is

@@ -1,0 +1,56 @@
+-- Private steps: what a concentrator with two centres takes of a substation, and what stays of it where one centre is served.
+use Rattle.std.specs.Prelude.{◌≡◌, ◌≢◌, ℕ, false, List, [], slice_set}
+use Rattle.dnp_concentrator.specs.Below.{link_in, readings_set}
+use Rattle.dnp_concentrator.specs.Concentrator.{core_of, links_of, plan_above, queue_of}
+use Rattle.dnp_concentrator.specs.Mapped.{queued_rows}
+use Rattle.dnp_concentrator.specs.Relaying as relaying
+use Rattle.dnp_concentrator.specs.declared.concentrator.Concentrator.{Concentrator}
+use Rattle.dnp_concentrator.specs.declared.two.Two.{Two}
+use Rattle.dnp_concentrator.specs.Two.{at}
+use Rattle.dnp_eventbuf.specs.Sides.{ForEach, other_than}
+use Rattle.dnp_eventbuf.specs.Stock.{Stock, dropped_by, exhausts, with_rows}
+use Rattle.dnp_master.specs.Calls.{Taking}
+use Rattle.dnp_objects.specs.declared.lane.LaneRow.{LaneRow}
+use Rattle.dnp_objects.specs.declared.row.Row.{Row}
+use Rattle.dnp_outstation.specs.State.{Core}
+use Rattle.dnp_outstation.specs.Station.{with_points}
+use Rattle.dnp_world.specs.Wholes.{WholeConcentrator}
+
+-- ---- of both centres' things
+
+abbrev pub of_both : {Thing Seen : Type 0} → (Thing → Seen) → Two Thing → Two Seen
+of_both see t = record { first = see t.first; second = see t.second }
+
+-- ---- what comes from a substation
+
+-- its events, as they are queued for both centres
+abbrev pub queued_for : WholeConcentrator → ℕ → Taking → List LaneRow
+queued_for c station t = queued_rows c.indices c.points station t.events
+
+-- an outstation above with the readings that its rows set
+abbrev pub with_readings_of : WholeConcentrator → ℕ → Taking → Core → Core
+with_readings_of c station t core =
+    with_points core (readings_set c.indices station (readings_set c.indices station core.points t.events) t.statics)
+
+abbrev pub concentrator_taken : WholeConcentrator → ℕ → Taking → WholeConcentrator
+concentrator_taken c station t = record c {
+  cores = of_both (with_readings_of c station t) c.cores;
+  queues = of_both (λ (s : Stock). with_rows s (queued_for c station t)) c.queues;
+  links = slice_set c.links station (relaying.received (link_in c.links station) t);
+}
+
+abbrev pub dropped_for : WholeConcentrator → ℕ → Taking → Two (List Row)
+dropped_for c station t = of_both (λ (s : Stock). dropped_by s (queued_for c station t)) c.queues
+
+-- both queues have numbers left for its events
+abbrev pub HaveNumbers : WholeConcentrator → ℕ → Taking → Type 0
+HaveNumbers c station t = t.events ≢ [] → ForEach (λ centre. exhausts (at centre c.queues) (queued_for c station t) ≡ false)
+
+-- ---- where one centre is served
+
+-- what is the other centre's stays, and so do the links below and the plan
+pub record KeepsOtherCentre {Q B : Type 0} (honest : Q → Type 0) (contents : Q → ℕ → Stock) (centre : ℕ) (old new : Concentrator Q B) : Type 0 where
+  pub core : core_of (other_than centre) new ≡ core_of (other_than centre) old
+  pub side : honest (queue_of new) → contents (queue_of new) (other_than centre) ≡ contents (queue_of old) (other_than centre)
+  pub links : links_of new ≡ links_of old
+  pub plan : plan_above new ≡ plan_above old
