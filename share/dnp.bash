@@ -7,10 +7,10 @@ _dnp() {
     fi
     case ${COMP_WORDS[1]}:$before in
     *:--capture|*:--chart|*:--controls|*:--journal|*:--pcap|*:--plan|*:--queue|*:--replay|*:--trace) COMPREPLY=($(compgen -f -- "$word")) ;;
-    answer:--own|answer:--peer|centre:--port|centre:--number|centre:--issue|centre:--every|centre:--polls|concentrate:--port|concentrate:--port2|concentrate:--below|concentrate:--rounds|concentrate:--every|concentrate:--idle|loopback:--limit|outstation:--station|outstation:--port|outstation:--bind|outstation:--connections|outstation:--idle|poll:--own|poll:--peer|poll:--classes|poll:--time|poll:--operate|poll:--repeat|poll:--count|poll:--confirm|poll:--timeout|rows:--centre|rows:--after|rows:--every|sim:--limit) COMPREPLY=() ;;
+    answer:--own|answer:--peer|centre:--port|centre:--number|centre:--issue|centre:--every|centre:--polls|concentrate:--port|concentrate:--port2|concentrate:--bind|concentrate:--below|concentrate:--rounds|concentrate:--every|concentrate:--idle|loopback:--limit|outstation:--station|outstation:--port|outstation:--bind|outstation:--connections|outstation:--idle|poll:--own|poll:--peer|poll:--classes|poll:--time|poll:--operate|poll:--repeat|poll:--count|poll:--confirm|poll:--timeout|rows:--centre|rows:--after|rows:--every|sim:--limit) COMPREPLY=() ;;
     answer:*) COMPREPLY=($(compgen -W '--own --peer --help' -- "$word")) ;;
     centre:*) COMPREPLY=($(compgen -W '--plan --journal --controls --port --number --issue --every --polls --forever --new --help' -- "$word")) ;;
-    concentrate:*) COMPREPLY=($(compgen -W '--plan --queue --controls --port --port2 --below --rounds --every --forever --idle --new --migrate --help' -- "$word")) ;;
+    concentrate:*) COMPREPLY=($(compgen -W '--plan --queue --controls --port --port2 --bind --below --rounds --every --forever --idle --new --migrate --help' -- "$word")) ;;
     decode:*) COMPREPLY=($(compgen -W '--raw --pcap --json --help' -- "$word")) ;;
     loopback:*) COMPREPLY=($(compgen -W '--plan --limit --plain --help' -- "$word")) ;;
     outstation:*) COMPREPLY=($(compgen -W '--plan --station --port --bind --connections --forever --idle --replay --repeat --verbose --help' -- "$word")) ;;

@@ -214,7 +214,7 @@ def lost_substation(living, first):
     before = count_of(living, 100)
     rounds = living.goes_on(4, 5)
     silent = living.substation(0, "silent")
-    late = living.says("dnp: substation 0: the stream could not be read: no answer in 800 ms")
+    late = living.says("dnp: substation 0: no answer in 800 ms")
     slower = living.goes_on(3, 6)
     rows, fault = polled(living.centre("--every", "100", "--polls", "2"), 2)
     after = count_of(living, 100)

@@ -190,6 +190,17 @@ def unasked(station):
     station.answer(fragment[0], one=0x80)
 
 
+def reports_on(station):
+    """Reports that nobody asked for come without an end, ten in the time that the poll waits, and no answer."""
+    station.fragment()
+    for number in range(200):
+        try:
+            station.answer(number, bits=UNS)
+        except ConnectionError:
+            raise Ended from None
+        time.sleep(0.03)
+
+
 def noise(station):
     station.fragment()
     station.stream.sendall(b"\x05\x64\x00no frame at all" * 9)
@@ -266,6 +277,10 @@ def foreign_cases():
 
     # silence, noise, an end, and a lost output
     good &= against("waits-no-longer-than-told", lambda station: None, 3, [], ["no response in 300 ms"], *patience, functions=[1])
+    began = time.monotonic()
+    good &= against("waits-no-longer-while-other-things-come", reports_on, 3, [], ["no response in 300 ms"], *patience, functions=[1])
+    took = time.monotonic() - began
+    good &= case("waits-as-long-as-told", 0.3 <= took < 3, took)
     good &= against("ends-where-the-connection-does", noise, 3, [], ["the connection ended before the answer"])
     station = Outstation(read)
     with open("/dev/full", "wb") as full:
@@ -291,6 +306,7 @@ def word_cases():
         "count-alone": ["--count", "2"],
         "another-word": ["--confirm", "maybe"],
         "timeout-of-0": ["--timeout", "0"],
+        "time-of-49-bits": ["--time", str(2**48)],
     }.items():
         came = ended(poll(place, *words))
         good &= case(f"refuses-{name}", came[0] == 2 and came[1] == [], came)

@@ -94,7 +94,7 @@ round 5 rows 2'
 concentrates
 listens "$port"
 polls is-no-other-centre 3 'rows 0' --number 2
-says tells-that-another-centre-is-not-answered 'dnp: the concentrator: the stream could not be read: no answer in 3000 ms'
+says tells-that-another-centre-is-not-answered 'dnp: the concentrator: no answer in 3000 ms'
 ended answers-no-other-centre 0 'round 1 rows 2'
 grep operated log-0 >out
 judge operates-in-the-next-round 0 'operated -7
@@ -132,7 +132,7 @@ wait "$waiting" || got=$?
 mv waited out
 mv said err
 judge waits-for-a-silent-one 3 'rows 0' "$got"
-says tells-of-silence 'dnp: the concentrator: the stream could not be read: no answer in 3000 ms'
+says tells-of-silence 'dnp: the concentrator: no answer in 3000 ms'
 took=$(<held)
 if ((took >= 2990 && took <= 4000)); then echo ok waits-for-each-in-turn; else echo "FAILED waits-for-each-in-turn: $took ms"; fi
 polls fails-with-one-that-leaves 3 'rows 0'

@@ -181,6 +181,17 @@ holds has-migrated old.db "SELECT number, seq FROM form, sqlite_sequence WHERE n
 holds keeps-its-places old.db 'SELECT sum(cap) FROM lanes' 36
 holds has-the-planned-places-for-the-second old.db 'SELECT sum(cap) FROM lanes_b' 900
 holds keeps-events-for-the-second old.db 'SELECT count(*) FROM queue_b' 6
+
+# At another address: who looks for it at this one finds nobody
+for address in here 127.0.0.1:1 ''; do
+    expect "listens-at-no:$address" 2 '' '' concentrate --plan plan.toml $words --bind "$address"
+done
+"$dnp" concentrate $refused --queue bound.db --controls bound-below.db --bind 127.0.0.2 --new >rounds 2>said </dev/null &
+concentrating=$!
+listens "$port"
+(: <"/dev/tcp/127.0.0.1/$port") 2>/dev/null && echo FAILED listens-at-one-address || echo ok listens-at-one-address
+(: <"/dev/tcp/127.0.0.2/$port") && echo ok is-reached-there || echo FAILED is-reached-there
+ended serves-at-another-address 0 'round 1 rows 3'
 gone
 
 # Substations that are not there, silent, send noise, or rows that are not planned: a line each, and the next one is polled
@@ -214,6 +225,6 @@ fails() {
     gone
 }
 fails one-that-is-not-there none 0 1000 "port $below: Connection refused (os error 111)"
-fails a-silent-one silent 1000 2000 'the stream could not be read: no answer in 1000 ms'
-fails noise noise 1000 2000 'the stream could not be read: no answer in 1000 ms'
-fails rows-that-are-not-planned stranger 1000 2000 'the stream could not be read: no answer in 1000 ms'
+fails a-silent-one silent 1000 2000 'no answer in 1000 ms'
+fails noise noise 1000 2000 'no answer in 1000 ms'
+fails rows-that-are-not-planned stranger 1000 2000 'no answer in 1000 ms'

@@ -116,6 +116,14 @@ done
 kill "$served"
 wait "$served"
 judge serves-without-an-end 0 $'served 3\nserved 3\nserved 3' 0
+# One without a line has nothing to begin again with
+: >day.txt
+serve --replay day.txt --repeat
+talks repeats-no-change <<'LINES'
+> C0 01 3C 02 06
+< C0 81 80 00
+LINES
+ended counts-without-changes 'served 1'
 # A replay that begins again does so after some time
 printf '0 change binary 0 1 01 1000\n0 change binary 0 0 01 2000\n' >day.txt
 rules="--plan plan.toml --station 0 --port $port"

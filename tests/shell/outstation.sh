@@ -99,12 +99,12 @@ nothing
 LINES
 ended counts-confirms-of-changes 'served 3'
 # What became due before a master connected is changed when it does, in order, and once
-printf '0 change binary 0 1 01 1000\n1 change binary 0 0 01 2000\n' >day.txt
+printf '0 change binary 0 1 01 1000\n1 change binary 0 0 01 281474976710655\n' >day.txt
 plan plan.toml binary='[1]'
 serve --connections 2 --replay day.txt --bind 127.0.0.1
 talks changes-what-was-due <<'LINES'
 > C0 01 3C 02 06
-< E0 81 80 00 02 02 28 02 00 00 00 81 E8 03 00 00 00 00 00 00 01 D0 07 00 00 00 00
+< E0 81 80 00 02 02 28 02 00 00 00 81 E8 03 00 00 00 00 00 00 01 FF FF FF FF FF FF
 > C0 00
 nothing
 LINES
@@ -114,7 +114,8 @@ talks changes-nothing-twice <<'LINES'
 LINES
 ended counts-both-masters $'served 2\nserved 1'
 rules="--plan plan.toml --station 0 --port $port"
-for line in '5 change binary 0 1 01' '5 chance binary 0 1 01 -' '5 change binary 0 1 1 -' '-5 change binary 0 1 01 -'; do
+for line in '5 change binary 0 1 01' '5 chance binary 0 1 01 -' '5 change binary 0 1 1 -' \
+    '7 change binary 0 1 01 281474976710656' '-5 change binary 0 1 01 -'; do
     printf '7 change binary 0 1 01 -\n%s\n' "$line" >wrong.txt
     expect "takes-no-replay-with:$line" 1 'refused line 2' '' outstation $rules --replay wrong.txt
 done

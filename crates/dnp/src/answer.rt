@@ -1,10 +1,9 @@
 //! `dnp answer`: the outstation's answer to one link frame.
 
-use crate::exit;
-use crate::fault::{Noted, lost, unwritten};
 use crate::options::{HINT, defaulted};
 use clap::{ArgMatches, Command};
 use dnp_daemons::{AnswerFault, answer_line, read_address, read_text, text_fault};
+use dnp_tcp::{Noted, exit, lost, unwritten};
 use std::alloc::{AllocError, Global};
 use std::io;
 use std::process::ExitCode;

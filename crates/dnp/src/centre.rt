@@ -1,27 +1,17 @@
 //! `dnp centre`: one of the two centres of a plan over files, which polls the concentrator by TCP.
 
-ghost use Rattle.dnp_concentrator.specs.Plan.{KeepsLimits};
-
-use crate::files::{Place, Stored};
 use crate::numbers::{MAX_EVERY, number_given};
 use crate::options::{HINT, defaulted, flag, plan, required, valued};
 use crate::plan_file::plan_given;
-use crate::planned::{has_output, look_at_book, look_at_journal};
-use crate::polls::{Pace, Polls};
-use crate::{exit, files};
 use clap::{ArgMatches, Command};
+use dnp_concentrator::MAX_SUBSTATIONS;
 use dnp_concentrator::addresses::{CENTRE, SECOND_CENTRE};
-use dnp_concentrator::{Centre, MAX_SUBSTATIONS, Plan};
-use dnp_controls::Book;
 use dnp_daemons::issue_in;
-use dnp_eventbuf::JournalStore;
+use dnp_files::{CentreWords, Place, PollPace, has_output, run_centre};
 use dnp_objects::Command as Control;
-use dnp_store::{ControlBook, Journal};
-use sqlite::{Alter, Connection};
+use dnp_tcp::exit;
 use std::alloc::{AllocError, Global};
-use std::net::{Net, TcpListener, TcpStream};
 use std::process::ExitCode;
-use std::rt::Clock;
 
 /// The subcommand's name.
 pub const NAME: &str = "centre";
@@ -129,18 +119,8 @@ pub(crate) fn command<'a>(alloc: Global) -> Result<Command<'a>, AllocError> {
 struct Words<'a> {
     /// The path of the plan's file.
     plan: &'a str,
-    /// The file of the journal.
-    journal: Place<'a>,
-    /// The file of the book of controls.
-    controls: Place<'a>,
-    /// The TCP port of the concentrator.
-    port: u16,
-    /// The centre's link address.
-    own: u16,
-    /// The control to be issued, and the substation that it is for.
-    issue: Option<(u8, Control)>,
-    /// How many polls there are, and when they begin.
-    pace: Pace,
+    /// Over which files the centre runs, and what it is to do.
+    run: CentreWords<'a>,
 }
 
 /// What the words say. Where one is wrong, that is printed.
@@ -156,8 +136,7 @@ fn words_given<'a, R: Eprint>(rt: &R, given: &ArgMatches<'a>) -> Option<Words<'a
     };
     let pace = pace_given(rt, given)?;
     let new = given.get_flag("new");
-    Some(Words {
-        plan: given.get_str("plan").unwrap_or(""),
+    let run = CentreWords {
         journal: Place {
             path: given.get_str("journal").unwrap_or(""),
             store: "journal",
@@ -172,18 +151,22 @@ fn words_given<'a, R: Eprint>(rt: &R, given: &ArgMatches<'a>) -> Option<Words<'a
         own,
         issue,
         pace,
+    };
+    Some(Words {
+        plan: given.get_str("plan").unwrap_or(""),
+        run,
     })
 }
 
 /// How many polls there are, and when they begin. Where a word is wrong, that is printed.
-fn pace_given<R: Eprint>(rt: &R, given: &ArgMatches<'_>) -> Option<Pace> {
+fn pace_given<R: Eprint>(rt: &R, given: &ArgMatches<'_>) -> Option<PollPace> {
     if given.get_str("every").is_none() {
-        return Some(Pace::Once);
+        return Some(PollPace::Once);
     }
     let every_ms = number_given(rt, given, "every", "MS", 1, MAX_EVERY)?;
     let count = number_given(rt, given, "polls", "N", 1, 1_000_000)?;
     let is_forever = given.get_flag("forever");
-    Some(Pace::ByClock {
+    Some(PollPace::ByClock {
         every_ms,
         polls: if is_forever { None } else { Some(count) },
     })
@@ -216,110 +199,12 @@ pub(crate) fn run(rt: &HostRuntime, given: &ArgMatches<'_>) -> anyhow::Result<Ex
         Ok(plan) => plan,
         Err(status) => return Ok(status),
     };
-    if let Some((substation, control)) = words.issue
+    if let Some((substation, control)) = words.run.issue
         && !has_output(&plan, substation, &control)
     {
         let text = given.get_str("issue").unwrap_or("");
         no_control(rt, text, "the plan has no such output");
         return Ok(ExitCode::from(exit::USAGE));
     }
-    Ok(start(rt, &words, &plan))
-}
-
-/// Opens the files, or makes them, runs the centre over them, and closes them.
-fn start(rt: &HostRuntime, words: &Words<'_>, plan: &Plan) -> ExitCode
-    requires { KeepsLimits plan.now }
-{
-    let journal = match journal_there(rt, &words.journal) {
-        Ok(journal) => journal,
-        Err(status) => return status,
-    };
-    let book = match files::book_there(rt, &words.controls) {
-        Ok(book) => book,
-        Err(status) => return status,
-    };
-    match carry_on(rt, words, plan, journal, book) {
-        Ok((status, journal, book)) => {
-            files::close_both(rt, &words.journal, journal, &words.controls, book, status)
-        }
-        Err(status) => status,
-    }
-}
-
-/// The journal in its file.
-fn journal_there(rt: &HostRuntime, place: &Place<'_>) -> Result<Journal<Stored>, ExitCode> {
-    let conn = files::connection(rt, place)?;
-    files::journal(rt, place, conn)
-}
-
-/// Runs the centre over its stores, and gives their databases back, with the exit status. Where it can't begin, the exit
-/// status alone is told.
-fn carry_on<S: Alter + Drop, R>(
-    rt: &R,
-    words: &Words<'_>,
-    plan: &Plan,
-    journal: Journal<S>,
-    book: ControlBook<S>,
-) -> Result<(ExitCode, Connection<S>, Connection<S>), ExitCode>
-where
-    R: AllocGlobal + Print + Eprint + Clock + Net<Listener = TcpListener, Stream = TcpStream>,
-    requires { KeepsLimits plan.now }
-{
-    match run_over(rt, words, plan, journal, book) {
-        Ok((status, journal, book)) => {
-            Ok((status, journal.into_connection(), book.into_connection()))
-        }
-        Err(status) => Err(status),
-    }
-}
-
-/// Runs a centre over these stores, and gives them back, with the exit status. Where it can't begin, why is said on
-/// standard error, and the exit status alone is told.
-fn run_over<J: JournalStore + Drop, B: Book + Drop, R>(
-    rt: &R,
-    words: &Words<'_>,
-    plan: &Plan,
-    journal: J,
-    book: B,
-) -> Result<(ExitCode, J, B), ExitCode>
-where
-    R: AllocGlobal + Print + Eprint + Clock + Net<Listener = TcpListener, Stream = TcpStream>,
-    requires { KeepsLimits plan.now }
-{
-    match Centre::new(rt.alloc(), plan, journal, book) {
-        Ok(mut centre) => {
-            let status = match run_once(rt, &mut centre, words, plan) {
-                Ok(()) => ExitCode::from(exit::DONE),
-                Err(status) => status,
-            };
-            let (journal, book) = centre.into_stores();
-            Ok((status, journal, book))
-        }
-        Err(fault) => {
-            let _ = eprintln!(rt; "dnp: {fault}");
-            Err(ExitCode::from(exit::FAULT))
-        }
-    }
-}
-
-/// Looks whether what the stores hold is of the plan, issues the control, and asks the concentrator. Where something
-/// fails, the exit status is told.
-fn run_once<J: JournalStore, B: Book, R>(
-    rt: &R,
-    centre: &mut Centre<J, B>,
-    words: &Words<'_>,
-    plan: &Plan,
-) -> Result<(), ExitCode>
-where
-    R: AllocGlobal + Print + Eprint + Clock + Net<Listener = TcpListener, Stream = TcpStream>,
-{
-    look_at_journal(rt, &words.journal, centre.journal(), plan)?;
-    look_at_book(rt, &words.controls, centre.book(), plan, true)?;
-    let polls = Polls {
-        plan,
-        port: words.port,
-        own: words.own,
-        pace: words.pace,
-    };
-    polls.run(rt, centre, words.issue.as_ref())
+    Ok(run_centre(rt, &words.run, plan))
 }

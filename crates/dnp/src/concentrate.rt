@@ -1,24 +1,15 @@
 //! `dnp concentrate`: a concentrator of a plan over files, which polls substations and serves one or two centres by TCP.
 
-ghost use Rattle.dnp_concentrator.specs.Plan.{KeepsLimits};
-
-use crate::files::{Place, Stored};
+use crate::addresses::{bind, bind_given};
 use crate::numbers::{MAX_EVERY, MAX_IDLE, number_given};
 use crate::options::{HINT, defaulted, flag, plan, required, valued};
 use crate::plan_file::plan_given;
-use crate::planned::{look_at_book, look_at_queue};
-use crate::rounds::{Pace, Rounds};
-use crate::{exit, files, rounds};
 use clap::{ArgMatches, Command};
-use dnp_concentrator::{Concentrator, Plan};
-use dnp_controls::Book;
-use dnp_eventbuf::{CENTRES, PairLanes};
-use dnp_store::{ControlBook, Queue};
-use sqlite::{Alter, Connection};
+use dnp_concentrator::Plan;
+use dnp_files::{ConcentratorWords, Place, RoundPace, run_concentrator};
+use dnp_tcp::exit;
 use std::alloc::{AllocError, Global};
-use std::net::{Net, TcpListener, TcpStream};
 use std::process::ExitCode;
-use std::rt::Clock;
 
 /// The subcommand's name.
 pub const NAME: &str = "concentrate";
@@ -52,7 +43,9 @@ ROUNDS
   nothing to the purpose for as long as the plan's response_ms, or ends the connection before all
   is answered, gives no rows: a line on standard error says why, and the round goes on with the
   next one. Then the round is printed.
-  Centres connect at all addresses of the machine, the first at --port, the second at --port2.
+  Centres connect at the address of --bind, the first at --port, the second at --port2: at
+  127.0.0.1, for centres on the same machine, unless another is given, as 0.0.0.0 for all addresses
+  of the machine, or one of IPv6 as ::1. Who reaches it may operate the substations' outputs.
   Without --port2 the first centre alone is served, and events wait for the second in lanes of their
   own, which drop the oldest when they are full, and count them.
   Its link address is 2 below and 9 above; substation S's is 10 + S, the first centre's is 1, and
@@ -141,6 +134,7 @@ pub(crate) fn command<'a>(alloc: Global) -> Result<Command<'a>, AllocError> {
         .arg(required(alloc, "controls", "FILE", CONTROLS))?
         .arg(required(alloc, "port", "P", PORT))?
         .arg(valued(alloc, "port2", "P", PORT2))?
+        .arg(bind(alloc))?
         .arg(required(alloc, "below", "P", BELOW))?
         .arg(defaulted(alloc, "rounds", "N", "1", ROUNDS))?
         .arg(valued(alloc, "every", "MS", EVERY))?
@@ -159,20 +153,8 @@ pub(crate) fn command<'a>(alloc: Global) -> Result<Command<'a>, AllocError> {
 struct Words<'a> {
     /// The path of the plan's file.
     plan: &'a str,
-    /// The file of the queue.
-    queue: Place<'a>,
-    /// The file of the book of controls.
-    controls: Place<'a>,
-    /// The TCP port for the first centre.
-    port: u16,
-    /// The TCP port for the second centre, if it is served.
-    port2: Option<u16>,
-    /// The TCP port of substation 0.
-    below: u16,
-    /// How many rounds there are, and when they begin.
-    pace: Pace,
-    /// Whether a queue for one centre is brought to the form for two.
-    migrates: bool,
+    /// Over which files the concentrator runs, and what it is to do.
+    run: ConcentratorWords<'a>,
 }
 
 /// What the words say. Where one is wrong, that is printed.
@@ -185,11 +167,11 @@ fn words_given<'a, R: Eprint>(rt: &R, given: &ArgMatches<'a>) -> Option<Words<'a
         }
         None => None,
     };
+    let bind = bind_given(rt, given)?;
     let below = number_given(rt, given, "below", "P", 1, 65_535)?;
     let pace = pace_given(rt, given)?;
     let new = given.get_flag("new");
-    Some(Words {
-        plan: given.get_str("plan").unwrap_or(""),
+    let run = ConcentratorWords {
         queue: Place {
             path: given.get_str("queue").unwrap_or(""),
             store: "queue",
@@ -200,41 +182,33 @@ fn words_given<'a, R: Eprint>(rt: &R, given: &ArgMatches<'a>) -> Option<Words<'a
             store: "book of controls",
             new,
         },
+        address: bind,
         port: u16::try_from(port).ok()?,
         port2,
         below: u16::try_from(below).ok()?,
         pace,
         migrates: given.get_flag("migrate"),
+    };
+    Some(Words {
+        plan: given.get_str("plan").unwrap_or(""),
+        run,
     })
 }
 
 /// How many rounds there are, and when they begin. Where a word is wrong, that is printed.
-fn pace_given<R: Eprint>(rt: &R, given: &ArgMatches<'_>) -> Option<Pace> {
+fn pace_given<R: Eprint>(rt: &R, given: &ArgMatches<'_>) -> Option<RoundPace> {
     let count = number_given(rt, given, "rounds", "N", 1, 1_000_000)?;
     let idle = number_given(rt, given, "idle", "SECONDS", 1, MAX_IDLE)?;
     if given.get_str("every").is_none() {
-        return Some(Pace::ByCentres { rounds: count });
+        return Some(RoundPace::ByCentres { rounds: count });
     }
     let every_ms = number_given(rt, given, "every", "MS", 1, MAX_EVERY)?;
     let is_forever = given.get_flag("forever");
-    Some(Pace::ByClock {
+    Some(RoundPace::ByClock {
         every_ms,
         rounds: if is_forever { None } else { Some(count) },
         idle,
     })
-}
-
-impl<'a> Words<'a> {
-    /// The rounds over this plan.
-    fn rounds_of<'p>(&self, plan: &'p Plan) -> Rounds<'p> {
-        Rounds {
-            plan,
-            port: self.port,
-            port2: self.port2,
-            below: self.below,
-            pace: self.pace,
-        }
-    }
 }
 
 /// Runs the concentrator that the given words name, and tells the exit status.
@@ -243,14 +217,14 @@ pub(crate) fn run(rt: &HostRuntime, given: &ArgMatches<'_>) -> anyhow::Result<Ex
         return Ok(ExitCode::from(exit::USAGE));
     };
     Ok(match plan_given(rt, words.plan) {
-        Ok(plan) if has_ports(rt, &words, &plan) => start(rt, &words, &plan),
+        Ok(plan) if has_ports(rt, &words.run, &plan) => run_concentrator(rt, &words.run, &plan),
         Ok(_) => ExitCode::from(exit::USAGE),
         Err(status) => status,
     })
 }
 
 /// Whether each substation of the plan has a port. Where one has none, that is printed.
-fn has_ports<R: Eprint>(rt: &R, words: &Words<'_>, plan: &Plan) -> bool {
+fn has_ports<R: Eprint>(rt: &R, words: &ConcentratorWords<'_>, plan: &Plan) -> bool {
     let most = u16::MAX - words.below;
     if plan.substations.as_slice().len() <= usize::from(most) + 1 {
         return true;
@@ -260,105 +234,4 @@ fn has_ports<R: Eprint>(rt: &R, words: &Words<'_>, plan: &Plan) -> bool {
         words.below
     );
     false
-}
-
-/// Opens the files, or makes them, runs the concentrator over them, and closes them.
-fn start(rt: &HostRuntime, words: &Words<'_>, plan: &Plan) -> ExitCode
-    requires { KeepsLimits plan.now }
-{
-    let queue = match queue_there(rt, words, plan) {
-        Ok(queue) => queue,
-        Err(status) => return status,
-    };
-    let book = match files::book_there(rt, &words.controls) {
-        Ok(book) => book,
-        Err(status) => return status,
-    };
-    match carry_on(rt, words, plan, queue, book) {
-        Ok((status, queue, book)) => {
-            files::close_both(rt, &words.queue, queue, &words.controls, book, status)
-        }
-        Err(status) => status,
-    }
-}
-
-/// The queue in its file.
-fn queue_there(rt: &HostRuntime, words: &Words<'_>, plan: &Plan) -> Result<Queue<Stored>, ExitCode>
-    requires { KeepsLimits plan.now }
-{
-    let conn = files::connection(rt, &words.queue)?;
-    files::queue(
-        rt,
-        &words.queue,
-        conn,
-        plan.queue,
-        plan.queue2,
-        words.migrates,
-    )
-}
-
-/// Runs the concentrator over its stores, and gives their databases back, with the exit status. Where it can't begin, the
-/// exit status alone is told.
-fn carry_on<S: Alter + Drop, R>(
-    rt: &R,
-    words: &Words<'_>,
-    plan: &Plan,
-    queue: Queue<S>,
-    book: ControlBook<S>,
-) -> Result<(ExitCode, Connection<S>, Connection<S>), ExitCode>
-where
-    R: AllocGlobal + Print + Eprint + Clock + Net<Listener = TcpListener, Stream = TcpStream>,
-    requires { KeepsLimits plan.now }
-{
-    match run_over(rt, words, plan, queue, book) {
-        Ok((status, queue, book)) => Ok((status, queue.into_connection(), book.into_connection())),
-        Err(status) => Err(status),
-    }
-}
-
-/// Runs a concentrator over these stores, and gives them back, with the exit status. Where it can't begin, why is said on
-/// standard error, and the exit status alone is told.
-fn run_over<Q: PairLanes + Drop, B: Book + Drop, R>(
-    rt: &R,
-    words: &Words<'_>,
-    plan: &Plan,
-    queue: Q,
-    book: B,
-) -> Result<(ExitCode, Q, B), ExitCode>
-where
-    R: AllocGlobal + Print + Eprint + Clock + Net<Listener = TcpListener, Stream = TcpStream>,
-    requires { KeepsLimits plan.now }
-{
-    match Concentrator::new(rt.alloc(), plan, queue, book) {
-        Ok(mut concentrator) => {
-            let status = match run_rounds(rt, &mut concentrator, words, plan) {
-                Ok(()) => ExitCode::from(exit::DONE),
-                Err(status) => status,
-            };
-            let (queue, book) = concentrator.into_stores();
-            Ok((status, queue, book))
-        }
-        Err(fault) => {
-            let _ = eprintln!(rt; "dnp: {fault}");
-            Err(ExitCode::from(exit::FAULT))
-        }
-    }
-}
-
-/// Looks whether what the stores hold is of the plan, listens, and does the rounds. Where that ends before the last, the
-/// exit status is told.
-fn run_rounds<Q: PairLanes, B: Book, R>(
-    rt: &R,
-    concentrator: &mut Concentrator<Q, B>,
-    words: &Words<'_>,
-    plan: &Plan,
-) -> Result<(), ExitCode>
-where
-    R: AllocGlobal + Print + Eprint + Clock + Net<Listener = TcpListener, Stream = TcpStream>,
-{
-    for centre in 0..CENTRES {
-        look_at_queue(rt, &words.queue, concentrator.queue(), centre, plan)?;
-    }
-    look_at_book(rt, &words.controls, concentrator.book(), plan, false)?;
-    rounds::run(rt, concentrator, &words.rounds_of(plan))
 }

@@ -1,19 +1,9 @@
 //! `dnp decode`: octets as lines for people.
 
-mod capture;
-mod hexadecimal;
-mod item;
-mod packet;
-mod printing;
-
-use crate::decode::capture::{CaptureFault, items_of_capture};
-use crate::decode::hexadecimal::items_of_text;
-use crate::decode::item::{Item, place_octets};
-use crate::decode::printing::Printer;
-use crate::exit;
-use crate::fault::{Noted, lost, unwritten};
 use crate::options::{HINT, flag, valued};
 use clap::{ArgMatches, Command};
+use dnp_captures::{CaptureFault, Item, Printer, items_of_capture, items_of_text, place_octets};
+use dnp_tcp::{Noted, exit, lost, unwritten};
 use std::alloc::{AllocError, Global};
 use std::io::{BufWriter, Read, Write};
 use std::process::ExitCode;

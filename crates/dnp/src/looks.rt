@@ -1,10 +1,10 @@
 //! What `dnp sim` writes to look at: a trace, a chart and a capture of a script's run.
 
-use crate::fault::{lost, unwritten};
 use crate::texts::Texts;
 use crate::watched::watch;
 use clap::ArgMatches;
 use dnp_daemons::{read_plan, read_script};
+use dnp_tcp::{lost, unwritten};
 use dnp_trace::{Log, capture_octets, chart_text, trace_text};
 use std::alloc::AllocError;
 use std::io::Write;

@@ -1,11 +1,11 @@
 //! `dnp loopback`: a whole system of a plan, run by a script, whose units go over TCP to the program itself.
 
-use crate::fault::{Noted, lost};
 use crate::options::plan;
 use crate::texts::{Texts, finish, limit, plain, stores_given, texts_given};
 use crate::wire::Wire;
 use clap::{ArgMatches, Command};
 use dnp_daemons::{Stores, loop_text};
+use dnp_tcp::{Noted, lost};
 use std::alloc::{AllocError, Global};
 use std::io;
 use std::io::BufWriter;

@@ -3,48 +3,29 @@
 //! Where standard error is lost, the exit status alone tells what was wrong.
 #![tactic(auto)]
 
-mod alive;
+mod addresses;
 mod answer;
-mod asking;
-mod attended;
 mod centre;
 mod concentrate;
 mod decode;
-mod door;
-mod exit;
-mod fault;
-mod files;
-mod gate;
-mod guest;
-mod logged;
 mod looks;
 mod loopback;
 mod numbers;
 mod options;
 mod outstation;
-mod patience;
-mod pending;
 mod plan_file;
-mod planned;
 mod poll;
-mod polls;
 mod replay;
-mod rounds;
 mod rows;
-mod seat;
-mod seats;
-mod serving;
 mod sim;
 mod texts;
-mod turn;
-mod visit;
 mod watched;
 mod wire;
 
-use crate::fault::unwritten;
 use crate::options::HINT;
 use clap::error::ErrorKind;
 use clap::{ArgMatches, Command};
+use dnp_tcp::{exit, unwritten};
 use std::alloc::{AllocError, Global};
 use std::process::ExitCode;
 use std::{env, io};

@@ -1,14 +1,14 @@
 //! `dnp outstation`: an outstation of a plan, for masters that connect by TCP.
 
-use crate::alive::{Listening, live_on_connections};
-use crate::exit;
+use crate::addresses::{bind, bind_given};
 use crate::numbers::{MAX_IDLE, number_given};
 use crate::options::{HINT, defaulted, flag, plan, required, valued};
 use crate::plan_file::{plan_text, refused};
-use crate::replay::{Replay, replay_given};
+use crate::replay::replay_given;
 use clap::{ArgMatches, Command};
 use dnp_concentrator::MAX_SUBSTATIONS;
 use dnp_daemons::{Living, PlanTextFault, outstation_address, planned_outstation};
+use dnp_tcp::{Listening, Replay, exit, live_on_connections};
 use std::alloc::{AllocError, Global};
 use std::net::{IpAddr, Net, TcpListener, TcpStream};
 use std::process::ExitCode;
@@ -93,8 +93,6 @@ const STATION: &str = "The number of the substation in the plan, from 0";
 
 const PORT: &str = "The TCP port to listen on, 1 to 65535; DNP3's own is 20000";
 
-const BIND: &str = "The address to listen at, as 127.0.0.1 or 0.0.0.0";
-
 const REPLAY: &str = "Changes of points, a line each, to be made while it runs";
 
 const CONNECTIONS: &str = "How many connections to serve, 1 to 1000000";
@@ -115,7 +113,7 @@ pub(crate) fn command<'a>(alloc: Global) -> Result<Command<'a>, AllocError> {
         .arg(plan(alloc))?
         .arg(required(alloc, "station", "S", STATION))?
         .arg(required(alloc, "port", "P", PORT))?
-        .arg(defaulted(alloc, "bind", "ADDRESS", "127.0.0.1", BIND))?
+        .arg(bind(alloc))?
         .arg(defaulted(alloc, "connections", "N", "1", CONNECTIONS))?
         .arg(flag(alloc, "forever", FOREVER).conflicts_with("connections")?)?
         .arg(defaulted(alloc, "idle", "SECONDS", "60", IDLE))?
@@ -153,7 +151,7 @@ fn words_given<'a, R: Eprint>(rt: &R, given: &ArgMatches<'a>) -> Option<Words<'a
     let port = number_given(rt, given, "port", "P", 1, 65_535)?;
     let connections = number_given(rt, given, "connections", "N", 1, 1_000_000)?;
     let idle = number_given(rt, given, "idle", "SECONDS", 1, MAX_IDLE)?;
-    let bind = address_given(rt, given.get_str("bind").unwrap_or(""))?;
+    let bind = bind_given(rt, given)?;
     let is_forever = given.get_flag("forever");
     Some(Words {
         plan: given.get_str("plan").unwrap_or(""),
@@ -166,20 +164,6 @@ fn words_given<'a, R: Eprint>(rt: &R, given: &ArgMatches<'a>) -> Option<Words<'a
         repeats: given.get_flag("repeat"),
         is_said: given.get_flag("verbose"),
     })
-}
-
-/// The address that a word says. Where it says none, that is printed.
-fn address_given<R: Eprint>(rt: &R, text: &str) -> Option<IpAddr> {
-    match IpAddr::parse_ascii(text.as_bytes()) {
-        Ok(address) => Some(address),
-        Err(_) => {
-            let _ = eprintln!(rt;
-                "error: invalid value '{}' for '--bind <ADDRESS>': not an IP address{HINT}",
-                text.escape_debug()
-            );
-            None
-        }
-    }
 }
 
 /// Serves the outstation that the given words name, and tells the exit status.

@@ -3,10 +3,9 @@
 ghost use Rattle.std.specs.Prelude.{IfOk};
 ghost use Rattle.dnp_concentrator.specs.Plan.{KeepsLimits};
 
-use crate::exit;
-use crate::fault::{lost, unwritten};
 use dnp_concentrator::Plan;
 use dnp_daemons::{PlanTextFault, plan_fault, read_plan};
+use dnp_tcp::{exit, lost, unwritten};
 use std::io::Read;
 use std::process::ExitCode;
 use std::rt::Files;

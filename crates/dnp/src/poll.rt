@@ -1,15 +1,11 @@
 //! `dnp poll`: a master in one line against an outstation of which it has no plan.
 
-mod round;
-mod screen;
 mod words;
 
-use crate::exit;
-use crate::fault::lost;
 use crate::options::{defaulted, flag, valued};
-use crate::poll::round::Rounds;
-use crate::poll::words::{Words, tasks_of, words_given};
+use crate::poll::words::{tasks_of, words_given};
 use clap::{Arg, ArgMatches, Command};
+use dnp_tcp::{RoundSettings, Rounds, exit, lost};
 use std::alloc::{AllocError, Global};
 use std::io;
 use std::net::{Net, TcpListener, TcpStream, ToSocketAddrs};
@@ -129,19 +125,19 @@ where
         return Ok(ExitCode::from(exit::USAGE));
     };
     let tasks = tasks_of(rt.alloc(), &words)?;
-    let stream = match connect(rt, &words) {
+    let stream = match connect(rt, &words.rounds) {
         Ok(stream) => stream,
-        Err(cause) => return Ok(lost(rt, words.place, &cause)),
+        Err(cause) => return Ok(lost(rt, words.rounds.place, &cause)),
     };
     Ok(Rounds {
-        words: &words,
+        words: &words.rounds,
         stream: &stream,
     }
     .ask_all(rt, tasks.as_slice()))
 }
 
 /// Connects to the outstation, at the first of the host's addresses that answers.
-fn connect<R>(rt: &R, words: &Words<'_>) -> io::Result<TcpStream>
+fn connect<R>(rt: &R, words: &RoundSettings<'_>) -> io::Result<TcpStream>
 where
     R: Net<Listener = TcpListener, Stream = TcpStream>,
 {

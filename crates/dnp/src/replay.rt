@@ -1,13 +1,12 @@
 //! Changes of points, replayed from a file, once or again and again.
 
-use crate::exit;
-use crate::fault::{lost, unwritten};
-use crate::logged::utc;
-use crate::visit::moment;
+ghost use Rattle.std.specs.Prelude.{◌<◌, IfOk, IfSome};
+
 use dnp_daemons::{Change, number_in, octet_of};
-use dnp_objects::Kind;
+use dnp_objects::{Kind, MAX_TIME};
 use dnp_pointdb::Reading;
-use std::alloc::Global;
+use dnp_tcp::{Both, Replay, exit, lost, unwritten};
+use std::alloc::AllocError;
 use std::io::Read;
 use std::process::ExitCode;
 use std::rt::{Clock, Files};
@@ -15,36 +14,6 @@ use std::{fs, str};
 
 /// The most octets of a replay that are read. So no file can fill the memory.
 const MAX_REPLAY: u64 = 16 * 1_024 * 1_024;
-
-/// Times are below this: 2^48 ms since 1970-01-01 00:00 UTC.
-const MAX_TIME: u64 = 1 << 48;
-
-/// A moment by both clocks of the machine.
-#[derive(Clone, Copy)]
-struct Both {
-    /// The moment, in milliseconds, by the clock of the session.
-    moment: u64,
-    /// The time, in milliseconds since 1970-01-01 00:00 UTC.
-    time: u64,
-}
-
-impl Both {
-    /// Now.
-    fn now<R: Clock>(rt: &R) -> Both {
-        Both {
-            moment: moment(rt, 0),
-            time: utc(rt),
-        }
-    }
-
-    /// The time of another moment, below 2^48.
-    fn time_at(self, moment: u64) -> u64 {
-        let since = moment.saturating_sub(self.moment);
-        let until = self.moment.saturating_sub(moment);
-        let time = self.time.saturating_sub(until).saturating_add(since);
-        time.min(MAX_TIME - 1)
-    }
-}
 
 /// Why a line of a replay doesn't fit.
 #[derive(Clone, Copy)]
@@ -125,7 +94,9 @@ fn ms_in(word: &str, before: u64) -> Result<u64, Reason> {
 }
 
 /// The time of a change that is due so many milliseconds from the start, by a word.
-fn time_in(word: &str, ms: u64, start: Both) -> Result<Option<u64>, Reason> {
+fn time_in(word: &str, ms: u64, start: Both) -> Result<Option<u64>, Reason>
+    ensures { IfOk result (λ time. IfSome time (λ known. known < MAX_TIME)) }
+{
     match word {
         "-" => Ok(None),
         "now" => Ok(Some(start.time_at(start.moment.saturating_add(ms)))),
@@ -213,100 +184,34 @@ struct Misfit {
     reason: Reason,
 }
 
-/// Changes of points that are made in order, once or again and again.
-#[derive(Drop)]
-pub(crate) struct Replay {
-    /// The changes.
-    changes: Vec<Change>,
-    /// Of each, whether its time is that at which it is due.
-    is_dated: Vec<bool>,
-    /// How many of them are made.
-    made: usize,
-    /// After how long it begins again, in milliseconds, if it does.
-    again: Option<u64>,
-}
-
-impl Replay {
-    /// No changes.
-    pub(crate) fn new(alloc: Global) -> Replay {
-        Replay {
-            changes: Vec::new(alloc),
-            is_dated: Vec::new(alloc),
-            made: 0,
-            again: None,
-        }
-    }
-
-    /// The changes that are left, until it begins again.
-    pub(crate) fn left(&self) -> &[Change] {
-        self.changes.as_slice().get(self.made..).unwrap_or(&[])
-    }
-
-    /// Only so many are left.
-    pub(crate) fn keep(&mut self, left: usize) {
-        self.made = self.changes.len().saturating_sub(left);
-    }
-
-    /// The moment at which it begins again, if it does, in milliseconds.
-    pub(crate) fn ends(&self) -> Option<u64> {
-        match (self.again, self.changes.last()) {
-            (Some(_), Some(change)) => Some(change.at),
-            _ => None,
-        }
-    }
-
-    /// Begins again where all changes are made: each is due as long after the last one of before as it was after the start.
-    pub(crate) fn begin_again<R: Clock>(&mut self, rt: &R) {
-        let Some(length) = self.again else {
-            return;
-        };
-        if self.made < self.changes.len() {
-            return;
-        }
-        let both = Both::now(rt);
-        for (change, is_dated) in self.changes.iter_mut().zip(self.is_dated.iter()) {
-            change.at = change.at.saturating_add(length);
-            if *is_dated {
-                change.reading.time = Some(both.time_at(change.at));
+/// Adds the changes of a text that begins then, up to its first line that doesn't fit; they begin again where that is asked
+/// for.
+fn add_all(
+    replay: &mut Replay,
+    text: &str,
+    begins: Both,
+    repeats: bool,
+) -> Result<Result<(), Misfit>, AllocError> {
+    let mut line = 0u64;
+    let mut before = 0;
+    for words in text.lines() {
+        line = line.saturating_add(1);
+        match change_in(words, before, begins) {
+            Ok(change) => {
+                before = change.at.saturating_sub(begins.moment);
+                replay.add(change, words.ends_with(" now"))?;
             }
+            Err(reason) => return Ok(Err(Misfit { line, reason })),
         }
-        self.made = 0;
     }
-
-    /// The next change, where it is due at this moment: it counts as made.
-    pub(crate) fn next_due(&mut self, now: u64) -> Option<Change> {
-        let change = *self.left().first()?;
-        if change.at > now {
-            return None;
+    if repeats && line > 0 {
+        if before == 0 {
+            let reason = Reason::Again;
+            return Ok(Err(Misfit { line, reason }));
         }
-        self.made = self.made.saturating_add(1);
-        Some(change)
+        replay.repeat(before);
     }
-
-    /// Adds the changes of a text that begins then, up to its first line that doesn't fit.
-    fn add(&mut self, text: &str, begins: Both) -> anyhow::Result<Result<(), Misfit>> {
-        let mut line = 0u64;
-        let mut before = 0;
-        for words in text.lines() {
-            line = line.saturating_add(1);
-            match change_in(words, before, begins) {
-                Ok(change) => {
-                    before = change.at.saturating_sub(begins.moment);
-                    self.changes.push(change)?;
-                    self.is_dated.push(words.ends_with(" now"))?;
-                }
-                Err(reason) => return Ok(Err(Misfit { line, reason })),
-            }
-        }
-        if self.again.is_some() && line > 0 {
-            self.again = Some(before);
-            if before == 0 {
-                let reason = Reason::Again;
-                return Ok(Err(Misfit { line, reason }));
-            }
-        }
-        Ok(Ok(()))
-    }
+    Ok(Ok(()))
 }
 
 /// The changes that a replay asks for, from now on, in order, once or again and again. Where the file can't be read or a
@@ -324,8 +229,7 @@ pub(crate) fn replay_given<R: AllocGlobal + Print + Eprint + Files + Clock>(
         return Ok(Err(refused(rt, path, 1, "the file is not UTF-8")));
     };
     let mut replay = Replay::new(rt.alloc());
-    replay.again = if repeats { Some(0) } else { None };
-    match replay.add(text, Both::now(rt))? {
+    match add_all(&mut replay, text, Both::now(rt), repeats)? {
         Ok(()) => Ok(Ok(replay)),
         Err(misfit) => Ok(Err(refused(rt, path, misfit.line, said(misfit.reason)))),
     }

@@ -3,13 +3,12 @@
 mod files;
 mod words;
 
-use crate::exit;
-use crate::fault::{lost, unwritten};
 use crate::options::{defaulted, flag, valued};
 use crate::rows::files::Opened;
 use crate::rows::words::{Words, words_given};
 use clap::{ArgMatches, Command};
 use dnp_rows::{Form, PrintFault, ReadFault, Store, Stored, head_line, print_over};
+use dnp_tcp::{exit, lost, unwritten};
 use sqlite::{Error, ErrorCode};
 use std::alloc::{AllocError, Global};
 use std::io::Write;

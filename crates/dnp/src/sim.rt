@@ -1,12 +1,11 @@
 //! `dnp sim`: a whole system of a plan, run by a script.
 
-use crate::exit;
-use crate::fault::Noted;
 use crate::looks::{misuse, write_looks};
 use crate::options::{HINT, flag, plan, valued};
 use crate::texts::{Texts, finish, limit, plain, stores_given, texts_given};
 use clap::{ArgMatches, Command};
 use dnp_daemons::{Stores, sim_text};
+use dnp_tcp::{Noted, exit};
 use dnp_trace::report_json;
 use std::alloc::{AllocError, Global};
 use std::io;

@@ -2,8 +2,6 @@
 
 ghost use Rattle.dnp_concentrator.specs.Plan.{KeepsLimits};
 
-use crate::exit;
-use crate::fault::{Noted, lost, unwritten};
 use crate::numbers::number_given;
 use crate::options::{defaulted, flag};
 use crate::plan_file::{plan_text, refused};
@@ -11,6 +9,7 @@ use crate::wire::Wire;
 use clap::{Arg, ArgMatches};
 use dnp_concentrator::Plan;
 use dnp_daemons::{PlanTextFault, ScriptStop, Stores, idle_lines, read_plan, script_fault};
+use dnp_tcp::{Noted, exit, lost, unwritten};
 use dnp_world::Cause;
 use std::alloc::{AllocError, Global};
 use std::io::{BufWriter, Read, Write};

@@ -1,6 +1,6 @@
 //! Requests and responses from octets, and the confirmation of one.
-ghost use Rattle.std.specs.Prelude.{◌≡◌, ◌%◌, IfOk, IfErr};
-ghost use Rattle.std.specs.Result.{IsOkAnd};
+ghost use Rattle.std.specs.Prelude.{◌≡◌, ◌%◌, Ok, IfOk, IfErr, IsTrue};
+ghost use Rattle.std.specs.Result.{IsOkAnd, is_ok};
 ghost use Rattle.dnp_appfragment.specs.declared.fault.AppFault.{AppFault as FaultValue};
 ghost use Rattle.dnp_appfragment.specs.Fragments as spec;
 ghost use Rattle.dnp_appfragment.specs.Fragments.{Asked, Answered, IsRequest, IsResponse, request_octets, confirmation};
@@ -96,6 +96,28 @@ pub fn read_request(octets: &[u8]) -> Result<Request<'_>, AppFault>
     ensures place { IfOk result (λ r. Ends octets.entry r.headers.rest) }
 {
     request_of(octets)
+}
+
+/// The request that the octets are, which are known to be one: they were read before. Nothing of them is checked again.
+#[tactic(auto, unfolding(crate::specs::Meaning::request_at, crate::specs::Reading::headers_at))]
+pub fn known_request(octets: &[u8]) -> Request<'_>
+    requires { IsTrue (is_ok (request_at octets.now)) }
+    ensures value { request_at octets.now ≡ Ok (request result) }
+    // The headers lie in the octets, to their end.
+    ensures place { Ends octets.entry result.headers.rest }
+{
+    let [control, code, body @ ..] = octets else {
+        unreachable!();
+    };
+    let Some(function) = Function::of_octet(*code) else {
+        unreachable!();
+    };
+    let form = form_of(function);
+    Request {
+        control: Control::read(*control),
+        function,
+        headers: Headers::known(form, looked_at(form, body)),
+    }
 }
 
 /// The response that the octets are (IEEE Std 1815-2012, application layer).

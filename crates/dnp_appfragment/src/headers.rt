@@ -30,10 +30,11 @@ impl<'a> Model for Headers<'a> {
 }
 
 impl<'a> Headers<'a> {
-    ghost use Rattle.std.specs.Prelude.{◌≡◌, IfOk, drop, length};
+    ghost use Rattle.std.specs.Prelude.{◌≡◌, IfOk, IsTrue, drop, length};
     ghost use Rattle.dnp_appfragment.specs.declared.table.Form.TheVariants as form;
     ghost use Rattle.dnp_appfragment.specs.EventRows.{events_in};
-    ghost use Rattle.dnp_appfragment.specs.Headers.{Context, AreHeaders};
+    ghost use Rattle.dnp_appfragment.specs.Headers.{Context, AreHeaders, begin};
+    ghost use Rattle.dnp_appfragment.specs.Left.{is_whole, headers_of};
     ghost use Rattle.dnp_appfragment.specs.Places.{Ends};
     ghost use Rattle.dnp_appfragment.specs.Seen.{Gives};
     ghost use Rattle.dnp_appfragment.specs.Reading.{headers_at};
@@ -57,6 +58,19 @@ impl<'a> Headers<'a> {
             common: None,
             rest: octets,
         })
+    }
+
+    /// The headers that divide the octets, which are known to be divided: nothing is looked at.
+    pub(crate) fn known(form: Form, octets: &'a [u8]) -> Headers<'a>
+        requires { IsTrue (is_whole form begin octets.now) }
+        ensures headers { result.headers ≡ headers_of form octets.now }
+        ensures rest { result.rest ≡ octets.entry }
+    {
+        Headers {
+            form,
+            common: None,
+            rest: octets,
+        }
     }
 
     /// The headers from the k-th on, counted from 0, and none past the end. They lie in the same

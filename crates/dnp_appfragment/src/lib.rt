@@ -32,7 +32,7 @@ pub use builder::{Builder, Full};
 pub use control::Control;
 pub use dnp_objects::MAX_FRAGMENT;
 pub use fault::AppFault;
-pub use fragments::{confirm, read_request, read_response};
+pub use fragments::{confirm, known_request, read_request, read_response};
 pub use function::Function;
 pub use header::{Header, Range};
 pub use headers::Headers;

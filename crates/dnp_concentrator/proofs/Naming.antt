@@ -24,12 +24,3 @@ pub first_later : (h : Head) (k n : ℕ) → k < n → command_at h k ≡ None
 first_later h k n less is =
     ap (λ (o : Option Command). slice_get (option_to_list o ++ commands_from h (k + 1) (n - (k + 1))) 0) (sym is)
     ∙ ap (λ (cs : List Command). slice_get cs 0) (sym (more_from (λ i. option_to_list (command_at h i)) k n less))
-
--- the first of two lists, one after the other
-pub first_of_both : (xs ys : List Command) (c : Command) → slice_get xs 0 ≡ Some c → slice_get (xs ++ ys) 0 ≡ Some c
-first_of_both [] ys c is = absurd (cc)
-first_of_both (x ∷ xs) ys c is = is
-
-pub first_of_second : (xs ys : List Command) → slice_get xs 0 ≡ None → slice_get (xs ++ ys) 0 ≡ slice_get ys 0
-first_of_second [] ys is = refl
-first_of_second (x ∷ xs) ys is = absurd (cc)

@@ -2,6 +2,7 @@
 use Rattle.std.specs.Prelude.{◌≡◌, ◌≢◌, ℕ, ◌==◌, Bool, true, false, not, ◌&&◌, IsTrue, List, [], ◌∷◌, ◌++◌, Option, Some, None, IfSome, Result, Err, IfErr, ⊤}
 use Rattle.std.specs.Option.{IsSomeAnd}
 use Rattle.dnp_objects.specs.declared.command.Command.{Command}
+use Rattle.arrayvec.specs.ArrayVec.{ArrayVec}
 use Rattle.dnp_appfragment.specs.Fragments.{request_octets}
 use Rattle.dnp_controls.specs.declared.book.Entry.{Entry}
 use Rattle.dnp_controls.specs.declared.book.State as entry
@@ -18,6 +19,8 @@ use Rattle.dnp_concentrator.specs.declared.progress.Stage.{Stage}
 use Rattle.dnp_concentrator.specs.declared.progress.Stage.TheVariants.{Selecting, Selected, Operating, Known}
 use Rattle.dnp_concentrator.specs.declared.relayed.Relayed.{Relayed}
 use Rattle.dnp_concentrator.specs.declared.relayed.Relayed.TheVariants as relayed
+use Rattle.dnp_concentrator.specs.declared.relayed.RelayedStep.{RelayedStep}
+use Rattle.dnp_concentrator.specs.declared.relayed.RelayedStep.TheVariants as relayed_step
 use Rattle.dnp_concentrator.specs.Relaying.{Relaying, Step, Waits, Selects, Operates, Finishes}
 
 -- ---- what is answered
@@ -32,6 +35,20 @@ Tells seq (Selects id command) (relayed.Selecting told request) = (told ≡ id) 
 Tells seq (Operates id command) (relayed.Sent told request) = (told ≡ id) × IsRequest request.items seq (Operate command)
 Tells seq (Finishes id status) (relayed.Finished told told_status) = (told ≡ id) × (told_status ≡ status)
 Tells seq _ _ = ⊥
+
+-- an answer whose request, if it has one, stands in this fragment
+abbrev pub with_request : RelayedStep → ArrayVec ℕ → Relayed
+with_request relayed_step.Nothing request = relayed.Nothing
+with_request (relayed_step.Selecting id) request = relayed.Selecting id request
+with_request (relayed_step.Sent id) request = relayed.Sent id request
+with_request (relayed_step.Finished id status) request = relayed.Finished id status
+
+-- it has one
+abbrev pub has_request : RelayedStep → Bool
+has_request relayed_step.Nothing = false
+has_request (relayed_step.Selecting id) = true
+has_request (relayed_step.Sent id) = true
+has_request (relayed_step.Finished id status) = false
 
 -- the calls of the book that an answer tells of
 abbrev pub moves_of : Relayed → List Move

@@ -1,12 +1,13 @@
 //! Outputs over a book.
 
-ghost use Rattle.std.specs.Prelude.{◌==◌, ◌≡◌, ◌<◌, ◌≤◌, None, OnOk, IfErr, IsSome, ⊤};
+ghost use Rattle.std.specs.Prelude.{◌==◌, ◌≡◌, ◌<◌, ◌≤◌, None, OnOk, IfErr, IfSome, IsSome, ⊤};
 ghost use Rattle.std.specs.Borrow.{Lends, sem};
 ghost use Rattle.dnp_objects.specs.Status as status;
 ghost use Rattle.dnp_objects.specs.Stores.{IsStoreCall};
 ghost use Rattle.dnp_concentrator.specs.contracts.book_outputs.BookOutputs.{the_row};
 ghost use Rattle.dnp_concentrator.specs.BookOutputs.{map_in, book_in, reserved_in, with_book, with_reserved, obeys_code, can_relay, relay_check, HoldsSame, IsWell, added_for, store_fault};
 ghost use Rattle.dnp_objects.specs.declared.limits.TheConstants.{MAX_ID};
+ghost use Rattle.dnp_concentrator.specs.declared.limits.TheConstants.{MAX_SUBSTATIONS};
 ghost use Rattle.dnp_concentrator.specs.Mapped.{command_below};
 
 use crate::index_map::IndexMap;
@@ -110,19 +111,21 @@ impl<B: Book> BookOutputs<B> {
         &mut self.book
     }
 
-    /// Whether the command's output is a substation's, and a block obeys the code rule.
-    fn can_relay(&self, command: &Command) -> bool
+    /// Whether the command's output is a substation's, as it was looked up, and a block obeys the code rule.
+    fn can_relay(&self, command: &Command, below: &Option<(u8, Command)>) -> bool
+        requires { below.now ≡ command_below (map_in self.now) command.now }
         ensures { result ≡ can_relay (map_in self.now) command.now }
     {
-        self.map.command_below(command).is_some() && obeys_code(command)
+        below.is_some() && obeys_code(command)
     }
 
     /// What a command is answered: NOT_SUPPORTED where its output is no substation's or a block breaks the code rule, else
-    /// ALREADY_ACTIVE where another centre has its point reserved, else SUCCESS.
-    fn status_of(&self, command: &Command) -> Status
+    /// ALREADY_ACTIVE where another centre has its point reserved, else SUCCESS. Its output was looked up already.
+    fn status_of(&self, command: &Command, below: &Option<(u8, Command)>) -> Status
+        requires { below.now ≡ command_below (map_in self.now) command.now }
         ensures { result ≡ relay_check (map_in self.now) (reserved_in self.now) command.now }
     {
-        if !self.can_relay(command) {
+        if !self.can_relay(command, below) {
             Status::NOT_SUPPORTED
         } else if is_reserved(&self.reserved, command) {
             Status::ALREADY_ACTIVE
@@ -131,18 +134,19 @@ impl<B: Book> BookOutputs<B> {
         }
     }
 
-    /// Adds the command to the book for its substation, with the substation's own index.
-    fn add(&mut self, alloc: Global, command: &Command) -> Result<(), StoreFault>
+    /// Adds a command to the book for its substation, as it goes there: with the substation's own index.
+    fn add(&mut self, alloc: Global, below: Option<(u8, Command)>) -> Result<(), StoreFault>
+        requires { IfSome below (λ found. found.0 < MAX_SUBSTATIONS) }
         ensures map { map_in self.new ≡ map_in self.old }
         ensures reserved { reserved_in self.new ≡ reserved_in self.old }
-        ensures call { IsStoreCall (IsWell B.honest B.is_stopped) (λ o. B.is_stopped (book_in o)) (λ _. ⊤) (HoldsSame B.contents) (λ _ _. ⊤) StoreFault.Device (IsSome (command_below (map_in self.old) command.now)) self.old self.new result }
-        ensures added { IsWell B.honest B.is_stopped self.new → OnOk result (B.contents (book_in self.new) ≡ added_for (B.contents (book_in self.old)) (command_below (map_in self.old) command.now)) }
-        ensures not_exhausted { IsWell B.honest B.is_stopped self.new → IsSome (command_below (map_in self.old) command.now) → OnOk result ((B.contents (book_in self.old)).last_id < MAX_ID) }
+        ensures call { IsStoreCall (IsWell B.honest B.is_stopped) (λ o. B.is_stopped (book_in o)) (λ _. ⊤) (HoldsSame B.contents) (λ _ _. ⊤) StoreFault.Device (IsSome below) self.old self.new result }
+        ensures added { IsWell B.honest B.is_stopped self.new → OnOk result (B.contents (book_in self.new) ≡ added_for (B.contents (book_in self.old)) below) }
+        ensures not_exhausted { IsWell B.honest B.is_stopped self.new → IsSome below → OnOk result ((B.contents (book_in self.old)).last_id < MAX_ID) }
         ensures exhausted { IsWell B.honest B.is_stopped self.new → IfErr result (λ e. e ≡ StoreFault.Exhausted → MAX_ID ≤ (B.contents (book_in self.old)).last_id) }
         ensures exhausted_first { IsWell B.honest B.is_stopped self.new → IfErr result (λ e. e ≡ StoreFault.Memory → (B.contents (book_in self.old)).last_id < MAX_ID) }
     {
-        if let Some((substation, below)) = self.map.command_below(command) {
-            if let Err(fault) = self.book.add(alloc, substation, &below) {
+        if let Some((substation, command)) = below {
+            if let Err(fault) = self.book.add(alloc, substation, &command) {
                 return Err(fault_of(fault));
             }
         }
@@ -182,7 +186,7 @@ impl<B: Book> Outputs for BookOutputs<B> {
     }
 
     fn check(&self, command: &Command) -> Status {
-        self.status_of(command)
+        self.status_of(command, &self.map.command_below(command))
     }
 
     fn operate(
@@ -194,9 +198,10 @@ impl<B: Book> Outputs for BookOutputs<B> {
         let [command] = commands else {
             return Ok(statuses);
         };
-        let status = self.status_of(command);
+        let below = self.map.command_below(command);
+        let status = self.status_of(command, &below);
         if status == Status::SUCCESS {
-            self.add(alloc, command)?;
+            self.add(alloc, below)?;
         }
         statuses.push(status);
         Ok(statuses)

@@ -27,7 +27,7 @@ use crate::index_map::IndexMap;
 use crate::plan::Plan;
 use crate::points_above::points_above;
 use crate::relay::Relay;
-use crate::relayed::Relayed;
+use crate::relayed::{Relayed, RelayedStep};
 use dnp_controls::{Book, BookFault};
 use dnp_eventbuf::JournalStore;
 use dnp_master::{AskFault, Fragment, MasterActions, MasterFault, Task};
@@ -288,6 +288,57 @@ impl<J: JournalStore, B: Book> Centre<J, B> {
         ensures journal { journal_of self.new ≡ journal_of self.old }
         ensures indices { indices_of self.new ≡ indices_of self.old }
     {
-        self.relay.relay(alloc, now, STATION, &mut self.book)
+        let mut request = Fragment::new();
+        let step = self.relay_into(&mut request, alloc, now)?;
+        Ok(step.with_request(request))
+    }
+
+    /// One step of relaying, as `relay` makes it, but its request, if it has one, is put into the caller's fragment, in place
+    /// of what was there. Where it has none, and where the book refuses, that is left as it was.
+    pub fn relay_into(
+        &mut self,
+        request: &mut Fragment,
+        alloc: Global,
+        now: u64,
+    ) -> Result<RelayedStep, BookFault>
+        ensures told { B.honest (book_of self.new) → IfOk result (λ answer.
+            says.Tells (link_of self.old).master.seq (spec.step_of (link_of self.old) (B.contents (book_of self.old)).entries 0) (says.with_request answer request.new)) }
+        ensures link { B.honest (book_of self.new) → OnOk result (link_of self.new
+            ≡ spec.relaying_after (link_of self.old) now (spec.step_of (link_of self.old) (B.contents (book_of self.old)).entries 0)) }
+        ensures ledger { B.honest (book_of self.new) → OnOk result (B.contents (book_of self.new)
+            ≡ spec.ledger_after (B.contents (book_of self.old)) (spec.step_of (link_of self.old) (B.contents (book_of self.old)).entries 0)) }
+        // The book grants what the answer tells.
+        ensures granted { B.honest (book_of self.new) → IfOk result (λ answer.
+            AreGranted (B.contents (book_of self.old)) (says.moves_of (says.with_request answer request.new))) }
+        ensures moved { B.honest (book_of self.new) → IfOk result (λ answer.
+            B.contents (book_of self.new) ≡ after (B.contents (book_of self.old)) (says.moves_of (says.with_request answer request.new))) }
+        // What is sent was pending, and is spent by this very call.
+        ensures spent { B.honest (book_of self.new) → IfOk result (λ answer.
+            says.IfSent (says.with_request answer request.new) (says.IsSpentBy (B.contents (book_of self.old)) (B.contents (book_of self.new)))) }
+        // Where none is in progress, the pending one of the least id comes.
+        ensures least { B.honest (book_of self.new) → (link_of self.old).progress ≡ None → IfOk result (λ answer.
+            says.IfSelecting (says.with_request answer request.new) (says.IsLeast (B.contents (book_of self.old)).entries 0)) }
+        ensures own { B.honest (book_of self.new) → says.IsOf (B.contents (book_of self.old)).entries 0 (link_of self.old).progress
+            → OnOk result (says.IsOf (B.contents (book_of self.new)).entries 0 (link_of self.new).progress) }
+        ensures unchanged { OnErr result (link_of self.new ≡ link_of self.old) }
+        ensures left { OnErr result (request.new ≡ request.old) }
+        ensures left_alone { IfOk result (λ answer. says.has_request answer ≡ false → request.new ≡ request.old) }
+        ensures book { says.LeavesBook B.honest B.is_stopped B.contents BookFault.Device (book_of self.old) (book_of self.new) result }
+        ensures named { IfErr result (λ e. e ≢ BookFault.Exhausted) }
+        ensures no_control { B.honest (book_of self.new) → result ≡ Err BookFault.NoControl
+            → IsSomeAnd (link_of self.old).progress (λ p. entry_of (B.contents (book_of self.old)).entries p.id ≡ None) }
+        ensures not_pending { B.honest (book_of self.new) → result ≡ Err BookFault.NotPending
+            → IsSomeAnd (link_of self.old).progress (λ p. Has (B.contents (book_of self.old)).entries p.id (λ state. not (is_pending state))) }
+        ensures past { B.honest (book_of self.new) → result ≡ Err BookFault.NotPending
+            → says.IsPast (B.contents (book_of self.old)).entries (spec.step_of (link_of self.old) (B.contents (book_of self.old)).entries 0) }
+        ensures memory { result ≡ Err BookFault.Memory → IsTrue B.asks_memory }
+        // Where the step needs no book, none is asked, and nothing refused.
+        ensures unasked { says.asks_book (link_of self.old) ≡ false → (book_of self.new ≡ book_of self.old) × IsOk result }
+        ensures stopped { says.asks_book (link_of self.old) ≡ true → IsTrue (B.is_stopped (book_of self.old)) → result ≡ Err BookFault.Device }
+        ensures journal { journal_of self.new ≡ journal_of self.old }
+        ensures indices { indices_of self.new ≡ indices_of self.old }
+    {
+        self.relay
+            .relay_into(request, alloc, now, STATION, &mut self.book)
     }
 }

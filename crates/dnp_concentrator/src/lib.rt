@@ -49,6 +49,6 @@ pub use limits::{COMMANDS_AT_ONCE, INDEX_KINDS, MAX_RETRIES, MAX_SUBSTATIONS, MA
 pub use listed::Listed;
 pub use mapped::queued_rows;
 pub use plan::{Plan, SubPlan};
-pub use relayed::Relayed;
+pub use relayed::{Relayed, RelayedStep};
 pub use span::{Span, Spans};
 pub use two::Two;

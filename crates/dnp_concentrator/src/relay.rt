@@ -13,7 +13,7 @@ ghost use Rattle.dnp_concentrator.specs.Relayed as says;
 ghost use Rattle.dnp_concentrator.specs.Relaying as spec;
 
 use crate::progress::{Progress, Stage};
-use crate::relayed::Relayed;
+use crate::relayed::RelayedStep;
 use dnp_controls::laws::the_next_entry_is_the_least;
 use dnp_controls::{Book, BookFault};
 use dnp_master::{AskFault, Fragment, Master, Outcome, Task};
@@ -113,35 +113,37 @@ impl Relay {
         self.master.ask_into(request, now, task)
     }
 
-    /// Asks to select this control, and makes it the one in progress.
-    fn select(&mut self, now: u64, id: u64, command: Command) -> Fragment
+    /// Asks to select this control, by a request put into the fragment, and makes it the one in progress.
+    fn select(&mut self, request: &mut Fragment, now: u64, id: u64, command: Command)
         requires { master.is_idle self.old.master ≡ true }
-        ensures request { says.IsRequest result.items self.old.master.seq (Task.Select command) }
+        ensures request { says.IsRequest request.new.items self.old.master.seq (Task.Select command) }
         ensures after { self.new ≡ spec.relaying_after self.old now (spec.Selects id command) }
     {
-        let request = self.master.ask(now, Task::Select(command)).unwrap();
+        self.master
+            .ask_into(request, now, Task::Select(command))
+            .unwrap();
         self.progress = Some(Progress {
             id,
             command,
             stage: Stage::Selecting,
         });
-        request
     }
 
-    /// Asks to carry out this control, which stands selected.
-    fn operate(&mut self, now: u64, id: u64, command: Command) -> Fragment
+    /// Asks to carry out this control, which stands selected, by a request put into the fragment.
+    fn operate(&mut self, request: &mut Fragment, now: u64, id: u64, command: Command)
         requires idle { master.is_idle self.old.master ≡ true }
         requires selected { is_selected self.old.master.selected command ≡ true }
-        ensures request { says.IsRequest result.items self.old.master.seq (Task.Operate command) }
+        ensures request { says.IsRequest request.new.items self.old.master.seq (Task.Operate command) }
         ensures after { self.new ≡ spec.relaying_after self.old now (spec.Operates id command) }
     {
-        let request = self.master.ask(now, Task::Operate(command)).unwrap();
+        self.master
+            .ask_into(request, now, Task::Operate(command))
+            .unwrap();
         self.progress = Some(Progress {
             id,
             command,
             stage: Stage::Operating,
         });
-        request
     }
 
     /// Whether the control's select stands at the master.
@@ -154,28 +156,31 @@ impl Relay {
         }
     }
 
-    /// Selects the least pending control for the target, if there is one.
+    /// Selects the least pending control for the target, if there is one. The request is put into the fragment.
     #[tactic(auto, using(crate::proofs::Ledgers::next_is_of))]
     fn begin<B: Book>(
         &mut self,
+        request: &mut Fragment,
         alloc: Global,
         now: u64,
         target: u8,
         book: &mut B,
-    ) -> Result<Relayed, BookFault>
+    ) -> Result<RelayedStep, BookFault>
         requires idle { master.is_idle self.old.master ≡ true }
         requires none { self.old.progress ≡ None }
         ensures book { says.LeavesBook B.honest B.is_stopped B.contents BookFault.Device book.old book.new result }
         ensures unchanged { OnErr result (self.new ≡ self.old) }
+        ensures left { OnErr result (request.new ≡ request.old) }
+        ensures left_alone { IfOk result (λ answer. says.has_request answer ≡ false → request.new ≡ request.old) }
         ensures memory { result ≡ Err BookFault.Memory → IsTrue B.asks_memory }
         ensures told { B.honest book.new → IfOk result (λ answer.
-            says.Tells self.old.master.seq (spec.step_of_entry (next_of (B.contents book.old).entries target)) answer) }
+            says.Tells self.old.master.seq (spec.step_of_entry (next_of (B.contents book.old).entries target)) (says.with_request answer request.new)) }
         ensures after { B.honest book.new → OnOk result (self.new
             ≡ spec.relaying_after self.old now (spec.step_of_entry (next_of (B.contents book.old).entries target))) }
         ensures same { B.honest book.new → B.contents book.new ≡ B.contents book.old }
-        ensures moves { IfOk result (λ answer. says.moves_of answer ≡ []) }
+        ensures moves { IfOk result (λ answer. says.moves_of (says.with_request answer request.new) ≡ []) }
         ensures least { B.honest book.new → IfOk result (λ answer.
-            says.IfSelecting answer (says.IsLeast (B.contents book.old).entries target)) }
+            says.IfSelecting (says.with_request answer request.new) (says.IsLeast (B.contents book.old).entries target)) }
         ensures own { B.honest book.new → OnOk result (says.IsOf (B.contents book.new).entries target self.new.progress) }
         ensures named { IfErr result (λ e. (e ≢ BookFault.NoControl) × (e ≢ BookFault.NotPending) × (e ≢ BookFault.Exhausted)) }
         ensures stopped { IsTrue (B.is_stopped book.old) → result ≡ Err BookFault.Device }
@@ -183,35 +188,39 @@ impl Relay {
         the_next_entry_is_the_least();
         match book.next(alloc, target)? {
             Some(entry) => {
-                let request = self.select(now, entry.id, entry.command);
-                Ok(Relayed::Selecting(entry.id, request))
+                self.select(request, now, entry.id, entry.command);
+                Ok(RelayedStep::Selecting(entry.id))
             }
-            None => Ok(Relayed::Nothing),
+            None => Ok(RelayedStep::Nothing),
         }
     }
 
-    /// Goes on with the control in progress.
+    /// Goes on with the control in progress. The request, if there is one, is put into the fragment.
     fn go_on<B: Book>(
         &mut self,
+        request: &mut Fragment,
         alloc: Global,
         now: u64,
         progress: Progress,
         book: &mut B,
-    ) -> Result<Relayed, BookFault>
+    ) -> Result<RelayedStep, BookFault>
         requires idle { master.is_idle self.old.master ≡ true }
         requires is { self.old.progress ≡ Some progress }
         ensures book { says.LeavesBook B.honest B.is_stopped B.contents BookFault.Device book.old book.new result }
         ensures unchanged { OnErr result (self.new ≡ self.old) }
+        ensures left { OnErr result (request.new ≡ request.old) }
+        ensures left_alone { IfOk result (λ answer. says.has_request answer ≡ false → request.new ≡ request.old) }
         ensures memory { result ≡ Err BookFault.Memory → IsTrue B.asks_memory }
         ensures told { IfOk result (λ answer.
-            says.Tells self.old.master.seq (spec.step_of_progress self.old.master.selected progress progress.stage) answer) }
+            says.Tells self.old.master.seq (spec.step_of_progress self.old.master.selected progress progress.stage) (says.with_request answer request.new)) }
         ensures after { OnOk result (self.new
             ≡ spec.relaying_after self.old now (spec.step_of_progress self.old.master.selected progress progress.stage)) }
         ensures ledger { B.honest book.new → OnOk result (B.contents book.new
             ≡ spec.ledger_after (B.contents book.old) (spec.step_of_progress self.old.master.selected progress progress.stage)) }
-        ensures granted { B.honest book.new → IfOk result (λ answer. AreGranted (B.contents book.old) (says.moves_of answer)) }
+        ensures granted { B.honest book.new → IfOk result (λ answer.
+            AreGranted (B.contents book.old) (says.moves_of (says.with_request answer request.new))) }
         ensures spent { B.honest book.new → IfOk result (λ answer.
-            says.IfSent answer (says.IsSpentBy (B.contents book.old) (B.contents book.new))) }
+            says.IfSent (says.with_request answer request.new) (says.IsSpentBy (B.contents book.old) (B.contents book.new))) }
         ensures own { B.honest book.new → (target : ℕ) → says.IsOf (B.contents book.old).entries target self.old.progress
             → OnOk result (says.IsOf (B.contents book.new).entries target self.new.progress) }
         ensures named { IfErr result (λ e. e ≢ BookFault.Exhausted) }
@@ -229,16 +238,18 @@ impl Relay {
             Stage::Known(status) => {
                 book.finish(alloc, id, status)?;
                 self.progress = None;
-                Ok(Relayed::Finished(id, status))
+                Ok(RelayedStep::Finished(id, status))
             }
             Stage::Selected if self.stands(&command) => {
                 book.spend(alloc, id)?;
-                Ok(Relayed::Sent(id, self.operate(now, id, command)))
+                self.operate(request, now, id, command);
+                Ok(RelayedStep::Sent(id))
             }
             Stage::Selected | Stage::Selecting => {
-                Ok(Relayed::Selecting(id, self.select(now, id, command)))
+                self.select(request, now, id, command);
+                Ok(RelayedStep::Selecting(id))
             }
-            Stage::Operating => Ok(Relayed::Nothing),
+            Stage::Operating => Ok(RelayedStep::Nothing),
         }
     }
 
@@ -248,32 +259,37 @@ impl Relay {
     /// is asked; the one whose select stands no longer is selected again; the least pending one is
     /// selected.
     ///
+    /// Its request, if it has one, is put into the caller's fragment, in place of what was there; else that is left as it is.
     /// Refused by the book alone, and then nothing has changed.
-    pub fn relay<B: Book>(
+    pub fn relay_into<B: Book>(
         &mut self,
+        request: &mut Fragment,
         alloc: Global,
         now: u64,
         target: u8,
         book: &mut B,
-    ) -> Result<Relayed, BookFault>
+    ) -> Result<RelayedStep, BookFault>
         ensures book { says.LeavesBook B.honest B.is_stopped B.contents BookFault.Device book.old book.new result }
         ensures unchanged { OnErr result (self.new ≡ self.old) }
+        ensures left { OnErr result (request.new ≡ request.old) }
+        ensures left_alone { IfOk result (λ answer. says.has_request answer ≡ false → request.new ≡ request.old) }
         ensures memory { result ≡ Err BookFault.Memory → IsTrue B.asks_memory }
         ensures told { B.honest book.new → IfOk result (λ answer.
-            says.Tells self.old.master.seq (spec.step_of self.old (B.contents book.old).entries target) answer) }
+            says.Tells self.old.master.seq (spec.step_of self.old (B.contents book.old).entries target) (says.with_request answer request.new)) }
         ensures after { B.honest book.new → OnOk result (self.new
             ≡ spec.relaying_after self.old now (spec.step_of self.old (B.contents book.old).entries target)) }
         ensures ledger { B.honest book.new → OnOk result (B.contents book.new
             ≡ spec.ledger_after (B.contents book.old) (spec.step_of self.old (B.contents book.old).entries target)) }
         // The book grants what the answer tells.
-        ensures granted { B.honest book.new → IfOk result (λ answer. AreGranted (B.contents book.old) (says.moves_of answer)) }
-        ensures moved { B.honest book.new → IfOk result (λ answer. B.contents book.new ≡ after (B.contents book.old) (says.moves_of answer)) }
+        ensures granted { B.honest book.new → IfOk result (λ answer.
+            AreGranted (B.contents book.old) (says.moves_of (says.with_request answer request.new))) }
+        ensures moved { B.honest book.new → IfOk result (λ answer. B.contents book.new ≡ after (B.contents book.old) (says.moves_of (says.with_request answer request.new))) }
         // What is sent was pending, and is spent by this very call.
         ensures spent { B.honest book.new → IfOk result (λ answer.
-            says.IfSent answer (says.IsSpentBy (B.contents book.old) (B.contents book.new))) }
+            says.IfSent (says.with_request answer request.new) (says.IsSpentBy (B.contents book.old) (B.contents book.new))) }
         // Where none is in progress, the pending one of the least id comes.
         ensures least { B.honest book.new → self.old.progress ≡ None → IfOk result (λ answer.
-            says.IfSelecting answer (says.IsLeast (B.contents book.old).entries target)) }
+            says.IfSelecting (says.with_request answer request.new) (says.IsLeast (B.contents book.old).entries target)) }
         ensures own { B.honest book.new → says.IsOf (B.contents book.old).entries target self.old.progress
             → OnOk result (says.IsOf (B.contents book.new).entries target self.new.progress) }
         ensures named { IfErr result (λ e. e ≢ BookFault.Exhausted) }
@@ -288,11 +304,11 @@ impl Relay {
         ensures stopped { says.asks_book self.old ≡ true → IsTrue (B.is_stopped book.old) → result ≡ Err BookFault.Device }
     {
         if !self.master.idle() {
-            return Ok(Relayed::Nothing);
+            return Ok(RelayedStep::Nothing);
         }
         match self.progress {
-            Some(progress) => self.go_on(alloc, now, progress, book),
-            None => self.begin(alloc, now, target, book),
+            Some(progress) => self.go_on(request, alloc, now, progress, book),
+            None => self.begin(request, alloc, now, target, book),
         }
     }
 }

@@ -11,6 +11,8 @@ mod exchanges;
 #[cfg(test)]
 mod links;
 #[cfg(test)]
+mod lives;
+#[cfg(test)]
 mod plans;
 #[cfg(test)]
 mod reports;

@@ -1,5 +1,7 @@
 //! A concentrator's stations and a centre on streams.
 
+ghost use Rattle.std.specs.Prelude.{◌<◌};
+
 use crate::ends::{Giving, Taking};
 use crate::plans::SMALL;
 use dnp_concentrator::{Centre, Concentrator};
@@ -47,14 +49,14 @@ const CONFIRM_ABOVE: [u8; 15] = [
 ];
 
 /// The READ of class 1, and the confirm of its response.
-const ASKED: [u8; 33] = [
+pub(crate) const ASKED: [u8; 33] = [
     0x05, 0x64, 0x0B, 0xC4, 0x0A, 0x00, 0x02, 0x00, 0x07, 0x61, 0xC0, 0xC0, 0x01, 0x3C, 0x02, 0x06,
     0x54, 0xE0, 0x05, 0x64, 0x08, 0xC4, 0x0A, 0x00, 0x02, 0x00, 0x57, 0xF2, 0xC1, 0xC0, 0x00, 0x8B,
     0x8F,
 ];
 
 /// A task that polls class 1.
-const POLL_1: Task = Task::Poll(Classes([false, true, false, false]));
+pub(crate) const POLL_1: Task = Task::Poll(Classes([false, true, false, false]));
 
 /// The frame of an event, binary input `index` has become 1, with a time: these addresses and their check word, this
 /// beginning of its fragment, and `check`, the check word of its first block.
@@ -98,6 +100,23 @@ fn sends<S: Station>(
     result == served && writer.taken.as_slice() == sent
 }
 
+/// Whether a centre with this link address reads the event that came from below.
+fn reads_it(
+    alloc: Global,
+    concentrator: &mut Concentrator<PlainPair, PlainBook>,
+    centre: u8,
+    address: u16,
+    poll: &[u8],
+    head: [u8; 6],
+) -> bool
+    requires { centre < CENTRES }
+{
+    let response = event_frame(head, [0xE0, 0x81, 0x80], 100, [0xB4, 0x8E]);
+    let mut station = Above::new(concentrator, centre);
+    let port = Port::new(9, address, false);
+    sends(alloc, &mut station, port, poll, &response, one(0))
+}
+
 /// An event comes to a concentrator on a link below, and from there it goes above; a substation that the plan lacks
 /// takes nothing.
 #[test]
@@ -111,7 +130,6 @@ fn a_concentrator_on_streams(rt: HostRuntime) {
     );
     let event = event_frame(BELOW, REPORTS, 0, [0xDA, 0xDC]);
     let strange = event_frame(BELOW, REPORTS, 1, [0x3D, 0x69]);
-    let response = event_frame(ABOVE, [0xE0, 0x81, 0x80], 100, [0xB4, 0x8E]);
     let below = [(0, &strange, 0, 1), (1, &event, 0, 0), (0, &event, 15, 0)];
     for (link, octets, count, faults) in below {
         let mut station = Below::new(&mut concentrator, link);
@@ -128,30 +146,9 @@ fn a_concentrator_on_streams(rt: HostRuntime) {
             "link {link}, {count} octets"
         );
     }
-    let mut station = Above::new(&mut concentrator, 0);
-    assert!(rt;
-        sends(
-            alloc,
-            &mut station,
-            Port::new(9, 1, false),
-            &POLL,
-            &response,
-            one(0)
-        )
-    );
-    // The same event waits for the second centre.
-    let mut station = Above::new(&mut concentrator, 1);
-    let response = event_frame(ABOVE2, [0xE0, 0x81, 0x80], 100, [0xB4, 0x8E]);
-    assert!(rt;
-        sends(
-            alloc,
-            &mut station,
-            Port::new(9, 3, false),
-            &POLL2,
-            &response,
-            one(0)
-        )
-    );
+    // The event waits for each centre.
+    assert!(rt; reads_it(alloc, &mut concentrator, 0, 1, &POLL, ABOVE));
+    assert!(rt; reads_it(alloc, &mut concentrator, 1, 3, &POLL2, ABOVE2));
 }
 
 /// A centre keeps an event in its journal, and confirms it.

@@ -52,19 +52,22 @@ const LOW: (u8, Row) = (
     },
 );
 
+/// A block and a value, for the outputs 0 and 2.
+const BLOCK: Command = Command::Block {
+    index: 0,
+    code: 3,
+    count: 1,
+    on_ms: 20,
+    off_ms: 0,
+};
+
+const SET: Command = Command::Set16 {
+    index: 2,
+    value: -1,
+};
+
 #[test]
 fn a_report_is_printed_list_by_list(rt: HostRuntime) -> Result<(), Fail> {
-    let block = Command::Block {
-        index: 0,
-        code: 3,
-        count: 1,
-        on_ms: 20,
-        off_ms: 0,
-    };
-    let set = Command::Set16 {
-        index: 2,
-        value: -1,
-    };
     let report = Report {
         journal: (
             Listed::new([ON].to_vec(rt.alloc())?),
@@ -76,8 +79,8 @@ fn a_report_is_printed_list_by_list(rt: HostRuntime) -> Result<(), Fail> {
         ),
         confirmed: Listed::new([ON].to_vec(rt.alloc())?),
         overwritten: Listed::new([ON, LOW].to_vec(rt.alloc())?),
-        issued: Listed::new([(0, block), (1, set)].to_vec(rt.alloc())?),
-        operated: Listed::new([(0, block)].to_vec(rt.alloc())?),
+        issued: Listed::new([(0, BLOCK), (1, SET)].to_vec(rt.alloc())?),
+        operated: Listed::new([(0, BLOCK)].to_vec(rt.alloc())?),
         lost: (7, 1),
         ..empty(rt.alloc())
     };

@@ -70,8 +70,8 @@ fn let_go<T: Drop>(rows: &mut Vec<T>)
     rows.clear();
 }
 
-/// Empties the rows, with room for so many. Memory is asked for only where that room is missing, and the rows stay
-/// where it is refused.
+/// Empties the rows, with room for so many. Memory is asked for only where that room is missing, and for no more, and
+/// the rows stay where it is refused.
 pub(crate) fn empty_for<T: Drop>(
     alloc: Global,
     rows: &mut Vec<T>,
@@ -82,6 +82,7 @@ pub(crate) fn empty_for<T: Drop>(
     ensures room { OnOk result (count ≤ vec_capacity rows.new) }
     ensures kept { OnErr result (rows.new.items ≡ rows.old.items) }
     ensures keeps_room { vec_capacity rows.old ≤ vec_capacity rows.new }
+    ensures just { OnOk result (vec_capacity rows.old < count → vec_capacity rows.new ≡ count) }
     ensures asks { OnErr result (vec_capacity rows.old < count) }
 {
     if rows.capacity() < count {

@@ -1,8 +1,10 @@
 //! Confirms. That of a fragment: its rows leave, and the response goes on. That of an unsolicited response: its rows
 //! leave, and a READ that waited for it is answered.
 
-ghost use Rattle.std.specs.Prelude.{All, ◌≤◌, length, ◌≡◌, ◌≢◌, ℕ, [], false, IfOk, IfErr, IfSome, IsErr, OnOk, OnErr, IsTrue, Err, ◌<◌, true, None};
+ghost use Rattle.std.specs.Prelude.{All, ◌≤◌, length, ◌≡◌, ◌≢◌, ℕ, [], false, IfOk, IfErr, IfSome, IsErr, IsSome, OnOk, OnErr, IsTrue, Err, ◌<◌, true, None};
+ghost use Rattle.std.specs.Result.{is_ok};
 ghost use Rattle.dnp_appfragment.specs.declared.function.Function.TheVariants as function;
+ghost use Rattle.dnp_appfragment.specs.Meaning.{request_at};
 ghost use Rattle.dnp_controls.specs.Panel.{Panel};
 ghost use Rattle.dnp_controls.specs.Selecting.{deadline};
 ghost use Rattle.dnp_eventbuf.specs.Stock.{without, rows_in};
@@ -19,7 +21,7 @@ use crate::actions::Actions;
 use crate::answer::{Answer, Switches};
 use crate::connection::deadline;
 use crate::ending::write_ending;
-use crate::execute::{execute_after, left, request_in};
+use crate::execute::{execute_after, left};
 use crate::offer::fetched::Fetched;
 use crate::offer::parts::put_parts;
 use crate::offer::writer::Writer;
@@ -61,7 +63,7 @@ fn write_next<L: Lanes, O: Outputs>(
     let Some(place) = last.left else {
         return Ok(None);
     };
-    let Ok(request) = request_in(session.request.octets()) else {
+    let Ok(request) = session.request.request() else {
         return Ok(None);
     };
     writer.restart(place);
@@ -214,6 +216,7 @@ fn write_held<L: Lanes, O: Outputs>(
         → answers_held s (O.panel outputs.now) now session.now.last ≡ answers_held_by s now writer.new held) }
     ensures stood { L.honest lanes.new → IfOk result (λ held. IfSome held (λ a. a.stood ≡ last_in (after_release (L.contents lanes.old) released.now))) }
     ensures small { IfOk result (λ held. IfSome held (λ a. a.bits < 8)) }
+    ensures goes_on { IfOk result (λ held. IfSome held (λ a. IsSome a.left → IsTrue (is_ok (request_at session.now.request)))) }
     ensures response { IfOk result (λ held. IfSome held (λ a. writer.new.builder.function ≡ function.Response)) }
 {
     if !session.holds_read() {
@@ -249,6 +252,7 @@ impl Session {
     )
         requires response { IfSome held.now (λ a. writer.old.builder.function ≡ function.Response) }
         requires small { IfSome held.now (λ a. a.bits < 8) }
+        requires goes_on { IfSome held.now (λ a. IsSome a.left → IsTrue (is_ok (request_at self.old.request))) }
         ensures same { lanes.new ≡ lanes.old }
         ensures answers { L.honest lanes.new → (s : State) (now : ℕ) → s.lanes ≡ L.contents lanes.new
             → IfSome held.now (λ a. (s.core.restart ≡ a.switches.restart) × ((s.core.enabled ≡ a.switches.enabled) × (a.stood ≡ last_in s.lanes)))

@@ -7,7 +7,7 @@ ghost use Rattle.dnp_outstation.specs.steps.Answering.{KeepsWhole, first_in};
 ghost use Rattle.dnp_outstation.specs.State.{new_session, holds_read};
 ghost use Rattle.dnp_outstation.specs.Connection.{is_last_request, is_number, awaited_number, confirmed, new_request, no_response, held};
 
-use crate::kept::Kept;
+use crate::kept::{Kept, KeptRequest};
 use crate::sequence::SequenceNumber;
 use crate::session::{FirstFragment, LastRequest, Reply, Session};
 use dnp_appfragment::Function;
@@ -26,7 +26,7 @@ impl Session {
         ensures { result ≡ new_session }
     {
         Session {
-            request: Kept::new(),
+            request: KeptRequest::new(),
             response: Kept::new(),
             unsolicited_response: Kept::new(),
             last: None,

@@ -43,6 +43,7 @@ impl Session {
     )
         requires response { IfSome answer.now (λ a. writer.old.builder.function ≡ function.Response) }
         requires small { IfSome answer.now (λ a. a.bits < 8) }
+        requires alone { IfSome answer.now (λ a. a.left ≡ None) }
         ensures same { lanes.new ≡ lanes.old }
         ensures replies { L.honest lanes.new → (s : State) (now : ℕ) → s.lanes ≡ L.contents lanes.new
             → IfSome answer.now (λ a. (s.core.restart ≡ a.switches.restart) × (a.stood ≡ last_in s.lanes) × (a.time ≡ None))

@@ -1,7 +1,8 @@
 //! Executes requests, and writes what they are answered.
 
-ghost use Rattle.std.specs.Prelude.{◌≡◌, ◌<◌, ◌==◌, ◌&&◌, ◌^◌, length, true, false, not, if◌then◌else◌, None, Some, Ok, Err, IfOk, IfErr, IsErr};
+ghost use Rattle.std.specs.Prelude.{◌≡◌, ◌<◌, ◌==◌, ◌&&◌, ◌^◌, length, true, false, not, if◌then◌else◌, None, Some, Ok, Err, IfOk, IfErr, IsErr, IsSome, IsTrue};
 ghost use Rattle.std.specs.List.{list_any, list_all};
+ghost use Rattle.std.specs.Result.{is_ok};
 ghost use Rattle.dnp_appfragment.specs.declared.function.Function.TheVariants as function;
 ghost use Rattle.dnp_appfragment.specs.Fragments.{IsRequest};
 ghost use Rattle.dnp_appfragment.specs.Meaning.{request_at};
@@ -26,7 +27,9 @@ use crate::offer::place::Place;
 use crate::offer::writer::Writer;
 use crate::released::last_left;
 use byteorder::{ByteOrder, LittleEndian};
-use dnp_appfragment::{AppFault, Function, Header, Headers, Range, Request, read_request};
+use dnp_appfragment::{
+    AppFault, Function, Header, Headers, Range, Request, known_request, read_request,
+};
 use dnp_controls::Outputs;
 use dnp_eventbuf::{Lanes, StoreFault, Upto};
 use dnp_objects::LANES;
@@ -59,6 +62,17 @@ pub(crate) fn request_in(octets: &[u8]) -> Result<Request<'_>, AppFault>
     let _len = octets.len();
     let request = read_request(octets)?;
     Ok(request)
+}
+
+/// The request that the octets are, which are known to be one, with fewer headers than a number can count.
+#[tactic(auto, using(crate::proofs::FewHeaders::few_headers))]
+pub(crate) fn known_request_in(octets: &[u8]) -> Request<'_>
+    requires { IsTrue (is_ok (request_at octets.now)) }
+    ensures value { request_at octets.now ≡ Ok (request result) }
+    ensures few { length result.headers.headers < 2 ^ 64 }
+{
+    let _len = octets.len();
+    known_request(octets)
 }
 
 /// The bit that tells of a request that can't be read.
@@ -311,6 +325,8 @@ pub(crate) fn execute_after<L: Lanes, O: Outputs>(
         → s.lanes ≡ after_release (L.contents lanes.old) released.now → content_of s (O.panel outputs.now) octets.now ≡ executed_by s writer.new a) }
     ensures stood { L.honest lanes.new → IfOk result (λ a. a.stood ≡ last_in_stock (after_release (L.contents lanes.old) released.now)) }
     ensures small { IfOk result (λ a. a.bits < 8) }
+    // What goes on is of a request that was read.
+    ensures goes_on { IfOk result (λ a. IsSome a.left → IsTrue (is_ok (request_at octets.now))) }
     ensures response { writer.new.builder.function ≡ function.Response }
     ensures reads { IsErr result → function_in octets.now ≡ function_octet function.Read }
     ensures asks_inside { IsErr result → (s : State) → s.core.points ≡ points.now → reads_inside s (O.panel outputs.now) octets.now ≡ true }
@@ -358,6 +374,8 @@ pub(crate) fn execute<L: Lanes, O: Outputs>(
         → s.lanes ≡ L.contents lanes.old → content_of s (O.panel outputs.now) octets.now ≡ executed_by s writer.new a) }
     ensures stood { L.honest lanes.new → IfOk result (λ a. a.stood ≡ last_in_stock (L.contents lanes.old)) }
     ensures small { IfOk result (λ a. a.bits < 8) }
+    // What goes on is of a request that was read.
+    ensures goes_on { IfOk result (λ a. IsSome a.left → IsTrue (is_ok (request_at octets.now))) }
     ensures response { writer.new.builder.function ≡ function.Response }
     ensures reads { IsErr result → function_in octets.now ≡ function_octet function.Read }
     ensures asks_inside { IsErr result → (s : State) → s.core.points ≡ points.now → reads_inside s (O.panel outputs.now) octets.now ≡ true }

@@ -1,7 +1,9 @@
 //! Sends the fragments of responses.
 
-ghost use Rattle.std.specs.Prelude.{◌≡◌, ◌<◌, ◌≤◌, ℕ, All, length, false, not, ◌&&◌, if◌then◌else◌, is_none, None, Some};
+ghost use Rattle.std.specs.Prelude.{◌≡◌, ◌<◌, ◌≤◌, ℕ, All, length, false, not, ◌&&◌, if◌then◌else◌, is_none, None, Some, IsSome, IsTrue};
+ghost use Rattle.std.specs.Result.{is_ok};
 ghost use Rattle.dnp_appfragment.specs.declared.function.Function.TheVariants as function;
+ghost use Rattle.dnp_appfragment.specs.Meaning.{request_at};
 ghost use Rattle.dnp_controls.specs.Selecting.{deadline};
 ghost use Rattle.dnp_outstation.specs.steps.Answering.{content_by, sent_by, KeepsWhole};
 ghost use Rattle.dnp_outstation.specs.State.{State, with_session, nothing, sending};
@@ -132,7 +134,8 @@ impl Session {
     }
 
     /// What stands in the writer is sent as the first fragment of the response to the last request. Its
-    /// confirm, if it asks for one, is awaited until `ends`.
+    /// confirm, if it asks for one, is awaited until `ends`. Where the response goes on, the request was read, and what
+    /// goes on need not check it again.
     pub(crate) fn respond<L: Lanes>(
         &mut self,
         writer: &mut Writer,
@@ -143,6 +146,7 @@ impl Session {
     )
         requires response { writer.old.builder.function ≡ function.Response }
         requires bits { answer.now.bits < 8 }
+        requires goes_on { IsSome answer.now.left → IsTrue (is_ok (request_at self.old.request)) }
         ensures same { lanes.new ≡ lanes.old }
         ensures sends { L.honest lanes.new → (s : State) (now : ℕ) → s.lanes ≡ L.contents lanes.new → s.core.restart ≡ answer.now.switches.restart
             → s.core.session ≡ self.old → ends ≡ deadline now s.core.times.confirm_ms
@@ -152,6 +156,7 @@ impl Session {
         ensures whole { 4 ≤ length self.new.response }
         ensures keeps { KeepsWhole self.old → KeepsWhole self.new }
     {
+        self.request.know(answer.left.is_some());
         let front = front_of(writer, lanes, true, seq, answer);
         self.response.keep_sent(writer, front);
         let is_awaited = asks_confirm(writer, answer);

@@ -8,7 +8,7 @@ use Rattle.dnp_concentrator.specs.declared.relayed.Relayed.{Relayed}
 use Rattle.dnp_concentrator.specs.declared.relayed.Relayed.TheVariants.{Nothing}
 use Rattle.dnp_decode.specs.FragmentLines.{IsFaultPlace}
 use Rattle.dnp_master.specs.Calls.{Taking, ask_answer, asking, follow_of, is_awaited}
-use Rattle.dnp_master.specs.State.{State, closed, is_idle, opened}
+use Rattle.dnp_master.specs.State.{State, closed, is_idle, is_timed_out, opened}
 use Rattle.dnp_master.specs.declared.fault.AskFault.{AskFault}
 use Rattle.dnp_master.specs.declared.task.Task.{Task}
 use Rattle.dnp_poll.specs.Rows.{rows_in}
@@ -18,7 +18,9 @@ use Rattle.dnp_poll.specs.declared.fault.PollFault.TheVariants as stopped
 use Rattle.dnp_poll.specs.declared.poller.Poller.{Poller}
 use Rattle.dnp_poll.specs.declared.rows.ShownRow.{ShownRow}
 use Rattle.dnp_poll.specs.declared.task_end.TaskEnd.{TaskEnd}
+use Rattle.dnp_streams.specs.declared.stream.station.StationFault.TheVariants.{Message}
 use Rattle.dnp_streams.specs.streams.Dialogues.{Asking}
+use Rattle.dnp_streams.specs.streams.Lives.{Life}
 use Rattle.dnp_streams.specs.streams.Stations.{Answer, Opening, Receiving}
 
 pub record PollSeen (S : Type 0) : Type 0 where
@@ -125,6 +127,22 @@ poll_opens = record { answers = OpensPoll; refuses = λ old now fault. ⊥ }
 
 abbrev pub poll_hung_up : {S : Type 0} → PollSeen S → PollSeen S
 poll_hung_up s = record s { master = closed s.master }
+
+-- ---- time that passes
+
+-- Where the response that is awaited, or its next fragment, hasn't come in time, the master closes the connection, and it is kept why (IEEE
+-- Std 1815-2012, application layer: the response timeout). The time is that since the request, or since the last fragment of its response:
+-- whatever else came doesn't matter. Else nothing changes.
+pub record TicksPoll {S : Type 0} (old : PollSeen S) (now : ℕ) (answer : Answer) (new : PollSeen S) : Type 0 where
+  pub after : new ≡ (if is_timed_out old.master now then record old { master = closed old.master; fault = Some stopped.Silent } else old)
+  pub answered : answer ≡ (if is_timed_out old.master now then closing else nothing_said)
+
+-- no tick is refused, and as there are no points, each change of one is
+abbrev pub poll_lives : {S : Type 0} → Life (PollSeen S)
+poll_lives = record {
+  ticks = record { answers = TicksPoll; refuses = λ old now fault. ⊥ };
+  changes = λ change. record { answers = λ old now answer new. ⊥; refuses = λ old now fault. fault ≡ Message };
+}
 
 -- ---- what it asks
 

@@ -11,6 +11,8 @@ use std::fmt::{Display, Formatter, Write};
 pub enum PollFault {
     /// A fragment came that is no response, for what stands so many octets after its beginning.
     Answer(AppFault, usize),
+    /// The response, or its next fragment, didn't come in time.
+    Silent,
     /// The rows of a fragment could not be shown: it was not confirmed.
     NotShown,
     /// Memory ran out.
@@ -36,6 +38,7 @@ impl Display for PollFault {
                 let name = fault_name(fault);
                 write!(f, "an answer that is refused: {name} at octet {place}")
             }
+            PollFault::Silent => f.write_str("no response in time"),
             PollFault::NotShown => f.write_str("the rows could not be shown"),
             PollFault::Memory => f.write_str("out of memory"),
         }

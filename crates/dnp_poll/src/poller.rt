@@ -23,9 +23,10 @@ use dnp_streams::Answer;
 use std::alloc::Global;
 
 /// A master of one outstation, of which it has no plan: it shows the rows of each fragment of a response, all of them and in
-/// order, and only then confirms it. What isn't awaited is neither shown nor confirmed. What is no response stops it.
+/// order, and only then confirms it. What isn't awaited is neither shown nor confirmed. What is no response stops it, and so does
+/// a response that doesn't come in time.
 ///
-/// `ask_stream` asks tasks by it, on a stream.
+/// `ask_live` asks tasks by it, on a stream.
 pub struct Poller<S> {
     /// What asks and confirms. Its plan has no points.
     pub(crate) master: Master,
@@ -103,11 +104,13 @@ fn no_points(alloc: Global) -> PointPlan {
 }
 
 impl<S: Show> Poller<S> {
-    /// A master that has asked nothing, and is closed.
-    pub fn new(alloc: Global, confirms: bool, sink: S) -> Poller<S>
+    /// A master that has asked nothing, and is closed. It waits so long for a response, in milliseconds, and for each further
+    /// fragment of it.
+    pub fn new(alloc: Global, confirms: bool, response_ms: u64, sink: S) -> Poller<S>
         ensures closed { (poll_seen result).master.is_open ≡ false }
         ensures unselected { (poll_seen result).master.selected ≡ None }
         ensures confirms { (poll_seen result).confirms ≡ confirms }
+        ensures waits { (poll_seen result).master.times.response_ms ≡ response_ms }
         ensures sink { (poll_seen result).sink ≡ sink }
         ensures asked { (poll_seen result).asked ≡ None }
         ensures ends { (poll_seen result).ends ≡ [] }
@@ -115,7 +118,7 @@ impl<S: Show> Poller<S> {
     {
         let times = Times {
             confirm_ms: 0,
-            response_ms: 0,
+            response_ms,
             select_ms: 0,
             retries: 0,
             unsolicited: false,

@@ -2,18 +2,18 @@
 
 ghost use Rattle.std.specs.Prelude.{◌≡◌};
 
+use crate::fault::PollFault;
 use crate::poller::{Poller, closing, nothing};
 use crate::show::Show;
 use dnp_concentrator::Relayed;
 use dnp_controls::BookFault;
 use dnp_master::{AskFault, Fragment, Task};
-use dnp_streams::{Answer, Asker, Station, StationFault};
+use dnp_streams::{Answer, Asker, Change, Living, Station, StationFault};
 use std::alloc::Global;
 
 impl<S: Show> Station for Poller<S> {
     ghost use Rattle.std.specs.Prelude.{⊤};
-    ghost use Rattle.dnp_poll.specs.Polls.{PollSeen, poll_asking, poll_hung_up, poll_opens, poll_receives, poll_seen};
-    ghost use Rattle.dnp_streams.specs.streams.Lives.{lifeless};
+    ghost use Rattle.dnp_poll.specs.Polls.{PollSeen, poll_asking, poll_hung_up, poll_lives, poll_opens, poll_receives, poll_seen};
 
     ghost State = { PollSeen S };
 
@@ -31,7 +31,7 @@ impl<S: Show> Station for Poller<S> {
 
     ghost asking = { poll_asking };
 
-    ghost life = { lifeless };
+    ghost life = { poll_lives };
 
     ghost hung_up_of = { poll_hung_up };
 
@@ -70,5 +70,26 @@ impl<S: Show> Asker for Poller<S> {
 
     fn idle(&self) -> bool {
         self.master.idle()
+    }
+}
+
+impl<S: Show> Living for Poller<S> {
+    /// Where the response that is awaited didn't come in time, the poll stops.
+    fn tick(&mut self, _alloc: Global, now: u64) -> Result<Answer, StationFault> {
+        if !self.master.tick(now) {
+            return Ok(nothing());
+        }
+        self.fault = Some(PollFault::Silent);
+        Ok(closing())
+    }
+
+    /// It has no points.
+    fn change(
+        &mut self,
+        _alloc: Global,
+        _now: u64,
+        _change: &Change,
+    ) -> Result<Answer, StationFault> {
+        Err(StationFault::Message)
     }
 }

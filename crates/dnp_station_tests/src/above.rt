@@ -73,6 +73,7 @@ fn is_answered(
     centre: u8,
     actions: &mut Actions,
     alloc: Global,
+    now: u64,
     head: [u8; 2],
     objects: &[u8; 18],
     status: u8,
@@ -81,7 +82,7 @@ fn is_answered(
 {
     let asked = fragment(alloc, &head, objects, 0x00)?;
     let answered = fragment(alloc, &[head[0], 0x81, 0x80, 0x00], objects, status)?;
-    concentrator.receive_above(centre, actions, alloc, 1_000, asked.as_slice())?;
+    concentrator.receive_above(centre, actions, alloc, now, asked.as_slice())?;
     Ok(sends(actions, answered.as_slice()))
 }
 
@@ -101,7 +102,16 @@ fn commands_are_put(rt: &impl Abort, alloc: Global, concentrator: &mut Middle) -
     let mut actions = Actions::none(alloc);
     concentrator.opened_above(0, &mut actions, alloc, 0)?;
     for (head, objects, status) in STEPS {
-        let is_right = is_answered(concentrator, 0, &mut actions, alloc, head, &objects, status)?;
+        let is_right = is_answered(
+            concentrator,
+            0,
+            &mut actions,
+            alloc,
+            1_000,
+            head,
+            &objects,
+            status,
+        )?;
         assert!(rt; is_right, "{head:?} {status}");
     }
     assert!(rt; concentrator.book().rows(alloc, 0, 10)?.as_slice() == [LATCHED].as_slice());
@@ -123,46 +133,67 @@ fn a_command_above_is_put_into_the_book(rt: HostRuntime) -> Result<(), Fail> {
     Ok(())
 }
 
-/// Whether it is the second centre, the first octets of its request to latch the output 200, and the status that is
-/// answered: what the first has selected is reserved for it until it operates it.
-const TURNS: [(bool, [u8; 2], u8); 6] = [
-    (false, [0xC0, 0x03], 0x00),
-    (true, [0xC0, 0x03], 0x05),
-    (true, [0xC1, 0x05], 0x05),
-    (false, [0xC1, 0x04], 0x00),
-    (true, [0xC2, 0x03], 0x00),
-    (false, [0xC2, 0x05], 0x05),
+/// The moment, whether it is the second centre, the first octets of its request to latch the output 200, and the status that
+/// is answered.
+type Turn = (u64, bool, [u8; 2], u8);
+
+/// What the first has selected is reserved for it until it operates it.
+const TURNS: [Turn; 6] = [
+    (1_000, false, [0xC0, 0x03], 0x00),
+    (1_000, true, [0xC0, 0x03], 0x05),
+    (1_000, true, [0xC1, 0x05], 0x05),
+    (1_000, false, [0xC1, 0x04], 0x00),
+    (1_000, true, [0xC2, 0x03], 0x00),
+    (1_000, false, [0xC2, 0x05], 0x05),
 ];
 
-/// The centres take turns at one output: one command comes into the book.
-fn turns_are_taken(rt: &impl Abort, alloc: Global, concentrator: &mut Middle) -> Result<(), Fail> {
+/// What the first has selected and doesn't operate is reserved for the select timer's 5,000 milliseconds, and no longer.
+const SELECT_ENDS: [Turn; 3] = [
+    (1_000, false, [0xC0, 0x03], 0x00),
+    (1_000, true, [0xC0, 0x03], 0x05),
+    (6_001, true, [0xC1, 0x03], 0x00),
+];
+
+/// The centres take turns at one output, by which these commands come into the book.
+fn turns_are_taken(
+    rt: &impl Abort,
+    alloc: Global,
+    turns: &[Turn],
+    commands: &[Entry],
+) -> Result<(), Fail> {
+    let Some(mut concentrator) = concentrator_of(alloc, false)? else {
+        return Err(Fail::new("no concentrator"));
+    };
     let mut actions = Actions::none(alloc);
     for centre in 0..CENTRES {
         concentrator.opened_above(centre, &mut actions, alloc, 0)?;
     }
-    for (is_second, head, status) in TURNS {
+    for &(now, is_second, head, status) in turns {
         let centre = u8::from(is_second);
         let is_right = is_answered(
-            concentrator,
+            &mut concentrator,
             centre,
             &mut actions,
             alloc,
+            now,
             head,
             &LATCHES,
             status,
         )?;
-        assert!(rt; is_right, "{centre} {head:?} {status}");
+        assert!(rt; is_right, "{now} {centre} {head:?} {status}");
     }
-    assert!(rt; concentrator.book().rows(alloc, 0, 10)?.as_slice() == [LATCHED].as_slice());
+    assert!(rt; concentrator.book().rows(alloc, 0, 10)?.as_slice() == commands);
     Ok(())
 }
 
 #[test]
 fn a_selected_output_is_reserved(rt: HostRuntime) -> Result<(), Fail> {
-    match concentrator_of(rt.alloc(), false)? {
-        Some(mut concentrator) => turns_are_taken(&rt, rt.alloc(), &mut concentrator),
-        None => Err(Fail::new("no concentrator")),
-    }
+    turns_are_taken(&rt, rt.alloc(), &TURNS, &[LATCHED])
+}
+
+#[test]
+fn a_reserved_output_is_free_after_the_select_timer(rt: HostRuntime) -> Result<(), Fail> {
+    turns_are_taken(&rt, rt.alloc(), &SELECT_ENDS, &[])
 }
 
 /// The first report above awaits its confirm, and the link closes when its time is over.

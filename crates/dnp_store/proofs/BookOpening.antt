@@ -57,19 +57,22 @@ shown = shown_by control_terms
 record Whole (r : Row) : Type 0 where
   pub is : r ≡ column r 0 ∷ Null ∷ column r 2 ∷ column r 3 ∷ column r 4 ∷ column r 5 ∷ column r 6 ∷ column r 7 ∷ column r 8 ∷ column r 9 ∷ column r 10 ∷ column r 11 ∷ []
 
+null_int : (n : ℤ) → ◌≡◌ {A = Value} Null (Int n) → ⊥
+null_int n e = cc
+
 whole : (r : Row) (n : ℤ) → IsTyped (Some 0) book_columns r → column r 11 ≡ Int n → Whole r
-whole [] n h last = absurd cc
-whole (a ∷ []) n h last = absurd cc
-whole (a ∷ b ∷ []) n h last = absurd cc
-whole (a ∷ b ∷ d ∷ []) n h last = absurd cc
-whole (a ∷ b ∷ d ∷ e ∷ []) n h last = absurd cc
-whole (a ∷ b ∷ d ∷ e ∷ g ∷ []) n h last = absurd cc
-whole (a ∷ b ∷ d ∷ e ∷ g ∷ i ∷ []) n h last = absurd cc
-whole (a ∷ b ∷ d ∷ e ∷ g ∷ i ∷ k ∷ []) n h last = absurd cc
-whole (a ∷ b ∷ d ∷ e ∷ g ∷ i ∷ k ∷ l ∷ []) n h last = absurd cc
-whole (a ∷ b ∷ d ∷ e ∷ g ∷ i ∷ k ∷ l ∷ m ∷ []) n h last = absurd cc
-whole (a ∷ b ∷ d ∷ e ∷ g ∷ i ∷ k ∷ l ∷ m ∷ o ∷ []) n h last = absurd cc
-whole (a ∷ b ∷ d ∷ e ∷ g ∷ i ∷ k ∷ l ∷ m ∷ o ∷ p ∷ []) n h last = absurd cc
+whole [] n h last = absurd (null_int n last)
+whole (a ∷ []) n h last = absurd (null_int n last)
+whole (a ∷ b ∷ []) n h last = absurd (null_int n last)
+whole (a ∷ b ∷ d ∷ []) n h last = absurd (null_int n last)
+whole (a ∷ b ∷ d ∷ e ∷ []) n h last = absurd (null_int n last)
+whole (a ∷ b ∷ d ∷ e ∷ g ∷ []) n h last = absurd (null_int n last)
+whole (a ∷ b ∷ d ∷ e ∷ g ∷ i ∷ []) n h last = absurd (null_int n last)
+whole (a ∷ b ∷ d ∷ e ∷ g ∷ i ∷ k ∷ []) n h last = absurd (null_int n last)
+whole (a ∷ b ∷ d ∷ e ∷ g ∷ i ∷ k ∷ l ∷ []) n h last = absurd (null_int n last)
+whole (a ∷ b ∷ d ∷ e ∷ g ∷ i ∷ k ∷ l ∷ m ∷ []) n h last = absurd (null_int n last)
+whole (a ∷ b ∷ d ∷ e ∷ g ∷ i ∷ k ∷ l ∷ m ∷ o ∷ []) n h last = absurd (null_int n last)
+whole (a ∷ b ∷ d ∷ e ∷ g ∷ i ∷ k ∷ l ∷ m ∷ o ∷ p ∷ []) n h last = absurd (null_int n last)
 whole (a ∷ b ∷ d ∷ e ∷ g ∷ i ∷ k ∷ l ∷ m ∷ o ∷ p ∷ q ∷ []) n h last =
     record { is = ap (λ (v : Value). a ∷ v ∷ d ∷ e ∷ g ∷ i ∷ k ∷ l ∷ m ∷ o ∷ p ∷ q ∷ []) (null_is b (and_left _ _ h)) }
 whole (a ∷ b ∷ d ∷ e ∷ g ∷ i ∷ k ∷ l ∷ m ∷ o ∷ p ∷ q ∷ s ∷ more) n h last =

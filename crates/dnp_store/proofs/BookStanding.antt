@@ -1,5 +1,5 @@
 -- What a book's connection leaves.
-use Rattle.std.proofs.Common.{inl, IsTrue, ◌≡◌, ◌⊎◌, false, Ok, Err, Result, refl, subst}
+use Rattle.std.proofs.Common.{inl, IsTrue, ◌≡◌, ◌⊎◌, Bool, true, false, Ok, Err, Result, refl, sym, subst, ◌∙◌}
 use Rattle.std.specs.Prelude.{OnOk}
 use Rattle.sqlite.specs.Tree.{Trees}
 use Rattle.sqlite.specs.declared.error.Error.{Error}
@@ -35,6 +35,17 @@ either_of old mid new book next P commits clean early settled stands =
 pub leaves_before : (s : State) (book next : Ledger) → ((db : Trees) → IsTrue s.is_open → s.may_leave db → db ≡ s.committed.trees) → Stands s book → (db : Trees)
     → s.may_leave db → HoldsBook db book ⊎ HoldsBook db next
 leaves_before s book next settled stands db may = inl (leaves_last s book settled stands db may)
+
+-- where a call failed and the book is not lost, what stood stands
+pub kept_standing : (old mid new : State) (lost : Bool) (f : BookFault) (book : Ledger) → (IsTrue lost → f ≡ fault.Device) → (f ≡ fault.Device → ⊥)
+    → (lost ≡ false → IsTrue new.is_open) → (IsTrue new.is_open → IsTrue mid.is_open × (new.committed ≡ mid.committed))
+    → (IsTrue mid.is_open → IsTrue old.is_open × (mid.committed ≡ old.committed)) → Stands old book → Stands new book
+kept_standing old mid new true f book stops other opens late early stood = absurd (other (stops refl))
+kept_standing old mid new false f book stops other opens late early stood =
+    let open_now = opens refl in
+    let two = late open_now in
+    let one = early two.0 in
+    record { is_open = open_now; holds = subst (λ d. IsBook d book) (sym (two.1 ∙ one.1)) stood.holds }
 
 -- what is so of a book is so as it is seen
 module _ {S : Type 0} (g : Ghosts S) (inside seen : Kept S) (is : inside ≡ seen) where

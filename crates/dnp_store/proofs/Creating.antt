@@ -1,14 +1,16 @@
 -- What CREATE TABLE makes of a database: the tables that every store begins with, and the lanes of a queue.
-use Rattle.std.proofs.Common.{◌≡◌, ℕ, List, [], ◌∷◌, true, false, None, Ok, refl, sym, ap, subst, subst₂, ◌∙◌}
+use Rattle.std.proofs.Common.{◌≡◌, ℕ, List, [], ◌∷◌, true, false, None, Ok, Err, Result, refl, sym, ap, subst, subst₂, ◌∙◌}
 use Rattle.sqlite_tied.specs.Compute.{everything}
 use Rattle.sqlite_resolve.specs.Compile.{table_defined_by}
+use Rattle.sqlite_resolve.specs.declared.compiled.Compiled.{Compiled}
+use Rattle.sqlite_resolve.specs.declared.error.CompileError.{CompileError}
 use Rattle.sqlite.specs.Command.TheVariants.{CreateTable}
 use Rattle.sqlite.specs.Schema.{Schema}
 use Rattle.sqlite.specs.Term.{Term}
 use Rattle.sqlite.specs.Effect.{Database}
 use Rattle.sqlite.specs.Does.{Tally, Does, MakesTable, MakesSequence, lacks_sequence, sequence_text}
 use Rattle.sqlite_catalog.specs.Change.{created, KeepsRows, next_tree}
-use Rattle.sqlite.specs.State.{State, Executes, mode_of}
+use Rattle.sqlite.specs.State.{State, Executes, mode_of, text_of}
 use Rattle.sqlite.specs.Listing.{understood}
 use Rattle.sqlite.specs.Given.{IsPlain}
 use Rattle.sqlite.proofs.Callers.{command_of, statement_of, runs_as}
@@ -29,35 +31,32 @@ form_made = refl
 
 -- ---- what the texts are
 
-form_is : (command_of (understood no_schema form_text) ≡ CreateTable) × (statement_of form_text (understood no_schema form_text) ≡ form_text)
-unfolding understood everything
-form_is = (refl, refl)
+-- it makes a table and does no more (each part is read off one reading of the text)
+abbrev IsTable : List ℕ → Result Compiled CompileError → Type 0
+IsTable sql (Ok c) = (c.command ≡ CreateTable) × (text_of sql c ≡ sql) × (c.returning ≡ None) × (c.formats ≡ [])
+IsTable sql (Err e) = ⊥
 
-form_plain : IsPlain (understood no_schema form_text)
-unfolding understood everything
-form_plain = (refl, refl)
+is_of : (sql : List ℕ) (u : Result Compiled CompileError) → IsTable sql u → (command_of u ≡ CreateTable) × (statement_of sql u ≡ sql)
+is_of sql (Ok c) h = (h.0, h.1)
+is_of sql (Err e) h = absurd h
 
-rows_is : (kind : StoreKind) (f : List Term) → (command_of (understood (form_schema f) (rows_text kind)) ≡ CreateTable)
-    × (statement_of (rows_text kind) (understood (form_schema f) (rows_text kind)) ≡ rows_text kind)
-unfolding understood everything
-rows_is Queue f = (refl, refl)
-rows_is Journal f = (refl, refl)
-rows_is Book f = (refl, refl)
+plain_of : (sql : List ℕ) (u : Result Compiled CompileError) → IsTable sql u → IsPlain u
+plain_of sql (Ok c) h = (h.2, h.3)
+plain_of sql (Err e) h = absurd h
 
-rows_plain : (kind : StoreKind) (f : List Term) → IsPlain (understood (form_schema f) (rows_text kind))
+form_is : IsTable form_text (understood no_schema form_text)
 unfolding understood everything
-rows_plain Queue f = (refl, refl)
-rows_plain Journal f = (refl, refl)
-rows_plain Book f = (refl, refl)
+form_is = (refl, refl, refl, refl)
 
-lanes_is : (f q : List Term) → (command_of (understood (schema_of f (queue_with q) []) lanes_text) ≡ CreateTable)
-    × (statement_of lanes_text (understood (schema_of f (queue_with q) []) lanes_text) ≡ lanes_text)
+rows_is : (kind : StoreKind) (f : List Term) → IsTable (rows_text kind) (understood (form_schema f) (rows_text kind))
 unfolding understood everything
-lanes_is f q = (refl, refl)
+rows_is Queue f = (refl, refl, refl, refl)
+rows_is Journal f = (refl, refl, refl, refl)
+rows_is Book f = (refl, refl, refl, refl)
 
-lanes_plain : (f q : List Term) → IsPlain (understood (schema_of f (queue_with q) []) lanes_text)
+lanes_is : (f q : List Term) → IsTable lanes_text (understood (schema_of f (queue_with q) []) lanes_text)
 unfolding understood everything
-lanes_plain f q = (refl, refl)
+lanes_is f q = (refl, refl, refl, refl)
 
 -- ---- the statements
 
@@ -79,7 +78,9 @@ makes old new sql schema count has is plain h =
 pub created_form : (old new : State) (count : ℕ) → old.now.schema ≡ no_schema → Executes form_text [] old new (Ok count) → HasForm new.now
 unfolding checks_of_form
 created_form old new count has h =
-    let run = makes old new form_text no_schema count has form_is form_plain h in
+    let run = makes old new form_text no_schema count has
+    (is_of form_text (understood no_schema form_text) form_is)
+    (plain_of form_text (understood no_schema form_text) form_is) h in
     let made = run.1 in
     let f = (table_of_text (table_defined_by form_text)).checks in
     let table : made.table ≡ form_with f = sym (ap table_of_text made.defined) ∙ form_made in
@@ -117,7 +118,9 @@ unfolding checks_of_rows
 created_rows kind old new count has h =
     let f = has.form in
     let r = checks_of kind in
-    let run = makes old new (rows_text kind) (form_schema f) count has.schema (rows_is kind f) (rows_plain kind f) h in
+    let run = makes old new (rows_text kind) (form_schema f) count has.schema
+    (is_of (rows_text kind) (understood (form_schema f) (rows_text kind)) (rows_is kind f))
+    (plain_of (rows_text kind) (understood (form_schema f) (rows_text kind)) (rows_is kind f)) h in
     let made = run.1 in
     let mid : run.0.schema ≡ two_schema kind f r = made.is ∙ ap (created (form_schema f)) (sym (ap table_of_text made.defined)) ∙ rows_joined kind f in
     let seq : MakesTable sequence_text run.0 (Ok new.now) = picked _ (lacks_sequence run.0.schema) (ap lacks_sequence mid ∙ lacks kind f r) run.2 in
@@ -145,7 +148,9 @@ unfolding checks_of_lanes
 created_lanes old new count has h =
     let f = has.form in
     let q = has.rows in
-    let run = makes old new lanes_text (schema_of f (queue_with q) []) count has.schema (lanes_is f q) (lanes_plain f q) h in
+    let run = makes old new lanes_text (schema_of f (queue_with q) []) count has.schema
+    (is_of lanes_text (understood (schema_of f (queue_with q) []) lanes_text) (lanes_is f q))
+    (plain_of lanes_text (understood (schema_of f (queue_with q) []) lanes_text) (lanes_is f q)) h in
     let made = run.1 in
     let mid : run.0.schema ≡ queue_schema f q l_checks = made.is ∙ ap (created (schema_of f (queue_with q) [])) (sym (ap table_of_text made.defined))
     ∙ lanes_joined f q in

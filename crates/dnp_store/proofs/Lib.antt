@@ -1,5 +1,6 @@
 pub mod Statements
 pub mod Stepping
+pub mod Outcomes
 pub mod Recounting
 pub mod Counting
 pub mod IdRows
@@ -31,6 +32,7 @@ pub mod JournalStatements
 pub mod JournalHolding
 pub mod JournalReading
 pub mod JournalStanding
+pub mod JournalCalls
 pub mod JournalOpening
 pub mod JournalPaging
 pub mod BookStatements
@@ -50,6 +52,8 @@ pub mod Rising
 pub mod Once
 pub mod Seconding
 pub mod Ending
+pub mod Beginning
+pub mod Running
 pub mod PairOpening
 pub mod PairReading
 pub mod PairCounting

@@ -16,6 +16,8 @@ use Rattle.sqlite.specs.Effect.{Database, IsDatabase}
 use Rattle.dnp_eventbuf.specs.Stock.{Stock, empty_stock}
 use Rattle.dnp_store.specs.declared.queue_opening.Stored.{Stored}
 use Rattle.dnp_store.specs.declared.queue_opening.Stored.TheVariants.{One, Pair}
+use Rattle.dnp_store.specs.declared.queue_side.QueueSide.TheVariants.{First}
+use Rattle.dnp_store.specs.steps.Pairs.{HoldsAmong}
 use Rattle.dnp_store.specs.steps.Stored.{IsShown, IsStored, owned_by}
 use Rattle.dnp_store.specs.Tables.{checks_at}
 use Rattle.dnp_store.specs.QueueTables.{IsQueue, queue_schema}
@@ -31,6 +33,17 @@ pub no_number : (rows : List Row) (n : ℕ) → n ≡ 1 → IsForm n rows → Is
 no_number rows n is one two =
     let same : (Int one.0 ∷ Int (pos n) ∷ []) ∷ [] ≡ (Int two.0 ∷ Int (pos 2) ∷ []) ∷ [] = sym one.1 ∙ two.1 in
     absurd (grind (arith, is, same))
+
+-- lanes that the tables of one side hold, under the number of the form for one centre
+pub shown_one : (db : Database) (f q l : List Term) (s : Stock) → db.schema ≡ queue_schema f q l → IsForm 1 (db.trees 0)
+    → HoldsAmong First db.trees (db.trees 2) s → IsQueue db s
+shown_one db f q l s has form held = record {
+  form_checks = f;
+  queue_checks = q;
+  lanes_checks = l;
+  schema = has;
+  holds = record { figures = held.figures; form = form; lanes = held.lanes; overflow = held.overflow };
+}
 
 -- the CHECKs of a queue's tables stand in their places
 by_places : (s : Schema) (f q l : List Term) → s ≡ queue_schema f q l → s ≡ queue_schema (checks_at s.tables 0) (checks_at s.tables 1) (checks_at s.tables 3)

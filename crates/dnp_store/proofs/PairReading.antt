@@ -1,5 +1,5 @@
 -- What queries show of the tables of one side.
-use Rattle.std.proofs.Common.{◌≡◌, ℕ, pos, List, [], ◌∷◌, codes, false, Some, None, Ok, Err, Result, IfOk, refl, sym, subst, IsPermutation}
+use Rattle.std.proofs.Common.{◌≡◌, ℕ, pos, List, [], ◌∷◌, codes, Bool, false, IsTrue, Some, None, Ok, Err, Result, IfOk, inl, inr, refl, sym, ap, subst, ◌∙◌, IsPermutation}
 use Rattle.std.specs.Prelude.{Vec}
 use Rattle.std.specs.declared.alloc.Global.{Global}
 use Rattle.std.specs.List.{AllByRecursion}
@@ -16,17 +16,17 @@ use Rattle.sqlite.specs.State.{State, Shown}
 use Rattle.sqlite.proofs.Callers.{command_of}
 use Rattle.dnp_store.specs.declared.queue_side.QueueSide.{QueueSide}
 use Rattle.dnp_store.specs.declared.queue_side.QueueSide.TheVariants.{First, Second}
-use Rattle.dnp_store.specs.declared.store_kind.StoreKind.TheVariants.{Queue}
+use Rattle.dnp_eventbuf.specs.Stock.{LaneState, Stock}
+use Rattle.sqlite.specs.Tree.{Trees}
 use Rattle.dnp_store.specs.Texts.{lanes_select, rows_select}
-use Rattle.dnp_store.specs.Tables.{form_with, sequence}
+use Rattle.dnp_store.specs.Tables.{IsCounted, counts_of, form_with, sequence}
 use Rattle.dnp_store.specs.QueueTables.{Figures, figures_rows, lanes_columns, queue_columns}
-use Rattle.dnp_store.specs.PairTables.{Checks, IsForm, lanes_tree, pair_schema, rows_tree}
-use Rattle.dnp_store.specs.steps.Pairs.{ReadsPair}
-use Rattle.dnp_store.specs.steps.Shown.{AreNine, ShowNine, ShowsForm}
-use Rattle.dnp_store.specs.steps.Stores.{Reads}
+use Rattle.dnp_store.specs.PairTables.{Checks, HoldsSide, IsForm, lanes_tree, pair_schema, rows_name, rows_tree}
+use Rattle.dnp_store.specs.steps.Pairs.{HoldsAmong, ReadsPair, ReadsSide}
+use Rattle.dnp_store.specs.steps.Shown.{AreNine, IsPutBack, ShowNine, ShowsForm}
 use Rattle.dnp_store.proofs.Opening.{form_query, form_terms, lanes_terms, query, queue_terms, reads_form_in, reads_lanes, reads_lanes_in}
 use Rattle.dnp_store.proofs.PairSchema.{lanes_of, lanes_read, rows_read, rows_with}
-use Rattle.dnp_store.proofs.Restoring.{PutsBack, reads_queued, reads_queued_in}
+use Rattle.dnp_store.proofs.Restoring.{PutsBack, held_lanes, reads_queued, reads_queued_in}
 use Rattle.sqlite_schema.specs.Rules.{has_computed}
 use Rattle.dnp_store.proofs.Rows.{IsTyped, form_columns, typed}
 
@@ -95,31 +95,49 @@ reads_pair_number old new rows n shown one c sound has =
     one.number has in
     (it.0, (one.id, it.1))
 
-module _ {E : Type 0} (old new : State) (rows : List Row) where
-  pub lanes_if_first : (side : QueueSide) (r : Result (Vec Figures Global) E) → Shown (lanes_select side) [] old new rows
-      → IfOk r (λ figures. AreNine figures.items) → IfOk r (λ figures. ShowNine rows figures.items)
-      → IfOk r (λ figures. side ≡ First → Reads Queue old new (λ db. IsPermutation (figures_rows 0 figures.items) (db 3)))
-  lanes_if_first side (Ok figures) shown nine shows = λ is.
-      reads_lanes old new rows figures.items (subst (λ s. Shown (lanes_select s) [] old new rows) is shown) nine shows
-  lanes_if_first side (Err e) shown nine shows = tt
+module _ (old new : State) (rows : List Row) (side : QueueSide) where
+  reads_figures : (figures : List Figures) → Shown (lanes_select side) [] old new rows → AreNine figures → ShowNine rows figures
+      → ReadsSide side old new (λ db. IsPermutation (figures_rows 0 figures) (db (lanes_tree side)))
+  reads_figures figures shown nine shows sound (inl two) =
+      reads_lanes_in old new rows (pair_schema two.0) (lanes_tree side) (lanes_select side) figures (lanes_is side two.0) (lanes_plain side two.0)
+      (lanes_read side old.now.trees) (typed_side_lanes old.now two.0 two.1 sound side) shown nine shows two.1
+  reads_figures figures shown nine shows sound (inr one) =
+      subst (λ s. (new.now ≡ old.now) × IsPermutation (figures_rows 0 figures) (old.now.trees (lanes_tree s))) (sym one.3)
+      (reads_lanes old new rows figures (subst (λ s. Shown (lanes_select s) [] old new rows) one.3 shown) nine shows one.0 one.1 one.2 sound one.4)
 
-  pub lanes_if : (side : QueueSide) (r : Result (Vec Figures Global) E) → Shown (lanes_select side) [] old new rows
-      → IfOk r (λ figures. AreNine figures.items) → IfOk r (λ figures. ShowNine rows figures.items)
-      → IfOk r (λ figures. ReadsPair old new (λ db. IsPermutation (figures_rows 0 figures.items) (db (lanes_tree side))))
-  lanes_if side (Ok figures) shown nine shows = λ c sound has.
-      reads_lanes_in old new rows (pair_schema c) (lanes_tree side) (lanes_select side) figures.items (lanes_is side c) (lanes_plain side c)
-      (lanes_read side old.now.trees) (typed_side_lanes old.now c has sound side) shown nine shows has
-  lanes_if side (Err e) shown nine shows = tt
+  reads_rows : Shown (rows_select side) [] old new rows → ReadsSide side old new (λ db. PutsBack rows (db (rows_tree side)))
+  reads_rows shown sound (inl two) =
+      reads_queued_in old new rows (pair_schema two.0) (rows_tree side) (rows_select side) (rows_is side two.0) (rows_plain side two.0)
+      (rows_read side old.now.trees) (typed_side_rows old.now two.0 two.1 sound side) shown two.1
+  reads_rows shown sound (inr one) =
+      subst (λ s. (new.now ≡ old.now) × PutsBack rows (old.now.trees (rows_tree s))) (sym one.3)
+      (reads_queued old new rows (subst (λ s. Shown (rows_select s) [] old new rows) one.3 shown) one.0 one.1 one.2 sound one.4)
 
-module _ {E : Type 0} (old new : State) where
-  pub queued_if_first : (side : QueueSide) (r : Result (Vec (List Value) Global) E) → IfOk r (λ rows. Shown (rows_select side) [] old new rows.items)
-      → IfOk r (λ rows. side ≡ First → Reads Queue old new (λ db. PutsBack rows.items (db 1)))
-  queued_if_first side (Ok rows) shown = λ is. reads_queued old new rows.items (subst (λ s. Shown (rows_select s) [] old new rows.items) is shown)
-  queued_if_first side (Err e) shown = tt
+module _ {E : Type 0} (old new : State) (side : QueueSide) where
+  pub lanes_if : (rows : List Row) (r : Result (List Figures) E) → Shown (lanes_select side) [] old new rows → IfOk r AreNine → IfOk r (ShowNine rows)
+      → IfOk r (λ figures. ReadsSide side old new (λ db. IsPermutation (figures_rows 0 figures) (db (lanes_tree side))))
+  lanes_if rows (Ok figures) shown nine shows = reads_figures old new rows side figures shown nine shows
+  lanes_if rows (Err e) shown nine shows = tt
 
-  pub queued_if : (side : QueueSide) (r : Result (Vec (List Value) Global) E) → IfOk r (λ rows. Shown (rows_select side) [] old new rows.items)
-      → IfOk r (λ rows. ReadsPair old new (λ db. PutsBack rows.items (db (rows_tree side))))
-  queued_if side (Ok rows) shown = λ c sound has.
-      reads_queued_in old new rows.items (pair_schema c) (rows_tree side) (rows_select side) (rows_is side c) (rows_plain side c)
-      (rows_read side old.now.trees) (typed_side_rows old.now c has sound side) shown has
-  queued_if side (Err e) shown = tt
+  pub queued_if : (r : Result (Vec (List Value) Global) E) → IfOk r (λ rows. Shown (rows_select side) [] old new rows.items)
+      → IfOk r (λ rows. ReadsSide side old new (λ db. PutsBack rows.items (db (rows_tree side))))
+  queued_if (Ok rows) shown = reads_rows old new rows.items side shown
+  queued_if (Err e) shown = tt
+
+-- ---- what was put back is what a side holds
+
+pub holds_among : (side : QueueSide) (db : Trees) (figures : List Figures) (rows : List Row) (noted : ℕ) (s : Stock) (is_noted : Bool)
+    → IsTrue is_noted → AreNine figures → IsPermutation (figures_rows 0 figures) (db (lanes_tree side)) → PutsBack rows (db (rows_tree side))
+    → IsPutBack figures rows noted s is_noted → (noting : List Row) → IsCounted (rows_name side) noting noted → HoldsAmong side db noting s
+holds_among side db figures rows noted s is_noted is nine lanes puts put noting counted =
+    let back = puts put.bare s put.begun.nine (λ k low. ap (λ (lane : LaneState). lane.rows) (put.begun.lanes k low)) put.restored in
+    record {
+      figures = figures;
+      lanes = held_lanes (rows_name side) (db (rows_tree side)) noting (db (lanes_tree side)) figures put.bare s put.last nine lanes
+          (subst (λ (n : ℕ). IsCounted (rows_name side) noting n) (put.same is) counted) put.begun back;
+      overflow = back.overflow ∙ put.begun.overflow;
+    }
+
+-- and where it stands among the counts under its name, the side is held
+pub holds_side : (side : QueueSide) (db : Trees) (s : Stock) → HoldsAmong side db (counts_of (rows_name side) (db 2)) s → HoldsSide side db s
+holds_side side db s held = record { figures = held.figures; lanes = held.lanes; overflow = held.overflow }

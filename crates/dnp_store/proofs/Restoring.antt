@@ -19,9 +19,7 @@ use Rattle.dnp_eventbuf.specs.Carried.{IsCarried}
 use Rattle.dnp_eventbuf.specs.Restored.{with_old_row, fits_behind}
 use Rattle.dnp_eventbuf.specs.Stock.{LaneState, Stock, lane_at, added_in}
 use Rattle.dnp_store.specs.Tables.{IsCounted}
-use Rattle.dnp_store.specs.QueueTables.{queue_schema, queue_columns, Queued, queued_row, event_of, in_lane, Figures, figures_rows, HoldsLanes, IsForm1, IsQueue}
-use Rattle.sqlite.specs.Effect.{Database}
-use Rattle.sqlite.specs.Term.{Term}
+use Rattle.dnp_store.specs.QueueTables.{queue_schema, queue_columns, Queued, queued_row, event_of, in_lane, Figures, figures_rows, HoldsLanes}
 use Rattle.dnp_store.specs.steps.Shown.{AreNine, IsBegun, Restores, PutBack}
 use Rattle.dnp_store.proofs.Appending.{behind}
 use Rattle.dnp_store.proofs.Holding.{at_lane, kind_is}
@@ -180,19 +178,3 @@ held_lanes name rows counts lanes figures a b n nine lanes_is counted begun put 
       nine = nine.nine;
       lanes = λ k low. put.lanes k low ∙ ap (λ (lane : LaneState). record lane { rows = in_lane k put.queued }) (begun.lanes k low);
     }
-
-pub opened : (db : Database) (f q l : List Term) (figures : List Figures) (a b : Stock) (n : ℕ) → db.schema ≡ queue_schema f q l → IsForm1 (db.trees 0)
-    → AreNine figures → IsPermutation (figures_rows 0 figures) (db.trees 3) → IsCounted (codes "queue") (db.trees 2) n → IsBegun a figures n
-    → PutBack (db.trees 1) a b → IsQueue db b
-opened db f q l figures a b n has form nine lanes counted begun put = record {
-  form_checks = f;
-  queue_checks = q;
-  lanes_checks = l;
-  schema = has;
-  holds = record {
-    figures = figures;
-    form = form;
-    lanes = held_lanes (codes "queue") (db.trees 1) (db.trees 2) (db.trees 3) figures a b n nine lanes counted begun put;
-    overflow = put.overflow ∙ begun.overflow;
-  };
-}

@@ -10,11 +10,8 @@ use Rattle.sqlite.specs.Rows.{Task, Written, Part, Outcome}
 use Rattle.sqlite.specs.Does.{Tally, WritesRows, OnRows, AtPlace}
 use Rattle.sqlite.specs.declared.error.Error.{Error}
 use Rattle.std.specs.Prelude.{OnOk}
-use Rattle.sqlite_trees.specs.declared.store.Store.{Ghosts}
-use Rattle.sqlite.specs.Held.{Held, state}
-use Rattle.sqlite.specs.State.{State, HasCleanDisk, Shows, Survives}
+use Rattle.sqlite.specs.State.{State, HasCleanDisk, Survives}
 use Rattle.sqlite.proofs.StateLemmas.{survives_then}
-use Rattle.sqlite.proofs.Callers.{survives_begin}
 
 -- a part that gave a value did not stop on the way
 pub went : {B E R : Type 0} {b : B} {Stops : E → Type 0} → ((stop : E) × Stops stop × (Ok b ≡ Err stop)) ⊎ R → R
@@ -48,12 +45,6 @@ at_table P tables at table out there h = subst (λ t. AtPlace P t out) there h
 
 -- ---- transactions
 
--- a commit that was answered Ok
-pub finished : (X Y : Type 0) (mid new : State) (P : Database → Type 0) (r : Result (Unit {0}) Error) → P mid.now
-    → OnOk r (IsTrue mid.in_transaction × Shows mid new mid.now mid.now false × X × Y) → OnOk r (IsTrue new.is_open × P new.committed)
-finished X Y mid new P (Ok _) holds h = (h.1.is_open, subst P (sym h.1.committed_is) holds)
-finished X Y mid new P (Err _) holds h = tt
-
 pub second : (X Y : Type 0) (r : Result (Unit {0}) Error) → OnOk r (X × Y) → OnOk r Y
 second X Y (Ok _) h = h.1
 second X Y (Err _) h = tt
@@ -71,13 +62,6 @@ survives_as old new P Q more h = record {
 -- a call that commits nothing leaves no more than the one before it
 pub survives_on : (old mid new : State) (P : Trees → Type 0) → Survives old mid P → Survives mid new (λ _. ⊥) → Survives old new P
 survives_on old mid new P = survives_then old mid new P (λ _. ⊥) P (λ _ db made. made) (λ _ db none. absurd none)
-
--- what a transaction leaves that did one thing and then committed
-pub survives_commit : {S : Type 0} (g : Ghosts S) (old begun : Held S) (mid new : State) (P : Trees → Type 0) → begun ≡ record old { in_transaction = true }
-    → Survives (state g begun) mid (λ _. ⊥) → Survives mid new (λ db. db ≡ mid.now.trees) → (HasCleanDisk new → P mid.now.trees) → Survives (state g old) new P
-survives_commit g old begun mid new P is one two holds =
-    survives_then (state g old) mid new (λ _. ⊥) (λ db. db ≡ mid.now.trees) P (λ _ db none. absurd none) (λ clean db same. subst P (sym same) (holds clean))
-    (survives_begin g old mid (λ _. ⊥) (subst (λ h. Survives (state g h) mid (λ _. ⊥)) is one)) two
 
 -- what an open connection may leave is its last commit
 pub leaves_committed : (s : State) (P : Trees → Type 0) → ((db : Trees) → IsTrue s.is_open → s.may_leave db → db ≡ s.committed.trees) → IsTrue s.is_open

@@ -1,5 +1,5 @@
 -- Steps inside a transaction, one after the other.
-use Rattle.std.proofs.Common.{Ok, Err, Result, IsTrue, arith, refl, ◌∙◌}
+use Rattle.std.proofs.Common.{Ok, Err, Result, IsTrue, IfOk, arith, refl, ◌∙◌}
 use Rattle.std.specs.Prelude.{OnOk}
 use Rattle.std.specs.Borrow.{MutBor}
 use Rattle.sqlite_trees.specs.declared.store.Store.{Ghosts}
@@ -49,3 +49,12 @@ step_as g old new a result step = record {
   kept = step.kept;
   survives = step.survives;
 }
+
+-- what follows of an answer, where there is one
+pub if_ok : {A E : Type 0} (P Q : A → Type 0) (result : Result A E) → ((a : A) → P a → Q a) → IfOk result P → IfOk result Q
+if_ok P Q (Ok a) follows holds = follows a holds
+if_ok P Q (Err e) follows holds = tt
+
+pub on_then : {A E : Type 0} (P Q : Type 0) (result : Result A E) → (P → Q) → OnOk result P → OnOk result Q
+on_then P Q (Ok a) follows holds = follows holds
+on_then P Q (Err e) follows holds = tt

@@ -1,7 +1,9 @@
 -- Private steps: words of clauses that no caller sees.
+pub mod Beginning
 pub mod BookShown
 pub mod Inside
 pub mod JournalShown
+pub mod JournalPages
 pub mod Making
 pub mod Pairs
 pub mod Seconds
@@ -9,3 +11,4 @@ pub mod Shown
 pub mod Steps
 pub mod Stored
 pub mod Stores
+pub mod Turning

@@ -8,11 +8,9 @@ ghost use Rattle.dnp_controls.specs.Calls.{IsBookCall};
 ghost use Rattle.dnp_store.specs.BookKept.{IsHonest, Leaves, LeavesEither};
 ghost use Rattle.dnp_store.specs.Refusals.{IsLost};
 
-use crate::book_entries::{count_past, first_over, first_pending, set_state, state_of};
-use crate::book_writing::{write_added, write_turned};
-use crate::fault::is_lost;
+use crate::book_calls::{add_to, is_device, turn_to};
+use crate::book_entries::{count_past, first_over, first_pending};
 use crate::store_kind::StoreKind;
-use dnp_controls::laws::ids_go_on;
 use dnp_controls::{Book, BookFault, Entry, State, TARGETS};
 use dnp_objects::{Command, MAX_ID, Status};
 use sqlite::{Alter, Connection};
@@ -82,7 +80,7 @@ impl<S: Alter> ControlBook<S> {
 }
 
 /// Device where the store is lost, else Memory.
-fn book_fault(lost: bool) -> BookFault
+pub(crate) fn book_fault(lost: bool) -> BookFault
     ensures stopped { IsTrue lost → result ≡ BookFault.Device }
     ensures serves { lost ≡ false → result ≡ BookFault.Memory }
 {
@@ -124,29 +122,15 @@ impl<S: Alter> Book for ControlBook<S> {
         if self.stopped {
             return Err(BookFault::Device);
         }
-        // (a law, for the proof: it does nothing)
-        ids_go_on();
-        if self.last_id >= MAX_ID {
-            return Err(BookFault::Exhausted);
-        }
-        if self.entries.reserve(1).is_err() {
-            return Err(BookFault::Memory);
-        }
-        if let Err(error) = write_added(&mut self.conn, target, command) {
-            let lost = is_lost(&mut self.conn, &error);
-            self.stopped = lost;
-            return Err(book_fault(lost));
-        }
-        let id = self.last_id + 1;
-        let entry = Entry {
-            id,
+        let answer = add_to(
+            &mut self.conn,
+            &mut self.entries,
+            &mut self.last_id,
             target,
-            command: *command,
-            state: State::Pending,
-        };
-        let _room = self.entries.push(entry);
-        self.last_id = id;
-        Ok(id)
+            command,
+        );
+        self.stopped = is_device(&answer);
+        answer
     }
 
     fn next(&mut self, _alloc: Global, target: u8) -> Result<Option<Entry>, BookFault>
@@ -187,20 +171,15 @@ impl<S: Alter> Book for ControlBook<S> {
         if self.stopped {
             return Err(BookFault::Device);
         }
-        // (a law, for the proof: it does nothing)
-        ids_go_on();
-        match state_of(&self.entries, id) {
-            None => return Err(BookFault::NoControl),
-            Some(State::Pending) => {}
-            Some(State::Spent | State::Finished(_)) => return Err(BookFault::NotPending),
-        }
-        if let Err(error) = write_turned(&mut self.conn, id, State::Spent) {
-            let lost = is_lost(&mut self.conn, &error);
-            self.stopped = lost;
-            return Err(book_fault(lost));
-        }
-        set_state(&mut self.entries, id, State::Spent);
-        Ok(())
+        let answer = turn_to(
+            &mut self.conn,
+            &mut self.entries,
+            self.last_id,
+            id,
+            &State::Spent,
+        );
+        self.stopped = is_device(&answer);
+        answer
     }
 
     /// What a crash leaves at any exit holds the entries before or after, and after Ok those after.
@@ -225,20 +204,15 @@ impl<S: Alter> Book for ControlBook<S> {
         if self.stopped {
             return Err(BookFault::Device);
         }
-        // (a law, for the proof: it does nothing)
-        ids_go_on();
-        match state_of(&self.entries, id) {
-            None => return Err(BookFault::NoControl),
-            Some(State::Pending | State::Spent) => {}
-            Some(State::Finished(_)) => return Err(BookFault::NotPending),
-        }
-        if let Err(error) = write_turned(&mut self.conn, id, State::Finished(status)) {
-            let lost = is_lost(&mut self.conn, &error);
-            self.stopped = lost;
-            return Err(book_fault(lost));
-        }
-        set_state(&mut self.entries, id, State::Finished(status));
-        Ok(())
+        let answer = turn_to(
+            &mut self.conn,
+            &mut self.entries,
+            self.last_id,
+            id,
+            &State::Finished(status),
+        );
+        self.stopped = is_device(&answer);
+        answer
     }
 
     fn rows(&mut self, alloc: Global, from: u64, most: usize) -> Result<Vec<Entry>, BookFault>

@@ -13,10 +13,8 @@ ghost use Rattle.dnp_store.specs.Tables.{no_schema};
 
 use crate::book::ControlBook;
 use crate::book_opening::read_book;
-use crate::fault::{is_lost, is_taken};
-use crate::open::{OpenFault, is_bare, last_fault, open_fault, unread_fault};
+use crate::open::{OpenFault, begin_tables, last_fault, unread_fault};
 use crate::store_kind::StoreKind;
-use crate::stores::write_tables;
 use sqlite::{Alter, Connection, MemStore};
 use std::alloc::Global;
 
@@ -43,23 +41,18 @@ impl<S: Alter> ControlBook<S> {
         ensures device { IfErr result (λ e. HasCleanDisk (state S.Store e.1) → e.0 ≡ OpenFault.Device → IsLost S.Store StoreKind.Book conn e.1) }
         ensures taken { IfErr result (λ e. HasCleanDisk (state S.Store e.1) → e.0 ≡ OpenFault.WrongForm → IsTrue conn.in_transaction ⊎ IsTaken S.Store StoreKind.Book conn e.1) }
     {
-        if !conn.is_autocommit() {
-            return Err((OpenFault::WrongForm, conn));
-        }
-        let owned = is_bare(&conn);
         let mut conn = conn;
-        if let Err(error) = write_tables(&mut conn, StoreKind::Book) {
-            let lost = is_lost(&mut conn, &error);
-            return Err((open_fault(is_taken(&error), lost), conn));
+        match begin_tables(&mut conn, StoreKind::Book) {
+            Ok(owned) => Ok(ControlBook {
+                conn,
+                entries: Vec::new(alloc),
+                last_id: 0,
+                first: 0,
+                stopped: false,
+                owned,
+            }),
+            Err(fault) => Err((fault, conn)),
         }
-        Ok(ControlBook {
-            conn,
-            entries: Vec::new(alloc),
-            last_id: 0,
-            first: 0,
-            stopped: false,
-            owned,
-        })
     }
 
     /// Opens the book that the database holds. Nothing is written, and each row is looked at once.

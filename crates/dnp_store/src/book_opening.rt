@@ -1,6 +1,6 @@
 //! The entries of a book that a database holds.
 
-ghost use Rattle.std.specs.Prelude.{◌≡◌, ◌≤◌, false, IsTrue, OnOk, IfOk, List, []};
+ghost use Rattle.std.specs.Prelude.{◌≡◌, ◌≤◌, false, IsTrue, Ok, OnOk, IfOk, List, [], codes};
 ghost use Rattle.sqlite.specs.Effect.{IsDatabase};
 ghost use Rattle.sqlite.specs.Held.{state};
 ghost use Rattle.sqlite.specs.State.{HasCleanDisk, Survives};
@@ -9,7 +9,8 @@ ghost use Rattle.dnp_objects.specs.declared.limits.TheConstants as limits;
 ghost use Rattle.dnp_controls.specs.declared.book.Entry.{Entry};
 ghost use Rattle.dnp_controls.specs.Book.{IsSound};
 ghost use Rattle.dnp_store.specs.steps.Inside.{IsInside, IsStep};
-ghost use Rattle.dnp_store.specs.steps.BookShown.{FindsBook, HoldsEntries, ShowEntries};
+ghost use Rattle.dnp_store.specs.steps.BookShown.{EntriesRise, FindsBook, HoldsEntries, ShowEntries};
+ghost use Rattle.dnp_store.specs.steps.Shown.{ShowsCount};
 ghost use Rattle.dnp_store.specs.BookTables.{book_schema};
 ghost use Rattle.dnp_store.specs.steps.Stores.{Reads};
 
@@ -19,7 +20,7 @@ use crate::fault::Unread;
 use crate::queue_opening::both;
 use crate::store_form::is_of_three;
 use crate::store_kind::StoreKind;
-use crate::stores::{list, read_counts, read_form};
+use crate::stores::{list, read_begun};
 use dnp_controls::Entry;
 use sqlite::{Alter, Connection, Error, Row, Transaction};
 
@@ -46,6 +47,25 @@ fn read_controls<S: Alter>(tx: &mut Transaction<'_, S>) -> Result<Vec<Row>, Erro
     )
 }
 
+/// What these rows say of a book. The entries come into a list, which is empty.
+fn found_in(counts: &[Row], rows: &[Row], entries: &mut Vec<Entry>) -> Result<FoundBook, Unread>
+    requires { entries.old.items ≡ [] }
+    ensures range { IfOk result (λ found. found.last_id ≤ limits.MAX_ID) }
+    ensures rise { IfOk result (λ found. EntriesRise 0 found.last_id entries.new.items) }
+    ensures shown { OnOk result (ShowEntries rows.now entries.new.items) }
+    ensures counted { IfOk result (λ found. IsTrue found.counted → ShowsCount (codes "control") counts.now found.last_id) }
+{
+    let Some((last_id, counted)) = last_used(counts, rows, "control") else {
+        return Err(Unread::Form);
+    };
+    put_entries(entries, rows)?;
+    if are_in_order(entries, last_id) {
+        Ok(FoundBook { last_id, counted })
+    } else {
+        Err(Unread::Form)
+    }
+}
+
 /// What the tables hold, where they are a book's. The entries come into a list, which is empty.
 fn read_all<S: Alter>(
     tx: &mut Transaction<'_, S>,
@@ -60,17 +80,20 @@ fn read_all<S: Alter>(
     ensures read { HasCleanDisk (state S.Store tx.new.conn.now) → IfOk result (λ found. IsTrue found.counted → (f c : List Term) → IsDatabase (state S.Store tx.old.conn.now).now
         → (state S.Store tx.old.conn.now).now.schema ≡ book_schema f c → FindsBook (state S.Store tx.old.conn.now).now entries.new.items found.last_id) }
 {
-    read_form(tx)?;
-    let counts = read_counts(tx)?;
+    let counts = read_begun(tx)?;
     let rows = read_controls(tx)?;
-    let Some((last_id, counted)) = last_used(&counts, &rows, "control") else {
-        return Err(Unread::Form);
-    };
-    put_entries(entries, &rows)?;
-    if !are_in_order(entries, last_id) {
-        return Err(Unread::Form);
+    found_in(&counts, &rows, entries)
+}
+
+/// What was found, and whether it is the database's own.
+fn owned_by(found: Result<FoundBook, Unread>, ours: bool) -> Result<(FoundBook, bool), Unread>
+    ensures found { IfOk result (λ owned. found ≡ Ok owned.0) }
+    ensures owned { IfOk result (λ owned. IsTrue owned.1 → IsTrue ours × IsTrue owned.0.counted) }
+{
+    match found {
+        Ok(found) => Ok((found, both(ours, found.counted))),
+        Err(unread) => Err(unread),
     }
-    Ok(FoundBook { last_id, counted })
 }
 
 /// What the tables hold, and whether the database has the tables of a book and nothing else. The entries come
@@ -92,8 +115,7 @@ pub(crate) fn read_book<S: Alter>(
     prove!(conn.is_autocommit());
     let ours = is_of_three(conn, StoreKind::Book);
     let mut tx = conn.transaction();
-    let found = read_all(&mut tx, entries)?;
+    let found = read_all(&mut tx, entries);
     tx.rollback();
-    let owned = both(ours, found.counted);
-    Ok((found, owned))
+    owned_by(found, ours)
 }

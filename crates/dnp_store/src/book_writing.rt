@@ -11,6 +11,8 @@ ghost use Rattle.dnp_store.specs.BookTables.{HoldsBook, IsBook};
 
 use crate::book_columns::{columns_of, state_columns};
 use crate::store_kind::StoreKind;
+use crate::stores::run;
+use crate::transactions::end;
 use dnp_controls::State;
 use dnp_objects::Command;
 use sqlite::{Alter, Connection, Error, Transaction, params};
@@ -32,11 +34,11 @@ fn insert<S: Alter>(tx: &mut Transaction<'_, S>, target: u8, command: &Command) 
     let on_ms = columns.on_ms;
     let off_ms = columns.off_ms;
     let value = columns.value;
-    tx.execute(
+    run(
+        tx,
         "INSERT INTO control (target, kind, point, code, count, on_ms, off_ms, value, state, status) VALUES (?1, ?2, ?3, ?4, ?5, ?6, ?7, ?8, 0, 0)",
         params![target, kind, point, code, count, on_ms, off_ms, value],
-    )?;
-    Ok(())
+    )
 }
 
 /// Brings an entry into a state.
@@ -50,11 +52,11 @@ fn turn<S: Alter>(tx: &mut Transaction<'_, S>, id: u64, control: State) -> Resul
 {
     let id = id as i64;
     let (number, status) = state_columns(control);
-    tx.execute(
+    run(
+        tx,
         "UPDATE control SET state = ?2, status = ?3 WHERE id = ?1",
         params![id, number, status],
-    )?;
-    Ok(())
+    )
 }
 
 /// Writes what an addition changes.
@@ -72,8 +74,8 @@ pub(crate) fn write_added<S: Alter>(
 {
     prove!(conn.is_autocommit());
     let mut tx = conn.transaction();
-    insert(&mut tx, target, command)?;
-    tx.commit()
+    let done = insert(&mut tx, target, command);
+    end(tx, done)
 }
 
 /// Writes that an entry, which is there, is in a state from now on.
@@ -94,6 +96,6 @@ pub(crate) fn write_turned<S: Alter>(
 {
     prove!(conn.is_autocommit());
     let mut tx = conn.transaction();
-    turn(&mut tx, id, control)?;
-    tx.commit()
+    let done = turn(&mut tx, id, control);
+    end(tx, done)
 }

@@ -1,6 +1,6 @@
 //! What rows that queries show of a queue's tables say.
 
-ghost use Rattle.std.specs.Prelude.{◌≡◌, ◌<◌, ◌≤◌, ◌^◌, ℕ, ℤ, Bool, Option, nat_le, false, IsTrue, IfOk, IfSome, [], ◌∷◌, List, codes, length, pos, All, slice_index_or, if◌then◌else◌, ◌⊎◌, IfErr, Err};
+ghost use Rattle.std.specs.Prelude.{◌≡◌, ◌<◌, ◌≤◌, ◌^◌, ℕ, ℤ, Bool, Option, nat_le, false, IsTrue, IfOk, IfSome, [], ◌∷◌, List, codes, length, pos, All, slice_index_or, if◌then◌else◌, IfErr, OnErr};
 ghost use Rattle.sqlite.specs.declared.types.Value.TheVariants.{Int, Text};
 ghost use Rattle.sqlite.specs.Order.{column};
 ghost use Rattle.dnp_objects.specs.declared.limits.TheConstants as limits;
@@ -121,19 +121,24 @@ fn figures_in(row: &Shown, number: usize) -> Option<Figures>
 }
 
 /// The figures of the nine lanes, if the rows have them.
-pub(crate) fn all_figures(alloc: Global, rows: &[Shown]) -> Result<Vec<Figures>, Unread>
-    ensures in_range { IfOk result (λ figures. AreNine figures.items) }
-    ensures shown { IfOk result (λ figures. ShowNine rows.now figures.items) }
-    ensures wrong { result ≡ Err Unread.Form → LackNine rows.now }
-    ensures named { IfErr result (λ unread. (unread ≡ Unread.Form) ⊎ (unread ≡ Unread.Memory)) }
+pub(crate) fn all_figures(rows: &[Shown]) -> Result<[Figures; LANES], Unread>
+    ensures in_range { IfOk result AreNine }
+    ensures shown { IfOk result (ShowNine rows.now) }
+    ensures wrong { OnErr result (LackNine rows.now) }
+    ensures named { IfErr result (λ unread. unread ≡ Unread.Form) }
 {
     if rows.len() != LANES {
         return Err(Unread::Form);
     }
-    let mut figures = Vec::new(alloc);
+    let none = Figures {
+        capacity: 0,
+        lost: 0,
+        raised: false,
+    };
+    let mut figures = [none; LANES];
     for number in 0..LANES {
         let f = figures_in(&rows[number], number).ok_or(Unread::Form)?;
-        figures.push(f).map_err(|_| Unread::Memory)?;
+        figures[number] = f;
     }
     Ok(figures)
 }
@@ -169,7 +174,7 @@ fn counted(rows: &[Shown], table: &str) -> Option<u64>
 }
 
 /// The last ids used that are noted for two tables, 0 where none is, if nothing else is noted and their ids differ.
-pub(crate) fn counted_two(rows: &[Shown], first: &str, second: &str) -> Option<(u64, u64)>
+fn counted_two(rows: &[Shown], first: &str, second: &str) -> Option<(u64, u64)>
     ensures { IfSome result (λ n. ShowsTwo first.now second.now rows.now n.0 n.1) }
 {
     match rows {
@@ -190,6 +195,26 @@ pub(crate) fn counted_two(rows: &[Shown], first: &str, second: &str) -> Option<(
             }
         },
         _ => None,
+    }
+}
+
+/// The last id used that is noted for a table, and whether nothing else is noted.
+pub(crate) fn noted_alone(counts: &[Shown], table: &str) -> (u64, bool)
+    ensures { IsTrue result.1 → ShowsCount table.now counts.now result.0 }
+{
+    match counted(counts, table) {
+        Some(n) => (n, true),
+        None => (0, false),
+    }
+}
+
+/// The last ids used that are noted for two tables, and whether nothing else is noted, and their ids differ.
+pub(crate) fn two_noted(counts: &[Shown], first: &str, second: &str) -> (u64, u64, bool)
+    ensures { IsTrue result.2 → ShowsTwo first.now second.now counts.now result.0 result.1 }
+{
+    match counted_two(counts, first, second) {
+        Some((n, m)) => (n, m, true),
+        None => (0, 0, false),
     }
 }
 

@@ -10,12 +10,10 @@ ghost use Rattle.dnp_store.specs.Refusals.{IsLost, IsTaken};
 ghost use Rattle.dnp_store.specs.Schemas.{made_journal};
 ghost use Rattle.dnp_store.specs.Tables.{no_schema};
 
-use crate::fault::{is_lost, is_taken};
 use crate::journal::Journal;
 use crate::journal_opening::read_journal;
-use crate::open::{OpenFault, is_bare, last_fault, open_fault, unread_fault};
+use crate::open::{OpenFault, begin_tables, last_fault, unread_fault};
 use crate::store_kind::StoreKind;
-use crate::stores::write_tables;
 use sqlite::{Alter, Connection, MemStore};
 use std::alloc::Global;
 
@@ -40,22 +38,17 @@ impl<S: Alter> Journal<S> {
         ensures device { IfErr result (λ e. HasCleanDisk (state S.Store e.1) → e.0 ≡ OpenFault.Device → IsLost S.Store StoreKind.Journal conn e.1) }
         ensures taken { IfErr result (λ e. HasCleanDisk (state S.Store e.1) → e.0 ≡ OpenFault.WrongForm → IsTrue conn.in_transaction ⊎ IsTaken S.Store StoreKind.Journal conn e.1) }
     {
-        if !conn.is_autocommit() {
-            return Err((OpenFault::WrongForm, conn));
-        }
-        let owned = is_bare(&conn);
         let mut conn = conn;
-        if let Err(error) = write_tables(&mut conn, StoreKind::Journal) {
-            let lost = is_lost(&mut conn, &error);
-            return Err((open_fault(is_taken(&error), lost), conn));
+        match begin_tables(&mut conn, StoreKind::Journal) {
+            Ok(owned) => Ok(Journal {
+                conn,
+                last_id: 0,
+                count: 0,
+                stopped: false,
+                owned,
+            }),
+            Err(fault) => Err((fault, conn)),
         }
-        Ok(Journal {
-            conn,
-            last_id: 0,
-            count: 0,
-            stopped: false,
-            owned,
-        })
     }
 
     /// Opens the journal that the database holds. Nothing is written, and each row is looked at once.

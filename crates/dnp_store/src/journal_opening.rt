@@ -1,6 +1,6 @@
 //! The count and the last id of a journal that a database holds.
 
-ghost use Rattle.std.specs.Prelude.{◌≡◌, ◌≤◌, false, IsTrue, OnOk, IfOk, List};
+ghost use Rattle.std.specs.Prelude.{◌≡◌, ◌≤◌, false, IsTrue, Ok, OnOk, IfOk, List, codes};
 ghost use Rattle.sqlite.specs.Effect.{IsDatabase};
 ghost use Rattle.sqlite.specs.Held.{state};
 ghost use Rattle.sqlite.specs.State.{HasCleanDisk, Survives};
@@ -8,16 +8,17 @@ ghost use Rattle.sqlite.specs.Term.{Term};
 ghost use Rattle.dnp_objects.specs.declared.limits.TheConstants as limits;
 ghost use Rattle.dnp_store.specs.steps.Inside.{IsInside, IsStep};
 ghost use Rattle.dnp_store.specs.steps.JournalShown.{Finds};
+ghost use Rattle.dnp_store.specs.steps.Shown.{ShowsCount};
 ghost use Rattle.dnp_store.specs.JournalTables.{journal_schema};
 
 use crate::decoding::last_noted;
 use crate::fault::Unread;
-use crate::journal_paging::read_logged;
+use crate::journal_paging::{Gathered, read_logged};
 use crate::queue_opening::both;
 use crate::store_form::is_of_three;
 use crate::store_kind::StoreKind;
-use crate::stores::{read_counts, read_form};
-use sqlite::{Alter, Connection, Transaction};
+use crate::stores::read_begun;
+use sqlite::{Alter, Connection, Row, Transaction};
 use std::alloc::Global;
 
 /// What an open finds of a journal.
@@ -31,6 +32,23 @@ pub(crate) struct Found {
     pub(crate) counted: bool,
 }
 
+/// What these counts and rows say of a journal.
+fn found_in(counts: &[Row], logged: Gathered) -> Result<Found, Unread>
+    requires { logged.count ≤ logged.last }
+    ensures range { IfOk result (λ found. (found.last_id ≤ limits.MAX_ID) × (found.count ≤ found.last_id)) }
+    ensures logged { IfOk result (λ found. (found.count ≡ logged.count) × (logged.last ≤ found.last_id)) }
+    ensures counted { IfOk result (λ found. IsTrue found.counted → ShowsCount (codes "journal") counts.now found.last_id) }
+{
+    match last_noted(counts, logged.last, "journal") {
+        Some((last_id, counted)) => Ok(Found {
+            last_id,
+            count: logged.count,
+            counted,
+        }),
+        None => Err(Unread::Form),
+    }
+}
+
 /// What the tables hold, where they are a journal's.
 fn read_all<S: Alter>(tx: &mut Transaction<'_, S>, alloc: Global) -> Result<Found, Unread>
     requires inside { IsInside S.Store tx.old.conn }
@@ -40,17 +58,20 @@ fn read_all<S: Alter>(tx: &mut Transaction<'_, S>, alloc: Global) -> Result<Foun
     ensures read { HasCleanDisk (state S.Store tx.new.conn.now) → IfOk result (λ found. IsTrue found.counted → (f j : List Term) → IsDatabase (state S.Store tx.old.conn.now).now
         → (state S.Store tx.old.conn.now).now.schema ≡ journal_schema f j → Finds (state S.Store tx.old.conn.now).now found.last_id found.count) }
 {
-    read_form(tx)?;
-    let counts = read_counts(tx)?;
+    let counts = read_begun(tx)?;
     let logged = read_logged(tx, alloc)?;
-    let Some((last_id, counted)) = last_noted(&counts, logged.last, "journal") else {
-        return Err(Unread::Form);
-    };
-    Ok(Found {
-        last_id,
-        count: logged.count,
-        counted,
-    })
+    found_in(&counts, logged)
+}
+
+/// What was found, and whether it is the database's own.
+fn owned_by(found: Result<Found, Unread>, ours: bool) -> Result<(Found, bool), Unread>
+    ensures found { IfOk result (λ owned. found ≡ Ok owned.0) }
+    ensures owned { IfOk result (λ owned. IsTrue owned.1 → IsTrue ours × IsTrue owned.0.counted) }
+{
+    match found {
+        Ok(found) => Ok((found, both(ours, found.counted))),
+        Err(unread) => Err(unread),
+    }
 }
 
 /// What the tables hold, and whether the database has the tables of a journal and nothing else.
@@ -69,7 +90,7 @@ pub(crate) fn read_journal<S: Alter>(
     prove!(conn.is_autocommit());
     let ours = is_of_three(conn, StoreKind::Journal);
     let mut tx = conn.transaction();
-    let found = read_all(&mut tx, alloc)?;
+    let found = read_all(&mut tx, alloc);
     tx.rollback();
-    Ok((found, both(ours, found.counted)))
+    owned_by(found, ours)
 }

@@ -10,6 +10,7 @@ ghost use Rattle.dnp_objects.specs.declared.limits.TheConstants as limits;
 ghost use Rattle.dnp_eventbuf.specs.declared.numbered.Numbered.{Numbered};
 ghost use Rattle.dnp_store.specs.steps.Inside.{IsInside, IsStep};
 ghost use Rattle.dnp_store.specs.steps.JournalShown.{AreInOrder, Gathers, HasCount, LogsMany, ShowEvents};
+ghost use Rattle.dnp_store.specs.steps.JournalPages.{ShowsPage};
 ghost use Rattle.dnp_store.specs.steps.Stores.{Reads};
 
 use crate::decoding::whole;
@@ -49,6 +50,20 @@ fn read_page<S: Alter>(tx: &mut Transaction<'_, S>, from: u64) -> Result<Vec<Row
     )
 }
 
+/// The rows that were looked at, with these, which come after them.
+fn with_page(alloc: Global, rows: &[Row], so_far: Gathered) -> Result<Gathered, Unread>
+    requires range { (so_far.last ≤ limits.MAX_ID) × (so_far.count ≤ so_far.last) }
+    ensures range { IfOk result (λ more. (more.last ≤ limits.MAX_ID) × (more.count ≤ more.last)) }
+    ensures shown { IfOk result (λ more. ShowsPage rows.now so_far.last so_far.count more.last more.count) }
+{
+    let events = events_in(alloc, rows)?;
+    let Some(last) = last_in_order(&events, so_far.last) else {
+        return Err(Unread::Form);
+    };
+    let count = so_far.count + events.len() as u64;
+    Ok(Gathered { last, count })
+}
+
 /// The rows that were looked at, with those of the next page, which is empty where none is left.
 fn read_more<S: Alter>(
     tx: &mut Transaction<'_, S>,
@@ -64,12 +79,7 @@ fn read_more<S: Alter>(
         (λ db. Gathers (db 1) so_far.last so_far.count → Gathers (db 1) more.last more.count)) }
 {
     let rows = read_page(tx, so_far.last)?;
-    let events = events_in(alloc, &rows)?;
-    let Some(last) = last_in_order(&events, so_far.last) else {
-        return Err(Unread::Form);
-    };
-    let count = so_far.count + events.len() as u64;
-    Ok(Gathered { last, count })
+    with_page(alloc, &rows, so_far)
 }
 
 /// What `SELECT count(*)` shows of `journal`.
@@ -88,6 +98,18 @@ fn shows_count(rows: &[Row], n: u64) -> bool
     ensures { IsTrue result → column (slice_index_or rows.now 0 []) 0 ≡ Int (pos n) }
 {
     rows.len() == 1 && whole(&rows[0], 0) == Some(n)
+}
+
+/// What was found, where the only row shows how many they are.
+fn if_counted(rows: &[Row], found: Gathered) -> Result<Gathered, Unread>
+    ensures same { IfOk result (λ counted. counted ≡ found) }
+    ensures shown { OnOk result (column (slice_index_or rows.now 0 []) 0 ≡ Int (pos found.count)) }
+{
+    if shows_count(rows, found.count) {
+        Ok(found)
+    } else {
+        Err(Unread::Form)
+    }
 }
 
 /// Looks at all rows: how many they are, and the greatest id.
@@ -123,9 +145,5 @@ pub(crate) fn read_logged<S: Alter>(
 {
     let found = gather(tx, alloc)?;
     let counted = read_count(tx)?;
-    if shows_count(&counted, found.count) {
-        Ok(found)
-    } else {
-        Err(Unread::Form)
-    }
+    if_counted(&counted, found)
 }

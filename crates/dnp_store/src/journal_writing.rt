@@ -13,6 +13,8 @@ ghost use Rattle.dnp_store.specs.JournalTables.{HoldsArchive, IsJournal};
 
 use crate::cells::{CELLS, MANY, cells, whole_time};
 use crate::store_kind::StoreKind;
+use crate::stores::run;
+use crate::transactions::end;
 use dnp_objects::Row;
 use sqlite::{Alter, Connection, Error, Transaction, params};
 use sqlite_value::value::ValueRef;
@@ -31,11 +33,11 @@ fn insert<S: Alter>(tx: &mut Transaction<'_, S>, event: &Row) -> Result<(), Erro
     let flags = u32::from(event.flags);
     let value = event.value;
     let time = whole_time(event.time);
-    tx.execute(
+    run(
+        tx,
         "INSERT INTO journal (kind, point, flags, value, time) VALUES (?1, ?2, ?3, ?4, ?5)",
         params![kind, index, flags, value, time],
-    )?;
-    Ok(())
+    )
 }
 
 /// Puts sixteen events into the table, under the next ids, by one statement (as `insert_many` of a queue).
@@ -53,7 +55,8 @@ fn insert_many<S: Alter>(tx: &mut Transaction<'_, S>, events: &[Row]) -> Result<
         let event = &events[number];
         given[number] = cells(event.kind.number(), event);
     }
-    tx.execute(
+    run(
+        tx,
         "INSERT INTO journal (kind, point, flags, value, time) VALUES \
          (?1, ?2, ?3, ?4, ?5), (?6, ?7, ?8, ?9, ?10), (?11, ?12, ?13, ?14, ?15), \
          (?16, ?17, ?18, ?19, ?20), (?21, ?22, ?23, ?24, ?25), (?26, ?27, ?28, ?29, ?30), \
@@ -62,8 +65,7 @@ fn insert_many<S: Alter>(tx: &mut Transaction<'_, S>, events: &[Row]) -> Result<
          (?61, ?62, ?63, ?64, ?65), (?66, ?67, ?68, ?69, ?70), (?71, ?72, ?73, ?74, ?75), \
          (?76, ?77, ?78, ?79, ?80)",
         given.as_flattened(),
-    )?;
-    Ok(())
+    )
 }
 
 /// Puts the events into the table one by one, under the ids that follow the last one used.
@@ -124,6 +126,6 @@ pub(crate) fn write_events<S: Alter>(conn: &mut Connection<S>, events: &[Row]) -
 {
     prove!(conn.is_autocommit());
     let mut tx = conn.transaction();
-    insert_all(&mut tx, events)?;
-    tx.commit()
+    let done = insert_all(&mut tx, events);
+    end(tx, done)
 }

@@ -2,6 +2,7 @@
 #![tactic(auto)]
 
 mod book;
+mod book_calls;
 mod book_columns;
 mod book_decoding;
 mod book_entries;
@@ -24,6 +25,7 @@ mod journal_writing;
 pub mod laws;
 mod open;
 mod queue;
+mod queue_begin;
 mod queue_calls;
 mod queue_form;
 mod queue_lanes;
@@ -39,6 +41,7 @@ mod queue_writing;
 mod store_form;
 mod store_kind;
 mod stores;
+mod transactions;
 
 pub use book::ControlBook;
 pub use journal::Journal;

@@ -13,18 +13,18 @@ ghost use Rattle.dnp_store.specs.PairTables.{HoldsMigrated, HoldsPair, IsPair, S
 ghost use Rattle.dnp_store.specs.QueueTables.{IsQueue, queue_schema};
 ghost use Rattle.dnp_store.specs.Refusals.{IsLost, IsTaken};
 ghost use Rattle.dnp_store.specs.Schemas.{made_pair};
-ghost use Rattle.dnp_store.specs.steps.Seconds.{Opens};
-ghost use Rattle.dnp_store.specs.steps.Stored.{IsStored};
+ghost use Rattle.dnp_store.specs.steps.Beginning.{IsMade, IsTold};
+ghost use Rattle.dnp_store.specs.steps.Stores.{HasNumber, IsFresh};
 ghost use Rattle.dnp_store.specs.Tables.{no_schema};
 
 use crate::fault::{Unread, is_lost, is_memory, is_taken, is_unread, probe};
 use crate::queue::Queue;
-use crate::queue_opening::{Stored, read_stored};
-use crate::queue_tables::{write_second, write_tables};
+use crate::queue_begin::{make_lanes, migrate_lanes, open_lanes};
 use crate::store_kind::StoreKind;
-use dnp_eventbuf::{MAX_CAPACITY, PlainLanes};
+use crate::stores::write_tables;
+use dnp_eventbuf::MAX_CAPACITY;
 use dnp_objects::LANES;
-use sqlite::{Alter, Connection, MemStore};
+use sqlite::{Alter, Connection, Error, MemStore};
 use std::alloc::Global;
 use thiserror::Error;
 
@@ -108,56 +108,38 @@ pub(crate) fn last_fault<S: Alter>(conn: &mut Connection<S>) -> Option<OpenFault
     }
 }
 
-/// What a queue's database holds, where the connection serves still.
-fn find_stored<S: Alter>(conn: &mut Connection<S>, alloc: Global) -> Result<Stored, OpenFault>
-    requires idle { conn.old.in_transaction ≡ false }
-    ensures idle { conn.new.in_transaction ≡ false }
-    ensures read { HasCleanDisk (state S.Store conn.new) → IfOk result (IsStored (state S.Store conn.old).committed) }
-    ensures open { HasCleanDisk (state S.Store conn.new) → OnOk result (IsTrue (state S.Store conn.new).is_open) }
-    ensures current { IfErr result (λ fault. fault ≢ OpenFault.OldForm) }
-    ensures same { HasCleanDisk (state S.Store conn.new) → IsTrue (state S.Store conn.new).is_open
-        → IsTrue (state S.Store conn.old).is_open × ((state S.Store conn.new).committed ≡ (state S.Store conn.old).committed) }
-    ensures survives { Survives (state S.Store conn.old) (state S.Store conn.new) (λ _. ⊥) }
-{
-    match read_stored(conn, alloc) {
-        Ok(stored) => match last_fault(conn) {
-            Some(fault) => Err(fault),
-            None => Ok(stored),
-        },
-        Err(unread) => Err(unread_fault(conn, &unread)),
-    }
-}
-
-/// Why a queue for one centre doesn't open, by whether nothing else stands in its database and whether other tables do:
-/// where neither is so, its ids aren't counted as they should be.
-fn old_fault(owned: bool, others: bool) -> OpenFault
-    ensures { result ≡ (if owned || others then OpenFault.OldForm else OpenFault.WrongForm) }
-{
-    if owned || others {
-        OpenFault::OldForm
-    } else {
-        OpenFault::WrongForm
-    }
-}
-
-/// Makes a queue for one centre into one for two, or says why not.
-fn second_made<S: Alter>(
+/// What a store answers that was to make its tables: where it didn't, why.
+pub(crate) fn told<S: Alter>(
     conn: &mut Connection<S>,
-    capacities: &[u32; LANES],
+    done: Result<(), Error>,
 ) -> Result<(), OpenFault>
-    requires idle { conn.old.in_transaction ≡ false }
-    ensures idle { conn.new.in_transaction ≡ false }
-    ensures ok { HasCleanDisk (state S.Store conn.new) → (s : Stock) → Opens (state S.Store conn.old) s → OnOk result (Stands (state S.Store conn.new) (migrated s capacities.now)) }
-    ensures current { IfErr result (λ fault. fault ≢ OpenFault.OldForm) }
-    ensures err { HasCleanDisk (state S.Store conn.new) → IsTrue (state S.Store conn.new).is_open → OnErr result (IsTrue (state S.Store conn.old).is_open × ((state S.Store conn.new).committed ≡ (state S.Store conn.old).committed)) }
-    ensures survives { Survives (state S.Store conn.old) (state S.Store conn.new) (λ db. (s : Stock) → Opens (state S.Store conn.old) s → HoldsPair db (migrated s capacities.now)) }
+    requires { conn.old.in_transaction ≡ false }
+    ensures { IsTold S.Store conn.old conn.new done result }
 {
-    match write_second(conn, capacities) {
+    match done {
         Ok(()) => Ok(()),
         Err(error) => {
             let lost = is_lost(conn, &error);
             Err(open_fault(is_taken(&error), lost))
         }
+    }
+}
+
+/// Makes the tables of a journal or a book, and tells whether nothing else stands in the database.
+pub(crate) fn begin_tables<S: Alter>(
+    conn: &mut Connection<S>,
+    kind: StoreKind,
+) -> Result<bool, OpenFault>
+    ensures { IsMade S.Store kind IsFresh (λ s. IsTrue s.is_open × HasNumber kind s.committed) (λ owned. owned) conn.old conn.new result }
+{
+    if !conn.is_autocommit() {
+        return Err(OpenFault::WrongForm);
+    }
+    let owned = is_bare(conn);
+    let done = write_tables(conn, kind);
+    match told(conn, done) {
+        Ok(()) => Ok(owned),
+        Err(fault) => Err(fault),
     }
 }
 
@@ -189,28 +171,17 @@ impl<S: Alter> Queue<S> {
         ensures device { IfErr result (λ e. HasCleanDisk (state S.Store e.1) → e.0 ≡ OpenFault.Device → IsLost S.Store StoreKind.Queue conn e.1) }
         ensures taken { IfErr result (λ e. HasCleanDisk (state S.Store e.1) → e.0 ≡ OpenFault.WrongForm → IsTrue conn.in_transaction ⊎ IsTaken S.Store StoreKind.Queue conn e.1) }
     {
-        if !conn.is_autocommit() {
-            return Err((OpenFault::WrongForm, conn));
-        }
-        let Ok(ours) = PlainLanes::new(alloc, first) else {
-            return Err((OpenFault::Memory, conn));
-        };
-        let Ok(others) = PlainLanes::new(alloc, second) else {
-            return Err((OpenFault::Memory, conn));
-        };
-        let owned = is_bare(&conn);
         let mut conn = conn;
-        if let Err(error) = write_tables(&mut conn, &first, &second) {
-            let lost = is_lost(&mut conn, &error);
-            return Err((open_fault(is_taken(&error), lost), conn));
+        match make_lanes(&mut conn, alloc, &first, &second) {
+            Ok((first, second, owned)) => Ok(Queue {
+                conn,
+                first,
+                second,
+                stopped: false,
+                owned,
+            }),
+            Err(fault) => Err((fault, conn)),
         }
-        Ok(Queue {
-            conn,
-            first: ours,
-            second: others,
-            stopped: false,
-            owned,
-        })
     }
 
     /// Opens the lanes that the database holds for two centres, with the capacities that stand there. Nothing is written.
@@ -235,19 +206,15 @@ impl<S: Alter> Queue<S> {
             → (stock : Stock) × IsQueue (state S.Store conn).committed stock) }
         ensures not_old { IfErr result (λ e. HasCleanDisk (state S.Store e.1) → e.0 ≡ OpenFault.OldForm → (sides : Sides) → IsPair (state S.Store conn).committed sides → ⊥) }
     {
-        if !conn.is_autocommit() {
-            return Err((OpenFault::WrongForm, conn));
-        }
         let mut conn = conn;
-        match find_stored(&mut conn, alloc) {
-            Ok(Stored::Pair(first, second, owned)) => Ok(Queue {
+        match open_lanes(&mut conn, alloc) {
+            Ok((first, second, owned)) => Ok(Queue {
                 conn,
                 first,
                 second,
                 stopped: false,
                 owned,
             }),
-            Ok(Stored::One(_lanes, owned, others)) => Err((old_fault(owned, others), conn)),
             Err(fault) => Err((fault, conn)),
         }
     }
@@ -279,31 +246,15 @@ impl<S: Alter> Queue<S> {
         ensures unwritten_too { IfErr result (λ e. (sides : Sides) → IsPair (state S.Store conn).committed sides → Survives (state S.Store conn) (state S.Store e.1) (λ _. ⊥)) }
         ensures handed_back { IfErr result (λ e. (e.1.in_transaction ≡ conn.in_transaction) × (e.1.step_limit ≡ conn.step_limit)) }
     {
-        if !conn.is_autocommit() {
-            return Err((OpenFault::WrongForm, conn));
-        }
-        let Ok(others) = PlainLanes::new(alloc, capacities) else {
-            return Err((OpenFault::Memory, conn));
-        };
         let mut conn = conn;
-        match find_stored(&mut conn, alloc) {
-            Ok(Stored::Pair(first, second, owned)) => Ok(Queue {
+        match migrate_lanes(&mut conn, alloc, &capacities) {
+            Ok((first, second, owned)) => Ok(Queue {
                 conn,
                 first,
                 second,
                 stopped: false,
                 owned,
             }),
-            Ok(Stored::One(first, owned, _others)) => match second_made(&mut conn, &capacities) {
-                Ok(()) => Ok(Queue {
-                    conn,
-                    first,
-                    second: others,
-                    stopped: false,
-                    owned,
-                }),
-                Err(fault) => Err((fault, conn)),
-            },
             Err(fault) => Err((fault, conn)),
         }
     }

@@ -1,52 +1,18 @@
 //! The lanes that the database of a queue holds.
 
-ghost use Rattle.std.specs.Prelude.{◌≡◌, false, IsTrue, OnOk, IfOk, List};
-ghost use Rattle.sqlite.specs.Effect.{IsDatabase};
+ghost use Rattle.std.specs.Prelude.{◌≡◌, false, IsTrue, OnOk, IfOk};
 ghost use Rattle.sqlite.specs.Held.{state};
 ghost use Rattle.sqlite.specs.State.{HasCleanDisk, Survives};
-ghost use Rattle.sqlite.specs.Term.{Term};
 ghost use Rattle.dnp_store.specs.steps.Inside.{IsInside, IsStep};
 ghost use Rattle.dnp_store.specs.steps.Stored.{IsShown, IsStored, owned_by};
-ghost use Rattle.dnp_store.specs.QueueTables.{IsQueue, queue_schema};
 
-use crate::decoding::{begun, last_used, restore_rows};
 use crate::fault::Unread;
 use crate::queue_form::{is_of_pair, is_of_queue};
-use crate::queue_reading::{read_figures, read_queued};
-use crate::queue_side::QueueSide;
-use crate::queue_sides::read_sides;
-use crate::stores::{read_counts, read_form, read_number};
+use crate::queue_sides::{read_one, read_sides};
+use crate::stores::read_number;
 use dnp_eventbuf::PlainLanes;
 use sqlite::{Alter, Connection, Transaction};
 use std::alloc::Global;
-
-/// The lanes for one centre, and whether `sqlite_sequence` counts for them alone.
-fn read_all<S: Alter>(
-    tx: &mut Transaction<'_, S>,
-    alloc: Global,
-) -> Result<(PlainLanes, bool), Unread>
-    requires inside { IsInside S.Store tx.old.conn }
-    ensures step { IsStep S.Store tx.old.conn tx.new.conn result }
-    ensures open { HasCleanDisk (state S.Store tx.new.conn.now) → OnOk result (IsTrue (state S.Store tx.old.conn.now).is_open) }
-    ensures read { HasCleanDisk (state S.Store tx.new.conn.now) → IfOk result (λ found. IsTrue found.1 → (f q l : List Term) → IsDatabase (state S.Store tx.old.conn.now).now
-        → (state S.Store tx.old.conn.now).now.schema ≡ queue_schema f q l → IsQueue (state S.Store tx.old.conn.now).now found.0) }
-{
-    read_form(tx)?;
-    let figures = read_figures(tx, QueueSide::First, alloc)?;
-    let counts = read_counts(tx)?;
-    let rows = read_queued(tx, QueueSide::First)?;
-    let Some((last_id, counted)) = last_used(&counts, &rows, "queue") else {
-        return Err(Unread::Form);
-    };
-    let Ok(mut lanes) = begun(alloc, &figures, last_id) else {
-        return Err(Unread::Memory);
-    };
-    if restore_rows(&rows, &mut lanes) {
-        Ok((lanes, counted))
-    } else {
-        Err(Unread::Form)
-    }
-}
 
 /// Whether both are so.
 pub(crate) fn both(one: bool, other: bool) -> bool
@@ -73,7 +39,7 @@ fn read_numbered<S: Alter>(tx: &mut Transaction<'_, S>, alloc: Global) -> Result
 {
     match read_number(tx)? {
         1 => {
-            let (lanes, counted) = read_all(tx, alloc)?;
+            let (lanes, counted) = read_one(tx, alloc)?;
             Ok(Stored::One(lanes, counted, false))
         }
         2 => {

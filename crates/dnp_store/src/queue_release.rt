@@ -17,6 +17,7 @@ ghost use Rattle.dnp_store.specs.steps.Steps.{cut, left, released};
 use crate::queue_side::QueueSide;
 use crate::queue_statements::{note, take};
 use crate::store_kind::StoreKind;
+use crate::transactions::end;
 use dnp_eventbuf::laws::a_release_is_lane_by_lane;
 use dnp_eventbuf::{PlainLanes, Upto};
 use dnp_objects::{LANES, MAX_ID};
@@ -152,6 +153,6 @@ pub(crate) fn write_release<S: Alter>(
 {
     prove!(conn.is_autocommit());
     let mut tx = conn.transaction();
-    release_in(&mut tx, side, lanes, upto, lower)?;
-    tx.commit()
+    let done = release_in(&mut tx, side, lanes, upto, lower);
+    end(tx, done)
 }

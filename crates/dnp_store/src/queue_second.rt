@@ -13,7 +13,7 @@ ghost use Rattle.dnp_store.specs.PairTables.{migrated};
 ghost use Rattle.dnp_store.specs.QueueTables.{Figures, HoldsStock, queue_schema};
 
 use crate::store_kind::StoreKind;
-use crate::stores::keep_probe;
+use crate::stores::{keep_probe, run};
 use dnp_objects::LANES;
 use sqlite::{Alter, Error, Transaction, params};
 
@@ -25,11 +25,11 @@ fn make_queue_b<S: Alter>(tx: &mut Transaction<'_, S>) -> Result<(), Error>
     ensures made { HasCleanDisk (state S.Store tx.new.conn.now) → OnOk result ((f q l : List Term) (s : Stock) → (state S.Store tx.old.conn.now).now.schema ≡ queue_schema f q l
         → HoldsStock (state S.Store tx.old.conn.now).now.trees s → HasQueueB f q l s (state S.Store tx.new.conn.now).now) }
 {
-    tx.execute(
+    run(
+        tx,
         "CREATE TABLE queue_b (id INTEGER PRIMARY KEY AUTOINCREMENT CHECK (id BETWEEN 1 AND 4611686018427387904), lane INTEGER NOT NULL CHECK (lane BETWEEN 0 AND 8), point INTEGER NOT NULL CHECK (point BETWEEN 0 AND 65535), flags INTEGER NOT NULL CHECK (flags BETWEEN 0 AND 255), value INTEGER NOT NULL, time INTEGER CHECK (time BETWEEN 0 AND 281474976710655))",
         &[],
-    )?;
-    Ok(())
+    )
 }
 
 /// Makes `lanes_b`.
@@ -40,11 +40,11 @@ fn make_lanes_b<S: Alter>(tx: &mut Transaction<'_, S>) -> Result<(), Error>
     ensures made { HasCleanDisk (state S.Store tx.new.conn.now) → OnOk result ((f q l : List Term) (s : Stock)
         → HasQueueB f q l s (state S.Store tx.old.conn.now).now → HasSecond f q l s [] (state S.Store tx.new.conn.now).now) }
 {
-    tx.execute(
+    run(
+        tx,
         "CREATE TABLE lanes_b (lane INTEGER PRIMARY KEY CHECK (lane BETWEEN 0 AND 8), cap INTEGER NOT NULL CHECK (cap BETWEEN 1 AND 4096), lost INTEGER NOT NULL CHECK (lost BETWEEN 0 AND 4611686018427387904), raised INTEGER NOT NULL CHECK (raised BETWEEN 0 AND 1))",
         &[],
-    )?;
-    Ok(())
+    )
 }
 
 /// Puts an empty lane into `lanes_b`.
@@ -59,11 +59,11 @@ fn put_lane_b<S: Alter>(
     ensures made { HasCleanDisk (state S.Store tx.new.conn.now) → OnOk result ((f q l : List Term) (s : Stock) (figures : List Figures) → number ≡ length figures
         → HasSecond f q l s figures (state S.Store tx.old.conn.now).now → HasSecond f q l s (figures ++ fresh capacity ∷ []) (state S.Store tx.new.conn.now).now) }
 {
-    tx.execute(
+    run(
+        tx,
         "INSERT INTO lanes_b VALUES (?1, ?2, 0, 0)",
         params![number, capacity],
-    )?;
-    Ok(())
+    )
 }
 
 /// Puts nine empty lanes into `lanes_b`.
@@ -94,8 +94,7 @@ fn number_second<S: Alter>(
     ensures made { HasCleanDisk (state S.Store tx.new.conn.now) → OnOk result ((f q l : List Term) (s : Stock)
         → HasSecond f q l s (map fresh capacities.now) (state S.Store tx.old.conn.now).now → IsSecond f q l (migrated s capacities.now) (state S.Store tx.new.conn.now).now) }
 {
-    tx.execute("UPDATE form SET number = 2", &[])?;
-    Ok(())
+    run(tx, "UPDATE form SET number = 2", &[])
 }
 
 /// Makes the tables for the second centre beside those of a queue for one, with empty lanes, gives the form its new number, and

@@ -16,6 +16,7 @@ ghost use Rattle.dnp_store.specs.steps.Steps.{added, all_added, counted, cut, no
 use crate::cells::{CELLS, MANY, cells, whole_time};
 use crate::queue_side::{QueueSide, delete_text, insert_16_text, insert_text, update_text};
 use crate::store_kind::StoreKind;
+use crate::stores::run;
 use dnp_eventbuf::LaneRow;
 use sqlite::{Alter, Error, Transaction, params};
 use sqlite_value::value::ValueRef;
@@ -38,8 +39,11 @@ pub(crate) fn insert<S: Alter>(
     let flags = u32::from(x.row.flags);
     let value = x.row.value;
     let time = whole_time(x.row.time);
-    tx.execute(insert_text(side), params![lane, index, flags, value, time])?;
-    Ok(())
+    run(
+        tx,
+        insert_text(side),
+        params![lane, index, flags, value, time],
+    )
 }
 
 /// Puts sixteen rows into the table of a side, under the next ids, by one statement: the count that AUTOINCREMENT
@@ -83,8 +87,7 @@ pub(crate) fn take<S: Alter>(
 {
     let lane = number as u32;
     let upto = upto as i64;
-    tx.execute(delete_text(side), params![lane, upto])?;
-    Ok(())
+    run(tx, delete_text(side), params![lane, upto])
 }
 
 /// Notes how many rows a lane of a side has dropped, and whether it raises the overflow.
@@ -105,6 +108,5 @@ pub(crate) fn note<S: Alter>(
 {
     let lane = number as u32;
     let lost = lost as i64;
-    tx.execute(update_text(side), params![lane, lost, raised])?;
-    Ok(())
+    run(tx, update_text(side), params![lane, lost, raised])
 }

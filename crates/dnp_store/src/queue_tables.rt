@@ -9,15 +9,16 @@ ghost use Rattle.dnp_store.specs.steps.Inside.{IsInside, IsStep};
 ghost use Rattle.dnp_store.specs.Kept.{Stands};
 ghost use Rattle.dnp_store.specs.steps.Making.{HasLanes, fresh};
 ghost use Rattle.dnp_store.specs.PairTables.{HoldsPair, migrated};
-ghost use Rattle.dnp_store.specs.steps.Seconds.{Opens};
+ghost use Rattle.dnp_store.specs.steps.Seconds.{IsSecond, Opens};
 ghost use Rattle.dnp_store.specs.QueueTables.{Figures};
-ghost use Rattle.dnp_store.specs.Schemas.{made_pair};
+ghost use Rattle.dnp_store.specs.Schemas.{checks_of_form, checks_of_lanes, checks_of_rows, made_pair};
 ghost use Rattle.dnp_store.specs.steps.Stores.{HasNumber};
 ghost use Rattle.dnp_store.specs.Tables.{no_schema};
 
 use crate::queue_second::make_second;
 use crate::store_kind::StoreKind;
-use crate::stores::{keep_probe, make_tables};
+use crate::stores::{keep_probe, make_tables, run};
+use crate::transactions::end;
 use dnp_objects::LANES;
 use sqlite::{Alter, Connection, Error, Transaction, params};
 
@@ -28,11 +29,11 @@ fn make_lanes<S: Alter>(tx: &mut Transaction<'_, S>) -> Result<(), Error>
     ensures refused { HasCleanDisk (state S.Store tx.new.conn.now) → IfErr result (IsRefused S.Store StoreKind.Queue tx.old.conn.now tx.new.conn.now) }
     ensures made { HasCleanDisk (state S.Store tx.new.conn.now) → OnOk result (HasNumber StoreKind.Queue (state S.Store tx.old.conn.now).now → HasLanes (state S.Store tx.new.conn.now).now []) }
 {
-    tx.execute(
+    run(
+        tx,
         "CREATE TABLE lanes (lane INTEGER PRIMARY KEY CHECK (lane BETWEEN 0 AND 8), cap INTEGER NOT NULL CHECK (cap BETWEEN 1 AND 4096), lost INTEGER NOT NULL CHECK (lost BETWEEN 0 AND 4611686018427387904), raised INTEGER NOT NULL CHECK (raised BETWEEN 0 AND 1))",
         &[],
-    )?;
-    Ok(())
+    )
 }
 
 /// Puts an empty lane into `lanes`.
@@ -42,11 +43,11 @@ fn put_lane<S: Alter>(tx: &mut Transaction<'_, S>, number: u32, capacity: u32) -
     ensures refused { HasCleanDisk (state S.Store tx.new.conn.now) → IfErr result (IsRefused S.Store StoreKind.Queue tx.old.conn.now tx.new.conn.now) }
     ensures made { HasCleanDisk (state S.Store tx.new.conn.now) → OnOk result ((figures : List Figures) → number ≡ length figures → HasLanes (state S.Store tx.old.conn.now).now figures → HasLanes (state S.Store tx.new.conn.now).now (figures ++ fresh capacity ∷ [])) }
 {
-    tx.execute(
+    run(
+        tx,
         "INSERT INTO lanes VALUES (?1, ?2, 0, 0)",
         params![number, capacity],
-    )?;
-    Ok(())
+    )
 }
 
 /// Puts nine empty lanes into `lanes`.
@@ -76,6 +77,23 @@ fn make_all<S: Alter>(tx: &mut Transaction<'_, S>, capacities: &[u32; LANES]) ->
     Ok(())
 }
 
+/// Makes the tables for one centre and those for the second beside them, with empty lanes.
+fn make_pair<S: Alter>(
+    tx: &mut Transaction<'_, S>,
+    first: &[u32; LANES],
+    second: &[u32; LANES],
+) -> Result<(), Error>
+    requires inside { IsInside S.Store tx.old.conn }
+    ensures step { IsStep S.Store tx.old.conn tx.new.conn result }
+    ensures refused { HasCleanDisk (state S.Store tx.new.conn.now) → IfErr result (IsRefused S.Store StoreKind.Queue tx.old.conn.now tx.new.conn.now) }
+    ensures made { HasCleanDisk (state S.Store tx.new.conn.now) → OnOk result ((state S.Store tx.old.conn.now).now.schema ≡ no_schema
+        → IsSecond checks_of_form (checks_of_rows StoreKind.Queue) checks_of_lanes (migrated (empty_stock first.now) second.now) (state S.Store tx.new.conn.now).now) }
+{
+    make_all(tx, first)?;
+    make_second(tx, second)?;
+    Ok(())
+}
+
 /// Makes the tables of empty lanes for two centres, in one transaction.
 pub(crate) fn write_tables<S: Alter>(
     conn: &mut Connection<S>,
@@ -91,9 +109,8 @@ pub(crate) fn write_tables<S: Alter>(
     ensures survives { Survives (state S.Store conn.old) (state S.Store conn.new) (λ db. (state S.Store conn.old).now.schema ≡ no_schema → HoldsPair db (record { first = empty_stock first.now; second = empty_stock second.now })) }
 {
     let mut tx = conn.transaction();
-    make_all(&mut tx, first)?;
-    make_second(&mut tx, second)?;
-    tx.commit()
+    let done = make_pair(&mut tx, first, second);
+    end(tx, done)
 }
 
 /// Makes a queue for one centre into one for two, in one transaction: its lanes are the first centre's, and those of the
@@ -111,6 +128,6 @@ pub(crate) fn write_second<S: Alter>(
 {
     prove!(conn.is_autocommit());
     let mut tx = conn.transaction();
-    make_second(&mut tx, capacities)?;
-    tx.commit()
+    let done = make_second(&mut tx, capacities);
+    end(tx, done)
 }

@@ -10,7 +10,7 @@ ghost use Rattle.dnp_eventbuf.specs.Stock.{Stock, with_rows};
 ghost use Rattle.dnp_store.specs.Refusals.{IsRefused};
 ghost use Rattle.dnp_store.specs.steps.Inside.{IsInside, IsStep};
 ghost use Rattle.dnp_store.specs.Kept.{Stands};
-ghost use Rattle.dnp_store.specs.PairTables.{HoldsPair};
+ghost use Rattle.dnp_store.specs.PairTables.{HoldsPair, IsPair};
 ghost use Rattle.dnp_store.specs.QueueTables.{Figures};
 ghost use Rattle.dnp_store.specs.steps.Pairs.{HoldsFor, IsFor, sides_of};
 ghost use Rattle.dnp_store.specs.steps.Steps.{IsTrimmed, all_added};
@@ -19,6 +19,7 @@ use crate::cells::MANY;
 use crate::queue_side::QueueSide;
 use crate::queue_statements::{insert, insert_many, note, take};
 use crate::store_kind::StoreKind;
+use crate::transactions::end;
 use dnp_eventbuf::laws::a_lane_keeps_its_latest_rows;
 use dnp_eventbuf::{LaneRow, PlainLanes};
 use dnp_objects::LANES;
@@ -161,6 +162,31 @@ fn append_in<S: Alter>(
     Ok(())
 }
 
+/// Puts rows into the tables of both sides.
+fn append_in_both<S: Alter>(
+    tx: &mut Transaction<'_, S>,
+    first: &PlainLanes,
+    second: &PlainLanes,
+    rows: &[LaneRow],
+) -> Result<(), Error>
+    requires inside { IsInside S.Store tx.old.conn }
+    requires carried { All IsCarried rows.now }
+    requires first { IsSound first.now }
+    requires second { IsSound second.now }
+    requires first_after { IsSound (with_rows first.now rows.now) }
+    requires second_after { IsSound (with_rows second.now rows.now) }
+    requires few { first.now.last_id + length rows.now ≤ 2 ^ 62 }
+    requires few_too { second.now.last_id + length rows.now ≤ 2 ^ 62 }
+    ensures step { IsStep S.Store tx.old.conn tx.new.conn result }
+    ensures refused { HasCleanDisk (state S.Store tx.new.conn.now) → IfErr result (IsRefused S.Store StoreKind.Queue tx.old.conn.now tx.new.conn.now) }
+    ensures appended { HasCleanDisk (state S.Store tx.new.conn.now) → OnOk result (IsPair (state S.Store tx.old.conn.now).now (record { first = first.now; second = second.now })
+        → IsPair (state S.Store tx.new.conn.now).now (record { first = with_rows first.now rows.now; second = with_rows second.now rows.now })) }
+{
+    append_in(tx, QueueSide::First, first, rows)?;
+    append_in(tx, QueueSide::Second, second, rows)?;
+    Ok(())
+}
+
 /// Writes what an append on one side changes.
 pub(crate) fn write_append<S: Alter>(
     conn: &mut Connection<S>,
@@ -183,8 +209,8 @@ pub(crate) fn write_append<S: Alter>(
 {
     prove!(conn.is_autocommit());
     let mut tx = conn.transaction();
-    append_in(&mut tx, side, lanes, rows)?;
-    tx.commit()
+    let done = append_in(&mut tx, side, lanes, rows);
+    end(tx, done)
 }
 
 /// Writes what an append on both sides changes, in one transaction.
@@ -212,7 +238,6 @@ pub(crate) fn write_both<S: Alter>(
 {
     prove!(conn.is_autocommit());
     let mut tx = conn.transaction();
-    append_in(&mut tx, QueueSide::First, first, rows)?;
-    append_in(&mut tx, QueueSide::Second, second, rows)?;
-    tx.commit()
+    let done = append_in_both(&mut tx, first, second, rows);
+    end(tx, done)
 }

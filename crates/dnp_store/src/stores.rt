@@ -1,10 +1,11 @@
 //! What all stores do alike inside a transaction: they look at the number of their form and at the last id
 //! used, and make the tables that each of them begins with.
 
-ghost use Rattle.std.specs.Prelude.{◌≡◌, ℕ, List, IsTrue, false, OnOk, OnErr, IfOk, [], ◌≢◌, Err, IfErr, ℤ, codes};
+ghost use Rattle.std.specs.Prelude.{◌≡◌, ℕ, List, IsTrue, false, OnOk, OnErr, IfOk, [], ◌≢◌, Ok, Err, IfErr, ℤ, codes};
 ghost use Rattle.sqlite.specs.Held.{state};
 ghost use Rattle.sqlite.specs.Order.{Row as SqlRow};
-ghost use Rattle.sqlite.specs.State.{HasCleanDisk, Shown, Survives};
+ghost use Rattle.sqlite.specs.State.{Executes, ExecutesInside, HasCleanDisk, Shown, Survives};
+ghost use Rattle.sqlite.specs.Values.{bound};
 ghost use Rattle.dnp_store.specs.Refusals.{IsRefused};
 ghost use Rattle.dnp_store.specs.steps.Inside.{IsInside, IsStep};
 ghost use Rattle.dnp_store.specs.PairTables.{IsForm, rows_name};
@@ -18,7 +19,27 @@ use crate::decoding::{form1, number_of};
 use crate::fault::Unread;
 use crate::queue_side::QueueSide;
 use crate::store_kind::{StoreKind, rows_text};
+use crate::transactions::end;
 use sqlite::{Alter, Connection, Error, Row, Transaction};
+use sqlite_value::value::ValueRef;
+
+/// Runs a statement.
+pub(crate) fn run<S: Alter>(
+    tx: &mut Transaction<'_, S>,
+    sql: &str,
+    params: &[ValueRef<'_>],
+) -> Result<(), Error>
+    requires inside { IsInside S.Store tx.old.conn }
+    ensures step { IsStep S.Store tx.old.conn tx.new.conn result }
+    ensures ran { HasCleanDisk (state S.Store tx.new.conn.now) → OnOk result ((count : ℕ) × Executes sql.now (bound params.now) (state S.Store tx.old.conn.now) (state S.Store tx.new.conn.now) (Ok count)) }
+    ensures refused { HasCleanDisk (state S.Store tx.new.conn.now) → IfErr result (λ e. IsTrue (state S.Store tx.old.conn.now).in_transaction
+        × ExecutesInside 0 sql.now (bound params.now) (state S.Store tx.old.conn.now) (state S.Store tx.new.conn.now) (Err e)) }
+{
+    match tx.execute(sql, params) {
+        Ok(_count) => Ok(()),
+        Err(error) => Err(error),
+    }
+}
 
 /// What a query without parameters shows.
 pub(crate) fn list<S: Alter>(tx: &mut Transaction<'_, S>, sql: &str) -> Result<Vec<Row>, Error>
@@ -78,6 +99,18 @@ pub(crate) fn read_counts<S: Alter>(tx: &mut Transaction<'_, S>) -> Result<Vec<R
     )
 }
 
+/// The rows of `sqlite_sequence`, where `form` is one row with the number 1.
+pub(crate) fn read_begun<S: Alter>(tx: &mut Transaction<'_, S>) -> Result<Vec<Row>, Unread>
+    requires inside { IsInside S.Store tx.old.conn }
+    ensures step { IsStep S.Store tx.old.conn tx.new.conn result }
+    ensures open { HasCleanDisk (state S.Store tx.new.conn.now) → OnOk result (IsTrue (state S.Store tx.old.conn.now).is_open) }
+    ensures read { HasCleanDisk (state S.Store tx.new.conn.now) → IfOk result (λ rows. (kind : StoreKind) → Reads kind (state S.Store tx.old.conn.now) (state S.Store tx.new.conn.now)
+        (λ db. IsForm1 (db 0) × ((table : List ℕ) (n : ℕ) → ShowsCount table rows.items n → IsCounted table (db 2) n))) }
+{
+    read_form(tx)?;
+    Ok(read_counts(tx)?)
+}
+
 /// Makes `form`.
 fn make_form<S: Alter>(tx: &mut Transaction<'_, S>) -> Result<(), Error>
     requires inside { IsInside S.Store tx.old.conn }
@@ -85,11 +118,11 @@ fn make_form<S: Alter>(tx: &mut Transaction<'_, S>) -> Result<(), Error>
     ensures refused { HasCleanDisk (state S.Store tx.new.conn.now) → IfErr result (λ e. (kind : StoreKind) → IsRefused S.Store kind tx.old.conn.now tx.new.conn.now e) }
     ensures made { HasCleanDisk (state S.Store tx.new.conn.now) → OnOk result ((state S.Store tx.old.conn.now).now.schema ≡ no_schema → HasForm (state S.Store tx.new.conn.now).now) }
 {
-    tx.execute(
+    run(
+        tx,
         "CREATE TABLE form (number INTEGER NOT NULL CHECK (number BETWEEN 1 AND 1000))",
         &[],
-    )?;
-    Ok(())
+    )
 }
 
 /// Makes the table of the store's rows.
@@ -99,8 +132,7 @@ fn make_rows<S: Alter>(tx: &mut Transaction<'_, S>, kind: StoreKind) -> Result<(
     ensures refused { HasCleanDisk (state S.Store tx.new.conn.now) → IfErr result (IsRefused S.Store kind tx.old.conn.now tx.new.conn.now) }
     ensures made { HasCleanDisk (state S.Store tx.new.conn.now) → OnOk result (HasForm (state S.Store tx.old.conn.now).now → HasTables kind (state S.Store tx.new.conn.now).now) }
 {
-    tx.execute(rows_text(kind), &[])?;
-    Ok(())
+    run(tx, rows_text(kind), &[])
 }
 
 /// Puts the number of the form into `form`.
@@ -110,8 +142,7 @@ fn put_number<S: Alter>(tx: &mut Transaction<'_, S>) -> Result<(), Error>
     ensures refused { HasCleanDisk (state S.Store tx.new.conn.now) → IfErr result (λ e. (kind : StoreKind) → IsRefused S.Store kind tx.old.conn.now tx.new.conn.now e) }
     ensures made { HasCleanDisk (state S.Store tx.new.conn.now) → OnOk result ((kind : StoreKind) → HasTables kind (state S.Store tx.old.conn.now).now → HasNumber kind (state S.Store tx.new.conn.now).now) }
 {
-    tx.execute("INSERT INTO form VALUES (1)", &[])?;
-    Ok(())
+    run(tx, "INSERT INTO form VALUES (1)", &[])
 }
 
 /// Makes what a store begins with: `form` with its number, and the table of its rows.
@@ -164,6 +195,6 @@ pub(crate) fn write_tables<S: Alter>(conn: &mut Connection<S>, kind: StoreKind) 
     ensures survives { Survives (state S.Store conn.old) (state S.Store conn.new) (λ db. (state S.Store conn.old).now.schema ≡ no_schema → IsFresh db) }
 {
     let mut tx = conn.transaction();
-    make_store(&mut tx, kind)?;
-    tx.commit()
+    let done = make_store(&mut tx, kind);
+    end(tx, done)
 }

@@ -14,8 +14,12 @@ pub mod Told
 pub mod MastersOneWay
 pub mod AboveOneWay
 pub mod AboveSteps
+pub mod BelowTicked
 pub mod Alive
 pub mod Answering
 pub mod Changing
 pub mod Living
+pub mod LiveOrder
+pub mod LiveSteps
+pub mod LiveTalking
 pub mod Order

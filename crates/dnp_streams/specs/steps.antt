@@ -5,3 +5,4 @@ pub mod Outgoing
 pub mod Pieces
 pub mod Talking
 pub mod Living
+pub mod LiveTalking

@@ -13,8 +13,11 @@ pub mod Masters
 pub mod Centres
 pub mod Concentrators
 pub mod AboveLives
+pub mod BelowLives
+pub mod CentreLives
 pub mod Lent
 pub mod Dialogues
 pub mod Asking
 pub mod Talking
 pub mod Living
+pub mod LiveTalking

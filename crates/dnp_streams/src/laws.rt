@@ -1,10 +1,12 @@
 //! Laws of the words of `specs/`: each function does nothing, and its contract is a law.
-ghost use Rattle.std.specs.Prelude.{◌≡◌, ◌++◌, ℕ, Bool, List, []};
+ghost use Rattle.std.specs.Prelude.{◌≡◌, ◌+◌, ◌++◌, ℕ, Bool, List, []};
 ghost use Rattle.dnp_linkframe.specs.declared.frame.Frame.{Frame as FrameValue};
 ghost use Rattle.dnp_linkframe.specs.Stream.{Gives};
 ghost use Rattle.dnp_streams.specs.AnswerLine.{IsPrinted};
 ghost use Rattle.dnp_streams.specs.streams.Spelled.{AreSpelled};
 ghost use Rattle.dnp_streams.specs.streams.OneWay.{OpensOneWay, ReceivesOneWay, OneOutput};
+ghost use Rattle.dnp_streams.specs.streams.Dialogues.{heard_in};
+ghost use Rattle.dnp_streams.specs.streams.LiveTalking as talking;
 ghost use Rattle.dnp_streams.specs.streams.Living.{FollowsAll, NeverFalls, Standing, Step, changes_in};
 ghost use Rattle.dnp_streams.specs.streams.Outstations.{ShowOneWay, outstation_opens, outstation_receives};
 ghost use Rattle.dnp_streams.specs.streams.Centres.{centre_opens, centre_receives};
@@ -46,6 +48,16 @@ pub fn one_output<S: Station>()
 pub fn a_session_keeps_its_order()
     ensures moments { (old new : Standing) (steps : List Step) → FollowsAll old steps new → NeverFalls old.now steps }
     ensures changes { (old new : Standing) (steps : List Step) → FollowsAll old steps new → old.changes ≡ changes_in steps ++ new.changes }
+{}
+
+/// The moments of a dialogue's steps don't fall; the frames that its reads brought are heard in order, each once, but for those
+/// that are still to be heard; and time passes once for each read, but for one after which it still has to pass.
+pub fn a_dialogue_keeps_its_order()
+    ensures moments { (old new : talking.Standing) (steps : List talking.LiveStep) → talking.FollowsAll old steps new → talking.NeverFalls old.now steps }
+    ensures heard { (old new : talking.Standing) (steps : List talking.LiveStep) → talking.FollowsAll old steps new
+        → talking.unheard_at old.stage ++ talking.frames_in steps ≡ heard_in (talking.made_in steps) ++ talking.unheard_at new.stage }
+    ensures ticks { (old new : talking.Standing) (steps : List talking.LiveStep) → talking.FollowsAll old steps new
+        → talking.owed_at old.stage + talking.reads_in steps ≡ talking.ticks_in steps + talking.owed_at new.stage }
 {}
 
 /// The octets in which frames are written to a stream give its peer these frames, and nothing waits.

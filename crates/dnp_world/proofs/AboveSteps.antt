@@ -82,11 +82,7 @@ lost_same laws s o now octets = by (case_of s.core octets) refl (laws.says s.cor
         → lost_in (connection_after s o now octets).state.lanes ≡ lost_in s.lanes
     by case.Confirms is says = confirms is s.core.session.awaited refl says.number
     by case.ConfirmsUnsolicited is says = reports is s.core.session.unsolicited refl says.number
-    by case.PassedOver is says = other case.PassedOver is (λ e. cc) (λ e. cc)
-    by case.Stray is says = other case.Stray is (λ e. cc) (λ e. cc)
-    by case.Again is says = other case.Again is (λ e. cc) (λ e. cc)
-    by case.Waits is says = other case.Waits is (λ e. cc) (λ e. cc)
-    by case.Asks is says = other case.Asks is (λ e. cc) (λ e. cc)
+    by k is says = other k is (λ e. cc) (λ e. cc)
 
 -- ---- what is performed is what the outputs are told to perform
 

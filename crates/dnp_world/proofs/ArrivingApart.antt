@@ -1,8 +1,9 @@
 -- A quiet link carries nothing, and what arrives on one link leaves the lines of the others alone.
-use Rattle.std.proofs.Common.{◌≡◌, ◌≢◌, ℕ, ◌==◌, Bool, true, false, not, ◌&&◌, if◌then◌else◌, List, [], ◌∷◌, length, Option, Some, None, Result, Ok, Err, refl, sym, ap, ◌∙◌, arith}
+use Rattle.std.proofs.Common.{◌≡◌, ◌≢◌, ℕ, ◌==◌, Bool, true, false, not, ◌&&◌, if◌then◌else◌, List, [], ◌∷◌, length, Option, Some, None, Result, Ok, Err, refl, ap, ◌∙◌}
 use Rattle.std.specs.Prelude.{slice_get}
-use Rattle.std.proofs.lemmas.Bool.{and_parts}
+use Rattle.std.proofs.lemmas.Bool.{and_parts, not-true}
 use Rattle.std.proofs.lemmas.Bool.Decides.{Decides-eqb}
+use Rattle.std.proofs.lemmas.List.{nil_from_length}
 use Rattle.dnp_concentrator.specs.Relaying.{Relaying}
 use Rattle.dnp_line.specs.Lines.{LineState, is_broken}
 use Rattle.dnp_line.specs.Ports.{PortState}
@@ -34,20 +35,12 @@ record IsEmpty (line : LineState) : Type 0 where
   units : line.units ≡ []
   unbroken : is_broken line ≡ false
 
-none_left : (xs : List (List ℕ)) → length xs ≡ 0 → xs ≡ []
-none_left [] e = refl
-none_left (x ∷ xs) e = absurd (omega (arith, e))
-
-is_false : (b : Bool) → not b ≡ true → b ≡ false
-is_false true e = sym e
-is_false false e = refl
-
 empty_line : (line : LineState) → is_quiet_line line ≡ true → IsEmpty line
 empty_line line e =
     let parts = and_parts (length line.units == 0) (not (is_broken line)) e in
     record {
-      units = none_left line.units ((Decides-eqb (length line.units) 0).0 parts.0);
-      unbroken = is_false (is_broken line) parts.1;
+      units = nil_from_length line.units ((Decides-eqb (length line.units) 0).0 parts.0);
+      unbroken = not-true (is_broken line) parts.1;
     }
 
 nothing_stands : (line : LineState) (sender receiver : PortState) (is_open : Bool) (rest : List (List ℕ)) → is_quiet_line line ≡ true
@@ -107,9 +100,6 @@ set_apart s station other is apart =
     let lines_in : Bool → Option SubstationState → Option ChannelState = λ b o. if b then channel_at o else None in
     ap (λ (b : Bool). lines_in b (slice_get set.substations station)) (has_set s other station is)
     ∙ ap (λ (o : Option SubstationState). lines_in (has_station s station) o) (set_there s.substations other station is apart)
-
-two_stations : (station other : ℕ) → Below station ≢ Below other → station ≢ other
-two_stations station other apart same = apart (ap (λ (n : ℕ). Below n) same)
 
 pub lines_apart : (on other : Link) (C : ChannelState → ChannelState → Type 0) (old new : System) → AreApart on other → LinesChange other C old new
     → channel_on new on ≡ channel_on old on

@@ -1,7 +1,8 @@
 -- The lines of one link of a system: what they are, what changes them alone, and what leaves them alone.
-use Rattle.std.proofs.Common.{◌≡◌, ℕ, zero, suc, Bool, true, false, ◌&&◌, if◌then◌else◌, List, [], ◌∷◌, length, Option, Some, None, refl, sym, ap, ◌∙◌, subst}
-use Rattle.std.specs.Prelude.{nat_lt, slice_get, slice_set}
+use Rattle.std.proofs.Common.{◌≡◌, ℕ, Bool, true, false, ◌&&◌, if◌then◌else◌, List, length, Option, Some, None, refl, sym, ap, ◌∙◌, subst}
+use Rattle.std.specs.Prelude.{nat_lt, slice_get}
 use Rattle.std.proofs.lemmas.Option.{none-some, same_Some}
+use Rattle.std.proofs.lemmas.List.{length-set, set-set}
 use Rattle.dnp_line.specs.Lines.{LineState}
 use Rattle.dnp_line.specs.Ports.{PortState}
 use Rattle.dnp_world.specs.Arriving.{channel_at, channel_on}
@@ -12,14 +13,9 @@ use Rattle.dnp_world.specs.declared.event.Link.{Link}
 use Rattle.dnp_world.specs.declared.event.Link.TheVariants.{Below, Above}
 use Rattle.dnp_world.specs.declared.link_event.Way.{Way}
 use Rattle.dnp_world.specs.declared.link_event.Way.TheVariants.{Down, Up}
-use Rattle.dnp_world.proofs.ListedAt.{set_again, set_here}
+use Rattle.dnp_world.proofs.ListedAt.{set_here}
 
 -- ---- lists
-
-pub length_set : {A : Type 0} (xs : List A) (i : ℕ) (a : A) → length (slice_set xs i a) ≡ length xs
-length_set [] i a = refl
-length_set (x ∷ xs) zero a = refl
-length_set (x ∷ xs) (suc i) a = ap (λ (n : ℕ). suc n) (length_set xs i a)
 
 -- ---- the ends of a way
 
@@ -81,7 +77,7 @@ linked (Above centre) s c e = refl
 -- another list of as many substations has the same places
 pub has_set : (s : System) (i station : ℕ) (is : SubstationState) → has_station (with_substation s i is) station ≡ has_station s station
 has_set s i station is =
-    ap (λ (n : ℕ). nat_lt station n && nat_lt station (length s.concentrator.links)) (length_set s.substations i is)
+    ap (λ (n : ℕ). nat_lt station n && nat_lt station (length s.concentrator.links)) (length-set s.substations i is)
 
 -- ---- changes of the lines alone
 
@@ -157,7 +153,7 @@ substations_both station first next last was middle from is there changed set th
     (sym there' ∙ ap (λ (s : System). slice_get s.substations station) set ∙ set_here first.substations station was middle there) in
     let with_list : List SubstationState → System = λ xs. record first { substations = xs } in (
       changed' ∙ ap with_lines same ∙ ap with_lines changed,
-      set' ∙ ap (λ (s : System). with_substation s station is) set ∙ ap with_list (set_again first.substations station middle is),
+      set' ∙ ap (λ (s : System). with_substation s station is) set ∙ ap with_list (set-set first.substations station middle is),
     )
 
 pub lines_both : (on : Link) (a b c : ChannelState) (first next last : System) → LinesGo on a b first next → LinesGo on b c next last

@@ -3,7 +3,7 @@ use Rattle.std.proofs.Common.{◌≡◌, ℕ, ◌<◌, ◌≤◌, true, inl, inr
 use Rattle.std.specs.List.{range_with_len}
 use Rattle.std.specs.Prelude.{slice_get}
 use Rattle.std.proofs.lemmas.Bool.{cases_Bool, cond-true, cond-false}
-use Rattle.std.proofs.lemmas.List.{take-append-le, reverse-append, length-append}
+use Rattle.std.proofs.lemmas.List.{reverse-append, length-append, take_at}
 use Rattle.std.proofs.lemmas.List.FromFn.{length-map-range_with_len}
 use Rattle.dnp_linkframe.specs.Frames.{Spells}
 use Rattle.dnp_linkframe.specs.declared.frame.Frame.{Frame}
@@ -78,10 +78,6 @@ WillGive f pushed (x ∷ []) = (has_data x ≡ true) × IsWhole (x ∷ pushed) f
 WillGive f pushed (x ∷ y ∷ segments) =
     (has_data x ≡ true) × ((g : List ℕ) → IsWhole (x ∷ pushed) g → ⊥) × WillGive f (x ∷ pushed) (y ∷ segments)
 
-whole_taken : (xs : List (List ℕ)) → take (length xs) xs ≡ xs
-whole_taken [] = refl
-whole_taken (x ∷ xs) = ap (λ (ys : List (List ℕ)). x ∷ ys) (whole_taken xs)
-
 -- one more push, newest first
 pushed_one : (before done : List (List ℕ)) (x : List ℕ) → pushed_after before (done ++ x ∷ []) ≡ x ∷ pushed_after before done
 pushed_one before done x = ap (λ (xs : List (List ℕ)). xs ++ before) (reverse-append done (x ∷ []))
@@ -104,7 +100,7 @@ gives_from f first before carried as_many done x (y ∷ segs) cut_is have =
     let done' : List (List ℕ) = done ++ x ∷ [] in
     let whole_cut : cuts f first ≡ done' ++ y ∷ segs = cut_is ∙ sym (append_assoc done (x ∷ []) (y ∷ segs)) in
     let front : take (length done') (cuts f first) ≡ done' =
-    ap (take (length done')) whole_cut ∙ take-append-le (length done') done' (y ∷ segs) (omega arith) ∙ whole_taken done' in
+    ap (take (length done')) whole_cut ∙ take_at done' (y ∷ segs) (length done') refl in
     let low_place : length done' < cut_count (length f) = omega (arith, as_many, ap length whole_cut, length-append done' (y ∷ segs)) in
     let some : 0 < length done' = omega (arith, length-append done (x ∷ [])) in
     let not_whole : (g : List ℕ) → IsWhole (x ∷ pushed_after before done) g → ⊥ =

@@ -2,6 +2,7 @@
 use Rattle.std.proofs.Common.{◌≡◌, ℕ, List, [], ◌∷◌, length, Option, Some, Result, Ok, Err, refl, sym, ap, ◌∙◌, subst}
 use Rattle.std.specs.Prelude.{◌&&◌, if◌then◌else◌, None, nat_lt, option_to_list, slice_get}
 use Rattle.std.proofs.lemmas.Option.{same_Some}
+use Rattle.std.proofs.lemmas.List.{length-set}
 use Rattle.dnp_concentrator.specs.Relaying as relaying
 use Rattle.dnp_concentrator.specs.Relaying.{Relaying}
 use Rattle.dnp_master.specs.Calls.{Taking, receive_of}
@@ -16,7 +17,7 @@ use Rattle.dnp_world.specs.declared.event.Link.{Link}
 use Rattle.dnp_world.specs.declared.event.Link.TheVariants.{Below, Above}
 use Rattle.dnp_world.specs.declared.link_event.Way.{Way}
 use Rattle.dnp_world.specs.declared.link_event.Way.TheVariants.{Down, Up}
-use Rattle.dnp_world.proofs.ArrivingLinks.{Found, WentTo, channel_found, found, has_set, length_set, lines_go}
+use Rattle.dnp_world.proofs.ArrivingLinks.{Found, WentTo, channel_found, found, has_set, lines_go}
 use Rattle.dnp_world.proofs.ListedAt.{set_here}
 
 -- these fragments go on the way back
@@ -46,7 +47,7 @@ same_channel station s t substations links =
 -- also of another link
 pub relaying_same : (on other : Link) (s : System) (link : Relaying) → channel_on (with_relaying s other link) on ≡ channel_on s on
 relaying_same (Below station) (Below other) s link =
-    same_channel station s (with_relaying s (Below other) link) refl (length_set s.concentrator.links other link)
+    same_channel station s (with_relaying s (Below other) link) refl (length-set s.concentrator.links other link)
 relaying_same (Above centre) (Below other) s link = refl
 relaying_same (Below station) (Above centre) s link = refl
 relaying_same (Above centre) (Above other) s link = refl
@@ -54,7 +55,7 @@ relaying_same (Above centre) (Above other) s link = refl
 pub taken_same : (on other : Link) (s : System) (t : Taking) → channel_on (taken_on s other t) on ≡ channel_on s on
 taken_same (Below station) (Below other) s t =
     same_channel station s (taken_on s (Below other) t) refl
-    (length_set s.concentrator.links other (relaying.received (link_at s.concentrator other) t))
+    (length-set s.concentrator.links other (relaying.received (link_at s.concentrator other) t))
 taken_same (Above centre) (Below other) s t = refl
 taken_same (Below station) (Above centre) s t = refl
 taken_same (Above centre) (Above other) s t = refl

@@ -1,6 +1,7 @@
 -- Units that stand on a line of a system come to the port at its end, one delivery each, and the last of a fragment's gives it.
 use Rattle.std.proofs.Common.{◌≡◌, ℕ, suc, Bool, true, List, [], ◌∷◌, ◌++◌, length, drop, Some, refl, sym, ap, ◌∙◌, subst, append-nil}
 use Rattle.std.specs.Prelude.{slice_get}
+use Rattle.std.proofs.lemmas.List.{set-set}
 use Rattle.dnp_linkframe.specs.Frames.{Spells}
 use Rattle.dnp_linkframe.specs.declared.frame.Frame.{Frame}
 use Rattle.dnp_linkstation.specs.Station.{ends, Stands as Answers}
@@ -30,7 +31,7 @@ use Rattle.dnp_world.proofs.ArrivingLines.{spelled_length}
 use Rattle.dnp_world.proofs.ArrivingLinks.{LinesGo, WentTo, heard_again, heard_at, line_heard, linked, lines_as, lines_both, lines_go, receiver_at}
 use Rattle.dnp_world.proofs.ArrivingPorts.{HasTaken, WillGive, cuts_will_give, delivered_from, has_taken, heard_front}
 use Rattle.dnp_world.proofs.BelowEvents.{no_performs}
-use Rattle.dnp_world.proofs.ListedAt.{set_again, set_here}
+use Rattle.dnp_world.proofs.ListedAt.{set_here}
 
 -- ---- one delivery
 
@@ -91,7 +92,7 @@ came_below station released (fragment ∷ others) old new was is lines there cam
         is = is;
         there = set_here old.substations station was middle there;
         changed = came;
-        after = after ∙ ap with_list (sym (set_again old.substations station middle is));
+        after = after ∙ ap with_list (sym (set-set old.substations station middle is));
       };
     }
 

@@ -3,6 +3,7 @@ use Rattle.std.proofs.Common.{◌≡◌, ℕ, ◌<◌, true, List, [], ◌∷◌
 use Rattle.std.specs.Prelude.{nat_lt, option_to_list, slice_get, ⊤}
 use Rattle.std.proofs.lemmas.Bool.{and_parts, ltb-true}
 use Rattle.std.proofs.lemmas.Option.{same_Some}
+use Rattle.std.proofs.lemmas.List.{set-set}
 use Rattle.dnp_concentrator.specs.Below.{link_in}
 use Rattle.dnp_concentrator.specs.IndexMap.{IsMap}
 use Rattle.dnp_concentrator.specs.Mapped.{queued_rows}
@@ -36,7 +37,7 @@ use Rattle.dnp_world.specs.SystemStanding.{RowLists, lists_of, no_sink, seen_bel
 use Rattle.dnp_world.proofs.BelowEvents.{few_outputs, quiet, seen_at, shown_with}
 use Rattle.dnp_world.proofs.BelowKeeps.{Grounds}
 use Rattle.dnp_world.proofs.BelowTakes.{ArrivalLaws, queued_for, taken_with, takes_keep}
-use Rattle.dnp_world.proofs.ListedAt.{set_again, set_here}
+use Rattle.dnp_world.proofs.ListedAt.{set_here}
 use Rattle.dnp_world.proofs.TakenPlans.{IsMasterOf, master_there, receiving_keeps_plan}
 
 -- ---- the lines and the list of substations
@@ -120,7 +121,7 @@ received grounds laws left e old new h station c events fragment others given (O
     ∙ ap (λ (x : SubstationState). with_substation (taken_below between station t) station x)
     (change.changed.1 ∙ ap (λ (x : SubstationState). record x { channel = lines }) same)
     ∙ ap (λ (xs : List SubstationState). record (taken_below between station t) { substations = xs })
-    (set_again old.substations station mid is_now) in
+    (set-set old.substations station mid is_now) in
     let lists : RowLists = record (lists_of l) { taken = rows_of l.took ++ t.events } in
     let base : LinkState ⊤ = seen_at old station mid (lists_of l) in
     let s' : LinkState ⊤ = seen_below old.now (relaying.received r t) is_now lists in

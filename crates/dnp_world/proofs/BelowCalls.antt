@@ -1,15 +1,12 @@
 -- Calls of a substation's master, an opening and damage, which keep what stands behind the system.
-use Rattle.std.proofs.Common.{◌≡◌, ℕ, zero, suc, ◌<◌, if◌then◌else◌, Bool, true, false, List, [], ◌∷◌, ◌++◌, length, Some, Result, Ok, Err, refl, sym, ap, ◌∙◌, subst, arith}
+use Rattle.std.proofs.Common.{◌≡◌, ℕ, zero, suc, ◌<◌, if◌then◌else◌, Bool, true, false, List, [], ◌∷◌, length, Some, Result, Ok, Err, refl, sym, ap, ◌∙◌, subst, append-nil, arith}
 use Rattle.std.specs.Prelude.{nat_lt, slice_get, slice_set}
 use Rattle.std.proofs.lemmas.Bool.{and_parts, ltb-true}
-use Rattle.std.proofs.lemmas.Option.{same_Some}
-use Rattle.dnp_objects.specs.declared.command.Command.{Command}
-use Rattle.dnp_objects.specs.declared.row.Row.{Row}
+use Rattle.std.proofs.lemmas.List.{set-get_or}
+use Rattle.std.proofs.lemmas.Option.{get_or_from_slice_get}
 use Rattle.dnp_concentrator.specs.Below.{link_in}
 use Rattle.dnp_concentrator.specs.Relaying as relaying
 use Rattle.dnp_concentrator.specs.Relaying.{Relaying}
-use Rattle.dnp_line.specs.Lines.{LineState}
-use Rattle.dnp_line.specs.Ports.{PortState}
 use Rattle.dnp_master.specs.Calls.{ask_answer, asked_by}
 use Rattle.dnp_master.specs.State as master
 use Rattle.dnp_master.specs.declared.fault.AskFault.{AskFault}
@@ -27,10 +24,10 @@ use Rattle.dnp_world.specs.Behind.{Elsewhere, rows_of}
 use Rattle.dnp_world.specs.Channels.{ChannelState, DamagesAt, GoDown, cleared}
 use Rattle.dnp_world.specs.Link.{Link}
 use Rattle.dnp_world.specs.OneLinkEvents.{AsksBy, AsksIfOwn, Steps, is_own, opening}
-use Rattle.dnp_world.specs.Systems.{SubstationState, System, at_station, has_station, station_of}
+use Rattle.dnp_world.specs.Systems.{SubstationState, System, has_station, station_of}
 use Rattle.dnp_world.specs.SystemEvents.{AsksOn, HangsUpOn, LinesChange, MasterTicks, OpensOn, master_gone, request_of, with_link, with_lost, with_substation}
 use Rattle.dnp_world.specs.SystemStanding.{RowLists, lists_of, points_asked, seen_below, IsStanding, Keeps}
-use Rattle.dnp_world.proofs.BelowEvents.{few_outputs, lists_as, no_performs, none_behind, quiet, quiet_with, shown_with, stepped_on, with_both, with_released}
+use Rattle.dnp_world.proofs.BelowEvents.{few_outputs, no_performs, none_behind, quiet, quiet_with, shown_with, stepped_on, with_both, with_released}
 use Rattle.dnp_world.proofs.BelowKeeps.{Gone, Grounds, KeepsMiddle, Middle, below_keeps}
 use Rattle.dnp_world.proofs.Issuing.{same_keeps}
 use Rattle.dnp_world.proofs.SystemPlans.{asked_still, link_here, link_there}
@@ -101,21 +98,17 @@ opens grounds laws old new station has h e =
     (sym (link_here old.concentrator.links station (relaying.opened r) (has_link_to old station has)))
     (stepped_on old.now (relaying.opened r) step (cleared was.channel) was is (lists_of l) e.changed))
     (e.after
-    ∙ lists_as station was is middle gone old old.history.confirmed old.history.overwritten old.history.gone old.history.operated
-    (none_behind old.history.confirmed
-    ∙ ap (λ (xs : List Row). old.history.confirmed ++ at_station station xs) (sym (laws.open_none (station_of was) old.now).discarded))
-    (none_behind old.history.overwritten) (none_behind old.history.gone)
-    (none_behind old.history.operated
-    ∙ ap (λ (xs : List Command). old.history.operated ++ at_station station xs)
-    (sym (no_performs was is (ap (λ (s : SubstationState). s.outputs.performed) e.changed.after ∙ laws.open_performs (station_of was) old.now)))))
+    ∙ rw (
+      (laws.open_none (station_of was) old.now).discarded,
+      no_performs was is (ap (λ (s : SubstationState). s.outputs.performed) e.changed.after ∙ laws.open_performs (station_of was) old.now),
+    )
+    (simp append-nil))
 
 -- ---- a task is asked
 
 -- nothing goes down
 pub none_goes : (old new : ChannelState) → GoDown [] old new → new ≡ old
-none_goes old new g =
-    let lines : LineState → PortState → ChannelState = λ down port. record old { down = down; master_port = port } in
-    g.after ∙ ap (λ (d : LineState). lines d new.master_port) g.sent.0 ∙ ap (λ (p : PortState). lines old.down p) g.sent.1
+none_goes old new g = g.after ∙ rw (g.sent.0, g.sent.1)
 
 asked_points_stay : (s : master.State) (now : ℕ) (task : Task) (answer : Result (List ℕ) AskFault) → (asked_by s now task answer).plan ≡ s.plan
 asked_points_stay s now task (Ok octets) = refl
@@ -171,10 +164,8 @@ hangs_up_below grounds laws old new station has h e =
 
 -- ---- its timer
 
-same_set : {S : Type 0} (xs : List S) (i : ℕ) (x : S) → slice_get xs i ≡ Some x → slice_set xs i x ≡ xs
-same_set [] i x e = refl
-same_set {S} (y ∷ xs) zero x e = ap (λ (z : S). z ∷ xs) (sym (same_Some y x e))
-same_set {S} (y ∷ xs) (suc i) x e = ap (λ (zs : List S). y ∷ zs) (same_set xs i x e)
+pub same_set : {S : Type 0} (xs : List S) (i : ℕ) (x : S) → slice_get xs i ≡ Some x → slice_set xs i x ≡ xs
+same_set xs i x e = ap (slice_set xs i) (sym (get_or_from_slice_get xs i x x e)) ∙ set-get_or xs i x
 
 -- a substation of that number is there
 is_some_there : {S : Type 0} (xs : List S) (i : ℕ) → i < length xs → (x : S) × (slice_get xs i ≡ Some x)

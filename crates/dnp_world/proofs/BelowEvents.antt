@@ -1,6 +1,6 @@
 -- Events on the link to a substation, which keep what stands behind the system.
 use Rattle.std.proofs.Common.{◌≡◌, ℕ, ◌<◌, ◌≤◌, ◌^◌, if◌then◌else◌, Bool, true, false, List, [], ◌∷◌, ◌++◌, length, drop, Some, refl, sym, ap, ◌∙◌, subst, append-nil, arith}
-use Rattle.std.specs.Prelude.{slice_get, slice_set, ⊤}
+use Rattle.std.specs.Prelude.{slice_get, ⊤}
 use Rattle.std.proofs.lemmas.List.{drop_all}
 use Rattle.dnp_objects.specs.declared.command.Command.{Command}
 use Rattle.dnp_objects.specs.declared.row.Row.{Row}
@@ -41,27 +41,6 @@ octets_shown outputs few = record { outputs = few; status = λ index low. by (is
     by true = omega arith
     by false = omega arith
 
--- ---- the lists after it
-
-pub lists_as : (station : ℕ) (was is : SubstationState) (middle : Middle) (gone : Gone) (old : System) (c o g : List (ℕ × Row)) (p : List (ℕ × Command))
-    → c ≡ old.history.confirmed ++ at_station station gone.confirmed → o ≡ old.history.overwritten ++ at_station station gone.overwritten
-    → g ≡ old.history.gone ++ at_station station gone.emptied → p ≡ old.history.operated ++ at_station station (performs was is)
-    → record old {
-      substations = slice_set old.substations station is;
-      concentrator = record old.concentrator { core = with_points old.concentrator.core middle.points; links = middle.links };
-      history = record old.history { confirmed = c; overwritten = o; gone = g; operated = p };
-    } ≡ changed_below station was is middle gone old
-lists_as station was is middle gone old c o g p ec eo eg ep =
-    let with_lists : List (ℕ × Row) → List (ℕ × Row) → List (ℕ × Row) → List (ℕ × Command) → System = λ a b d e. record old {
-      substations = slice_set old.substations station is;
-      concentrator = record old.concentrator { core = with_points old.concentrator.core middle.points; links = middle.links };
-      history = record old.history { confirmed = a; overwritten = b; gone = d; operated = e };
-    } in
-    let c' : List (ℕ × Row) = old.history.confirmed ++ at_station station gone.confirmed in
-    let o' : List (ℕ × Row) = old.history.overwritten ++ at_station station gone.overwritten in
-    let g' : List (ℕ × Row) = old.history.gone ++ at_station station gone.emptied in
-    ap (λ x. with_lists x o g p) ec ∙ ap (λ x. with_lists c' x g p) eo ∙ ap (λ x. with_lists c' o' x p) eg ∙ ap (λ x. with_lists c' o' g' x) ep
-
 pub none_behind : {A : Type 0} (xs : List A) → xs ≡ xs ++ []
 none_behind xs = sym (append-nil xs)
 
@@ -99,11 +78,7 @@ with_both s station is middle = record (with_substation s station is) {
 
 pub both_as : (old : System) (station : ℕ) (was is : SubstationState) (middle : Middle) → is.outputs ≡ was.outputs
     → with_both old station is middle ≡ changed_below station was is middle nothing_gone old
-both_as old station was is middle same =
-    lists_as station was is middle nothing_gone old old.history.confirmed old.history.overwritten old.history.gone old.history.operated
-    (none_behind old.history.confirmed) (none_behind old.history.overwritten) (none_behind old.history.gone)
-    (none_behind old.history.operated
-    ∙ ap (λ (xs : List Command). old.history.operated ++ at_station station xs) (sym (no_performs was is (ap (λ (o : PlainState). o.performed) same))))
+both_as old station was is middle same = rw (no_performs was is (ap (λ (o : PlainState). o.performed) same)) (simp append-nil)
 
 pub quiet_with : Grounds → (old new : System) {el : Elsewhere} (h : IsStanding el old) (station : ℕ) (was is : SubstationState) (middle : Middle)
     (e : LinkEvent) → slice_get old.substations station ≡ Some was → KeepsMiddle station middle old → is.outputs ≡ was.outputs
@@ -129,21 +104,15 @@ pub loses : Grounds → (old new : System) {el : Elsewhere} (station : ℕ) (way
     → Keeps el station [] old new
 loses grounds old new station w h e =
     quiet grounds old new h station e.was (record e.was { channel = lost_at w e.was.channel }) (event.Lose w) e.there refl refl
-    (e.after ∙ ap (λ (s : SubstationState). with_substation old station s) (e.changed.1 ∙ ap (λ (c : ChannelState). record e.was {
-      channel =
-          c;
-    }) e.changed.0))
+    (e.after ∙ ap (λ (s : SubstationState). with_substation old station s)
+    (e.changed.1 ∙ ap (λ (c : ChannelState). record e.was { channel = c }) e.changed.0))
 
 -- the outstation hangs up
 pub hangs_up : Grounds → (old new : System) {el : Elsewhere} (station : ℕ) → IsStanding el old → HangsUpOn (Below station) end.Outstation old new
     → Keeps el station [] old new
 hangs_up grounds old new station h e =
-    quiet grounds old new h station e.was (record e.was {
-      core = closed e.was.core;
-      channel =
-          hung_up_at end.Outstation e.was.channel;
-    }) (event.HangUp end.Outstation) e.there
-    refl refl (e.after ∙ ap (λ (s : SubstationState). with_substation old station s) e.changed)
+    quiet grounds old new h station e.was (record e.was { core = closed e.was.core; channel = hung_up_at end.Outstation e.was.channel })
+    (event.HangUp end.Outstation) e.there refl refl (e.after ∙ ap (λ (s : SubstationState). with_substation old station s) e.changed)
 
 -- ---- it restarts, and its lanes are emptied
 
@@ -154,8 +123,7 @@ restarts grounds old new station h e =
     let is : SubstationState = record was {
       core = restarted_core was.core;
       lanes = without_all was.lanes;
-      channel =
-          hung_up_at end.Outstation was.channel;
+      channel = hung_up_at end.Outstation was.channel;
     } in
     let l : Link = h.links.below station in
     let gone : Gone = record { confirmed = []; overwritten = []; emptied = rows_in was.lanes } in
@@ -166,11 +134,7 @@ restarts grounds old new station h e =
     (record (lists_of l) { left = rows_of l.left ++ rows_in was.lanes }) (event.Restart end.Outstation) e.there (middle_same station old)
     (shown_with was is (few_outputs old h station was e.there) refl)
     (record { taken = refl; released = none_behind (rows_of l.released); left = refl }) refl
-    (e.after ∙ ap after e.changed
-    ∙ lists_as station was is (middle_in old) gone old old.history.confirmed old.history.overwritten
-    (old.history.gone ++ at_station station (rows_in was.lanes)) old.history.operated
-    (none_behind old.history.confirmed) (none_behind old.history.overwritten) refl
-    (none_behind old.history.operated ∙ ap (λ (xs : List Command). old.history.operated ++ at_station station xs) (sym (no_performs was is refl))))
+    (e.after ∙ ap after e.changed ∙ rw (no_performs was is refl) (simp append-nil))
 
 -- ---- steps of its outstation
 
@@ -201,8 +165,7 @@ pub step_keeps : Grounds → (old new : System) {el : Elsewhere} (h : IsStanding
     → new ≡ record (with_substation old station is) {
       history = record old.history {
         overwritten = old.history.overwritten ++ at_station station dropped;
-        operated =
-            old.history.operated ++ at_station station (performs was is);
+        operated = old.history.operated ++ at_station station (performs was is);
       };
     }
     → Keeps el station (rows_made_by was.core.points (e ∷ [])) old new
@@ -215,11 +178,7 @@ step_keeps grounds old new h station was is e step dropped there none steps as_e
     (shown_with was is (few_outputs old h station was there) (ap (λ (s : SubstationState). s.outputs.outputs) steps.after))
     (record { taken = refl; released = refl; left = ap (λ (xs : List Row). rows_of l.left ++ xs) (none_behind dropped) })
     (as_event (seen_at old station is (with_released lists step.does.discarded)) (stepped old station step was is lists steps))
-    (after
-    ∙ lists_as station was is (middle_in old) gone old old.history.confirmed (old.history.overwritten ++ at_station station dropped) old.history.gone
-    (old.history.operated ++ at_station station (performs was is))
-    (none_behind old.history.confirmed ∙ ap (λ (xs : List Row). old.history.confirmed ++ at_station station xs) (sym none)) refl
-    (none_behind old.history.gone) refl)
+    (after ∙ rw none (simp append-nil))
 
 -- ---- the front unit comes to it
 
@@ -258,10 +217,7 @@ comes grounds left e as_event old new station h c =
     (record { taken = refl; released = refl; left = none_behind (rows_of l.left) })
     (as_event (seen_at old station was (lists_of l)) (seen_at old station is lists) (panel_of was)
     (record { port = x.port; given = x.given; heard = x.heard; came = answered old station l base is x.given c.released x.came }))
-    (c.came.after
-    ∙ lists_as station was is (middle_in old) gone old
-    (old.history.confirmed ++ at_station station c.released) old.history.overwritten old.history.gone
-    (old.history.operated ++ at_station station (performs was is)) refl (none_behind old.history.overwritten) (none_behind old.history.gone) refl)
+    (c.came.after ∙ simp append-nil)
 
 pub delivers : Grounds → (old new : System) {el : Elsewhere} (station : ℕ) → IsStanding el old → ComesDownBelow delivered_on station old new
     → Keeps el station [] old new

@@ -13,6 +13,7 @@ use Rattle.dnp_controls.specs.Book.{Ledger}
 use Rattle.dnp_controls.specs.Panel.{Panel}
 use Rattle.dnp_concentrator.specs.BookOutputs.{ordered}
 use Rattle.dnp_concentrator.specs.Below.{link_in}
+use Rattle.dnp_outstation.specs.State.{State}
 use Rattle.dnp_outstation.specs.Station.{with_points}
 use Rattle.dnp_pointdb.specs.Database.{Database}
 use Rattle.dnp_pointdb.specs.Sound as points
@@ -25,7 +26,7 @@ use Rattle.dnp_world.specs.Kept.{Kept, kept_in, lane_rows_of, orders_in, shown_o
 use Rattle.dnp_world.specs.Link.{Link}
 use Rattle.dnp_world.specs.Moves.{Done}
 use Rattle.dnp_world.specs.OneLinkEvents.{LinkState, HappensOn}
-use Rattle.dnp_world.specs.OutstationSeen.{ShowOctets}
+use Rattle.dnp_world.specs.OutstationSeen.{ShowOctets, Shows}
 use Rattle.dnp_world.specs.Reports.{IsFate}
 use Rattle.dnp_world.specs.Standing.{Stands}
 use Rattle.dnp_world.specs.Stations.{of_station, HasSameCounts}
@@ -81,37 +82,41 @@ relisted s l now j =
     with_lists [] [] s l s.sink now (rows_of l.took) (rows_of l.released) (rows_of l.left) j (IsPermutation-refl (rows_of l.took)) refl
     (subst (λ (xs : List Row). IsPermutation (rows_of l.left) xs) (sym (append-nil (rows_of l.left))) (IsPermutation-refl (rows_of l.left)))
 
--- other readings of its points are no matter of the link
-pub points_set : (s : LinkState ⊤) (l : Link) (database : Database) → points.IsSound database → Joined [] s l
-    → Joined [] (record s { outstation = record s.outstation { core = with_points s.outstation.core database } }) l
-points_set s l database sound j = record {
-  outstation = record {
-    outstation = j.outstation.outstation;
-    lanes = j.outstation.lanes;
-    well = record {
-      lanes = j.outstation.well.lanes;
-      points = sound;
-      order = record {
-        number = j.outstation.well.order.number;
-        classes = j.outstation.well.order.classes;
-        held = j.outstation.well.order.held;
-        several = j.outstation.well.order.several;
-      };
-      tidy = record { awaited = j.outstation.well.tidy.awaited; first = j.outstation.well.tidy.first; unsolicited = j.outstation.well.tidy.unsolicited };
-      ids = j.outstation.well.ids;
-    };
-  };
+-- another outstation that the link shows, over the same lines
+pub shown_by : (s : LinkState ⊤) (l : Link) (outstation : State) → outstation.core.is_open ≡ s.outstation.core.is_open → Shows outstation l
+    → Joined [] s l → Joined [] (record s { outstation = outstation }) l
+shown_by s l outstation same shows j = record {
+  outstation = shows;
   master = j.master;
   number = j.number;
   going_down = j.going_down;
   down = j.down;
   down_is = j.down_is;
   octets = j.octets;
-  up = j.up;
+  up = rw same j.up;
   taken = j.taken;
   released = j.released;
   left = j.left;
 }
+
+-- other readings of its points are no matter of the link
+pub points_set : (s : LinkState ⊤) (l : Link) (database : Database) → points.IsSound database → Joined [] s l
+    → Joined [] (record s { outstation = record s.outstation { core = with_points s.outstation.core database } }) l
+points_set s l database sound j =
+    let shows : Shows s.outstation l = j.outstation in
+    let order = shows.well.order in
+    let tidy = shows.well.tidy in
+    shown_by s l _ refl (record {
+      outstation = shows.outstation;
+      lanes = shows.lanes;
+      well = record {
+        lanes = shows.well.lanes;
+        points = sound;
+        order = record { number = order.number; classes = order.classes; held = order.held; several = order.several };
+        tidy = record { awaited = tidy.awaited; first = tidy.first; unsolicited = tidy.unsolicited };
+        ids = shows.well.ids;
+      };
+    }) j
 
 -- the rows in its lanes
 pub lane_rows : (s : LinkState ⊤) (l : Link) → Joined [] s l → rows_of l.lanes ≡ rows_in s.outstation.lanes
@@ -279,10 +284,7 @@ pub record IsListed (l : Link) (gone : Gone) (lists : RowLists) : Type 0 where
 pub other_stands : (old : System) {el : Elsewhere} (h : IsStanding el old) (station : ℕ) (is : SubstationState) (relays : List Relaying)
     → ((i : ℕ) → i ≢ station → link_in relays i ≡ link_in old.concentrator.links i) → (i : ℕ) → i ≢ station
     → IfSome (slice_get (slice_set old.substations station is) i) (IsJoinedBelow old.now (link_in relays i) (h.links.below i))
-other_stands old h station is relays others i other =
-    subst (λ (r : Relaying). IfSome (slice_get (slice_set old.substations station is) i) (IsJoinedBelow old.now r (h.links.below i))) (sym (others i other))
-    (subst (λ (o : Option SubstationState). IfSome o (IsJoinedBelow old.now (link_in old.concentrator.links i) (h.links.below i)))
-    (sym (set_there old.substations station i is other)) (h.below i))
+other_stands old h station is relays others i other = rw (others i other, set_there old.substations station i is other) (h.below i)
 
 -- The link by itself moves so.
 pub below_follows : TurnLaws → (old : System) {el : Elsewhere} (h : IsStanding el old) (station : ℕ) (was is : SubstationState) (middle : Middle)

@@ -35,7 +35,7 @@ use Rattle.dnp_world.specs.Happened.{HappenedAsEvents}
 use Rattle.dnp_world.specs.Joined.{Follows, rows_made_by, with_others_rows}
 use Rattle.dnp_world.specs.Kept.{kept_in, lane_rows_of, orders_in, report_of, rows_below, used_commands, used_orders}
 use Rattle.dnp_world.specs.Link.{Link}
-use Rattle.dnp_world.specs.Moves.{Done, Moves}
+use Rattle.dnp_world.specs.Moves.{Moves}
 use Rattle.dnp_world.specs.OneLinkEvents.{LinkState, HappensOn}
 use Rattle.dnp_world.specs.OutstationSeen.{ShowOctets, Shows, Simulates}
 use Rattle.dnp_world.specs.Reports.{happened}
@@ -50,6 +50,7 @@ use Rattle.dnp_world.proofs.ByStations.{some_there}
 use Rattle.dnp_world.proofs.Counting.{count_by-append}
 use Rattle.dnp_world.proofs.HappenedRows.{all_at, all_counted}
 use Rattle.dnp_world.proofs.JoinedRuns.{append_follows, append_of, listed}
+use Rattle.dnp_world.proofs.JoinedSteps.{stays_as}
 use Rattle.dnp_world.proofs.ListedAt.{set_here, listed_here, listed_there}
 use Rattle.dnp_world.proofs.QueuedRows.{QueuedCarried, StaySound, readings_sound}
 use Rattle.dnp_world.proofs.SystemCounts.{count_by-map, same_is, same_refl}
@@ -138,18 +139,7 @@ queued_follows laws old h rows carried fits =
 -- where none came, the link stays
 none_follows : (old : System) {el : Elsewhere} (h : IsStanding el old)
     → Follows [] (arriving []) [] (middle_of old.concentrator).performed h.links.above (queued_on old (lists_of h.links.above) [])
-none_follows old h =
-    let l : Link = h.links.above in
-    record {
-      link = l;
-      moves = Done;
-      joined = listed [] [] (seen_above old (lists_of l)) l h.above;
-      stood = sym (append-nil (rows_of l.stood));
-      asked_is = sym (append-nil l.asked);
-      commands = [];
-      performed = sym (append-nil (middle_of old.concentrator).performed);
-      performed_is = sym (append-nil l.performed);
-    }
+none_follows old h = stays_as [] h.links.above _ _ refl (listed [] [] (seen_above old (lists_of h.links.above)) h.links.above h.above)
 
 -- the rows of a substation that are queued
 abbrev pub queued_for : System → ℕ → List Row → List LaneRow

@@ -1,10 +1,8 @@
 -- An event keeps a whole system steady to both centres.
-use Rattle.std.proofs.Common.{◌≡◌, ℕ, zero, suc, Bool, true, false, ◌&&◌, length, option_map, List, [], ◌∷◌, ◌++◌, append-nil, Option, Some, None, refl, sym, ap, ◌∙◌, subst, arith}
+use Rattle.std.proofs.Common.{◌≡◌, ℕ, ◌&&◌, length, option_map, List, [], ◌∷◌, ◌++◌, Option, Some, None, refl, sym, ap, ◌∙◌, subst, arith}
 use Rattle.std.specs.Prelude.{nat_lt, slice_get}
 use Rattle.std.specs.List.{flat_map}
 use Rattle.std.proofs.lemmas.Option.{none-some}
-use Rattle.dnp_controls.specs.declared.book.Entry.{Entry}
-use Rattle.dnp_eventbuf.specs.declared.pair.TheConstants.{CENTRES}
 use Rattle.dnp_objects.specs.declared.command.Command.{Command}
 use Rattle.dnp_objects.specs.declared.row.Row.{Row}
 use Rattle.dnp_concentrator.specs.Relaying.{Relaying}
@@ -13,12 +11,12 @@ use Rattle.dnp_pointdb.specs.Database.{Database}
 use Rattle.dnp_pointdb.specs.Runs.{Move}
 use Rattle.dnp_world.specs.Behind.{Elsewhere, IsFrom, Links}
 use Rattle.dnp_world.specs.BothSteady.{AreSteady, GoesOn, IssuesAs, LeavesBooks, RelaysAs, StaysBeside, side_of}
-use Rattle.dnp_world.specs.Centres.{ChangesAll, HappensToAll, SeesElsewhere, centre_at, is_there}
-use Rattle.dnp_world.specs.Kept.{Kept, commands_below, commands_in, kept_in, orders_in, report_of}
-use Rattle.dnp_world.specs.Reports.{IsFate}
+use Rattle.dnp_world.specs.Centres.{HappensToAll, SeesElsewhere, centre_at}
+use Rattle.dnp_world.specs.Kept.{commands_below, commands_in, kept_in, orders_in, report_of}
+use Rattle.dnp_world.specs.Reports.{IsFate, Report}
 use Rattle.dnp_world.specs.Stations.{HasSameCounts}
 use Rattle.dnp_world.specs.Steady.{Goes, IsSteadyBeside, made_from, moves_at, points_at, rows_made_at}
-use Rattle.dnp_world.specs.SystemRuns.{Happens, IfThere}
+use Rattle.dnp_world.specs.SystemRuns.{Happens}
 use Rattle.dnp_world.specs.Systems.{SubstationState, System}
 use Rattle.dnp_world.specs.Wholes.{Whole, seen_by}
 use Rattle.dnp_world.specs.declared.event.Event.{Event}
@@ -26,8 +24,9 @@ use Rattle.dnp_world.specs.declared.event.Event.TheVariants as event
 use Rattle.dnp_world.specs.declared.event.Place.TheVariants as place
 use Rattle.dnp_world.proofs.Counting.{count_by-append}
 use Rattle.dnp_world.proofs.EventPoints.{all_moves, none_made}
-use Rattle.dnp_world.proofs.EachCentre.{for_both, no_such}
+use Rattle.dnp_world.proofs.EachCentre.{by_place, for_both}
 use Rattle.dnp_world.proofs.Lasting.{fate_as, made_by, nothing_more}
+use Rattle.dnp_world.proofs.Seen.{sees_same}
 
 -- what the laws of one centre's system promise
 pub record BothLaws : Type 0 where
@@ -67,9 +66,7 @@ pub record BothGo (made made' : ℕ → List Row) (old new old' new' : System) :
 -- a side of the same links and the same book
 same_side : (el : Elsewhere) (links links' : Links) (old new : System) → IsSide el links old → links' ≡ links
     → (kept_in new).orders ≡ (kept_in old).orders → IsSide el links' new
-same_side el links links' old new is same orders =
-    is ∙ ap (λ (l : Links). let x : Elsewhere = record { performed = l.above.performed; orders = (kept_in old).orders } in x) (sym same)
-    ∙ ap (λ (es : List Entry). let x : Elsewhere = record { performed = links'.above.performed; orders = es } in x) (sym orders)
+same_side el links links' old new is same orders = rw (same, orders) is
 
 -- ---- what is at the one centre
 
@@ -78,23 +75,17 @@ pub at_one : BothLaws → (e : Event) (a a' b b' : System) {el el' : Elsewhere} 
     → IsSide el t.standing.links b → Happens a e a' → SeesElsewhere b b' → Shares a' b' → BothGo (rows_made_at a (e ∷ [])) (λ i. []) a a' b b'
 at_one laws e a a' b b' {el = el} {el' = el'} s t is h x shares =
     let g : Goes el (rows_made_at a (e ∷ [])) a a' = laws.goes a a' el e s h in
-    let links : Links = g.steady.standing.links in
-    let k : Kept = kept_in a' in
-    let there : Elsewhere = side_of links k in
+    let there : Elsewhere = side_of g.steady.standing.links (kept_in a') in
     let orders : (kept_in b').orders ≡ (kept_in b).orders = ap (λ (y : System). (kept_in y).orders) x.after in
     let map_is : a'.indices ≡ b.indices = sym shares.indices ∙ ap (λ (y : System). y.indices) x.after in
     let performed : el.performed ≡ t.standing.links.above.performed = ap (λ (y : Elsewhere). y.performed) is in
     let entered : el.orders ≡ (kept_in b').orders = ap (λ (y : Elsewhere). y.orders) is ∙ sym orders in
     let relays : RelaysAs there t.standing.links b' =
-    as_seen b' a' there t.standing.links shares
-    (turned_round (commands_below a'.indices links.above.performed) (commands_below a'.indices t.standing.links.above.performed) (orders_in k.controls)
-    (subst (λ (cs : List Command). HasSameCounts (commands_below a'.indices links.above.performed ++ commands_below a'.indices cs) (orders_in k.controls))
-    performed g.steady.standing.behind.relayed)) in
+    rw (shares.controls, shares.indices) (turned_round (commands_below a'.indices there.performed)
+    (commands_below a'.indices t.standing.links.above.performed) _ (simp performed at g.steady.standing.behind.relayed)) in
     let issues : IssuesAs there b' =
-    as_issued b' a' there shares
-    (turned_round (commands_below a'.indices (commands_in k.orders)) (commands_below a'.indices (commands_in (kept_in b').orders)) k.issued
-    (subst (λ (es : List Entry). HasSameCounts (commands_below a'.indices (commands_in k.orders) ++ commands_below a'.indices (commands_in es)) k.issued)
-    entered g.steady.standing.behind.issued)) in
+    rw (shares.issued, shares.indices) (turned_round (commands_below a'.indices (commands_in there.orders))
+    (commands_below a'.indices (commands_in (kept_in b').orders)) _ (simp entered at g.steady.standing.behind.issued)) in
     let st : StaysBeside there t.standing.links b b' =
     laws.elsewhere b b' el' there t x (subst (λ (m : List Spans). IsFrom m there) map_is (laws.from a' el g.steady)) relays issues in
     record {
@@ -107,60 +98,24 @@ at_one laws e a a' b b' {el = el} {el' = el'} s t is h x shares =
       fate = g.fate;
       fate' = st.fate;
     }
-  where
-    as_seen : (other one : System) (there : Elsewhere) (links : Links) → Shares one other
-        → HasSameCounts (commands_below one.indices links.above.performed ++ commands_below one.indices there.performed) (orders_in (kept_in one).controls)
-        → RelaysAs there links other
-    as_seen other one there links shares h =
-        subst (λ (es : List Entry). HasSameCounts (commands_below other.indices links.above.performed ++ commands_below other.indices there.performed)
-        (orders_in es)) (sym shares.controls)
-        (subst (λ (m : List Spans). HasSameCounts (commands_below m links.above.performed ++ commands_below m there.performed)
-        (orders_in (kept_in one).controls)) (sym shares.indices) h)
-
-    as_issued : (other one : System) (there : Elsewhere) → Shares one other
-        → HasSameCounts (commands_below one.indices (commands_in (kept_in other).orders) ++ commands_below one.indices (commands_in there.orders))
-        (kept_in one).issued → IssuesAs there other
-    as_issued other one there shares h =
-        subst (λ (xs : List (ℕ × Command)). HasSameCounts (commands_below other.indices (commands_in (kept_in other).orders)
-        ++ commands_below other.indices (commands_in there.orders)) xs) (sym shares.issued)
-        (subst (λ (m : List Spans). HasSameCounts (commands_below m (commands_in (kept_in other).orders) ++ commands_below m (commands_in there.orders))
-        (kept_in one).issued) (sym shares.indices) h)
 
 -- ---- what no centre does
-
--- nothing is seen of what is elsewhere
-sees_nothing : (s : System) → SeesElsewhere s s
-sees_nothing s = record {
-  commands = [];
-  issues = [];
-  after = ap (λ (xs : List (ℕ × Command)). record s { history = record s.history { issued = xs } }) (sym (append-nil s.history.issued));
-}
 
 -- what both links above performed is in the book, where an event moved both and left the book's commands
 both_relayed : (a a' b b' : System) {el el' : Elsewhere} (s : IsSteadyBeside el a) (s' : IsSteadyBeside el a') (t' : IsSteadyBeside el' b')
     (links : Links) → el.performed ≡ links.above.performed → el'.performed ≡ s.standing.links.above.performed → a.indices ≡ a'.indices
     → Shares a' b' → LeavesBooks a a'
-    → HasSameCounts (commands_below a'.indices s'.standing.links.above.performed ++ commands_below a'.indices t'.standing.links.above.performed)
-    (orders_in (kept_in a').controls)
+    → RelaysAs (side_of t'.standing.links (kept_in b')) s'.standing.links a'
 both_relayed a a' b b' {el = el} {el' = el'} s s' t' links theirs ours same shares leaves =
     let m : List Spans = a'.indices in
     let p : List (ℕ × Command) = commands_below m s.standing.links.above.performed in
     let p' : List (ℕ × Command) = commands_below m links.above.performed in
     let q : List (ℕ × Command) = commands_below m s'.standing.links.above.performed in
     let q' : List (ℕ × Command) = commands_below m t'.standing.links.above.performed in
-    let was : HasSameCounts (p ++ p') (orders_in (kept_in a).controls) =
-    subst (λ (i : List Spans). HasSameCounts (commands_below i s.standing.links.above.performed ++ commands_below i links.above.performed)
-    (orders_in (kept_in a).controls)) same
-    (subst (λ (cs : List Command). HasSameCounts (commands_below a.indices s.standing.links.above.performed ++ commands_below a.indices cs)
-    (orders_in (kept_in a).controls)) theirs s.standing.behind.relayed) in
-    let here : HasSameCounts (q ++ p') (orders_in (kept_in a').controls) =
-    subst (λ (cs : List Command). HasSameCounts (q ++ commands_below m cs) (orders_in (kept_in a').controls)) theirs s'.standing.behind.relayed in
+    let was : HasSameCounts (p ++ p') (orders_in (kept_in a).controls) = rw (same, theirs) at s.standing.behind.relayed in
+    let here : HasSameCounts (q ++ p') (orders_in (kept_in a').controls) = rw theirs at s'.standing.behind.relayed in
     let there : HasSameCounts (q' ++ p) (orders_in (kept_in a').controls) =
-    subst (λ (es : List Entry). HasSameCounts (q' ++ p) (orders_in es)) shares.controls
-    (subst (λ (i : List Spans). HasSameCounts (commands_below i t'.standing.links.above.performed
-    ++ commands_below i s.standing.links.above.performed) (orders_in (kept_in b').controls)) shares.indices
-    (subst (λ (cs : List Command). HasSameCounts (commands_below b'.indices t'.standing.links.above.performed ++ commands_below b'.indices cs)
-    (orders_in (kept_in b').controls)) ours t'.standing.behind.relayed)) in
+    rw (ours, shares.indices, shares.controls) at t'.standing.behind.relayed in
     record {
       same = λ test. omega (
         arith,
@@ -177,14 +132,12 @@ both_relayed a a' b b' {el = el} {el' = el'} s s' t' links theirs ours same shar
 
 -- the view of the one centre, beside what stands at the other one then
 beside_other : BothLaws → (a' b' : System) {el el' : Elsewhere} (s' : IsSteadyBeside el a') (t' : IsSteadyBeside el' b') → Shares a' b'
-    → HasSameCounts (commands_below a'.indices s'.standing.links.above.performed ++ commands_below a'.indices t'.standing.links.above.performed)
-    (orders_in (kept_in a').controls)
-    → el.orders ≡ (kept_in b').orders → StaysBeside (side_of t'.standing.links (kept_in b')) s'.standing.links a' a'
+    → RelaysAs (side_of t'.standing.links (kept_in b')) s'.standing.links a' → el.orders ≡ (kept_in b').orders
+    → StaysBeside (side_of t'.standing.links (kept_in b')) s'.standing.links a' a'
 beside_other laws a' b' {el = el} {el' = el'} s' t' shares relays orders =
     let there : Elsewhere = side_of t'.standing.links (kept_in b') in
-    laws.elsewhere a' a' el there s' (sees_nothing a') (subst (λ (m : List Spans). IsFrom m there) shares.indices (laws.from b' el' t')) relays
-    (subst (λ (es : List Entry). HasSameCounts (commands_below a'.indices (commands_in (kept_in a').orders)
-    ++ commands_below a'.indices (commands_in es)) (kept_in a').issued) orders s'.standing.behind.issued)
+    laws.elsewhere a' a' el there s' (sees_same a' a' refl) (subst (λ (m : List Spans). IsFrom m there) shares.indices (laws.from b' el' t')) relays
+    (rw orders at s'.standing.behind.issued)
 
 shared_back : (a b : System) → Shares a b → Shares b a
 shared_back a b s = record { indices = sym s.indices; controls = sym s.controls; issued = sym s.issued }
@@ -199,18 +152,12 @@ at_none laws e a a' b b' {el = el} {el' = el'} s t is is' none h k shares =
     let m : LeavesBooks b b' = laws.books b b' e none k in
     let links : Links = g.steady.standing.links in
     let links' : Links = f.steady.standing.links in
-    let relays : HasSameCounts (commands_below a'.indices links.above.performed ++ commands_below a'.indices links'.above.performed)
-    (orders_in (kept_in a').controls) =
+    let relays : RelaysAs (side_of links' (kept_in b')) links a' =
     both_relayed a a' b b' s g.steady f.steady t.standing.links (ap (λ (y : Elsewhere). y.performed) is) (ap (λ (y : Elsewhere). y.performed) is')
     (sym l.indices) shares l in
-    let relays' : HasSameCounts (commands_below b'.indices links'.above.performed ++ commands_below b'.indices links.above.performed)
-    (orders_in (kept_in b').controls) =
-    subst (λ (es : List Entry). HasSameCounts (commands_below b'.indices links'.above.performed ++ commands_below b'.indices links.above.performed)
-    (orders_in es)) (sym shares.controls)
-    (subst (λ (i : List Spans). HasSameCounts (commands_below i links'.above.performed ++ commands_below i links.above.performed)
-    (orders_in (kept_in a').controls)) (sym shares.indices)
-    (turned_round (commands_below a'.indices links.above.performed) (commands_below a'.indices links'.above.performed) (orders_in (kept_in a').controls)
-    relays)) in
+    let relays' : RelaysAs (side_of links (kept_in a')) links' b' =
+    simp (shares.controls, shares.indices)
+    (turned_round (commands_below a'.indices links.above.performed) (commands_below a'.indices links'.above.performed) _ relays) in
     let one : StaysBeside (side_of links' (kept_in b')) links a' a' =
     beside_other laws a' b' g.steady f.steady shares relays (ap (λ (y : Elsewhere). y.orders) is ∙ sym m.orders) in
     let other : StaysBeside (side_of links (kept_in a')) links' b' b' =
@@ -243,54 +190,46 @@ seen_alike w events i = rw (all_moves (seen_by 0 w) (seen_by 1 w) (λ station. r
 
 -- ---- an event
 
-goes_on : BothLaws → (old new : Whole) (e : Event) → AreSteady old → (o : Option ℕ) → centre_at e ≡ o
-    → IfThere (is_there o) (ChangesAll o (λ s t. Happens s e t)) old new → GoesOn (rows_made_at (seen_by 0 old) (e ∷ [])) old new
-goes_on laws old new e s None is h =
-    let first = h 0 (omega arith) in
-    let second = h 1 (omega arith) in
-    let b = at_none laws e (seen_by 0 old) (seen_by 0 new) (seen_by 1 old) (seen_by 1 new) s.here s.there s.first_is s.second_is is first second
+pub every_event : BothLaws → (old new : Whole) (e : Event) → AreSteady old → HappensToAll old e new
+    → GoesOn (rows_made_at (seen_by 0 old) (e ∷ [])) old new
+every_event laws old new e s h =
+    by_place (GoesOn made old new) (λ was is. Happens was e is) (centre_at e) old new
+    (λ at first second.
+    let b = at_none laws e (seen_by 0 old) (seen_by 0 new) (seen_by 1 old) (seen_by 1 new) s.here s.there s.first_is s.second_is at first second
     (record { indices = refl; controls = refl; issued = refl }) in
     record {
       steady = record { first = b.here; second = b.there; here = b.steady; there = b.steady'; first_is = b.here_is; second_is = b.there_is };
-      fate = for_both _ b.fate
-          (fate_as (rows_made_at (seen_by 1 old) (e ∷ [])) (rows_made_at (seen_by 0 old) (e ∷ [])) (report_of (seen_by 1 old)) (report_of (seen_by 1 new))
-          (λ i. seen_alike old (e ∷ []) i) b.fate');
-    }
-goes_on laws old new e s (Some zero) is h =
-    let b = at_one laws e (seen_by 0 old) (seen_by 0 new) (seen_by 1 old) (seen_by 1 new) s.here s.there s.first_is (h 0 (omega arith)) (h 1 (omega arith))
+      fate = for_both _ b.fate (seen_second b.fate');
+    })
+    (λ at first second.
+    let b = at_one laws e (seen_by 0 old) (seen_by 0 new) (seen_by 1 old) (seen_by 1 new) s.here s.there s.first_is first second
     (record { indices = refl; controls = refl; issued = refl }) in
     record {
       steady = record { first = b.here; second = b.there; here = b.steady; there = b.steady'; first_is = b.here_is; second_is = b.there_is };
-      fate = for_both _ b.fate
-          (fate_as (λ i. []) (rows_made_at (seen_by 0 old) (e ∷ [])) (report_of (seen_by 1 old)) (report_of (seen_by 1 new))
-          (λ i. sym (none_made_at (seen_by 0 old) e 0 is i)) b.fate');
-    }
-goes_on laws old new e s (Some (suc zero)) is h =
-    let b = at_one laws e (seen_by 1 old) (seen_by 1 new) (seen_by 0 old) (seen_by 0 new) s.there s.here s.second_is (h 1 (omega arith)) (h 0 (omega arith))
+      fate = for_both _ b.fate (none_made_of 0 at (report_of (seen_by 1 old)) (report_of (seen_by 1 new)) b.fate');
+    })
+    (λ at first second.
+    let b = at_one laws e (seen_by 1 old) (seen_by 1 new) (seen_by 0 old) (seen_by 0 new) s.there s.here s.second_is second first
     (record { indices = refl; controls = refl; issued = refl }) in
     record {
       steady = record { first = b.there; second = b.here; here = b.steady'; there = b.steady; first_is = b.there_is; second_is = b.here_is };
-      fate = for_both _
-          (fate_as (λ i. []) (rows_made_at (seen_by 0 old) (e ∷ [])) (report_of (seen_by 0 old)) (report_of (seen_by 0 new))
-          (λ i. sym (none_made_at (seen_by 0 old) e 1 is i)) b.fate')
-          (fate_as (rows_made_at (seen_by 1 old) (e ∷ [])) (rows_made_at (seen_by 0 old) (e ∷ [])) (report_of (seen_by 1 old)) (report_of (seen_by 1 new))
-          (λ i. seen_alike old (e ∷ []) i) b.fate);
-    }
-goes_on laws old new e s (Some (suc (suc n))) is h = by (nat_lt (suc (suc n)) CENTRES) (no_such n) h
-  where
-    by : (b : Bool) → b ≡ false → IfThere b (ChangesAll (Some (suc (suc n))) (λ s t. Happens s e t)) old new
-        → GoesOn (rows_made_at (seen_by 0 old) (e ∷ [])) old new
-    by true low change = absurd (cc)
-    by false high same = subst (GoesOn (rows_made_at (seen_by 0 old) (e ∷ [])) old) (sym same) (record {
-      steady = s;
-      fate = λ centre low.
-          fate_as (λ i. []) (rows_made_at (seen_by 0 old) (e ∷ [])) (report_of (seen_by centre old)) (report_of (seen_by centre old))
-          (λ i. sym (none_made_at (seen_by 0 old) e (suc (suc n)) is i)) (nothing_more (report_of (seen_by centre old)));
+      fate = for_both _ (none_made_of 1 at (report_of (seen_by 0 old)) (report_of (seen_by 0 new)) b.fate') (seen_second b.fate);
     })
+    (λ n at same. subst (GoesOn made old) (sym same) (record {
+      steady = s;
+      fate = λ centre low. let r : Report = report_of (seen_by centre old) in none_made_of n at r r (nothing_more r);
+    })) h
+  where
+    made : ℕ → List Row
+    made = rows_made_at (seen_by 0 old) (e ∷ [])
 
-pub every_event : BothLaws → (old new : Whole) (e : Event) → AreSteady old → HappensToAll old e new
-    → GoesOn (rows_made_at (seen_by 0 old) (e ∷ [])) old new
-every_event laws old new e s h = goes_on laws old new e s (centre_at e) refl h
+    none_made_of : (n : ℕ) → centre_at e ≡ Some n → (was is : Report) → IsFate (λ i. []) was is → IsFate made was is
+    none_made_of n at was is fate = fate_as (λ i. []) made was is (λ i. sym (none_made_at (seen_by 0 old) e n at i)) fate
+
+    seen_second : IsFate (rows_made_at (seen_by 1 old) (e ∷ [])) (report_of (seen_by 1 old)) (report_of (seen_by 1 new))
+        → IsFate made (report_of (seen_by 1 old)) (report_of (seen_by 1 new))
+    seen_second fate =
+        fate_as (rows_made_at (seen_by 1 old) (e ∷ [])) made (report_of (seen_by 1 old)) (report_of (seen_by 1 new)) (λ i. seen_alike old (e ∷ []) i) fate
 
 -- ---- the rows of an event, and then those of the events after it
 
@@ -321,24 +260,13 @@ abbrev pub RowsLaw : Type 0
 RowsLaw = (old next : System) (e : Event) (events : List Event) → Happens old e next → (i : ℕ)
     → rows_made_at old (e ∷ events) i ≡ rows_made_at old (e ∷ []) i ++ rows_made_at next events i
 
-rows_behind : RowsLaw → (old next : Whole) (e : Event) (events : List Event) (o : Option ℕ) → centre_at e ≡ o
-    → IfThere (is_there o) (ChangesAll o (λ s t. Happens s e t)) old next → (i : ℕ)
-    → made_by old (e ∷ events) i ≡ made_by old (e ∷ []) i ++ made_by next events i
-rows_behind law old next e events None is h i = law (seen_by 0 old) (seen_by 0 next) e events (h 0 (omega arith)) i
-rows_behind law old next e events (Some zero) is h i = law (seen_by 0 old) (seen_by 0 next) e events (h 0 (omega arith)) i
-rows_behind law old next e events (Some (suc zero)) is h i =
-    let x : SeesElsewhere (seen_by 0 old) (seen_by 0 next) = h 0 (omega arith) in
-    made_later (seen_by 0 old) (seen_by 0 next) e events 1 is (ap (λ (s : System). s.substations) x.after)
-    (ap (λ (s : System). s.concentrator.links) x.after) i
-rows_behind law old next e events (Some (suc (suc n))) is h i = by (nat_lt (suc (suc n)) CENTRES) (no_such n) h
-  where
-    by : (b : Bool) → b ≡ false → IfThere b (ChangesAll (Some (suc (suc n))) (λ s t. Happens s e t)) old next
-        → made_by old (e ∷ events) i ≡ made_by old (e ∷ []) i ++ made_by next events i
-    by true low change = absurd (cc)
-    by false high same =
-        made_later (seen_by 0 old) (seen_by 0 next) e events (suc (suc n)) is (ap (λ (w : Whole). w.substations) same)
-        (ap (λ (w : Whole). w.concentrator.links) same) i
-
 pub rows_follow : RowsLaw → (old next : Whole) (e : Event) (events : List Event) → HappensToAll old e next → (i : ℕ)
     → made_by old (e ∷ events) i ≡ made_by old (e ∷ []) i ++ made_by next events i
-rows_follow law old next e events h i = rows_behind law old next e events (centre_at e) refl h i
+rows_follow law old next e events h i =
+    by_place (made_by old (e ∷ events) i ≡ made_by old (e ∷ []) i ++ made_by next events i) (λ s t. Happens s e t) (centre_at e) old next
+    (λ at first second. law (seen_by 0 old) (seen_by 0 next) e events first i)
+    (λ at first second. law (seen_by 0 old) (seen_by 0 next) e events first i)
+    (λ at first second. made_later (seen_by 0 old) (seen_by 0 next) e events 1 at (ap (λ (s : System). s.substations) first.after)
+    (ap (λ (s : System). s.concentrator.links) first.after) i)
+    (λ n at same. made_later (seen_by 0 old) (seen_by 0 next) e events n at (ap (λ (w : Whole). w.substations) same)
+    (ap (λ (w : Whole). w.concentrator.links) same) i) h

@@ -1,6 +1,6 @@
 -- Lists of events of a system whose units are carried.
-use Rattle.std.proofs.Common.{◌≡◌, Bool, inl, inr, ℕ, suc, ◌+◌, ◌<◌, ◌≤◌, List, [], ◌∷◌, ◌++◌, length, take, get_or, refl, sym, ap, ◌∙◌, subst, arith}
-use Rattle.std.proofs.lemmas.List.{take_all}
+use Rattle.std.proofs.Common.{◌≡◌, Bool, inl, inr, ℕ, ◌+◌, ◌<◌, ◌≤◌, List, [], ◌∷◌, ◌++◌, length, take, get_or, refl, sym, ap, ◌∙◌, subst}
+use Rattle.std.proofs.lemmas.List.{take_all, take_more}
 use Rattle.dnp_concentrator.specs.declared.cause.Cause.{Cause}
 use Rattle.dnp_concentrator.specs.declared.cause.Cause.TheVariants.{Device}
 use Rattle.dnp_world.specs.Carriers.{Crosses, RunsOver, TellsDeviceOver}
@@ -10,7 +10,6 @@ use Rattle.dnp_world.specs.Wholes.{Whole}
 use Rattle.dnp_world.specs.declared.event.Event.{Event}
 use Rattle.dnp_world.specs.declared.event.Link.{Link}
 use Rattle.dnp_world.specs.declared.link_event.Way.{Way}
-use Rattle.dnp_world.proofs.OneLinkRuns.{take_more}
 
 pub over_more : {C : Type 0} (carries : C → Link → Way → List ℕ → C → Type 0) (old mid new : Whole) (events : List Event) (event : Event)
     (before between after : C) → RunsOver carries old events mid before between → HappensToAll mid event new → Crosses carries mid event between after
@@ -30,9 +29,8 @@ pub one_over : {C : Type 0} (carries : C → Link → Way → List ℕ → C →
     (before between after : C) → k < length events → event ≡ get_or events k event → RunsOver carries old (take k events) mid before between
     → HappensToAll mid event new → Crosses carries mid event between after → RunsOver carries old (take (k + 1) events) new before after
 one_over carries old mid new events k event before between after low is ran h crossed =
-    let next : k + 1 ≡ suc k = omega arith in
     subst (λ (es : List Event). RunsOver carries old es new before after)
-    (ap (λ (e : Event). take k events ++ e ∷ []) is ∙ sym (take_more events k event low) ∙ ap (λ (n : ℕ). take n events) (sym next))
+    (ap (λ (e : Event). take k events ++ e ∷ []) is ∙ sym (take_more events k event low))
     (over_more carries old mid new (take k events) event before between after ran h crossed)
 
 pub all_over : {C : Type 0} (carries : C → Link → Way → List ℕ → C → Type 0) (old new : Whole) (events : List Event) (k : ℕ) (before after : C)

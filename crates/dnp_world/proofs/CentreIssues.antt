@@ -73,17 +73,8 @@ module _ {J B : Type 0} (archive : J → Archive) (orders : B → Ledger) (n : �
         history = record rest.history { issued = items };
       })
   issues_there seen k has listed items seen_there looked some left widths book link journal indices same put =
-      let new : List (ℕ × Command) → Whole = λ issued. record rest {
-        centres = of_both (centre_of archive orders) (with_at n centres k);
-        history = record rest.history { issued = issued };
-      } in
-      let found : is_some (command_above (indices_of was) station command) ≡ true =
-      subst (λ (c : Centre J B). is_some (command_above (indices_of c) station command) ≡ true) (seen_there ∙ sym there) (sym looked ∙ some) in
-      let all : items ≡ rest.history.issued ++ (station, command) ∷ [] =
-      put ∙ ap (λ (xs : List (ℕ × Command)). xs ++ (station, command) ∷ []) same in
-      subst
-      (λ (xs : List (ℕ × Command)). ChangesAll (Some n) (Issues station command) (record rest { centres = of_both (centre_of archive orders) centres })
-      (new xs)) (sym all)
+      let found : is_some (command_above (indices_of was) station command) ≡ true = cc in
+      rw (put, same)
       (issued_there archive orders n low (Issues station command) rest centres was k ((station, command) ∷ []) there
       (stands archive orders (command_above (indices_of was) station command) station command (seen_by n rest) was k found left widths book link journal
       indices))

@@ -1,15 +1,13 @@
 -- One of the two centres of a whole system, where its things stand: what was written there, as each centre sees it.
-use Rattle.std.proofs.Common.{◌≡◌, ◌==◌, ℕ, zero, suc, ◌<◌, if◌then◌else◌, Bool, true, false, List, [], ◌++◌, Some, refl, sym, ap, ◌∙◌, subst, append-nil, arith}
+use Rattle.std.proofs.Common.{◌≡◌, ◌==◌, ℕ, zero, suc, ◌<◌, if◌then◌else◌, Bool, true, false, List, [], ◌++◌, Some, refl, ap, ◌∙◌, append-nil, arith}
 use Rattle.std.proofs.lemmas.Bool.{and_parts, ltb-true}
 use Rattle.std.specs.Prelude.{nat_lt}
 use Rattle.dnp_concentrator.specs.BookOutputs.{all_added}
 use Rattle.dnp_concentrator.specs.Concentrator.{book_of, core_of, indices_of, links_of, plan_above, queue_of}
-use Rattle.dnp_concentrator.specs.Relaying.{Relaying}
 use Rattle.dnp_concentrator.specs.Reserving.{reserved_by}
 use Rattle.dnp_concentrator.specs.Two.{at, with_at}
 use Rattle.dnp_concentrator.specs.declared.centre.Centre.{Centre}
 use Rattle.dnp_concentrator.specs.declared.concentrator.Concentrator.{Concentrator}
-use Rattle.dnp_concentrator.specs.declared.span.Spans.{Spans}
 use Rattle.dnp_concentrator.specs.declared.two.Two.{Two}
 use Rattle.dnp_controls.specs.Book.{Ledger}
 use Rattle.dnp_eventbuf.specs.Archive.{Archive}
@@ -17,7 +15,6 @@ use Rattle.dnp_eventbuf.specs.Sides.{other_than}
 use Rattle.dnp_eventbuf.specs.Stock.{Stock}
 use Rattle.dnp_eventbuf.specs.declared.pair.TheConstants.{CENTRES}
 use Rattle.dnp_objects.specs.declared.command.Command.{Command}
-use Rattle.dnp_outstation.specs.State.{Core}
 use Rattle.dnp_pointdb.specs.Plan as points
 use Rattle.dnp_world.specs.Centres.{ChangesAll, SeesElsewhere, has_link}
 use Rattle.dnp_world.specs.Channels.{ChannelState, state_of}
@@ -45,10 +42,6 @@ middle_view stock ledger n c = record {
   links = links_of c;
 }
 
--- the system as a centre sees it, with its own lines, with its own things, and with the concentrator
-abbrev pub lines_view : ℕ → Whole → Channel → System
-lines_view n rest lines = record (seen_by n rest) { above = state_of lines }
-
 abbrev pub centre_view : {J B : Type 0} → (J → Archive) → (B → Ledger) → ℕ → Whole → Centre J B → Channel → System
 centre_view archive orders n rest k lines = record (seen_by n rest) { centre = centre_of archive orders k; above = state_of lines }
 
@@ -72,29 +65,15 @@ pub record StaysApart {Q A : Type 0} (stock : Q → ℕ → Stock) (ledger : A �
   pub controls : ledger (book_of d) ≡ all_added (indices_of c) (ledger (book_of c)) commands
   pub links : links_of d ≡ links_of c
 
--- so a centre sees it
-apart_seen : {Q A : Type 0} (stock : Q → ℕ → Stock) (ledger : A → Ledger) (m : ℕ) (commands : List Command) (c d : Concentrator Q A) (rest : System)
-    → core_of m d ≡ core_of m c → stock (queue_of d) m ≡ stock (queue_of c) m → indices_of d ≡ indices_of c → plan_above d ≡ plan_above c
-    → ledger (book_of d) ≡ all_added (indices_of c) (ledger (book_of c)) commands → links_of d ≡ links_of c
-    → SeesElsewhere (record rest { concentrator = middle_view stock ledger m c }) (record rest { concentrator = middle_view stock ledger m d })
-apart_seen stock ledger m commands c d rest core queue indices plan controls links =
-    let set : ConcentratorState → List (ℕ × Command) → System = λ k issues. record rest {
-      concentrator = k;
-      history = record rest.history { issued = issues };
-    } in
-    let was : ConcentratorState = middle_view stock ledger m c in
-    let is : ConcentratorState = middle_view stock ledger m d in
-    record {
-      commands = commands;
-      issues = [];
-      after = ap (λ (k : Core). set (record is { core = k }) rest.history.issued) core
-          ∙ ap (λ (q : Stock). set (record is { core = was.core; queue = q }) rest.history.issued) queue
-          ∙ ap (λ (s : List Spans). set (record is { core = was.core; queue = was.queue; indices = s }) rest.history.issued) indices
-          ∙ ap (λ (p : points.Plan). set (record is { core = was.core; queue = was.queue; indices = was.indices; points = p }) rest.history.issued) plan
-          ∙ ap (λ (l : List Relaying). set (record was { controls = is.controls; reserved = is.reserved; links = l }) rest.history.issued) links
-          ∙ ap (λ (l : Ledger). set (record was { controls = l; reserved = is.reserved }) rest.history.issued) controls
-          ∙ ap (set (record was { controls = all_added was.indices was.controls commands; reserved = is.reserved })) (sym (append-nil rest.history.issued));
-    }
+-- so that one sees it
+apart_seen : {Q A : Type 0} (stock : Q → ℕ → Stock) (ledger : A → Ledger) (n : ℕ) (commands : List Command) (c d : Concentrator Q A) (rest : System)
+    → StaysApart stock ledger n commands c d
+    → (let see = middle_view stock ledger (other_than n) in SeesElsewhere (record rest { concentrator = see c }) (record rest { concentrator = see d }))
+apart_seen stock ledger n commands c d rest stays = record {
+  commands = commands;
+  issues = [];
+  after = rw append-nil (cc (stays.core, stays.queue, stays.indices, stays.points, stays.controls, stays.links));
+}
 
 -- ---- nothing was written
 
@@ -111,74 +90,37 @@ low_of n w has = ltb-true n CENTRES (and_parts (nat_lt n CENTRES) true has).0
 -- ---- what was written at one centre
 
 -- its lines
-lines_at : (n : ℕ) → n < CENTRES → (Change : System → System → Type 0) (rest : Whole) (above : Two Channel) (lines : Channel)
-    → Change (lines_view n rest (at n above)) (lines_view n rest lines)
-    → ChangesAll (Some n) Change (record rest { above = of_both state_of above }) (record rest { above = of_both state_of (with_at n above lines) })
-lines_at zero low Change rest above lines changed = for_both _ changed (sees_same _ _ refl)
-lines_at (suc zero) low Change rest above lines changed = for_both _ (sees_same _ _ refl) changed
-lines_at (suc (suc n)) low Change rest above lines changed = absurd (omega (arith, low))
-
 pub lines_change_above : (n : ℕ) → n < CENTRES → (Change : ChannelState → ChannelState → Type 0) (rest : Whole) (above : Two Channel)
     (was lines : Channel) → was ≡ at n above → Change (state_of was) (state_of lines)
     → ChangesAll (Some n) (LinesChange (Above n) Change) (record rest { above = of_both state_of above })
     (record rest { above = of_both state_of (with_at n above lines) })
-lines_change_above n low Change rest above was lines there changed =
-    lines_at n low (LinesChange (Above n) Change) rest above lines
-    (subst (λ (c : Channel). Change (state_of c) (state_of lines)) there changed, refl)
+lines_change_above zero low Change rest above was lines there changed = for_both _ (rw there at changed, refl) (sees_same _ _ refl)
+lines_change_above (suc zero) low Change rest above was lines there changed = for_both _ (sees_same _ _ refl) (rw there at changed, refl)
+lines_change_above (suc (suc n)) low Change rest above was lines there changed = absurd (omega (arith, low))
 
 -- the centre
-centre_at : {J B : Type 0} (archive : J → Archive) (orders : B → Ledger) (n : ℕ) → n < CENTRES → (Change : System → System → Type 0) (rest : Whole)
-    (centres : Two (Centre J B)) (k : Centre J B)
-    → Change (record (seen_by n rest) { centre = centre_of archive orders (at n centres) }) (record (seen_by n rest) { centre = centre_of archive orders k })
-    → ChangesAll (Some n) Change (record rest { centres = of_both (centre_of archive orders) centres })
-    (record rest { centres = of_both (centre_of archive orders) (with_at n centres k) })
-centre_at archive orders zero low Change rest centres k changed = for_both _ changed (sees_same _ _ refl)
-centre_at archive orders (suc zero) low Change rest centres k changed = for_both _ (sees_same _ _ refl) changed
-centre_at archive orders (suc (suc n)) low Change rest centres k changed = absurd (omega (arith, low))
-
 pub centre_there : {J B : Type 0} (archive : J → Archive) (orders : B → Ledger) (n : ℕ) → n < CENTRES → (Change : System → System → Type 0) (rest : Whole)
     (centres : Two (Centre J B)) (was k : Centre J B) → was ≡ at n centres
     → Change (record (seen_by n rest) { centre = centre_of archive orders was }) (record (seen_by n rest) { centre = centre_of archive orders k })
     → ChangesAll (Some n) Change (record rest { centres = of_both (centre_of archive orders) centres })
     (record rest { centres = of_both (centre_of archive orders) (with_at n centres k) })
-centre_there {J} {B} archive orders n low Change rest centres was k there changed =
-    centre_at archive orders n low Change rest centres k
-    (subst (λ (x : Centre J B). Change (record (seen_by n rest) { centre = centre_of archive orders x })
-    (record (seen_by n rest) { centre = centre_of archive orders k })) there changed)
+centre_there archive orders zero low Change rest centres was k there changed = for_both _ (rw there at changed) (sees_same _ _ refl)
+centre_there archive orders (suc zero) low Change rest centres was k there changed = for_both _ (sees_same _ _ refl) (rw there at changed)
+centre_there archive orders (suc (suc n)) low Change rest centres was k there changed = absurd (omega (arith, low))
 
 -- the centre and its lines
-own_at : {J B : Type 0} (archive : J → Archive) (orders : B → Ledger) (n : ℕ) → n < CENTRES → (Change : System → System → Type 0) (rest : Whole)
-    (centres : Two (Centre J B)) (above : Two Channel) (k : Centre J B) (lines : Channel)
-    → Change (centre_view archive orders n rest (at n centres) (at n above)) (centre_view archive orders n rest k lines)
-    → ChangesAll (Some n) Change (record rest { centres = of_both (centre_of archive orders) centres; above = of_both state_of above })
-    (record rest { centres = of_both (centre_of archive orders) (with_at n centres k); above = of_both state_of (with_at n above lines) })
-own_at archive orders zero low Change rest centres above k lines changed = for_both _ changed (sees_same _ _ refl)
-own_at archive orders (suc zero) low Change rest centres above k lines changed = for_both _ (sees_same _ _ refl) changed
-own_at archive orders (suc (suc n)) low Change rest centres above k lines changed = absurd (omega (arith, low))
-
 pub own_there : {J B : Type 0} (archive : J → Archive) (orders : B → Ledger) (n : ℕ) → n < CENTRES → (Change : System → System → Type 0) (rest : Whole)
     (centres : Two (Centre J B)) (above : Two Channel) (was k : Centre J B) (before lines : Channel) → was ≡ at n centres → before ≡ at n above
     → Change (centre_view archive orders n rest was before) (centre_view archive orders n rest k lines)
     → ChangesAll (Some n) Change (record rest { centres = of_both (centre_of archive orders) centres; above = of_both state_of above })
     (record rest { centres = of_both (centre_of archive orders) (with_at n centres k); above = of_both state_of (with_at n above lines) })
-own_there {J} {B} archive orders n low Change rest centres above was k before lines there lines_there changed =
-    own_at archive orders n low Change rest centres above k lines
-    (subst (λ (x : Centre J B). Change (centre_view archive orders n rest x (at n above)) (centre_view archive orders n rest k lines)) there
-    (subst (λ (l : Channel). Change (centre_view archive orders n rest was l) (centre_view archive orders n rest k lines)) lines_there changed))
+own_there archive orders zero low Change rest centres above was k before lines there lines_there changed =
+    for_both _ (rw (there, lines_there) at changed) (sees_same _ _ refl)
+own_there archive orders (suc zero) low Change rest centres above was k before lines there lines_there changed =
+    for_both _ (sees_same _ _ refl) (rw (there, lines_there) at changed)
+own_there archive orders (suc (suc n)) low Change rest centres above was k before lines there lines_there changed = absurd (omega (arith, low))
 
 -- the centre, which has issued commands
-issued_at : {J B : Type 0} (archive : J → Archive) (orders : B → Ledger) (n : ℕ) → n < CENTRES → (Change : System → System → Type 0) (rest : Whole)
-    (centres : Two (Centre J B)) (k : Centre J B) (issues : List (ℕ × Command))
-    → Change (record (seen_by n rest) { centre = centre_of archive orders (at n centres) })
-    (let s = seen_by n rest in record s { centre = centre_of archive orders k; history = record s.history { issued = s.history.issued ++ issues } })
-    → ChangesAll (Some n) Change (record rest { centres = of_both (centre_of archive orders) centres }) (record rest {
-      centres = of_both (centre_of archive orders) (with_at n centres k);
-      history = record rest.history { issued = rest.history.issued ++ issues };
-    })
-issued_at archive orders zero low Change rest centres k issues changed = for_both _ changed (record { commands = []; issues = issues; after = refl })
-issued_at archive orders (suc zero) low Change rest centres k issues changed = for_both _ (record { commands = []; issues = issues; after = refl }) changed
-issued_at archive orders (suc (suc n)) low Change rest centres k issues changed = absurd (omega (arith, low))
-
 pub issued_there : {J B : Type 0} (archive : J → Archive) (orders : B → Ledger) (n : ℕ) → n < CENTRES → (Change : System → System → Type 0) (rest : Whole)
     (centres : Two (Centre J B)) (was k : Centre J B) (issues : List (ℕ × Command)) → was ≡ at n centres
     → Change (record (seen_by n rest) { centre = centre_of archive orders was })
@@ -187,65 +129,25 @@ pub issued_there : {J B : Type 0} (archive : J → Archive) (orders : B → Ledg
       centres = of_both (centre_of archive orders) (with_at n centres k);
       history = record rest.history { issued = rest.history.issued ++ issues };
     })
-issued_there {J} {B} archive orders n low Change rest centres was k issues there changed =
-    issued_at archive orders n low Change rest centres k issues
-    (subst (λ (x : Centre J B). Change (record (seen_by n rest) { centre = centre_of archive orders x })
-    (let s = seen_by n rest in record s { centre = centre_of archive orders k; history = record s.history { issued = s.history.issued ++ issues } }))
-    there changed)
+issued_there archive orders zero low Change rest centres was k issues there changed =
+    for_both _ (rw there at changed) (record { commands = []; issues = issues; after = refl })
+issued_there archive orders (suc zero) low Change rest centres was k issues there changed =
+    for_both _ (record { commands = []; issues = issues; after = refl }) (rw there at changed)
+issued_there archive orders (suc (suc n)) low Change rest centres was k issues there changed = absurd (omega (arith, low))
 
 -- the concentrator where it serves the centre, and the lines between them
-middle_at : {Q A : Type 0} (stock : Q → ℕ → Stock) (controls : A → Ledger) (n : ℕ) → n < CENTRES → (Change : System → System → Type 0) (rest : Whole)
-    (c d : Concentrator Q A) (commands : List Command) → StaysApart stock controls n commands c d → (above : Two Channel) (lines : Channel)
-    → Change (middle_seen stock controls n rest c (at n above)) (middle_seen stock controls n rest d lines)
-    → ChangesAll (Some n) Change (record rest { concentrator = concentrator_of stock controls c; above = of_both state_of above })
-    (record rest { concentrator = concentrator_of stock controls d; above = of_both state_of (with_at n above lines) })
-middle_at stock controls zero low Change rest c d commands stays above lines changed =
-    for_both _ changed
-    (apart_seen stock controls 1 commands c d (record (seen_by 1 rest) { above = state_of above.second }) stays.core stays.queue stays.indices stays.points
-    stays.controls stays.links)
-middle_at stock controls (suc zero) low Change rest c d commands stays above lines changed =
-    for_both _
-    (apart_seen stock controls 0 commands c d (record (seen_by 0 rest) { above = state_of above.first }) stays.core stays.queue stays.indices stays.points
-    stays.controls stays.links) changed
-middle_at stock controls (suc (suc n)) low Change rest c d commands stays above lines changed = absurd (omega (arith, low))
-
 pub middle_there : {Q A : Type 0} (stock : Q → ℕ → Stock) (controls : A → Ledger) (n : ℕ) → n < CENTRES → (Change : System → System → Type 0) (rest : Whole)
     (c d : Concentrator Q A) (commands : List Command) → StaysApart stock controls n commands c d → (above : Two Channel) (before lines : Channel)
     → before ≡ at n above → Change (middle_seen stock controls n rest c before) (middle_seen stock controls n rest d lines)
     → ChangesAll (Some n) Change (record rest { concentrator = concentrator_of stock controls c; above = of_both state_of above })
     (record rest { concentrator = concentrator_of stock controls d; above = of_both state_of (with_at n above lines) })
-middle_there stock controls n low Change rest c d commands stays above before lines there changed =
-    middle_at stock controls n low Change rest c d commands stays above lines
-    (subst (λ (l : Channel). Change (middle_seen stock controls n rest c l) (middle_seen stock controls n rest d lines)) there changed)
+middle_there stock controls zero low Change rest c d commands stays above before lines there changed =
+    for_both _ (rw there at changed) (apart_seen stock controls 0 commands c d (record (seen_by 1 rest) { above = state_of above.second }) stays)
+middle_there stock controls (suc zero) low Change rest c d commands stays above before lines there changed =
+    for_both _ (apart_seen stock controls 1 commands c d (record (seen_by 0 rest) { above = state_of above.first }) stays) (rw there at changed)
+middle_there stock controls (suc (suc n)) low Change rest c d commands stays above before lines there changed = absurd (omega (arith, low))
 
 -- all three
-link_at : {Q J A B : Type 0} (stock : Q → ℕ → Stock) (archive : J → Archive) (controls : A → Ledger) (orders : B → Ledger) (n : ℕ) → n < CENTRES
-    → (Change : System → System → Type 0) (rest : Whole) (c d : Concentrator Q A) (commands : List Command) → StaysApart stock controls n commands c d
-    → (centres : Two (Centre J B)) (above : Two Channel) (k : Centre J B) (lines : Channel)
-    → Change (both_seen stock archive controls orders n rest c (at n centres) (at n above)) (both_seen stock archive controls orders n rest d k lines)
-    → ChangesAll (Some n) Change
-    (record rest {
-      concentrator = concentrator_of stock controls c;
-      centres = of_both (centre_of archive orders) centres;
-      above = of_both state_of above;
-    })
-    (record rest {
-      concentrator = concentrator_of stock controls d;
-      centres = of_both (centre_of archive orders) (with_at n centres k);
-      above = of_both state_of (with_at n above lines);
-    })
-link_at stock archive controls orders zero low Change rest c d commands stays centres above k lines changed =
-    for_both _ changed
-    (apart_seen stock controls 1 commands c d
-    (record (seen_by 1 rest) { centre = centre_of archive orders centres.second; above = state_of above.second }) stays.core stays.queue stays.indices
-    stays.points stays.controls stays.links)
-link_at stock archive controls orders (suc zero) low Change rest c d commands stays centres above k lines changed =
-    for_both _
-    (apart_seen stock controls 0 commands c d
-    (record (seen_by 0 rest) { centre = centre_of archive orders centres.first; above = state_of above.first }) stays.core stays.queue stays.indices
-    stays.points stays.controls stays.links) changed
-link_at stock archive controls orders (suc (suc n)) low Change rest c d commands stays centres above k lines changed = absurd (omega (arith, low))
-
 pub link_there : {Q J A B : Type 0} (stock : Q → ℕ → Stock) (archive : J → Archive) (controls : A → Ledger) (orders : B → Ledger) (n : ℕ) → n < CENTRES
     → (Change : System → System → Type 0) (rest : Whole) (c d : Concentrator Q A) (commands : List Command) → StaysApart stock controls n commands c d
     → (centres : Two (Centre J B)) (above : Two Channel) (was k : Centre J B) (before lines : Channel) → was ≡ at n centres → before ≡ at n above
@@ -261,11 +163,17 @@ pub link_there : {Q J A B : Type 0} (stock : Q → ℕ → Stock) (archive : J �
       centres = of_both (centre_of archive orders) (with_at n centres k);
       above = of_both state_of (with_at n above lines);
     })
-link_there {J = J} {B = B} stock archive controls orders n low Change rest c d commands stays centres above was k before lines there lines_there changed =
-    let new : System = both_seen stock archive controls orders n rest d k lines in
-    link_at stock archive controls orders n low Change rest c d commands stays centres above k lines
-    (subst (λ (x : Centre J B). Change (both_seen stock archive controls orders n rest c x (at n above)) new) there
-    (subst (λ (l : Channel). Change (both_seen stock archive controls orders n rest c was l) new) lines_there changed))
+link_there stock archive controls orders zero low Change rest c d commands stays centres above was k before lines there lines_there changed =
+    for_both _ (rw (there, lines_there) at changed)
+    (apart_seen stock controls 0 commands c d
+    (record (seen_by 1 rest) { centre = centre_of archive orders centres.second; above = state_of above.second }) stays)
+link_there stock archive controls orders (suc zero) low Change rest c d commands stays centres above was k before lines there lines_there changed =
+    for_both _
+    (apart_seen stock controls 1 commands c d
+    (record (seen_by 0 rest) { centre = centre_of archive orders centres.first; above = state_of above.first }) stays)
+    (rw (there, lines_there) at changed)
+link_there stock archive controls orders (suc (suc n)) low Change rest c d commands stays centres above was k before lines there lines_there changed =
+    absurd (omega (arith, low))
 
 -- nothing was written there
 pub kept_there : {Thing : Type 0} (n : ℕ) (t : Two Thing) (was is : Thing) → was ≡ at n t → is ≡ was → with_at n t is ≡ t

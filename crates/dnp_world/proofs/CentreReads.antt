@@ -1,6 +1,6 @@
 -- What was read of a store of one of the two centres: the whole is what it was, and its stores are as well as they were.
-use Rattle.std.proofs.Common.{◌≡◌, ◌==◌, ◌||◌, ◌&&◌, ℕ, zero, suc, ◌<◌, if◌then◌else◌, Bool, true, false, List, [], ◌∷◌, refl, sym, ap, ap₂, ◌∙◌, subst, arith}
-use Rattle.std.specs.Prelude.{IsTrue}
+use Rattle.std.proofs.Common.{◌≡◌, ◌==◌, ◌||◌, ◌&&◌, ℕ, zero, suc, ◌<◌, if◌then◌else◌, Bool, true, false, refl, sym, ap, ◌∙◌, subst, arith}
+use Rattle.std.proofs.lemmas.Bool.{or_left, or_right}
 use Rattle.dnp_concentrator.specs.Centre.{book_of, journal_of, link_of, with_book, with_journal}
 use Rattle.dnp_concentrator.specs.Concentrator as concentrator
 use Rattle.dnp_concentrator.specs.Two.{at, with_at}
@@ -16,13 +16,13 @@ use Rattle.dnp_eventbuf.specs.declared.side.Side.{Side}
 use Rattle.dnp_world.specs.Causes.{TellsDevice}
 use Rattle.dnp_world.specs.Centres.{is_quiet_on}
 use Rattle.dnp_world.specs.Rounds.{is_quiet_above}
-use Rattle.dnp_world.specs.Shown.{IsBookWell, is_one_stopped}
+use Rattle.dnp_world.specs.Shown.{IsBookWell, Stores, StoresAreWell, is_one_stopped}
 use Rattle.dnp_world.specs.SystemParts.{centre_of, concentrator_of}
 use Rattle.dnp_world.specs.Systems.{CentreState}
 use Rattle.dnp_world.specs.Wholes.{Whole, seen_by}
 use Rattle.dnp_world.specs.declared.event.Link.TheVariants.{Above}
 use Rattle.dnp_world.specs.steps.WholeSteps.{of_both}
-use Rattle.dnp_world.proofs.CentreStores.{AreWell, stores_with, tells_there, well_before, well_there}
+use Rattle.dnp_world.proofs.CentreStores.{stores_with, tells_there, well_before, well_there}
 use Rattle.dnp_world.proofs.EachCentre.{for_both}
 use Rattle.dnp_world.proofs.Seen.{own_there}
 
@@ -43,8 +43,8 @@ same_there {Thing} {Seen} see n t was is there same = by (n == 0) (same ∙ ap s
   where
     by : (b : Bool) → see is ≡ see (if b then t.first else t.second)
         → of_both see (if b then record t { first = is } else record t { second = is }) ≡ of_both see t
-    by true e = ap (λ (x : Seen). let both : Two Seen = of_both see t in record both { first = x }) e
-    by false e = ap (λ (x : Seen). let both : Two Seen = of_both see t in record both { second = x }) e
+    by true e = cc
+    by false e = cc
 
 -- the link of a centre
 pub link_there : {J B : Type 0} (archive : J → Archive) (orders : B → Ledger) (n : ℕ) (centres : Two (Centre J B)) (was : Centre J B) → was ≡ at n centres
@@ -56,98 +56,114 @@ link_there {J} {B} archive orders n centres was there =
 pub quiet_own : (n : ℕ) → n < CENTRES → (w : Whole) → is_quiet_on w (Above n) ≡ is_quiet_above (seen_by n w)
 quiet_own n low w = ap (λ (there : Bool). there && is_quiet_above (seen_by n w)) (own_there n low)
 
--- ---- a centre's book was read
+-- ---- a store of a centre was read
 
-module _ {J B : Type 0} (archive : J → Archive) (orders : B → Ledger) (n : ℕ) (centres : Two (Centre J B)) (was : Centre J B) (there : was ≡ at n centres) where
-  -- the entries that were read are the centre's
-  pub orders_there : (book : B) → book ≡ book_of was → orders book ≡ (at n (of_both (centre_of archive orders) centres)).orders
-  orders_there book its =
-      ap orders its
-      ∙ ap (λ (c : Centre J B). orders (book_of c)) there
-      ∙ sym (ap (λ (m : CentreState). m.orders) (seen_there (centre_of archive orders) n centres))
+-- the stores with these centres
+abbrev stores_at : {Q J A B : Type 0} → Concentrator Q A → Two (Centre J B) → Stores Q J A B
+stores_at middle centres = stores_with (concentrator.queue_of middle) (concentrator.book_of middle) centres
 
-  pub book_read : (rest : Whole) (book read : B) → book ≡ book_of was → orders read ≡ orders book
-      → record rest { centres = of_both (centre_of archive orders) (with_at n centres (with_book was read)) }
-      ≡ record rest { centres = of_both (centre_of archive orders) centres }
-  book_read rest book read its same =
-      ap (λ (t : Two CentreState). record rest { centres = t })
-      (same_there (centre_of archive orders) n centres was (with_book was read) there
-      (ap (λ (l : Ledger). let c : CentreState = centre_of archive orders was in record c { orders = l }) (same ∙ ap orders its)))
+module _ {Q J A B : Type 0} {queue : Q → Type 0} {journal : J → Type 0} {control : A → Type 0} {control_stopped : A → Bool} {order : B → Type 0}
+    {order_stopped : B → Bool} (middle : Concentrator Q A) (n : ℕ) (t : Two (Centre J B)) where
+  -- the centre is well, with what was read of it
+  own_well : (is : Centre J B) → StoresAreWell queue journal control control_stopped order order_stopped (stores_at middle (with_at n t is))
+      → journal (journal_of is) × IsBookWell order order_stopped (book_of is)
+  own_well is =
+      well_there queue journal control control_stopped order order_stopped (concentrator.queue_of middle) (concentrator.book_of middle) n t is
 
-  -- its journal was: so are its rows
-  pub journal_there : (journal : J) → journal ≡ journal_of was → archive journal ≡ (at n (of_both (centre_of archive orders) centres)).journal
-  journal_there journal its =
-      ap archive its
-      ∙ ap (λ (c : Centre J B). archive (journal_of c)) there
-      ∙ sym (ap (λ (m : CentreState). m.journal) (seen_there (centre_of archive orders) n centres))
+  -- and all were before, where the centre was
+  all_well : {was : Centre J B} → was ≡ at n t → (is : Centre J B) → (journal (journal_of is) → journal (journal_of was))
+      → (IsBookWell order order_stopped (book_of is) → IsBookWell order order_stopped (book_of was))
+      → StoresAreWell queue journal control control_stopped order order_stopped (stores_at middle (with_at n t is))
+      → StoresAreWell queue journal control control_stopped order order_stopped (stores_at middle t)
+  all_well {was} there is =
+      well_before queue journal control control_stopped order order_stopped (concentrator.queue_of middle) (concentrator.book_of middle) n t was is there
 
-  pub journal_read : (rest : Whole) (journal read : J) → journal ≡ journal_of was → archive read ≡ archive journal
-      → record rest { centres = of_both (centre_of archive orders) (with_at n centres (with_journal was read)) }
-      ≡ record rest { centres = of_both (centre_of archive orders) centres }
-  journal_read rest journal read its same =
-      ap (λ (t : Two CentreState). record rest { centres = t })
-      (same_there (centre_of archive orders) n centres was (with_journal was read) there
-      (ap (λ (a : Archive). let c : CentreState = centre_of archive orders was in record c { journal = a }) (same ∙ ap archive its)))
+  pub well_before_book : {was : Centre J B} → was ≡ at n t → {book : B} (read : B) → book ≡ book_of was → (order read → order book)
+      → (order read → order_stopped book ≡ false)
+      → StoresAreWell queue journal control control_stopped order order_stopped (stores_at middle (with_at n t (with_book was read)))
+      → StoresAreWell queue journal control control_stopped order order_stopped (stores_at middle t)
+  well_before_book {was} there {book} read its held runs =
+      all_well there (with_book was read) (λ is. is)
+      (λ w. subst (λ (b : B). IsBookWell order order_stopped b) its (record { is = held w.is; runs = runs w.is }))
 
--- ---- the stores, where one was read
+  pub well_before_journal : {was : Centre J B} → was ≡ at n t → {its_journal : J} (read : J) → its_journal ≡ journal_of was
+      → (journal read → journal its_journal)
+      → StoresAreWell queue journal control control_stopped order order_stopped (stores_at middle (with_at n t (with_journal was read)))
+      → StoresAreWell queue journal control control_stopped order order_stopped (stores_at middle t)
+  well_before_journal {was} there {its_journal} read its held =
+      all_well there (with_journal was read) (λ is. subst (λ (j : J). journal j) its (held is)) (λ w. w)
 
-module _ {Q J A B : Type 0} (queue : Q → Type 0) (journal : J → Type 0) (control : A → Type 0) (control_stopped : A → Bool) (order : B → Type 0)
-    (order_stopped : B → Bool) (queues : Q) (controls : A) (n : ℕ) (t : Two (Centre J B)) (was : Centre J B) where
-  abbrev AreWellWith : Two (Centre J B) → Type 0
-  AreWellWith centres = AreWell queue journal control control_stopped order order_stopped (stores_with queues controls centres)
+  -- what was read of a book is of the centre's orders
+  pub book_said : (archive : J → Archive) (orders : B → Ledger) {was : Centre J B} → was ≡ at n t → {book : B} (read : B) → book ≡ book_of was
+      → (Says : Ledger → Type 0) → (order read → Says (orders book))
+      → StoresAreWell queue journal control control_stopped order order_stopped (stores_at middle (with_at n t (with_book was read)))
+      → Says (at n (of_both (centre_of archive orders) t)).orders
+  book_said archive orders {was} there {book} read its Says said well =
+      subst Says
+      (ap orders its ∙ ap (λ (c : Centre J B). orders (book_of c)) there ∙ sym (ap (λ (m : CentreState). m.orders) (seen_there (centre_of archive orders) n t)))
+      (said (own_well (with_book was read) well).1.is)
 
-  -- the book is honest, and they were well before
-  pub honest_book : (read : B) → AreWellWith (with_at n t (with_book was read)) → order read
-  honest_book read well =
-      (well_there queue journal control control_stopped order order_stopped queues controls n t (with_book was read) well).1.is
+  pub book_read : (archive : J → Archive) (orders : B → Ledger) {was : Centre J B} → was ≡ at n t → (rest : Whole) {book read : B} → book ≡ book_of was
+      → (order read → orders read ≡ orders book)
+      → StoresAreWell queue journal control control_stopped order order_stopped (stores_at middle (with_at n t (with_book was read)))
+      → record rest { centres = of_both (centre_of archive orders) (with_at n t (with_book was read)) }
+      ≡ record rest { centres = of_both (centre_of archive orders) t }
+  book_read archive orders {was} there rest {book} {read} its same well =
+      ap (λ (centres : Two CentreState). record rest { centres = centres })
+      (same_there (centre_of archive orders) n t was (with_book was read) there
+      (ap (λ (l : Ledger). let c : CentreState = centre_of archive orders was in record c { orders = l })
+      (same (own_well (with_book was read) well).1.is ∙ ap orders its)))
 
-  pub well_before_book : (book read : B) → was ≡ at n t → book ≡ book_of was → (order read → order book) → (order read → order_stopped book ≡ false)
-      → AreWellWith (with_at n t (with_book was read)) → AreWellWith t
-  well_before_book book read there its held runs well =
-      well_before queue journal control control_stopped order order_stopped queues controls n t was (with_book was read) there (λ is. is)
-      (λ w. subst (λ (b : B). IsBookWell order order_stopped b) its (record { is = held w.is; runs = runs w.is })) well
+  -- and of a journal, of its rows
+  pub journal_said : (archive : J → Archive) (orders : B → Ledger) {was : Centre J B} → was ≡ at n t → {its_journal : J} (read : J)
+      → its_journal ≡ journal_of was → (Says : Archive → Type 0) → (journal read → archive read ≡ archive its_journal) → (journal read → Says (archive read))
+      → StoresAreWell queue journal control control_stopped order order_stopped (stores_at middle (with_at n t (with_journal was read)))
+      → Says (at n (of_both (centre_of archive orders) t)).journal
+  journal_said archive orders {was} there {its_journal} read its Says same said well =
+      subst Says
+      (same (own_well (with_journal was read) well).0 ∙ ap archive its ∙ ap (λ (c : Centre J B). archive (journal_of c)) there
+      ∙ sym (ap (λ (m : CentreState). m.journal) (seen_there (centre_of archive orders) n t))) (said (own_well (with_journal was read) well).0)
 
-  -- the journal is, and they were
-  pub honest_journal : (read : J) → AreWellWith (with_at n t (with_journal was read)) → journal read
-  honest_journal read well =
-      (well_there queue journal control control_stopped order order_stopped queues controls n t (with_journal was read) well).0
-
-  pub well_before_journal : (its_journal read : J) → was ≡ at n t → its_journal ≡ journal_of was → (journal read → journal its_journal)
-      → AreWellWith (with_at n t (with_journal was read)) → AreWellWith t
-  well_before_journal its_journal read there its held well =
-      well_before queue journal control control_stopped order order_stopped queues controls n t was (with_journal was read) there
-      (λ is. subst (λ (j : J). journal j) its (held is)) (λ w. w) well
+  pub journal_read : (archive : J → Archive) (orders : B → Ledger) {was : Centre J B} → was ≡ at n t → (rest : Whole) {its_journal read : J}
+      → its_journal ≡ journal_of was → (journal read → archive read ≡ archive its_journal)
+      → StoresAreWell queue journal control control_stopped order order_stopped (stores_at middle (with_at n t (with_journal was read)))
+      → record rest { centres = of_both (centre_of archive orders) (with_at n t (with_journal was read)) }
+      ≡ record rest { centres = of_both (centre_of archive orders) t }
+  journal_read archive orders {was} there rest {its_journal} {read} its same well =
+      ap (λ (centres : Two CentreState). record rest { centres = centres })
+      (same_there (centre_of archive orders) n t was (with_journal was read) there
+      (ap (λ (a : Archive). let c : CentreState = centre_of archive orders was in record c { journal = a })
+      (same (own_well (with_journal was read) well).0 ∙ ap archive its)))
 
 -- ---- which of them has answered Device
 
-module _ {Q J A B : Type 0} (queue_stopped : Q → Bool) (journal_stopped : J → Bool) (control_stopped : A → Bool) (order_stopped : B → Bool) (queues : Q)
-    (controls : A) (n : ℕ) (t : Two (Centre J B)) (was : Centre J B) (says : Type 0) (there : was ≡ at n t) where
+module _ {Q J A B : Type 0} (queue_stopped : Q → Bool) (journal_stopped : J → Bool) (control_stopped : A → Bool) (order_stopped : B → Bool)
+    (middle : Concentrator Q A) (n : ℕ) (t : Two (Centre J B)) where
   abbrev stopped_with : Two (Centre J B) → Bool
-  stopped_with centres = is_one_stopped queue_stopped journal_stopped control_stopped order_stopped (stores_with queues controls centres)
+  stopped_with centres = is_one_stopped queue_stopped journal_stopped control_stopped order_stopped (stores_at middle centres)
 
-  pub tells_by_book : (book read : B) → book ≡ book_of was → TellsDevice (order_stopped book) (order_stopped read) says
-      → TellsDevice (stopped_with t) (stopped_with (with_at n t (with_book was read))) says
-  tells_by_book book read its tells =
-      tells_there queue_stopped journal_stopped control_stopped order_stopped queues controls n t was (with_book was read) says there (record {
-        stopped = λ is. so (journal_stopped (journal_of was)) (order_stopped read) (tells.stopped is);
+  tells_of : (was is : Centre J B) (says : Type 0) → was ≡ at n t
+      → TellsDevice (journal_stopped (journal_of was) || order_stopped (book_of was)) (journal_stopped (journal_of is) || order_stopped (book_of is)) says
+      → TellsDevice (stopped_with t) (stopped_with (with_at n t is)) says
+  tells_of =
+      tells_there queue_stopped journal_stopped control_stopped order_stopped (concentrator.queue_of middle) (concentrator.book_of middle) n t
+
+  pub tells_by_book : (was : Centre J B) → was ≡ at n t → (book read : B) (says : Type 0) → book ≡ book_of was
+      → TellsDevice (order_stopped book) (order_stopped read) says → TellsDevice (stopped_with t) (stopped_with (with_at n t (with_book was read))) says
+  tells_by_book was there book read says its tells =
+      tells_of was (with_book was read) says there (record {
+        stopped = λ is. or_right (journal_stopped (journal_of was)) (order_stopped read) (tells.stopped is);
         runs_on = λ not. ap (λ (b : Bool). journal_stopped (journal_of was) || b) (tells.runs_on not ∙ ap order_stopped its);
       })
-    where
-      so : (p y : Bool) → IsTrue y → IsTrue (p || y)
-      so true y is = refl
-      so false y is = is
 
-  pub tells_by_journal : (journal read : J) → journal ≡ journal_of was → TellsDevice (journal_stopped journal) (journal_stopped read) says
+  pub tells_by_journal : (was : Centre J B) → was ≡ at n t → (its_journal read : J) (says : Type 0) → its_journal ≡ journal_of was
+      → TellsDevice (journal_stopped its_journal) (journal_stopped read) says
       → TellsDevice (stopped_with t) (stopped_with (with_at n t (with_journal was read))) says
-  tells_by_journal journal read its tells =
-      tells_there queue_stopped journal_stopped control_stopped order_stopped queues controls n t was (with_journal was read) says there (record {
-        stopped = λ is. so (journal_stopped read) (order_stopped (book_of was)) (tells.stopped is);
+  tells_by_journal was there its_journal read says its tells =
+      tells_of was (with_journal was read) says there (record {
+        stopped = λ is. or_left (journal_stopped read) (order_stopped (book_of was)) (tells.stopped is);
         runs_on = λ not. ap (λ (b : Bool). b || order_stopped (book_of was)) (tells.runs_on not ∙ ap journal_stopped its);
       })
-    where
-      so : (x p : Bool) → IsTrue x → IsTrue (x || p)
-      so true p is = refl
-      so false p is = absurd (cc)
 
 -- ---- a side of the queue was read
 
@@ -163,14 +179,7 @@ pub queue_read : {Q A : Type 0} (stock : Q → ℕ → Stock) (ledger : A → Le
     → was ≡ concentrator.queue_of c → ForEach (λ n. stock is n ≡ stock was n)
     → record rest { concentrator = concentrator_of stock ledger (concentrator.with_queue c is) }
     ≡ record rest { concentrator = concentrator_of stock ledger c }
-queue_read {Q} {A} stock ledger rest c was is its same =
-    ap₂ set (same 0 (omega arith) ∙ ap (λ (q : Q). stock q 0) its) (same 1 (omega arith) ∙ ap (λ (q : Q). stock q 1) its)
-  where
-    set : Stock → Stock → Whole
-    set first second =
-        record rest {
-          concentrator = record (concentrator_of stock ledger c) { queues = record { first = first; second = second } };
-        }
+queue_read stock ledger rest c was is its same = cc (same 0 (omega arith), same 1 (omega arith))
 
 -- what was read of it for a centre is that of the queue that the centre sees
 pub queue_there : {Q A : Type 0} (stock : Q → ℕ → Stock) (n : ℕ) → n < CENTRES → (c : Concentrator Q A) (was : Q) → was ≡ concentrator.queue_of c
@@ -186,27 +195,15 @@ centre_low s = by s.is_second
     by true = omega arith
     by false = omega arith
 
-abbrev first_of : {Thing : Type 0} → Thing → List Thing → Thing
-first_of other [] = other
-first_of other (thing ∷ things) = thing
-
 -- by what a call of one side leaves: where it stands, what it holds, and what is beside it
 module _ {Q : Type 0} (stock : Q → ℕ → Stock) (n : ℕ) (q : Q) (old new : Side Q) (its : pair_in old ≡ q) (its_centre : centre_in old ≡ n)
     (stays : centre_in new ≡ centre_in old) where
   pub own_side : stock (pair_in new) (centre_in new) ≡ stock (pair_in old) (centre_in old) → stock (pair_in new) n ≡ stock q n
-  own_side same =
-      ap (λ (m : ℕ). stock (pair_in new) m) (sym (stays ∙ its_centre))
-      ∙ same
-      ∙ ap (λ (m : ℕ). stock (pair_in old) m) its_centre
-      ∙ ap (λ (p : Q). stock p n) its
+  own_side same = cc
 
   other_side : beside_of stock (centre_in new) (pair_in new) ≡ beside_of stock (centre_in old) (pair_in old)
       → stock (pair_in new) (other_than n) ≡ stock q (other_than n)
-  other_side beside =
-      ap (λ (m : ℕ). stock (pair_in new) (other_than m)) (sym (stays ∙ its_centre))
-      ∙ ap (first_of (stock (pair_in new) (other_than (centre_in new)))) beside
-      ∙ ap (λ (m : ℕ). stock (pair_in old) (other_than m)) its_centre
-      ∙ ap (λ (p : Q). stock p (other_than n)) its
+  other_side beside = cc
 
   pub both_sides : n < CENTRES → stock (pair_in new) (centre_in new) ≡ stock (pair_in old) (centre_in old)
       → beside_of stock (centre_in new) (pair_in new) ≡ beside_of stock (centre_in old) (pair_in old)
@@ -220,11 +217,11 @@ module _ {Q : Type 0} (stock : Q → ℕ → Stock) (n : ℕ) (q : Q) (old new :
       by (suc (suc m)) low own other = absurd (omega (arith, low))
 
 -- the stores, where the queue alone was read
-pub well_before_queue : {Q J A B : Type 0} (queue : Q → Type 0) (journal : J → Type 0) (control : A → Type 0) (control_stopped : A → Bool)
-    (order : B → Type 0) (order_stopped : B → Bool) (was is queues : Q) (controls : A) (t : Two (Centre J B)) → was ≡ queues → (queue is → queue was)
-    → AreWell queue journal control control_stopped order order_stopped (stores_with is controls t)
-    → AreWell queue journal control control_stopped order order_stopped (stores_with queues controls t)
-well_before_queue queue journal control control_stopped order order_stopped was is queues controls t its held well = record {
+pub well_before_queue : {Q J A B : Type 0} {queue : Q → Type 0} {journal : J → Type 0} {control : A → Type 0} {control_stopped : A → Bool}
+    {order : B → Type 0} {order_stopped : B → Bool} (was is queues : Q) (controls : A) (t : Two (Centre J B)) → was ≡ queues → (queue is → queue was)
+    → StoresAreWell queue journal control control_stopped order order_stopped (stores_with is controls t)
+    → StoresAreWell queue journal control control_stopped order order_stopped (stores_with queues controls t)
+well_before_queue {queue = queue} was is queues controls t its held well = record {
   queues_are = subst queue its (held well.queues_are);
   first_journal = well.first_journal;
   second_journal = well.second_journal;
@@ -238,7 +235,7 @@ pub tells_by_queue : {Q J A B : Type 0} (queue_stopped : Q → Bool) (journal_st
     → TellsDevice (is_one_stopped queue_stopped journal_stopped control_stopped order_stopped (stores_with queues controls t))
     (is_one_stopped queue_stopped journal_stopped control_stopped order_stopped (stores_with is controls t)) says
 tells_by_queue {Q} {J} {A} {B} queue_stopped journal_stopped control_stopped order_stopped was is queues controls t says its tells = record {
-  stopped = λ said. so (queue_stopped is) (control_stopped controls) others (tells.stopped said);
+  stopped = λ said. or_left (queue_stopped is || control_stopped controls) others (or_left (queue_stopped is) (control_stopped controls) (tells.stopped said));
   runs_on = λ not. ap (λ (b : Bool). (b || control_stopped controls) || others) (tells.runs_on not ∙ ap queue_stopped its);
 }
   where
@@ -246,7 +243,3 @@ tells_by_queue {Q} {J} {A} {B} queue_stopped journal_stopped control_stopped ord
     others =
         (journal_stopped (journal_of t.first) || order_stopped (book_of t.first))
         || (journal_stopped (journal_of t.second) || order_stopped (book_of t.second))
-
-    so : (x p q : Bool) → IsTrue x → IsTrue ((x || p) || q)
-    so true p q is = refl
-    so false p q is = absurd (cc)

@@ -1,6 +1,6 @@
 -- The stores of a whole system, where those of one centre were written.
-use Rattle.std.proofs.Common.{◌≡◌, ◌==◌, ◌||◌, ℕ, if◌then◌else◌, Bool, true, false, refl, ap, ap₂, ◌∙◌, subst}
-use Rattle.std.specs.Prelude.{IsTrue}
+use Rattle.std.proofs.Common.{◌≡◌, ◌==◌, ◌||◌, ℕ, if◌then◌else◌, Bool, true, false, ap, ◌∙◌, subst}
+use Rattle.std.proofs.lemmas.Bool.{or_left, or_right}
 use Rattle.dnp_concentrator.specs.Centre.{book_of, journal_of}
 use Rattle.dnp_concentrator.specs.Two.{at, with_at}
 use Rattle.dnp_concentrator.specs.declared.centre.Centre.{Centre}
@@ -25,14 +25,8 @@ stores_kept {Q} {J} {A} {B} queues controls n t was k there journal book =
   where
     by : (b : Bool) → journal_of k ≡ journal_of (if b then t.first else t.second) → book_of k ≡ book_of (if b then t.first else t.second)
         → stores_with queues controls (if b then record t { first = k } else record t { second = k }) ≡ stores_with queues controls t
-    by true j b = ap₂ (λ (x : J) (y : B). let s : Stores Q J A B = stores_with queues controls t in record s {
-      journals = (x, journal_of t.second);
-      orders = (y, book_of t.second);
-    }) j b
-    by false j b = ap₂ (λ (x : J) (y : B). let s : Stores Q J A B = stores_with queues controls t in record s {
-      journals = (journal_of t.first, x);
-      orders = (book_of t.first, y);
-    }) j b
+    by true j b = cc
+    by false j b = cc
 
 -- ---- they are well
 
@@ -85,25 +79,15 @@ module _ {Q J A B : Type 0} (queue : Q → Type 0) (journal : J → Type 0) (con
 
 first_tells : (p x y r : Bool) (says : Type 0) → TellsDevice x y says → TellsDevice (p || (x || r)) (p || (y || r)) says
 first_tells p x y r says tells = record {
-  stopped = λ is. so p y (tells.stopped is);
+  stopped = λ is. or_right p (y || r) (or_left y r (tells.stopped is));
   runs_on = λ not. ap (λ (b : Bool). p || (b || r)) (tells.runs_on not);
 }
-  where
-    so : (p y : Bool) → IsTrue y → IsTrue (p || (y || r))
-    so true y is = refl
-    so false true is = refl
-    so false false is = absurd (cc)
 
 second_tells : (p q x y : Bool) (says : Type 0) → TellsDevice x y says → TellsDevice (p || (q || x)) (p || (q || y)) says
 second_tells p q x y says tells = record {
-  stopped = λ is. so p q y (tells.stopped is);
+  stopped = λ is. or_right p (q || y) (or_right q y (tells.stopped is));
   runs_on = λ not. ap (λ (b : Bool). p || (q || b)) (tells.runs_on not);
 }
-  where
-    so : (p q y : Bool) → IsTrue y → IsTrue (p || (q || y))
-    so true q y is = refl
-    so false true y is = refl
-    so false false y is = is
 
 -- what the centre says of its stores it says of all
 pub tells_there : {Q J A B : Type 0} (queue_stopped : Q → Bool) (journal_stopped : J → Bool) (control_stopped : A → Bool) (order_stopped : B → Bool)

@@ -1,6 +1,6 @@
 -- A control that goes over one link in whole fragments: what its two steps perform, and what the book is told.
-use Rattle.std.proofs.Common.{◌≡◌, ℕ, ◌<◌, Bool, true, false, ◌==◌, List, [], ◌∷◌, ◌++◌, Option, Some, None, Ok, refl, ap, ◌∙◌, subst, append-nil, arith, eqb-true}
-use Rattle.std.specs.Prelude.{◌≢◌, if◌then◌else◌, is_none, is_some, slice_index}
+use Rattle.std.proofs.Common.{◌≡◌, ℕ, ◌<◌, Bool, true, false, ◌==◌, List, [], ◌∷◌, ◌++◌, Option, Some, None, refl, ap, ◌∙◌, subst, append-nil, arith, eqb-true}
+use Rattle.std.specs.Prelude.{◌≢◌, if◌then◌else◌, is_none, slice_index}
 use Rattle.std.specs.Option.{option_and_then}
 use Rattle.std.proofs.lemmas.Bool.{and_parts, eqb-false}
 use Rattle.dnp_appfragment.specs.Fragments.{request_octets}
@@ -11,11 +11,10 @@ use Rattle.dnp_concentrator.specs.declared.progress.Stage.TheVariants as stage
 use Rattle.dnp_controls.specs.Book.{Ledger, finished, next_of, spent}
 use Rattle.dnp_controls.specs.declared.book.Entry.{Entry}
 use Rattle.dnp_controls.specs.declared.book.State.TheVariants.{Spent, Finished}
-use Rattle.dnp_master.specs.Calls.{ask_answer, asked, asked_by, asking, is_selected, may_follow}
+use Rattle.dnp_master.specs.Calls.{asked, asked_by, asking, is_selected, may_follow}
 use Rattle.dnp_master.specs.Requests.{is_good, request_for}
 use Rattle.dnp_master.specs.State as master
 use Rattle.dnp_master.specs.State.{is_idle}
-use Rattle.dnp_master.specs.declared.request.OpenRequest.{OpenRequest}
 use Rattle.dnp_master.specs.declared.task.Task.{Task}
 use Rattle.dnp_master.specs.declared.task.Task.TheVariants as task
 use Rattle.dnp_objects.specs.Status.{success}
@@ -31,19 +30,13 @@ use Rattle.dnp_world.proofs.ControlAnswers.{asking as request_as}
 use Rattle.dnp_world.proofs.ControlArrivals.{AreConfirms, ControlLaws, Operated, Quiet, Selected, Unmoved, confirms_come, hears_answer, hears_reports, heard_status, operate_comes, other_asked, select_comes}
 use Rattle.dnp_world.proofs.ControlBooks.{found_put}
 use Rattle.dnp_world.proofs.ControlHearing.{SameLaw}
+use Rattle.dnp_world.proofs.MasterAsks.{answers_idle}
 
 -- ---- a master that is asked
 
-no_request : (o : Option OpenRequest) → is_none o ≡ true → is_some o ≡ false
-no_request None e = refl
-no_request (Some request) e = absurd (cc)
-
 -- an idle master is asked what may follow
 asked_is : (s : master.State) (now : ℕ) (t : Task) → is_idle s ≡ true → may_follow s.selected t ≡ true → is_good t ≡ true → asked s now t ≡ asking s now t
-asked_is s now t idle follows good =
-    let parts = and_parts s.is_open (is_none s.request) idle in
-    let answer : ask_answer s t ≡ Ok (request_octets (request_for s.seq t)) = rw parts.0 (rw (no_request s.request parts.1) (rw follows (rw good refl))) in
-    ap (asked_by s now t) answer
+asked_is s now t idle follows good = ap (asked_by s now t) (answers_idle s t idle follows good)
 
 -- and awaits the response
 awaits_it : (s : master.State) (now : ℕ) (t : Task) → is_idle s ≡ true → s.seq < 16 → Awaits t (asking s now t)
@@ -63,9 +56,6 @@ status_told book id e status found =
 
 -- ---- the SELECT
 
-idle_again : (r : Relaying) (t : Task) (status : ℕ) → r.master.is_open ≡ true → is_idle (heard_status r t status).master ≡ true
-idle_again r t status opens = rw opens refl
-
 -- the step after a SELECT that was answered with another status
 told_next : (target : ℕ) (entry : Entry) (ends : Ends) (r : Relaying) (status : ℕ) → ends.link ≡ heard_status r (task.Select entry.command) status
     → r.progress ≡ Some (record { id = entry.id; command = entry.command; stage = stage.Selecting }) → r.master.is_open ≡ true
@@ -82,7 +72,7 @@ stands : (entry : Entry) (ends : Ends) (r : Relaying) (seq status : ℕ) → end
     → (status == success) ≡ true → found_in ends.book.entries entry.id ≡ Some entry → HasWidths entry.command
     → WasAsked (request_octets (request_for seq (task.Select entry.command))) ends.station.core → AreConfirms ends.going → HasSelected entry ends
 stands entry ends r seq status link_is progress opens good found widths asked confirms =
-    let idle : is_idle ends.link.master ≡ true = ap (λ (x : Relaying). is_idle x.master) link_is ∙ idle_again r (task.Select entry.command) status opens in
+    let idle : is_idle ends.link.master ≡ true = ap (λ (x : Relaying). is_idle x.master) link_is ∙ rw opens refl in
     let number : ends.link.master.seq ≡ after r.master.seq = ap (λ (x : Relaying). x.master.seq) link_is in
     record {
       idle = idle;

@@ -18,6 +18,7 @@ use Rattle.dnp_outstation.specs.Content.{Executed, answered, plain}
 use Rattle.dnp_outstation.specs.Controls.{Outcome, alike, are_too_many, checked, content_at, headers_with, is_control, is_silent, number_in, objects_in, operates_by, operates_selected, outcome_at, selects, with_select}
 use Rattle.dnp_outstation.specs.Links.{unsolicited_confirmed}
 use Rattle.dnp_outstation.specs.State.{State, Step, holds_read, still}
+use Rattle.dnp_outstation.specs.declared.case.Case.{Case}
 use Rattle.dnp_outstation.specs.declared.case.Case.TheVariants.{Asks, ConfirmsUnsolicited, Stray}
 use Rattle.dnp_outstation.specs.declared.session.LastRequest.{LastRequest}
 use Rattle.dnp_outstation.specs.declared.session.Reply.{Reply}
@@ -29,12 +30,6 @@ use Rattle.dnp_world.proofs.CommandRequests.{ReadLaws, order_fits}
 use Rattle.dnp_world.proofs.ControlAnswers.{ControlLaw, EndKeeps, ResponseLaw, answer_repeats, asking, asks_case, end_keeps, few_octets, looked, order_repeated, room_for_answer, the_commands, two_octets, whole_bits}
 
 -- ---- a request that is carried out
-
-carried : (t : State) (o : Panel) (now : ℕ) (octets : List ℕ) (x : Outcome) (headers : List Head) → is_control octets ≡ true → is_silent octets ≡ false
-    → outcome_at t.core.session.selects t.core.times.select_ms o now octets (request_at octets) ≡ Ok (x, headers)
-    → content_at t o now octets
-    ≡ answered (record (with_select t x.select) { performed = t.performed ++ x.performs }) (plain 0 (headers_with x.code headers))
-carried t o now octets x headers control loud is = rw (control, loud, is) refl
 
 -- its answer, and the end of the call
 answers_with : ResponseLaw → (now seq : ℕ) (command : Command) (code : ℕ) (octets : List ℕ) (x : State) (headers : List Head) (before performs : List Command)
@@ -61,15 +56,37 @@ one_fits o command some = grind (arith, nat_tests, some)
 check_is : (o : Panel) (command : Command) → 1 ≤ o.most → checked o (command ∷ []) ≡ o.check
 check_is o command some = ap (λ (b : Bool). if b then alike too_many_objs else o.check) (one_fits o command some)
 
--- ---- a SELECT
+-- it is answered with this status, and performs these
+pub record CarriedOut (s : State) (o : Panel) (now seq : ℕ) (command : Command) (octets : List ℕ) (code : ℕ) (those : List Command) : Type 0 where
+  pub answers : Answers command seq code octets s.performed those (connection_after s o now octets)
+  pub performs : performed_in s.core o now octets ≡ those
 
-pub record SelectFacts (s : State) (o : Panel) (now seq : ℕ) (command : Command) (octets : List ℕ) : Type 0 where
-  pub answers : Answers command seq (o.check command) octets s.performed [] (connection_after s o now octets)
-  pub performs : performed_in s.core o now octets ≡ []
+-- where it comes to this for the outputs
+carried_out : ReadLaws → ResponseLaw → (s : State) (o : Panel) (now seq : ℕ) (command : Command) (octets : List ℕ) (x : Outcome) (code : ℕ) → seq < 16
+    → HasWidths command → s.core.is_open ≡ true → s.core.session.next < 16 → case_of s.core octets ≡ Asks → control_in octets ≡ whole_bits false seq
+    → is_control octets ≡ true → is_silent octets ≡ false
+    → outcome_at (asked s octets).core.session.selects s.core.times.select_ms o now octets (request_at octets) ≡ Ok (x, order command 0 ∷ [])
+    → code < 128 → x.code command ≡ code → CarriedOut s o now seq command octets code x.performs
+carried_out laws law s o now seq command octets x code low widths opens number case_is control_is control loud outcome_is few said =
+    let headers : List Head = headers_with x.code (order command 0 ∷ []) in
+    let after : State = record (with_select (asked s octets) x.select) { performed = s.performed ++ x.performs } in
+    let content_is : content_at (asked s octets) o now octets ≡ answered after (plain 0 headers) = rw (control, loud, outcome_is) refl in
+    let code_is : headers ≡ order command code ∷ [] = order_repeated laws x.code command widths ∙ ap (λ (n : ℕ). order command n ∷ []) said in
+    let step_is : connection_after s o now octets ≡ at_end now (replied now seq (answered after (plain 0 headers))) =
+    ap (received s o now octets) case_is
+    ∙ ap (λ (e : Executed). at_end now (replied now (control_in octets).seq e)) content_is
+    ∙ ap (λ (n : ℕ). at_end now (replied now n (answered after (plain 0 headers)))) (ap (λ c. c.seq) control_is) in
+    record {
+      answers = subst (λ (step : Step). Answers command seq code octets s.performed x.performs step) (sym step_is)
+          (answers_with law now seq command code octets after headers s.performed x.performs low few code_is opens refl number refl);
+      performs = rw (case_is, control, outcome_is) refl;
+    }
+
+-- ---- a SELECT
 
 pub select_answers : ReadLaws → ResponseLaw → ControlLaw → (s : State) (o : Panel) (now seq : ℕ) (command : Command) → seq < 16 → HasWidths command
     → s.core.is_open ≡ true → s.core.session.next < 16 → is_last_request s.core.session (asking seq function.Select command) ≡ false
-    → 1 ≤ o.most → o.check command < 128 → SelectFacts s o now seq command (asking seq function.Select command)
+    → 1 ≤ o.most → o.check command < 128 → CarriedOut s o now seq command (asking seq function.Select command) (o.check command) []
 select_answers laws law is_control s o now seq command low widths opens number other some few =
     let q : List ℕ = asking seq function.Select command in
     let t : State = asked s q in
@@ -84,19 +101,8 @@ select_answers laws law is_control s o now seq command low widths opens number o
     let outcome_is : outcome_at t.core.session.selects t.core.times.select_ms o now q (request_at q) ≡ Ok (x, headers) =
     rw read_is (rw (room_for_answer seq function.Select command)
     (ap (λ (cs : List Command). Ok (selects o now q cs, headers)) (the_commands laws command widths))) in
-    let content_is = carried t o now q x headers refl refl outcome_is in
-    let after : State = record (with_select t x.select) { performed = t.performed ++ [] } in
-    let code_is : headers_with x.code headers ≡ order command (o.check command) ∷ [] =
-    order_repeated laws x.code command widths ∙ ap (λ (f : Command → ℕ). order command (f command) ∷ []) (check_is o command some) in
-    let step_is : connection_after s o now q ≡ at_end now (replied now seq (answered after (plain 0 (headers_with x.code headers)))) =
-    ap (received s o now q) case_is
-    ∙ ap (λ (e : Executed). at_end now (replied now (control_in q).seq e)) content_is
-    ∙ ap (λ (n : ℕ). at_end now (replied now n (answered after (plain 0 (headers_with x.code headers))))) (ap (λ c. c.seq) control_is) in
-    record {
-      answers = subst (λ (step : Step). Answers command seq (o.check command) q s.performed [] step) (sym step_is)
-          (answers_with law now seq command (o.check command) q after (headers_with x.code headers) s.performed [] low few code_is opens refl number refl);
-      performs = rw case_is (rw outcome_is refl);
-    }
+    carried_out laws law s o now seq command q x (o.check command) low widths opens number case_is control_is refl refl outcome_is few
+    (ap (λ (f : Command → ℕ). f command) (check_is o command some))
 
 -- ---- an OPERATE
 
@@ -137,8 +143,7 @@ answer_low (Some select) now seq octets time = by (goes_with select seq octets) 
 pub record OperateFacts (s : State) (o : Panel) (now seq : ℕ) (command : Command) (octets : List ℕ) : Type 0 where
   pub code : ℕ
   pub checks : code ≡ success → o.check command ≡ success
-  pub answers : Answers command seq code octets s.performed (operated_by code command) (connection_after s o now octets)
-  pub performs : performed_in s.core o now octets ≡ operated_by code command
+  pub out : CarriedOut s o now seq command octets code (operated_by code command)
 
 pub operate_answers : ReadLaws → ResponseLaw → ControlLaw → (s : State) (o : Panel) (now seq : ℕ) (command : Command) → seq < 16 → HasWidths command
     → s.core.is_open ≡ true → s.core.session.next < 16 → is_last_request s.core.session (asking seq function.Operate command) ≡ false
@@ -162,22 +167,13 @@ operate_answers laws law is_control s o now seq command low widths opens number 
     rw read_is (rw (room_for_answer seq function.Operate command)
     (ap (λ (cs : List Command). Ok (operates_selected select time o now q cs, headers)) (the_commands laws command widths)
     ∙ ap (λ (y : Outcome). Ok (y, headers)) by_answer)) in
-    let content_is = carried t o now q x headers refl refl outcome_is in
     let came : CameTo o command x = came_to found o command (answer_low select now (number_in q) (objects_in q) time) few some in
-    let after : State = record (with_select t x.select) { performed = t.performed ++ x.performs } in
-    let code_is : headers_with x.code headers ≡ order command came.code ∷ [] =
-    order_repeated laws x.code command widths ∙ ap (λ (n : ℕ). order command n ∷ []) came.said in
-    let step_is : connection_after s o now q ≡ at_end now (replied now seq (answered after (plain 0 (headers_with x.code headers)))) =
-    ap (received s o now q) case_is
-    ∙ ap (λ (e : Executed). at_end now (replied now (control_in q).seq e)) content_is
-    ∙ ap (λ (n : ℕ). at_end now (replied now n (answered after (plain 0 (headers_with x.code headers))))) (ap (λ c. c.seq) control_is) in
+    let out =
+    carried_out laws law s o now seq command q x came.code low widths opens number case_is control_is refl refl outcome_is came.low came.said in
     record {
       code = came.code;
       checks = came.checks;
-      answers = subst (λ (step : Step). Answers command seq came.code q s.performed (operated_by came.code command) step) (sym step_is)
-          (answers_with law now seq command came.code q after (headers_with x.code headers) s.performed (operated_by came.code command) low came.low code_is
-          opens refl number (ap (λ (cs : List Command). s.performed ++ cs) came.performs));
-      performs = rw case_is (rw outcome_is came.performs);
+      out = subst (CarriedOut s o now seq command q came.code) came.performs out;
     }
 
 -- ---- the confirm of an unsolicited response
@@ -231,34 +227,32 @@ pub record ConfirmFacts (s : State) (o : Panel) (now : ℕ) (last octets : List 
   pub last_is : (connection_after s o now octets).state.core.session.last ≡ s.core.session.last
   pub performs : performed_in s.core o now octets ≡ []
 
-pub confirm_leaves : ControlLaw → (s : State) (o : Panel) (now seq : ℕ) (octets : List ℕ) → seq < 16 → WasAsked octets s.core
-    → ConfirmFacts s o now octets (request_octets (confirmation seq true))
-confirm_leaves is_control s o now seq octets low was =
-    let q : List ℕ = request_octets (confirmation seq true) in
-    let control_is : control_in q ≡ whole_bits true seq = is_control (whole_bits true seq) low in
-    let uns_is : (control_in q).uns ≡ true = ap (λ c. c.uns) control_is in
-    let looked_is : is_looked_at s.core q ≡ true = looked s.core q (whole_bits true seq) was.is_open refl refl control_is refl refl refl in
-    by looked_is uns_is (is_number (awaited_number s.core.session (control_in q).uns) (control_in q).seq) refl
-  where
-    by : is_looked_at s.core (request_octets (confirmation seq true)) ≡ true → (control_in (request_octets (confirmation seq true))).uns ≡ true → (b : Bool)
-        → is_number (awaited_number s.core.session (control_in (request_octets (confirmation seq true))).uns)
-        (control_in (request_octets (confirmation seq true))).seq ≡ b → ConfirmFacts s o now octets (request_octets (confirmation seq true))
-    by looked_is uns_is true e =
-        let q : List ℕ = request_octets (confirmation seq true) in
-        let case_is : case_of s.core q ≡ ConfirmsUnsolicited = rw (looked_is, e, uns_is) refl in
-        record {
-          leaves = subst (LeavesRequest octets s.performed) (sym (ap (received s o now q) case_is))
-              (unsolicited_settles s o now octets s.core.session.unsolicited was);
-          last_is = ap (λ (step : Step). step.state.core.session.last) (ap (received s o now q) case_is)
-              ∙ unsolicited_last s o now s.core.session.unsolicited was.holds_none was.number;
-          performs = ap (performed_for s.core o now q) case_is;
-        }
-    by looked_is uns_is false e =
-        let q : List ℕ = request_octets (confirmation seq true) in
-        let case_is : case_of s.core q ≡ Stray = rw (looked_is, e) refl in
-        record {
-          leaves = subst (LeavesRequest octets s.performed) (sym (ap (received s o now q) case_is))
-              (settled octets s.performed now (still s) refl refl was);
-          last_is = ap (λ (step : Step). step.state.core.session.last) (ap (received s o now q) case_is) ∙ (end_keeps now (still s) was.number).last;
-          performs = ap (performed_for s.core o now q) case_is;
-        }
+module _ (control_law : ControlLaw) (s : State) (o : Panel) (now seq : ℕ) (octets : List ℕ) (low : seq < 16) (was : WasAsked octets s.core) where
+  abbrev confirm : List ℕ
+  confirm = request_octets (confirmation seq true)
+
+  confirms_as : (x : Case) → case_of s.core confirm ≡ x → performed_for s.core o now confirm x ≡ []
+      → LeavesRequest octets s.performed (received s o now confirm x) → (received s o now confirm x).state.core.session.last ≡ s.core.session.last
+      → ConfirmFacts s o now octets confirm
+  confirms_as x is none leaves last = record {
+    leaves = subst (LeavesRequest octets s.performed) (sym (ap (received s o now confirm) is)) leaves;
+    last_is = ap (λ (step : Step). step.state.core.session.last) (ap (received s o now confirm) is) ∙ last;
+    performs = ap (performed_for s.core o now confirm) is ∙ none;
+  }
+
+  pub confirm_leaves : ConfirmFacts s o now octets confirm
+  confirm_leaves = by (is_number (awaited_number s.core.session (control_in confirm).uns) (control_in confirm).seq) refl
+    where
+      control_is : control_in confirm ≡ whole_bits true seq
+      control_is = control_law (whole_bits true seq) low
+
+      looked_is : is_looked_at s.core confirm ≡ true
+      looked_is = looked s.core confirm (whole_bits true seq) was.is_open refl refl control_is refl refl refl
+
+      by : (b : Bool) → is_number (awaited_number s.core.session (control_in confirm).uns) (control_in confirm).seq ≡ b → ConfirmFacts s o now octets confirm
+      by true e =
+          confirms_as ConfirmsUnsolicited (rw (looked_is, e, ap (λ c. c.uns) control_is) refl) refl
+          (unsolicited_settles s o now octets s.core.session.unsolicited was)
+          (unsolicited_last s o now s.core.session.unsolicited was.holds_none was.number)
+      by false e =
+          confirms_as Stray (rw (looked_is, e) refl) refl (settled octets s.performed now (still s) refl refl was) (end_keeps now (still s) was.number).last

@@ -22,15 +22,15 @@ use Rattle.dnp_objects.specs.declared.command.Command.{Command}
 use Rattle.dnp_controls.specs.Panel.{Panel}
 use Rattle.dnp_outstation.specs.Calls.{connection_after, performed_in}
 use Rattle.dnp_outstation.specs.Connection.{is_last_request}
-use Rattle.dnp_outstation.specs.State.{Core, State}
+use Rattle.dnp_outstation.specs.State.{Core, State, Step}
 use Rattle.dnp_outstation.specs.declared.session.LastRequest.{LastRequest}
 use Rattle.dnp_world.specs.CommandWidths.{HasWidths}
-use Rattle.dnp_world.specs.ControlAnswers.{AreReports, Awaits, ConfirmsReport, HearsStatus, IsNewTo, PassesReport, Repeats, WasAsked, operated_by}
+use Rattle.dnp_world.specs.ControlAnswers.{Answers, AreReports, Awaits, ConfirmsReport, HearsStatus, IsNewTo, PassesReport, Repeats, WasAsked, operated_by}
 use Rattle.dnp_world.specs.ControlExchanges.{AnswersAll, ChecksAs, Hears, HearsAll}
 use Rattle.dnp_world.specs.Octets.{after, uns_in}
 use Rattle.dnp_world.proofs.CommandRequests.{ReadLaws}
 use Rattle.dnp_world.proofs.ControlAnswers.{ControlLaw, ResponseLaw, asking}
-use Rattle.dnp_world.proofs.ControlAnswering.{ConfirmFacts, OperateFacts, SelectFacts, confirm_leaves, operate_answers, select_answers}
+use Rattle.dnp_world.proofs.ControlAnswering.{CarriedOut, ConfirmFacts, OperateFacts, confirm_leaves, operate_answers, select_answers}
 use Rattle.dnp_world.proofs.ControlHearing.{Heard, SameLaw, answer_heard, report_heard}
 
 -- what laws promise of a command on its way
@@ -56,19 +56,24 @@ pub record Sent (command : Command) (seq status : ℕ) (octets : List ℕ) (new 
   pub is : sent ≡ before ++ response ∷ behind
   pub asked : WasAsked octets new.core
 
-no_reports : AreReports []
-no_reports = All-nil (λ (f : List ℕ). uns_in f ≡ true)
+-- nothing comes after the last fragment
+last_of : {A : Type 0} (first later all : List A) → all ≡ first ++ later → later ≡ [] → all ≡ first
+last_of first later all is none = is ∙ ap (λ xs. first ++ xs) none ∙ append-nil first
 
--- a core that is the same was asked the same
-was_asked : (octets : List ℕ) (c d : Core) → d ≡ c → WasAsked octets c → WasAsked octets d
-was_asked octets c d e was = subst (WasAsked octets) (sym e) was
-
--- after the last fragment nothing more is sent
-last_sends : (first later : List (List ℕ)) (sent : List (List ℕ)) → sent ≡ first ++ later → later ≡ [] → sent ≡ first
-last_sends first later sent is none = is ∙ ap (λ (xs : List (List ℕ)). first ++ xs) none ∙ append-nil first
-
-last_performs : (first later commands : List Command) → commands ≡ first ++ later → later ≡ [] → commands ≡ first
-last_performs first later commands is none = is ∙ ap (λ (xs : List Command). first ++ xs) none ∙ append-nil first
+-- the answer to the last fragment
+answer_sent : (command : Command) (seq status : ℕ) (octets : List ℕ) (before performs : List Command) (step : Step) (new next : State)
+    (later sent : List (List ℕ)) → Answers command seq status octets before performs step → next.core ≡ step.state.core → new ≡ next
+    → sent ≡ step.does.send ++ later → later ≡ [] → Sent command seq status octets new sent
+answer_sent command seq status octets before performs step new next later sent a core_is new_is sent_is later_is = record {
+  before = [];
+  response = a.response;
+  behind = a.reports;
+  before_are = All-nil (λ (f : List ℕ). uns_in f ≡ true);
+  behind_are = a.are_reports;
+  repeats = a.repeats;
+  is = last_of step.does.send later sent sent_is later_is ∙ a.sends;
+  asked = subst (WasAsked octets) (sym (ap (λ (x : State). x.core) new_is ∙ core_is)) a.asked;
+}
 
 pub record Selected (command : Command) (seq status : ℕ) (new : State) (sent : List (List ℕ)) (commands : List Command) : Type 0 where
   pub sends : Sent command seq status (asking seq function.Select command) new sent
@@ -82,22 +87,13 @@ pub select_comes : ControlLaws → (now seq status : ℕ) (command : Command) (s
 select_comes laws now seq status command s new sent commands low widths few opens number other
     (o, next, later, more, checks, core_is, sent_is, commands_is, (new_is, later_is, more_is)) =
     let q : List ℕ = asking seq function.Select command in
-    let facts : SelectFacts s o now seq command q =
+    let facts : CarriedOut s o now seq command q (o.check command) [] =
     select_answers laws.reads laws.response laws.is_control s o now seq command low widths opens number other checks.some (rw checks.check few) in
-    let a = facts.answers in
+    let step : Step = connection_after s o now q in
     record {
-      sends = record {
-        before = [];
-        response = a.response;
-        behind = a.reports;
-        before_are = no_reports;
-        behind_are = a.are_reports;
-        repeats = subst (λ (n : ℕ). Repeats command seq n a.response) checks.check a.repeats;
-        is = last_sends (connection_after s o now q).does.send later sent sent_is later_is ∙ a.sends;
-        asked = was_asked q next.core new.core (ap (λ (x : State). x.core) new_is)
-            (was_asked q (connection_after s o now q).state.core next.core core_is a.asked);
-      };
-      none = last_performs (performed_in s.core o now q) more commands commands_is more_is ∙ facts.performs;
+      sends = answer_sent command seq status q s.performed [] step new next later sent
+          (subst (λ (n : ℕ). Answers command seq n q s.performed [] step) checks.check facts.answers) core_is new_is sent_is later_is;
+      none = last_of (performed_in s.core o now q) more commands commands_is more_is ∙ facts.performs;
     }
 
 -- other octets than those asked last
@@ -108,10 +104,6 @@ other_asked c octets last was differs = by (is_some c.session.last) (bytes_eq oc
     by false b is = refl
     by true false is = refl
     by true true is = absurd (differs ((bytes_eq-Decides octets c.session.request).0 is ∙ was.request))
-
--- a core that is the same takes them for new, too
-is_new : (octets : List ℕ) (c d : Core) → d ≡ c → IsNewTo octets c → IsNewTo octets d
-is_new octets c d e new = subst (IsNewTo octets) (sym e) new
 
 -- octets that are new stay so after the confirm of a report
 pub stays_new : ControlLaw → (s : State) (o : Panel) (now number : ℕ) (octets : List ℕ) → number < 16 → IsNewTo octets s.core
@@ -139,61 +131,23 @@ pub record Operated (command : Command) (seq check : ℕ) (new : State) (sent : 
   pub sends : Sent command seq status (asking seq function.Operate command) new sent
   pub those : commands ≡ operated_by status command
 
-operate_arrives : ControlLaws → (now seq status : ℕ) (command : Command) (s new : State) (sent : List (List ℕ)) (commands : List Command)
-    → seq < 16 → HasWidths command → status < 128 → IsNewTo (asking seq function.Operate command) s.core
-    → AnswersAll now (ChecksAs command status) (asking seq function.Operate command ∷ []) s new sent commands
-    → Operated command seq status new sent commands
-operate_arrives laws now seq status command s new sent commands low widths few is
-    (o, next, later, more, checks, core_is, sent_is, commands_is, (new_is, later_is, more_is)) =
-    let q : List ℕ = asking seq function.Operate command in
-    let facts : OperateFacts s o now seq command q =
-    operate_answers laws.reads laws.response laws.is_control s o now seq command low widths is.is_open is.number is.other checks.some (rw checks.check few) in
-    let a = facts.answers in
-    record {
-      status = facts.code;
-      checks = λ good. sym checks.check ∙ facts.checks good;
-      sends = record {
-        before = [];
-        response = a.response;
-        behind = a.reports;
-        before_are = no_reports;
-        behind_are = a.are_reports;
-        repeats = a.repeats;
-        is = last_sends (connection_after s o now q).does.send later sent sent_is later_is ∙ a.sends;
-        asked = was_asked q next.core new.core (ap (λ (x : State). x.core) new_is)
-            (was_asked q (connection_after s o now q).state.core next.core core_is a.asked);
-      };
-      those = last_performs (performed_in s.core o now q) more commands commands_is more_is ∙ facts.performs;
-    }
-
--- reports go in front of what is sent
-sent_behind : (command : Command) (seq check : ℕ) (new : State) (first later sent : List (List ℕ)) (none more commands : List Command) → AreReports first
-    → sent ≡ first ++ later → none ≡ [] → commands ≡ none ++ more → Operated command seq check new later more → Operated command seq check new sent commands
-sent_behind command seq check new first later sent none more commands reports sent_is none_is commands_is h = record {
-  status = h.status;
-  checks = h.checks;
-  sends = record {
-    before = first ++ h.sends.before;
-    response = h.sends.response;
-    behind = h.sends.behind;
-    before_are = All-append (λ (f : List ℕ). uns_in f ≡ true) first h.sends.before reports h.sends.before_are;
-    behind_are = h.sends.behind_are;
-    repeats = h.sends.repeats;
-    is = sent_is
-        ∙ ap (λ (xs : List (List ℕ)). first ++ xs) h.sends.is
-        ∙ sym (append_assoc first h.sends.before (h.sends.response ∷ h.sends.behind));
-    asked = h.sends.asked;
-  };
-  those = commands_is ∙ ap (λ (xs : List Command). xs ++ more) none_is ∙ h.those;
-}
-
 -- an OPERATE comes after confirms of reports
 pub operate_comes : ControlLaws → (now seq status : ℕ) (command : Command) (going : List (List ℕ)) (s new : State) (sent : List (List ℕ))
     (commands : List Command) → seq < 16 → HasWidths command → status < 128 → AreConfirms going → IsNewTo (asking seq function.Operate command) s.core
     → AnswersAll now (ChecksAs command status) (going ++ asking seq function.Operate command ∷ []) s new sent commands
     → Operated command seq status new sent commands
-operate_comes laws now seq status command [] s new sent commands low widths few confirms is all =
-    operate_arrives laws now seq status command s new sent commands low widths few is all
+operate_comes laws now seq status command [] s new sent commands low widths few confirms is
+    (o, next, later, more, checks, core_is, sent_is, commands_is, (new_is, later_is, more_is)) =
+    let q : List ℕ = asking seq function.Operate command in
+    let facts : OperateFacts s o now seq command q =
+    operate_answers laws.reads laws.response laws.is_control s o now seq command low widths is.is_open is.number is.other checks.some (rw checks.check few) in
+    record {
+      status = facts.code;
+      checks = λ good. sym checks.check ∙ facts.checks good;
+      sends = answer_sent command seq facts.code q s.performed (operated_by facts.code command) (connection_after s o now q) new next later sent
+          facts.out.answers core_is new_is sent_is later_is;
+      those = last_of (performed_in s.core o now q) more commands commands_is more_is ∙ facts.out.performs;
+    }
 operate_comes laws now seq status command (f ∷ fs) s new sent commands low widths few confirms is
     (o, next, later, more, checks, core_is, sent_is, commands_is, rest) =
     let (number, four, f_is) = All-head ConfirmsReport f fs confirms in
@@ -206,9 +160,25 @@ operate_comes laws now seq status command (f ∷ fs) s new sent commands low wid
     subst (λ (x : List ℕ). IsNewTo q (connection_after s o now x).state.core) (sym f_is) (stays_new laws.is_control s o now number q four is) in
     let h : Operated command seq status new later more =
     operate_comes laws now seq status command fs next new later more low widths few (All-tail ConfirmsReport f fs confirms)
-    (is_new q (connection_after s o now f).state.core next.core core_is stays) rest in
-    sent_behind command seq status new (connection_after s o now f).does.send later sent (performed_in s.core o now f) more commands facts.leaves.are_reports sent_is
-    facts.performs commands_is h
+    (subst (IsNewTo q) (sym core_is) stays) rest in
+    let first : List (List ℕ) = (connection_after s o now f).does.send in
+    record {
+      status = h.status;
+      checks = h.checks;
+      sends = record {
+        before = first ++ h.sends.before;
+        response = h.sends.response;
+        behind = h.sends.behind;
+        before_are = All-append (λ (x : List ℕ). uns_in x ≡ true) first h.sends.before facts.leaves.are_reports h.sends.before_are;
+        behind_are = h.sends.behind_are;
+        repeats = h.sends.repeats;
+        is = sent_is
+            ∙ ap (λ (xs : List (List ℕ)). first ++ xs) h.sends.is
+            ∙ sym (append_assoc first h.sends.before (h.sends.response ∷ h.sends.behind));
+        asked = h.sends.asked;
+      };
+      those = commands_is ∙ ap (λ (xs : List Command). xs ++ more) facts.performs ∙ h.those;
+    }
 
 -- confirms of reports perform nothing, and reports alone come of them
 pub record Quiet (sent : List (List ℕ)) (commands : List Command) : Type 0 where
@@ -218,7 +188,7 @@ pub record Quiet (sent : List (List ℕ)) (commands : List Command) : Type 0 whe
 pub confirms_come : ControlLaw → (now : ℕ) (IsOutputs : Panel → Type 0) (last : List ℕ) (going : List (List ℕ)) (s new : State) (sent : List (List ℕ))
     (commands : List Command) → AreConfirms going → WasAsked last s.core → AnswersAll now IsOutputs going s new sent commands → Quiet sent commands
 confirms_come law now IsOutputs last [] s new sent commands confirms was (new_is, sent_is, commands_is) =
-    record { none = commands_is; reports = subst AreReports (sym sent_is) no_reports }
+    record { none = commands_is; reports = subst AreReports (sym sent_is) (All-nil (λ (f : List ℕ). uns_in f ≡ true)) }
 confirms_come law now IsOutputs last (f ∷ fs) s new sent commands confirms was
     (o, next, later, more, checks, core_is, sent_is, commands_is, rest) =
     let (number, four, f_is) = All-head ConfirmsReport f fs confirms in
@@ -226,7 +196,7 @@ confirms_come law now IsOutputs last (f ∷ fs) s new sent commands confirms was
     subst (ConfirmFacts s o now last) (sym f_is) (confirm_leaves law s o now number last four was) in
     let h : Quiet later more =
     confirms_come law now IsOutputs last fs next new later more (All-tail ConfirmsReport f fs confirms)
-    (was_asked last (connection_after s o now f).state.core next.core core_is facts.leaves.asked) rest in
+    (subst (WasAsked last) (sym core_is) facts.leaves.asked) rest in
     record {
       none = commands_is ∙ ap (λ (xs : List Command). performed_in s.core o now f ++ xs) h.none ∙ append-nil (performed_in s.core o now f) ∙ facts.performs;
       reports = subst AreReports (sym sent_is)

@@ -1,10 +1,10 @@
 -- A control that goes all the way over one link, whichever it is: its command is performed once, and its book says SUCCESS.
-use Rattle.std.proofs.Common.{◌≡◌, ℕ, ◌<◌, ◌==◌, true, false, Bool, not, cond, List, [], ◌∷◌, ◌++◌, ◌⊎◌, inl, inr, Option, Some, refl, sym, ap, ◌∙◌, subst, append-nil}
+use Rattle.std.proofs.Common.{◌≡◌, ℕ, ◌<◌, true, false, Bool, not, List, [], ◌∷◌, ◌++◌, ◌⊎◌, inl, inr, Option, Some, refl, sym, ap, ◌∙◌, subst, append-nil}
 use Rattle.std.specs.Prelude.{◌≢◌, IsTrue}
-use Rattle.std.specs.Option.{IsSomeAnd}
-use Rattle.std.proofs.lemmas.Option.{none-some, same_Some}
+use Rattle.std.specs.Option.{IsSomeAnd, option_map}
+use Rattle.std.proofs.lemmas.Option.{none-some}
 use Rattle.dnp_concentrator.specs.Relaying.{Operates, Finishes, ledger_after}
-use Rattle.dnp_controls.specs.Book.{Ledger, Has, entry_of, in_state, is_finished, is_pending, spent}
+use Rattle.dnp_controls.specs.Book.{Ledger, Has, entry_of, is_finished, is_pending, spent}
 use Rattle.dnp_controls.specs.declared.book.Entry.{Entry}
 use Rattle.dnp_controls.specs.declared.book.State.{State}
 use Rattle.dnp_controls.specs.declared.book.State.TheVariants.{Pending, Spent, Finished}
@@ -21,6 +21,7 @@ use Rattle.dnp_world.specs.declared.event.Link.{Link}
 use Rattle.dnp_world.proofs.Books.{put}
 use Rattle.dnp_world.proofs.ControlAccepts.{Began, Finishing, LeavesBook, finish_goes, operate_goes, second_step, select_goes}
 use Rattle.dnp_world.proofs.ControlArrivals.{ControlLaws}
+use Rattle.dnp_world.proofs.StepBooks.{entry_put}
 
 -- the step is one that the book doesn't refuse
 abbrev pub IsTaken : ℕ → Ends → Type 0
@@ -88,20 +89,6 @@ pending_open Pending e = refl
 pending_open Spent e = refl
 pending_open (Finished status) e = absurd (cc)
 
--- an entry that comes into a state is there in it
-entry_put : (entries : List Entry) (id : ℕ) (e : Entry) (state : State) → entry_of entries id ≡ Some e
-    → entry_of (in_state entries id state) id ≡ Some (put state e)
-entry_put [] id e state there = absurd (none-some e there)
-entry_put (x ∷ xs) id e state there = by (x.id == id) refl there (entry_put xs id e state)
-  where
-    by : (b : Bool) → (x.id == id) ≡ b → cond b (Some x) (entry_of xs id) ≡ Some e
-        → (entry_of xs id ≡ Some e → entry_of (in_state xs id state) id ≡ Some (put state e))
-        → entry_of (cond b (put state x) x ∷ in_state xs id state) id ≡ Some (put state e)
-    by true one is later = rw one (ap (λ (y : Entry). Some (put state y)) (same_Some x e is))
-    by false other is later = rw other (later is)
-
--- ---- all the way
-
 -- ---- where a control stands before its way
 
 -- its SELECT comes next, or its OPERATE, or the book is told a status other than SUCCESS
@@ -151,7 +138,8 @@ module _ (laws : ControlLaws) (on : Link) (target check : ℕ) (entry : Entry) (
       operate_goes laws target second.now check entry ends second.after second.commands low has second.goes in
       let book : second.after.book ≡ spent ends.book entry.id = second.goes.told ∙ ap (ledger_after ends.book) step in
       let spent_is : entry_of second.after.book.entries entry.id ≡ Some (put Spent entry) =
-      ap (λ (b : Ledger). entry_of b.entries entry.id) book ∙ entry_put ends.book.entries entry.id entry Spent there in
+      ap (λ (b : Ledger). entry_of b.entries entry.id) book ∙ entry_put ends.book.entries entry.id Spent
+      ∙ ap (option_map (put Spent)) there in
       record {
         after = second.after;
         commands = second.commands;

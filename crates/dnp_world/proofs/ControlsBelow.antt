@@ -1,9 +1,9 @@
 -- Fragments that arrive at the ends of the link to a substation, as fragments that come to its two stations, and what they leave alone.
 use Rattle.std.proofs.Common.{◌≡◌, ℕ, ◌<◌, List, [], ◌∷◌, ◌++◌, length, drop, Option, Some, Result, Ok, Err, refl, sym, ap, ◌∙◌, subst, append_assoc, append-nil, arith}
 use Rattle.std.specs.Prelude.{slice_get, slice_set}
-use Rattle.std.proofs.lemmas.List.{map-append}
+use Rattle.std.proofs.lemmas.List.{drop_at, map-append, length-set}
 use Rattle.std.proofs.lemmas.Option.{same_Some}
-use Rattle.dnp_concentrator.specs.Relaying.{Relaying, relaying_after}
+use Rattle.dnp_concentrator.specs.Relaying.{Relaying}
 use Rattle.dnp_concentrator.specs.Relaying as relaying
 use Rattle.dnp_concentrator.specs.declared.span.Spans.{Spans}
 use Rattle.dnp_controls.specs.Latches.{plain_check}
@@ -13,14 +13,14 @@ use Rattle.dnp_master.specs.declared.fault.MasterFault.{MasterFault}
 use Rattle.dnp_objects.specs.declared.command.Command.{Command}
 use Rattle.dnp_outstation.specs.Calls.{connection_after, performed_in}
 use Rattle.dnp_outstation.specs.State.{State, Step}
-use Rattle.dnp_world.specs.Arriving.{Arrive, Arrives, SubstationTakes, answers_below, confirms_of}
+use Rattle.dnp_world.specs.Arriving.{Arrive, HearsAt, SubstationTakes, answers_below, confirms_of}
 use Rattle.dnp_world.specs.Channels.{ChannelState}
 use Rattle.dnp_world.specs.ControlExchanges.{AnswersAll, ChecksAs, Hears, HearsAll}
-use Rattle.dnp_world.specs.SystemEvents.{MasterReceives, SubstationAnswers, with_substation}
+use Rattle.dnp_world.specs.SystemEvents.{LinesChange, MasterReceives, SubstationAnswers, with_substation}
 use Rattle.dnp_world.specs.Systems.{CentreState, SubstationState, System, at_station, in_state, link_at, panel_of, station_of}
 use Rattle.dnp_world.specs.declared.event.Link.TheVariants.{Below}
+use Rattle.dnp_world.specs.declared.link_event.Way.{Way}
 use Rattle.dnp_world.specs.declared.link_event.Way.TheVariants as way
-use Rattle.dnp_world.proofs.ArrivingLinks.{length_set}
 use Rattle.dnp_world.proofs.ListedAt.{set_here}
 use Rattle.dnp_world.proofs.SystemPlans.{link_here}
 
@@ -71,10 +71,6 @@ abbrev pub PerformsLaw : Type 0
 PerformsLaw = (s : State) (o : Panel) (now : ℕ) (octets : List ℕ)
     → (connection_after s o now octets).state.performed ≡ s.performed ++ performed_in s.core o now octets
 
-drop_front : {A : Type 0} (xs ys : List A) → drop (length xs) (xs ++ ys) ≡ ys
-drop_front [] ys = refl
-drop_front (x ∷ xs) ys = drop_front xs ys
-
 -- its outputs are as many
 pub record HasAsMany (was is : SubstationState) : Type 0 where
   pub outputs : is.outputs.outputs ≡ was.outputs.outputs
@@ -116,7 +112,7 @@ down_from law station fragment was old new lines there takes =
     let grown : drop (length a.was.outputs.performed) a.is.outputs.performed ≡ performed_in was.core (panel_of was) old.now fragment =
     ap (λ (x : SubstationState). drop (length x.outputs.performed) a.is.outputs.performed) same
     ∙ ap (λ (xs : List Command). drop (length was.outputs.performed) xs) performed
-    ∙ drop_front was.outputs.performed (performed_in was.core (panel_of was) old.now fragment) in
+    ∙ drop_at was.outputs.performed (performed_in was.core (panel_of was) old.now fragment) (length was.outputs.performed) refl in
     record {
       is = a.is;
       there = ap (λ (s : System). slice_get s.substations station) a.after
@@ -135,32 +131,16 @@ down_from law station fragment was old new lines there takes =
       concentrator = ap (λ (s : System). s.concentrator) a.after;
     }
 
--- what was heard on the way there
-heard_as : (station : ℕ) (was : SubstationState) (old heard : System) (from is : SubstationState) → slice_get old.substations station ≡ Some was
-    → slice_get old.substations station ≡ Some from → is ≡ on_lines from is.channel → heard ≡ with_substation old station is
-    → heard ≡ with_substation old station (on_lines was is.channel)
-heard_as station was old heard from is there found is_as after =
-    after
-    ∙ ap (λ (x : SubstationState). with_substation old station x)
-    (is_as ∙ ap (λ (x : SubstationState). on_lines x is.channel) (same_Some from was (sym found ∙ there)))
-
-one_down : PerformsLaw → (station : ℕ) (fragment : List ℕ) (answers : List (List ℕ)) (was : SubstationState) (old new : System)
-    → slice_get old.substations station ≡ Some was → Arrives (Below station) way.Down fragment answers old new → OneDown station fragment was old new
-one_down law station fragment answers was old new there a =
-    let h = a.hears in
-    down_from law station fragment was old new h.is.channel there
-    (subst (λ (s : System). SubstationTakes station fragment s new) (heard_as station was old a.heard h.was h.is there h.there h.changed.1 h.after) a.takes)
-
-one_sends : (station : ℕ) (fragment : List ℕ) (answers : List (List ℕ)) (was : SubstationState) (old new : System)
-    → slice_get old.substations station ≡ Some was → Arrives (Below station) way.Down fragment answers old new
-    → answers ≡ (connection_after (station_of was) (panel_of was) old.now fragment).does.send
-one_sends station fragment answers was old new there a =
-    let h = a.hears in
-    a.sends
-    ∙ ap (λ (s : System). answers_below (slice_get s.substations station) s.now fragment)
-    (heard_as station was old a.heard h.was h.is there h.there h.changed.1 h.after)
-    ∙ ap (λ (o : Option SubstationState). answers_below o old.now fragment)
-    (set_here old.substations station was (on_lines was h.is.channel) there)
+-- what was heard on the way there changed lines alone
+heard_at : (station : ℕ) (way : Way) (was : SubstationState) (old heard : System) → slice_get old.substations station ≡ Some was
+    → LinesChange (Below station) (HearsAt way) old heard
+    → (lines : ChannelState) × (heard ≡ with_substation old station (on_lines was lines))
+heard_at station way was old heard there h = (
+  h.is.channel,
+  h.after
+      ∙ ap (λ (x : SubstationState). with_substation old station x)
+      (h.changed.1 ∙ ap (λ (x : SubstationState). on_lines x h.is.channel) (same_Some h.was was (sym h.there ∙ there))),
+)
 
 pub below_down : PerformsLaw → (station : ℕ) (command : Command) (was : SubstationState) (fragments answers : List (List ℕ)) (old new : System)
     → slice_get old.substations station ≡ Some was → Arrive (Below station) way.Down fragments answers old new
@@ -175,7 +155,13 @@ below_down law station command was [] answers old new there (answers_is, new_is)
   concentrator = ap (λ (s : System). s.concentrator) new_is;
 }
 below_down law station command was (f ∷ fs) answers old new there (first, more, next, arrives, rest, answers_is) =
-    let one : OneDown station f was old next = one_down law station f first was old next there arrives in
+    let (lines, heard) = heard_at station way.Down was old arrives.heard there arrives.hears in
+    let one : OneDown station f was old next =
+    down_from law station f was old next lines there (subst (λ (s : System). SubstationTakes station f s next) heard arrives.takes) in
+    let sends : first ≡ (connection_after (station_of was) (panel_of was) old.now f).does.send =
+    arrives.sends
+    ∙ ap (λ (s : System). answers_below (slice_get s.substations station) s.now f) heard
+    ∙ ap (λ (o : Option SubstationState). answers_below o old.now f) (set_here old.substations station was (on_lines was lines) there) in
     let h : DownBelow station command one.is fs more next new = below_down law station command one.is fs more next new one.there rest in
     let these : List Command = performed_in was.core (panel_of was) old.now f in
     let check : ℕ = plain_check was.outputs.outputs was.outputs.setpoints command in
@@ -193,7 +179,7 @@ below_down law station command was (f ∷ fs) answers old new there (first, more
         h.commands,
         record { some = omega arith; check = refl },
         one.core,
-        answers_is ∙ ap (λ (xs : List (List ℕ)). xs ++ more) (one_sends station f first was old next there arrives),
+        answers_is ∙ ap (λ (xs : List (List ℕ)). xs ++ more) sends,
         refl,
         subst (λ (n : ℕ). AnswersAll n (ChecksAs command check) fs (station_of one.is) (station_of h.is) more h.commands)
             (ap (λ b. b.now) one.kept.beside_is)
@@ -240,7 +226,7 @@ up_from station (Ok t) was old new lines there long (numbers, b) =
         refl,
       );
       kept = same_below station old new (ap beside b.after)
-          (ap (λ (s : System). length s.concentrator.links) b.after ∙ length_set old.concentrator.links station next)
+          (ap (λ (s : System). length s.concentrator.links) b.after ∙ length-set old.concentrator.links station next)
           (ap (λ (s : System). s.history.operated) b.after);
       controls = ap (λ (s : System). s.concentrator.controls) b.after;
     }
@@ -256,16 +242,6 @@ up_from station (Err fault) was old new lines there long same =
       controls = ap (λ (s : System). s.concentrator.controls) same;
     }
 
-one_up : (station : ℕ) (fragment : List ℕ) (answers : List (List ℕ)) (was : SubstationState) (old new : System)
-    → slice_get old.substations station ≡ Some was → station < length old.concentrator.links
-    → Arrives (Below station) way.Up fragment answers old new
-    → OneUp station (receive_of (link_at old.concentrator station).master old.now fragment) was old new
-one_up station fragment answers was old new there long a =
-    let h = a.hears in
-    up_from station (receive_of (link_at old.concentrator station).master old.now fragment) was old new h.is.channel there long
-    (subst (λ (s : System). MasterReceives (Below station) (receive_of (link_at s.concentrator station).master s.now fragment) s new)
-    (heard_as station was old a.heard h.was h.is there h.there h.changed.1 h.after) a.takes)
-
 pub below_up : (station : ℕ) (was : SubstationState) (fragments answers : List (List ℕ)) (old new : System) → slice_get old.substations station ≡ Some was
     → station < length old.concentrator.links → Arrive (Below station) way.Up fragments answers old new → UpBelow station was fragments answers old new
 below_up station was [] answers old new there long (answers_is, new_is) = record {
@@ -279,13 +255,13 @@ below_up station was [] answers old new there long (answers_is, new_is) = record
 }
 below_up station was (f ∷ fs) answers old new there long (first, more, next, arrives, rest, answers_is) =
     let r : Result Taking MasterFault = receive_of (link_at old.concentrator station).master old.now f in
-    let one : OneUp station r was old next = one_up station f first was old next there long arrives in
+    let (lines, heard) = heard_at station way.Up was old arrives.heard there arrives.hears in
+    let one : OneUp station r was old next =
+    up_from station r was old next lines there long
+    (subst (λ (s : System). MasterReceives (Below station) (receive_of (link_at s.concentrator station).master s.now f) s next) heard arrives.takes) in
     let h : UpBelow station one.is fs more next new = below_up station one.is fs more next new one.there (omega (arith, long, one.kept.links)) rest in
-    let a = arrives.hears in
     let sends : first ≡ confirms_of r =
-    arrives.sends
-    ∙ ap (λ (s : System). confirms_of (receive_of (link_at s.concentrator station).master s.now f))
-    (heard_as station was old arrives.heard a.was a.is there a.there a.changed.1 a.after) in
+    arrives.sends ∙ ap (λ (s : System). confirms_of (receive_of (link_at s.concentrator station).master s.now f)) heard in
     record {
       is = h.is;
       there = h.there;

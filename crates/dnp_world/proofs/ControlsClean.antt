@@ -23,7 +23,7 @@ use Rattle.dnp_objects.specs.Status.{success}
 use Rattle.dnp_objects.specs.declared.command.Command.{Command}
 use Rattle.dnp_outstation.specs.Connection.{is_last_request}
 use Rattle.dnp_outstation.specs.State.{is_free, is_quiet}
-use Rattle.dnp_world.specs.Arriving.{IsClearOn, channel_at, channel_on}
+use Rattle.dnp_world.specs.Arriving.{channel_at, channel_on}
 use Rattle.dnp_world.specs.Behind.{Elsewhere}
 use Rattle.dnp_world.specs.Channels.{ChannelState, are_quiet}
 use Rattle.dnp_world.specs.CommandWidths.{HasWidths}
@@ -32,23 +32,21 @@ use Rattle.dnp_world.specs.Controls.{is_entry, is_free_below, is_free_for, is_ne
 use Rattle.dnp_world.specs.Rounds.{is_quiet_at, is_quiet_on}
 use Rattle.dnp_world.specs.SystemStanding.{IsJoinedBelow, IsStanding, lists_of, seen_below}
 use Rattle.dnp_world.specs.Systems.{SubstationState, System, has_station, link_at}
-use Rattle.dnp_world.specs.declared.event.Link.{Link}
 use Rattle.dnp_world.specs.declared.event.Link.TheVariants.{Below}
 use Rattle.dnp_world.proofs.BelowKeeps.{some_of}
 use Rattle.dnp_world.proofs.ControlArrivals.{ControlLaws}
 use Rattle.dnp_world.proofs.ControlBooks.{next_found}
-use Rattle.dnp_world.proofs.ControlsAbove.{ArrivingLaws}
 use Rattle.dnp_world.proofs.ControlsBelow.{PerformsLaw}
 use Rattle.dnp_world.proofs.ControlsOther.{other_select}
 use Rattle.dnp_world.proofs.ControlsToSubstations.{ends_below}
+use Rattle.dnp_world.proofs.RoundBelow.{LineLaws}
 use Rattle.dnp_world.proofs.StepBooks.{SoundLaw}
 
 -- what laws promise of a control that goes all the way
 pub record CleanLaws : Type 0 where
   pub controls : ControlLaws
   pub decides : IsEqualityTest command_eq
-  pub arriving : ArrivingLaws
-  pub quiet : (on : Link) (s : System) {el : Elsewhere} → IsStanding el s → is_quiet_on s on ≡ true → IsClearOn on s
+  pub lines : LineLaws
   pub performs : PerformsLaw
   pub sound : SoundLaw
 

@@ -6,7 +6,6 @@ use Rattle.std.proofs.lemmas.Slice.Eq.{bytes_eq-Decides}
 use Rattle.dnp_appfragment.specs.Fragments.{request_octets}
 use Rattle.dnp_master.specs.Requests.{request_for}
 use Rattle.dnp_master.specs.State.{is_idle}
-use Rattle.dnp_master.specs.declared.request.OpenRequest.{OpenRequest}
 use Rattle.dnp_master.specs.declared.task.Task.{Task}
 use Rattle.dnp_master.specs.declared.task.Task.TheVariants as task
 use Rattle.dnp_objects.specs.declared.command.Command.{Command}
@@ -24,7 +23,7 @@ use Rattle.dnp_world.specs.Octets.{after, seq_in}
 use Rattle.dnp_world.specs.OneLinkEvents.{LinkState}
 use Rattle.dnp_world.specs.OutstationSeen.{last_seen, reply_seen}
 use Rattle.dnp_world.specs.Standing.{Agrees, IsReply, Stands}
-use Rattle.dnp_world.proofs.MasterAsks.{asked_seq}
+use Rattle.dnp_world.proofs.MasterAsks.{asked_seq, not_busy}
 
 -- octets that are the last request again
 same_request : (session : Session) (octets : List ℕ) (last : LastRequest) → session.last ≡ Some last → (octets ≡ session.request → ⊥)
@@ -46,10 +45,6 @@ idle_phase (Requested q) c m agrees idle = absurd (let never : true ≡ false = 
 idle_phase (Received q) c m agrees idle = absurd (let never : true ≡ false = sym agrees.0 ∙ idle in cc)
 idle_phase Responding c m agrees idle = absurd (let never : true ≡ false = sym agrees.0 ∙ idle in cc)
 idle_phase Continuing c m agrees idle = absurd (let never : true ≡ false = sym agrees.0 ∙ idle in cc)
-
-not_busy : (o : Option OpenRequest) → is_none o ≡ true → is_some o ≡ false
-not_busy None e = refl
-not_busy (Some request) e = absurd (cc)
 
 -- the number that follows is another
 follows_other : (a b : ℕ) → b ≡ after a → a ≡ b → a < 16 → ⊥

@@ -1,6 +1,6 @@
 -- How a control that can go at once stands over the link above, whether or not it is in progress there.
-use Rattle.std.proofs.Common.{◌≡◌, ℕ, true, false, Bool, not, ◌&&◌, if◌then◌else◌, [], Option, Some, None, IfSome, refl, sym, ap, ◌∙◌, subst, eqb-true}
-use Rattle.std.proofs.lemmas.Bool.{and_parts}
+use Rattle.std.proofs.Common.{◌≡◌, ℕ, true, false, Bool, ◌&&◌, if◌then◌else◌, [], Option, Some, None, IfSome, refl, sym, ap, ◌∙◌, subst, eqb-true}
+use Rattle.std.proofs.lemmas.Bool.{and_parts, not-true}
 use Rattle.std.proofs.lemmas.List.Elements.{All-nil}
 use Rattle.dnp_concentrator.specs.Relaying as relaying
 use Rattle.dnp_concentrator.specs.Relaying.{step_of_progress}
@@ -39,10 +39,6 @@ chosen : IsEqualityTest command_eq → (o : Option Command) (command : Command) 
 chosen equal None command is = absurd (cc)
 chosen equal (Some x) command is = ap (λ (c : Command). Some c) ((equal.decides x command).0 is)
 
-open_not_held : (b : Bool) → not b ≡ true → b ≡ false
-open_not_held true e = absurd (cc)
-open_not_held false e = refl
-
 module _ (equal : IsEqualityTest command_eq) (s : System) {el : Elsewhere} (entry : Entry) (h : IsStanding el s) (steps : InStep s)
     (quiet : is_quiet_above s ≡ true) (next : next_of s.centre.orders.entries 0 ≡ Some entry) where
   abbrev ends : Ends
@@ -57,7 +53,7 @@ module _ (equal : IsEqualityTest command_eq) (s : System) {el : Elsewhere} (entr
       and_parts s.concentrator.core.is_open (is_free s.concentrator.core) (and_parts (is_quiet s.concentrator.core) (are_quiet s.above) parts.1).0
 
   holds_none : holds_read s.concentrator.core.session.last ≡ false
-  holds_none = open_not_held (holds_read s.concentrator.core.session.last) (and_parts _ _ (and_parts _ _ core.1).1).1
+  holds_none = not-true (holds_read s.concentrator.core.session.last) (and_parts _ _ (and_parts _ _ core.1).1).1
 
   widths : HasWidths entry.command
   widths = (next_has (λ (e : Entry). HasWidths e.command) s.centre.orders.entries 0 entry steps.widths next).0

@@ -1,7 +1,8 @@
 -- A step of relaying to a substation, and what comes of it.
-use Rattle.std.proofs.Common.{◌≡◌, ℕ, ◌<◌, true, false, Bool, List, [], ◌∷◌, ◌++◌, length, Some, None, refl, sym, ap, ◌∙◌, subst, arith}
+use Rattle.std.proofs.Common.{◌≡◌, ℕ, ◌<◌, true, false, Bool, List, [], ◌++◌, length, Some, None, append-nil, refl, sym, ap, ◌∙◌, subst, arith}
 use Rattle.std.specs.Prelude.{slice_get, if◌then◌else◌}
 use Rattle.std.proofs.lemmas.Option.{none-some, same_Some}
+use Rattle.std.proofs.lemmas.List.{length-set}
 use Rattle.dnp_concentrator.specs.Relaying.{Relaying, Step, relaying_after}
 use Rattle.dnp_controls.specs.Book.{Ledger}
 use Rattle.dnp_controls.specs.Latches.{plain_check}
@@ -15,8 +16,7 @@ use Rattle.dnp_world.specs.SystemEvents.{Refuses, RelaysOn, Steps, requests_of, 
 use Rattle.dnp_world.specs.SystemRuns.{Happens, IfThere}
 use Rattle.dnp_world.specs.Systems.{SubstationState, System, has_station, itself, link_at, station_of}
 use Rattle.dnp_world.specs.declared.event.Link.TheVariants.{Below}
-use Rattle.dnp_world.proofs.ArrivingLinks.{length_set}
-use Rattle.dnp_world.proofs.ControlsAbove.{ArrivingLaws}
+use Rattle.dnp_world.proofs.RoundBelow.{LineLaws}
 use Rattle.dnp_world.proofs.ControlsAccepted.{Back, IsTaken, OverLink, SaysSuccess, Told}
 use Rattle.dnp_world.proofs.ControlsBelow.{DownBelow, KeptBelow, PerformsLaw, UpBelow, below_down, below_up, beside, join_below, on_lines, same_below}
 use Rattle.dnp_world.proofs.ListedAt.{set_here}
@@ -64,7 +64,7 @@ happens : (station : ℕ) (old relayed : System) → has_station old station ≡
     → IfThere (has_station old station) (RelaysOn (Below station)) old relayed → RelaysOn (Below station) old relayed
 happens station old relayed has relays = subst (λ (b : Bool). IfThere b (RelaysOn (Below station)) old relayed) has relays
 
-relayed_below : ArrivingLaws → (station : ℕ) (was : SubstationState) (old relayed : System) (going : List (List ℕ))
+relayed_below : LineLaws → (station : ℕ) (was : SubstationState) (old relayed : System) (going : List (List ℕ))
     → slice_get old.substations station ≡ Some was → station < length old.concentrator.links → UnderWay (Below station) going [] old
     → RelaysOn (Below station) old relayed → IsTaken station (ends_below station old was going) → RelayedBelow station was going old relayed
 relayed_below laws station was old relayed going there long under (Refuses refused same) taken = absurd (taken refused)
@@ -83,7 +83,7 @@ relayed_below laws station was old relayed going there long under (Steps pending
       link = ap (λ (s : System). link_at s.concentrator station) sends.after ∙ link_here old.concentrator.links station link long;
       controls = ap (λ (s : System). s.concentrator.controls) sends.after;
       kept = same_below station old relayed (ap beside sends.after)
-          (ap (λ (s : System). length s.concentrator.links) sends.after ∙ length_set old.concentrator.links station link)
+          (ap (λ (s : System). length s.concentrator.links) sends.after ∙ length-set old.concentrator.links station link)
           (ap (λ (s : System). s.history.operated) sends.after);
     }
 
@@ -91,7 +91,7 @@ told_below : (station id : ℕ) (old relayed : System) (ends : Ends) → Passes 
     → relayed.concentrator.controls ≡ told_to station ends → SaysSuccess (told_to station ends) id
 told_below station id old relayed ends p controls status says = p.passes status (ap (λ (b : Ledger). status_at b id) controls ∙ says)
 
-pub back_from : ArrivingLaws → PerformsLaw → (station id : ℕ) (command : Command) (outputs setpoints : ℕ) (was : SubstationState) (old new : System)
+pub back_from : LineLaws → PerformsLaw → (station id : ℕ) (command : Command) (outputs setpoints : ℕ) (was : SubstationState) (old new : System)
     (going : List (List ℕ)) → slice_get old.substations station ≡ Some was → station < length old.concentrator.links
     → UnderWay (Below station) going [] old → was.outputs.outputs ≡ outputs → was.outputs.setpoints ≡ setpoints
     → PassesBack Happens itself (Below station) (Some id) old new → IsTaken station (ends_below station old was going)
@@ -145,16 +145,12 @@ back_from laws law station id command outputs setpoints was old new going there 
             (ap (λ c. link_at c station) d.concentrator ∙ r.link) u.all);
         told = u.controls ∙ ap (λ c. c.controls) d.concentrator ∙ r.controls;
       };
-      kept = subst (λ (xs : List Command). KeptBelow station xs old new) (nothing_behind d.commands)
+      kept = subst (λ (xs : List Command). KeptBelow station xs old new) (append-nil d.commands)
           (join_below station d.commands [] old p.answered new (join_below station [] d.commands old p.relayed p.answered r.kept d.kept) u.kept);
       told = told_below station id old p.relayed (ends_below station old was going) p.step r.controls;
     }
-  where
-    nothing_behind : (xs : List Command) → xs ++ [] ≡ xs
-    nothing_behind [] = refl
-    nothing_behind (x ∷ xs) = ap (λ (ys : List Command). x ∷ ys) (nothing_behind xs)
 
-pub step_from : ArrivingLaws → (station : ℕ) (was : SubstationState) (old new : System) (going : List (List ℕ))
+pub step_from : LineLaws → (station : ℕ) (was : SubstationState) (old new : System) (going : List (List ℕ))
     → slice_get old.substations station ≡ Some was → station < length old.concentrator.links → UnderWay (Below station) going [] old
     → IfThere (has_station old station) (RelaysOn (Below station)) old new → IsTaken station (ends_below station old was going)
     → Told (KeptBelow station) station (λ s. s.concentrator.controls) old new (ends_below station old was going)
@@ -164,7 +160,7 @@ step_from laws station was old new going there long under relays taken =
     relayed_below laws station was old new going there long under (happens station old new has relays) taken in
     record { kept = r.kept; is = r.controls }
 
-unfoldable pub over_below : ArrivingLaws → PerformsLaw → (station id : ℕ) (command : Command) (outputs setpoints : ℕ)
+unfoldable pub over_below : LineLaws → PerformsLaw → (station id : ℕ) (command : Command) (outputs setpoints : ℕ)
     → OverLink (Below station) station id (plain_check outputs setpoints command) command
 over_below laws law station id command outputs setpoints = record {
   View = SeenBelow station outputs setpoints;

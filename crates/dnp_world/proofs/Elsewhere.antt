@@ -12,10 +12,12 @@ use Rattle.dnp_world.specs.Joined.{Joined}
 use Rattle.dnp_world.specs.Kept.{report_of}
 use Rattle.dnp_world.specs.Link.{Link}
 use Rattle.dnp_world.specs.OneLinkEvents.{LinkState}
+use Rattle.dnp_world.specs.OutstationSeen.{Shows}
 use Rattle.dnp_world.specs.Stations.{of_station}
 use Rattle.dnp_world.specs.Steady.{IsSteadyBeside}
 use Rattle.dnp_world.specs.Systems.{System, middle_of}
 use Rattle.dnp_world.specs.SystemStanding.{lists_of, seen_above}
+use Rattle.dnp_world.proofs.BelowKeeps.{shown_by}
 use Rattle.dnp_world.proofs.Lasting.{nothing_more}
 use Rattle.dnp_world.proofs.StepBooks.{Carries, SoundLaw, all_added_carries, carried}
 use Rattle.dnp_world.proofs.SystemMapping.{added_unused}
@@ -24,29 +26,21 @@ use Rattle.dnp_world.proofs.SystemPlans.{still_of_plan}
 -- what others had performed is no matter of the link
 performed_set : (s : LinkState ⊤) (l : Link) (performed : List Command) → Joined [] s l
     → Joined [] (record s { outstation = record s.outstation { performed = performed } }) l
-performed_set s l performed j = record {
-  outstation = record {
-    outstation = j.outstation.outstation;
-    lanes = j.outstation.lanes;
-    well = record {
-      lanes = j.outstation.well.lanes;
-      points = j.outstation.well.points;
-      order = j.outstation.well.order;
-      tidy = record { awaited = j.outstation.well.tidy.awaited; first = j.outstation.well.tidy.first; unsolicited = j.outstation.well.tidy.unsolicited };
-      ids = j.outstation.well.ids;
-    };
-  };
-  master = j.master;
-  number = j.number;
-  going_down = j.going_down;
-  down = j.down;
-  down_is = j.down_is;
-  octets = j.octets;
-  up = j.up;
-  taken = j.taken;
-  released = j.released;
-  left = j.left;
-}
+performed_set s l performed j =
+    let shows : Shows s.outstation l = j.outstation in
+    let well = shows.well in
+    let tidy = well.tidy in
+    shown_by s l _ refl (record {
+      outstation = shows.outstation;
+      lanes = shows.lanes;
+      well = record {
+        lanes = well.lanes;
+        points = well.points;
+        order = well.order;
+        tidy = record { awaited = tidy.awaited; first = tidy.first; unsolicited = tidy.unsolicited };
+        ids = well.ids;
+      };
+    }) j
 
 -- the system that it sees then
 abbrev pub seen_then : System → List Command → (ℕ → Option Command) → List (ℕ × Command) → System

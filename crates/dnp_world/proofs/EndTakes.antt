@@ -16,7 +16,7 @@ use Rattle.dnp_master.specs.Calls.{Taking, actions_of}
 use Rattle.dnp_master.specs.Sinks.{IsSinkFault}
 use Rattle.dnp_outstation.specs.State.{Core}
 use Rattle.dnp_pointdb.specs.Plan as points
-use Rattle.dnp_concentrator.specs.BookOutputs.{IsWell, book_in, map_in}
+use Rattle.dnp_concentrator.specs.BookOutputs.{IsWell}
 use Rattle.dnp_concentrator.specs.Centre as centre
 use Rattle.dnp_concentrator.specs.Centre.{LeavesJournal}
 use Rattle.dnp_concentrator.specs.Concentrator.{IsBookWell, LeavesQueue, SetsLink, core_of, link_at, links_of, outputs_of, plan_above, queue_of, queued_at, with_readings}
@@ -26,7 +26,6 @@ use Rattle.dnp_concentrator.specs.declared.book_outputs.BookOutputs.{BookOutputs
 use Rattle.dnp_concentrator.specs.declared.centre.Centre.{Centre}
 use Rattle.dnp_concentrator.specs.declared.concentrator.Concentrator.{Concentrator}
 use Rattle.dnp_concentrator.specs.Two.{at}
-use Rattle.dnp_concentrator.specs.declared.span.Spans.{Spans}
 use Rattle.dnp_concentrator.specs.declared.two.Two.{Two}
 use Rattle.dnp_world.specs.MasterEnds.{TakesIn, none_dropped}
 use Rattle.dnp_world.specs.SystemEvents.{centre_taken}
@@ -65,24 +64,12 @@ book_before {B} honest is_stopped old new same well = subst (λ (b : B). honest 
 
 -- a concentrator by its parts
 concentrator_by : {Q A : Type 0} (stock : Q → ℕ → Stock) (ledger : A → Ledger) (old new : Concentrator Q A) (cores : Two Core) (queues : Two Stock)
-    (links : List Relaying) → ForEach (λ centre. core_of centre new ≡ at centre cores)
-    → ForEach (λ centre. stock (queue_of new) centre ≡ at centre queues) → outputs_of new ≡ outputs_of old → links_of new ≡ links
+    (links : List Relaying) → core_of 0 new ≡ cores.first → core_of 1 new ≡ cores.second → stock (queue_of new) 0 ≡ queues.first
+    → stock (queue_of new) 1 ≡ queues.second → outputs_of new ≡ outputs_of old → links_of new ≡ links
     → plan_above new ≡ plan_above old
     → concentrator_of stock ledger new ≡ record (concentrator_of stock ledger old) { cores = cores; queues = queues; links = links }
-concentrator_by {Q} {A} stock ledger old new cores queues links cores_are queues_are outputs links_is plan =
-    let is : WholeConcentrator = concentrator_of stock ledger new in
-    let to : WholeConcentrator = record (concentrator_of stock ledger old) { cores = cores; queues = queues; links = links } in
-    ap (λ (k : Core). record is { cores = record { first = k; second = core_of 1 new } }) (cores_are 0 (omega arith))
-    ∙ ap (λ (k : Core). record is { cores = record cores { second = k } }) (cores_are 1 (omega arith))
-    ∙ ap (λ (s : Stock). record is { cores = cores; queues = record { first = s; second = stock (queue_of new) 1 } }) (queues_are 0 (omega arith))
-    ∙ ap (λ (s : Stock). record is { cores = cores; queues = record queues { second = s } }) (queues_are 1 (omega arith))
-    ∙ ap (λ (l : List Relaying). record is { cores = cores; queues = queues; links = l }) links_is
-    ∙ ap (λ (o : BookOutputs A). record to { indices = map_in o; controls = ledger (book_in o); points = plan_above new }) outputs
-    ∙ ap (λ (p : points.Plan). record to { points = p }) plan
-
--- what holds for the first centre and for the second holds for each, of a thing of either
-each_at : {Thing : Type 0} (f : ℕ → Thing) (t : Two Thing) → f 0 ≡ t.first → f 1 ≡ t.second → ForEach (λ centre. f centre ≡ at centre t)
-each_at f t first second = for_both (λ centre. f centre ≡ at centre t) first second
+concentrator_by stock ledger old new cores queues links first_core second_core first_queue second_queue outputs links_is plan =
+    rw (first_core, second_core, first_queue, second_queue) cc
 
 -- what a concentrator took on a link
 taken_below : {Q A : Type 0} (stock : Q → ℕ → Stock) (ledger : A → Ledger) (old new : Concentrator Q A) (link : ℕ) (r : Result Taking MasterFault)
@@ -110,8 +97,7 @@ taken_below stock ledger old new link (Ok t) (Ok a) actions dropped dropped_too 
         λ some. let none = or_parts (exhausted 0) (exhausted 1) (room some) in
             for_both (λ centre. exhausts (at centre was.queues) (queued_at old link t.events) ≡ false) none.0 none.1,
         concentrator_by stock ledger old new is.cores is.queues is.links
-            (each_at (λ centre. core_of centre new) is.cores (core 0 (omega arith)) (core 1 (omega arith)))
-            (each_at (stock (queue_of new)) is.queues (queued 0 (omega arith)) (queued 1 (omega arith))) outputs links plan,
+            (core 0 (omega arith)) (core 1 (omega arith)) (queued 0 (omega arith)) (queued 1 (omega arith)) outputs links plan,
       ),
     )
 
@@ -122,10 +108,7 @@ kept_below : {Q A Answer : Type 0} (stock : Q → ℕ → Stock) (ledger : A →
     → OnErr answer (concentrator_of stock ledger new ≡ concentrator_of stock ledger old)
 kept_below stock ledger old new (Ok a) links core queue outputs plan = tt
 kept_below stock ledger old new (Err fault) links core queue outputs plan =
-    let was : WholeConcentrator = concentrator_of stock ledger old in
-    concentrator_by stock ledger old new was.cores was.queues was.links
-    (each_at (λ centre. core_of centre new) was.cores (core 0 (omega arith)) (core 1 (omega arith)))
-    (each_at (stock (queue_of new)) was.queues (queue 0 (omega arith)) (queue 1 (omega arith))) outputs links plan
+    cc (links, core 0 (omega arith), core 1 (omega arith), queue 0 (omega arith), queue 1 (omega arith))
 
 all_dropped : (s : Stock) (rows : List LaneRow) → length (dropped_by s rows) ≤ length rows
 all_dropped s [] = omega arith
@@ -194,11 +177,7 @@ module _ {Q B : Type 0} (queue : Q → Type 0) (queue_stopped : Q → Bool) (sto
 centre_by : {J B : Type 0} (archive : J → Archive) (ledger : B → Ledger) (old new : Centre J B) (link : Relaying) (journal : Archive)
     → centre.link_of new ≡ link → archive (centre.journal_of new) ≡ journal → centre.book_of new ≡ centre.book_of old
     → centre.indices_of new ≡ centre.indices_of old → centre_of archive ledger new ≡ record (centre_of archive ledger old) { link = link; journal = journal }
-centre_by {J} {B} archive ledger old new link journal link_is journal_is book indices =
-    ap (λ (l : Relaying). record (centre_of archive ledger new) { link = l }) link_is
-    ∙ ap (λ (a : Archive). record (centre_of archive ledger new) { link = link; journal = a }) journal_is
-    ∙ ap (λ (b : B). record (centre_of archive ledger new) { link = link; journal = journal; orders = ledger b }) book
-    ∙ ap (λ (m : List Spans). record (centre_of archive ledger old) { link = link; journal = journal; indices = m }) indices
+centre_by archive ledger old new link journal link_is journal_is book indices = cc
 
 -- its answer as an end's, which drops no rows
 abbrev pub beside_none : Result MasterActions MasterFault → Result (MasterActions × List Row) MasterFault

@@ -14,6 +14,7 @@ use Rattle.dnp_pointdb.specs.Database.{Database, changed_of}
 use Rattle.dnp_pointdb.specs.Runs.{Move, Change, Restart, rows_of}
 use Rattle.dnp_pointdb.specs.declared.reading.Reading.{Reading}
 use Rattle.dnp_world.specs.Behind.{made_at}
+use Rattle.dnp_world.specs.Centres.{centre_at}
 use Rattle.dnp_world.specs.Joined.{rows_made_by}
 use Rattle.dnp_world.specs.Steady.{issued_by, made_from, moves_at, points_at, rows_made_at}
 use Rattle.dnp_world.specs.SystemRuns.{Happens}
@@ -23,6 +24,7 @@ use Rattle.dnp_world.specs.declared.event.Event.TheVariants as event
 use Rattle.dnp_world.specs.declared.event.Place.TheVariants as place
 use Rattle.dnp_world.specs.declared.link_event.LinkEvent.TheVariants as link_event
 use Rattle.dnp_world.specs.steps.MoveLaws.{PointLaws}
+use Rattle.dnp_world.proofs.BelowCalls.{same_set}
 use Rattle.dnp_world.proofs.EventTouches.{Does, does}
 use Rattle.dnp_world.proofs.JoinedHappenings.{moved_all, refused_change, rows_behind}
 use Rattle.dnp_world.proofs.JoinedPoints.{end_points, opened_leaves, received_leaves, ticked_leaves}
@@ -63,11 +65,7 @@ set_points xs station was is moves there moved i = by (cases_eq station i)
     of_state o = option_map (λ x. x.core.points) o
 
     here : points_in (slice_set xs station is) station ≡ option_map (λ points. moved_all points (at_only station moves station)) (points_in xs station)
-    here =
-        ap of_state (set_here xs station was is there)
-        ∙ ap (λ (points : Database). let o : Option Database = Some points in o) moved
-        ∙ ap (λ (b : Bool). let o : Option Database = Some (moved_all was.core.points (if b then moves else [])) in o) (sym (eq-eqb station station refl))
-        ∙ ap (λ (o : Option State). option_map (λ points. moved_all points (at_only station moves station)) (of_state o)) (sym there)
+    here = rw (set_here xs station was is there, there, moved, eq-eqb station station refl)
 
     by : (station ≡ i) ⊎ (station ≡ i → ⊥)
         → points_in (slice_set xs station is) i ≡ option_map (λ points. moved_all points (at_only station moves i)) (points_in xs i)
@@ -81,20 +79,9 @@ set_points xs station was is moves there moved i = by (cases_eq station i)
 same_points : (xs : List State) (station : ℕ) (was : State) (moves : List Move) → slice_get xs station ≡ Some was
     → moved_all was.core.points moves ≡ was.core.points
     → (i : ℕ) → points_in xs i ≡ option_map (λ points. moved_all points (at_only station moves i)) (points_in xs i)
-same_points xs station was moves there same i = by (cases_eq station i)
-  where
-    here : points_in xs station ≡ option_map (λ points. moved_all points (at_only station moves station)) (points_in xs station)
-    here =
-        ap (option_map (λ x. x.core.points)) there
-        ∙ ap (λ (points : Database). let o : Option Database = Some points in o) (sym same)
-        ∙ ap (λ (b : Bool). let o : Option Database = Some (moved_all was.core.points (if b then moves else [])) in o) (sym (eq-eqb station station refl))
-        ∙ ap (λ (o : Option State). option_map (λ points. moved_all points (at_only station moves station)) (option_map (λ x. x.core.points) o)) (sym there)
-
-    by : (station ≡ i) ⊎ (station ≡ i → ⊥) → points_in xs i ≡ option_map (λ points. moved_all points (at_only station moves i)) (points_in xs i)
-    by (inl at) = subst (λ (n : ℕ). points_in xs n ≡ option_map (λ points. moved_all points (at_only station moves n)) (points_in xs n)) at here
-    by (inr other) =
-        sym (unmoved (points_in xs i))
-        ∙ ap (λ (b : Bool). option_map (λ points. moved_all points (if b then moves else [])) (points_in xs i)) (sym (ne_eqb station i other))
+same_points xs station was moves there same i =
+    subst (λ (ys : List State). points_in ys i ≡ option_map (λ points. moved_all points (at_only station moves i)) (points_in xs i))
+    (same_set xs station was there) (set_points xs station was was moves there (sym same) i)
 
 called_points : PointLaws → (xs : List State) (called : Called xs) (i : ℕ)
     → points_in (after_called xs called) i ≡ option_map (λ points. moved_all points (moves_in called i)) (points_in xs i)
@@ -114,7 +101,7 @@ points_mapped s i = by (slice_get s.substations i) ∙ ap (option_map (λ x. x.c
     by (Some x) = refl
 
 abbrev Done : System → Event → System → Type 0
-Done old e new = Does (moves_at old e) (issued_by old e) (ends_of old) (ends_of new)
+Done old e new = Does (centre_at e) (moves_at old e) (issued_by old e) (ends_of old) (ends_of new)
 
 event_points : PointLaws → (old new : System) (e : Event) → Done old e new → (i : ℕ)
     → points_at new i ≡ option_map (λ points. moved_all points (moves_at old e i)) (points_at old i)

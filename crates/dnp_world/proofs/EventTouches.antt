@@ -20,6 +20,7 @@ use Rattle.dnp_pointdb.specs.Database.{answer_of}
 use Rattle.dnp_pointdb.specs.Runs.{Move, Change as PointReads, Restart as PointsRestart}
 use Rattle.dnp_pointdb.specs.declared.fault.ChangeFault.{ChangeFault}
 use Rattle.dnp_pointdb.specs.declared.reading.Reading.{Reading}
+use Rattle.dnp_world.specs.Centres.{centre_at, centre_of}
 use Rattle.dnp_world.specs.Channels.{ChannelState}
 use Rattle.dnp_world.specs.OneLinkEvents.{is_own}
 use Rattle.dnp_world.specs.Systems.{ConcentratorState, SubstationState, System, has_link, has_station, link_at, middle_panel, panel_of, station_of}
@@ -40,29 +41,38 @@ use Rattle.dnp_world.proofs.Touches.{Call, Waits, Opens, Hears, Reads, Ticks, Ha
 
 -- ---- what an event touches, what it is to the points of each outstation, and which commands it issues
 
-pub record Does (moves : ℕ → List Move) (commands : List (ℕ × Command)) (old new : Ends) : Type 0 where
+-- the concentrator's book gets no command by it, and the centre's is as it was
+abbrev pub leaves_books : {e : Ends} → Used e → Bool
+leaves_books (CentreRelays now) = false
+leaves_books (Performs spans commands) = false
+leaves_books (Issues station command above is fits) = false
+leaves_books used = true
+
+-- of an event at that centre, or at none
+pub record Does (centre : Option ℕ) (moves : ℕ → List Move) (commands : List (ℕ × Command)) (old new : Ends) : Type 0 where
   pub touched : Touches old new
   pub moved : (i : ℕ) → moves_in touched.called i ≡ moves i
   pub issued : issued_in touched.used ≡ commands
+  pub books : centre ≡ None → leaves_books touched.used ≡ true
 
-abbrev Moved : (ℕ → List Move) → System → System → Type 0
-Moved moves old new = Does moves [] (ends_of old) (ends_of new)
+abbrev Moved : Option ℕ → (ℕ → List Move) → System → System → Type 0
+Moved centre moves old new = Does centre moves [] (ends_of old) (ends_of new)
 
 abbrev none : ℕ → List Move
 none i = []
 
 -- no outstation is called
-moved_none : (old new : System) (used : Used (ends_of old))
+moved_none : {o : Option ℕ} (old new : System) (used : Used (ends_of old)) → (o ≡ None → leaves_books used ≡ true)
     → ends_of new ≡ record (after_used (ends_of old) used) { outstations = map station_of old.substations }
-    → Does none (issued_in used) (ends_of old) (ends_of new)
-moved_none old new used after =
-    record { touched = record { called = Nobody; used = used; after = after }; moved = λ i. refl; issued = refl }
+    → Does o none (issued_in used) (ends_of old) (ends_of new)
+moved_none old new used books after =
+    record { touched = record { called = Nobody; used = used; after = after }; moved = λ i. refl; issued = refl; books = books }
 
 -- the lines, the moment, the history, the queue, the journal and readings above are others, and nothing else
-rests : (old new : System) → ends_of new ≡ ends_of old → Moved none old new
-rests old new same = moved_none old new Nothing same
+rests : {o : Option ℕ} (old new : System) → ends_of new ≡ ends_of old → Moved o none old new
+rests old new same = moved_none old new Nothing (λ _. refl) same
 
-same_system : (old new : System) → new ≡ old → Moved none old new
+same_system : {o : Option ℕ} (old new : System) → new ≡ old → Moved o none old new
 same_system old new same = rests old new (ap ends_of same)
 
 -- ---- parts of events
@@ -85,14 +95,15 @@ record IsCalled (moves : List Move) (was is : SubstationState) : Type 0 where
   after : station_of is ≡ after_call (station_of was) call
   moved : moves_of call ≡ moves
 
-changes_points : (moves : List Move)
+changes_points : {o : Option ℕ} (moves : List Move)
     → (station : ℕ) (Change : SubstationState → SubstationState → Type 0) (rest : SubstationState → SubstationState → System → System)
     (old new : System) (middle : ConcentratorState) (used : Used (ends_of old))
-    → issued_in used ≡ [] → ends_of (with_middle old middle) ≡ record (after_used (ends_of old) used) { outstations = map station_of old.substations }
+    → issued_in used ≡ [] → leaves_books used ≡ true
+    → ends_of (with_middle old middle) ≡ record (after_used (ends_of old) used) { outstations = map station_of old.substations }
     → ((was is : SubstationState) (s : System) → ends_of (rest was is s) ≡ ends_of s)
     → ((was is : SubstationState) → slice_get old.substations station ≡ Some was → Change was is → IsCalled moves was is)
-    → ChangesAt station Change rest (with_middle old middle) new → Moved (at_only station moves) old new
-changes_points moves station Change rest old new middle used nothing uses stays calls c =
+    → ChangesAt station Change rest (with_middle old middle) new → Moved o (at_only station moves) old new
+changes_points moves station Change rest old new middle used nothing books uses stays calls c =
     let x : IsCalled moves c.was c.is = calls c.was c.is c.there c.changed in
     record {
       touched = record {
@@ -105,47 +116,49 @@ changes_points moves station Change rest old new middle used nothing uses stays 
       };
       moved = λ i. ap (λ (moves : List Move). at_only station moves i) x.moved;
       issued = nothing;
+      books = λ _. books;
     }
 
 -- and its points stay as they are
-calm : (station : ℕ) (old new : System) → Moved (at_only station []) old new → Moved none old new
-calm station old new m = record { touched = m.touched; moved = λ i. m.moved i ∙ still (station == i); issued = m.issued }
+calm : {o : Option ℕ} (station : ℕ) (old new : System) → Moved o (at_only station []) old new → Moved o none old new
+calm station old new m = record { touched = m.touched; moved = λ i. m.moved i ∙ still (station == i); issued = m.issued; books = m.books }
   where
     still : (b : Bool) → (if b then (let moves : List Move = [] in moves) else []) ≡ []
     still true = refl
     still false = refl
 
-changes : (station : ℕ) (Change : SubstationState → SubstationState → Type 0) (rest : SubstationState → SubstationState → System → System)
+changes : {o : Option ℕ} (station : ℕ) (Change : SubstationState → SubstationState → Type 0) (rest : SubstationState → SubstationState → System → System)
     (old new : System) (middle : ConcentratorState) (used : Used (ends_of old))
-    → issued_in used ≡ [] → ends_of (with_middle old middle) ≡ record (after_used (ends_of old) used) { outstations = map station_of old.substations }
+    → issued_in used ≡ [] → leaves_books used ≡ true
+    → ends_of (with_middle old middle) ≡ record (after_used (ends_of old) used) { outstations = map station_of old.substations }
     → ((was is : SubstationState) (s : System) → ends_of (rest was is s) ≡ ends_of s)
     → ((was is : SubstationState) → slice_get old.substations station ≡ Some was → Change was is → IsCalled [] was is)
-    → ChangesAt station Change rest (with_middle old middle) new → Moved none old new
-changes station Change rest old new middle used nothing uses stays calls c =
-    calm station old new (changes_points [] station Change rest old new middle used nothing uses stays calls c)
+    → ChangesAt station Change rest (with_middle old middle) new → Moved o none old new
+changes station Change rest old new middle used nothing books uses stays calls c =
+    calm station old new (changes_points [] station Change rest old new middle used nothing books uses stays calls c)
 
 -- and no master is used
-calls_at : (station : ℕ) (Change : SubstationState → SubstationState → Type 0) (rest : SubstationState → SubstationState → System → System)
+calls_at : {o : Option ℕ} (station : ℕ) (Change : SubstationState → SubstationState → Type 0) (rest : SubstationState → SubstationState → System → System)
     (old new : System) → ((was is : SubstationState) (s : System) → ends_of (rest was is s) ≡ ends_of s)
     → ((was is : SubstationState) → slice_get old.substations station ≡ Some was → Change was is → IsCalled [] was is)
-    → ChangesAt station Change rest old new → Moved none old new
-calls_at station Change rest old new stays calls c = changes station Change rest old new old.concentrator Nothing refl refl stays calls c
+    → ChangesAt station Change rest old new → Moved o none old new
+calls_at station Change rest old new stays calls c = changes station Change rest old new old.concentrator Nothing refl refl refl stays calls c
 
 -- ---- events
 
-opens : (on : Link) (old new : System) → OpensOn on old new → Moved none old new
+opens : (on : Link) (old new : System) → OpensOn on old new → Moved (centre_of on) none old new
 opens (Below station) old new c =
-    changes station _ _ old new _ (LinkUsed station LinkOpens) refl refl (λ was is s. refl)
+    changes station _ _ old new _ (LinkUsed station LinkOpens) refl refl refl (λ was is s. refl)
     (λ was is there steps. record { call = Opens old.now; after = ap station_of steps.after; moved = refl }) c
-opens (Above centre) old new m = moved_none old new (CentreUsed LinkOpens) (ap ends_of m.after)
+opens (Above centre) old new m = moved_none old new (CentreUsed LinkOpens) (λ _. refl) (ap ends_of m.after)
 
-hangs_up : (on : Link) (e : End) (old new : System) → HangsUpOn on e old new → Moved none old new
+hangs_up : (on : Link) (e : End) (old new : System) → HangsUpOn on e old new → Moved (centre_of on) none old new
 hangs_up (Below station) end.Master old new c =
-    changes station _ _ old new _ (LinkUsed station LinkHangsUp) refl refl (λ was is s. refl)
+    changes station _ _ old new _ (LinkUsed station LinkHangsUp) refl refl refl (λ was is s. refl)
     (λ was is there after. record { call = Waits; after = ap station_of after; moved = refl }) c
 hangs_up (Below station) end.Outstation old new c =
     calls_at station _ _ old new (λ was is s. refl) (λ was is there after. record { call = HangsUp; after = ap station_of after; moved = refl }) c
-hangs_up (Above centre) end.Master old new after = moved_none old new (CentreUsed LinkHangsUp) (ap ends_of after)
+hangs_up (Above centre) end.Master old new after = moved_none old new (CentreUsed LinkHangsUp) (λ _. refl) (ap ends_of after)
 hangs_up (Above centre) end.Outstation old new after = rests old new (ap ends_of after)
 
 answers : (given : List (List ℕ)) (now : ℕ) (released : List Row) (was is : SubstationState) (lines : ChannelState)
@@ -153,42 +166,42 @@ answers : (given : List (List ℕ)) (now : ℕ) (released : List Row) (was is : 
 answers [] now released was is lines h = record { call = Waits; after = ap station_of h.1; moved = refl }
 answers (fragment ∷ others) now released was is lines h = record { call = Hears (panel_of was) now fragment; after = ap station_of h.1.after; moved = refl }
 
-middle_answers : (given : List (List ℕ)) (old new : System) → MiddleAnswers given old new → Moved none old new
-middle_answers [] old new same = same_system old new same
-middle_answers (fragment ∷ others) old new m =
+middle_answers : (centre : ℕ) (given : List (List ℕ)) (old new : System) → MiddleAnswers given old new → Moved (Some centre) none old new
+middle_answers centre [] old new same = same_system old new same
+middle_answers centre (fragment ∷ others) old new m =
     let c = old.concentrator in
     moved_none old new (Performs c.indices (performed_in c.core (middle_panel c old.now) old.now fragment))
-    (ap ends_of m.after)
+    (λ at. absurd (cc)) (ap ends_of m.after)
 
 receives : (on : Link) (now : ℕ) (fragment : List ℕ) (r : Result Taking MasterFault) (old new : System)
-    → receive_of (relaying_at old on).master now fragment ≡ r → MasterReceives on r old new → Moved none old new
-receives (Below station) now fragment (Ok t) old new is h = moved_none old new (LinkUsed station (LinkHears now fragment t is))
+    → receive_of (relaying_at old on).master now fragment ≡ r → MasterReceives on r old new → Moved (centre_of on) none old new
+receives (Below station) now fragment (Ok t) old new is h = moved_none old new (LinkUsed station (LinkHears now fragment t is)) (λ _. refl)
     (lines_same (Below station) _ (taken_on old (Below station) t) new h.1)
-receives (Above centre) now fragment (Ok t) old new is h = moved_none old new (CentreUsed (LinkHears now fragment t is))
+receives (Above centre) now fragment (Ok t) old new is h = moved_none old new (CentreUsed (LinkHears now fragment t is)) (λ _. refl)
     (ap ends_of h.1.1)
 receives on now fragment (Err fault) old new is same = same_system old new same
 
-takes : (on : Link) (given : List (List ℕ)) (old new : System) → MasterTakes on given old new → Moved none old new
+takes : (on : Link) (given : List (List ℕ)) (old new : System) → MasterTakes on given old new → Moved (centre_of on) none old new
 takes on [] old new same = same_system old new same
 takes on (fragment ∷ others) old new h = receives on old.now fragment _ old new refl h
 
-comes_up : (left : LineState → LineState) (on : Link) (old new : System) → ComesUp left on old new → Moved none old new
+comes_up : (left : LineState → LineState) (on : Link) (old new : System) → ComesUp left on old new → Moved (centre_of on) none old new
 comes_up left on old new c =
-    subst (λ (e : Ends). Does none [] e (ends_of new)) (lines_same on _ old c.between c.heard) (takes on c.given c.between new c.came)
+    subst (λ (e : Ends). Does (centre_of on) none [] e (ends_of new)) (lines_same on _ old c.between c.heard) (takes on c.given c.between new c.came)
 
-comes : (left : LineState → LineState) (on : Link) (w : Way) (old new : System) → ComesOn left on w old new → Moved none old new
+comes : (left : LineState → LineState) (on : Link) (w : Way) (old new : System) → ComesOn left on w old new → Moved (centre_of on) none old new
 comes left (Below station) way.Down old new c =
     calls_at station _ _ old new (λ was is s. refl)
     (λ was is there h. answers h.given old.now c.released was is _ h.came) c.came
-comes left (Above centre) way.Down old new c = middle_answers c.given (record old { above = _ }) new c.came
+comes left (Above centre) way.Down old new c = middle_answers centre c.given (record old { above = _ }) new c.came
 comes left (Below station) way.Up old new c = comes_up left (Below station) old new c
 comes left (Above centre) way.Up old new c = comes_up left (Above centre) old new c
 
 reads_by : (station : ℕ) (kind : Kind) (index : ℕ) (reading : Reading) (was : SubstationState) (r : Result (Option LaneRow) ChangeFault)
     (old new : System) → slice_get old.substations station ≡ Some was → answer_of was.core.points kind index reading ≡ r
-    → ReadsBy r station kind index reading was old new → Moved (at_only station (PointReads kind index reading ∷ [])) old new
+    → ReadsBy r station kind index reading was old new → Moved None (at_only station (PointReads kind index reading ∷ [])) old new
 reads_by station kind index reading was (Ok made) old new there is h =
-    changes_points (PointReads kind index reading ∷ []) station _ _ old new old.concentrator Nothing refl refl (λ x is s. refl)
+    changes_points (PointReads kind index reading ∷ []) station _ _ old new old.concentrator Nothing refl refl refl (λ x is s. refl)
     (λ x is at steps. record {
       call = Reads old.now kind index reading made;
       after = ap station_of steps.after
@@ -203,46 +216,47 @@ reads_by station kind index reading was (Err fault) old new there is same = reco
   };
   moved = λ i. refl;
   issued = refl;
+  books = λ _. refl;
 }
 
 moved_by_reading : (station : ℕ) (kind : Kind) (index : ℕ) (reading : Reading) (old new : System) → system.Reads station kind index reading old new
-    → Moved (at_only station (PointReads kind index reading ∷ [])) old new
+    → Moved None (at_only station (PointReads kind index reading ∷ [])) old new
 moved_by_reading station kind index reading old new c =
     reads_by station kind index reading c.was (answer_of c.was.core.points kind index reading) old new c.there refl c.reads
 
-asks : (own : Bool) (on : Link) (task : Task) (old new : System) → AsksOn own on task old new → Moved none old new
-asks true (Below station) task old new c = moved_none old new (LinkUsed station (LinkAsks old.now task))
+asks : (own : Bool) (on : Link) (task : Task) (old new : System) → AsksOn own on task old new → Moved (centre_of on) none old new
+asks true (Below station) task old new c = moved_none old new (LinkUsed station (LinkAsks old.now task)) (λ _. refl)
     (lines_same (Below station) _ (with_link old station _) new c)
-asks true (Above centre) task old new c = moved_none old new (CentreUsed (LinkAsks old.now task))
+asks true (Above centre) task old new c = moved_none old new (CentreUsed (LinkAsks old.now task)) (λ _. refl)
     (ap ends_of c.1)
 asks false on task old new same = same_system old new same
 
-issues : (o : Option Command) (station : ℕ) (command : Command) (old new : System) → command_above old.centre.indices station command ≡ o
+issues : (centre : ℕ) (o : Option Command) (station : ℕ) (command : Command) (old new : System) → command_above old.centre.indices station command ≡ o
     → IssuesBy o station command old new
-    → Does none (if is_some o then (station, command) ∷ [] else []) (ends_of old) (ends_of new)
-issues None station command old new is same = same_system old new same
-issues (Some above) station command old new is h =
-    moved_none old new (Issues station command above is h.1) (ap ends_of h.2)
+    → Does (Some centre) none (if is_some o then (station, command) ∷ [] else []) (ends_of old) (ends_of new)
+issues centre None station command old new is same = same_system old new same
+issues centre (Some above) station command old new is h =
+    moved_none old new (Issues station command above is h.1) (λ at. absurd (cc)) (ap ends_of h.2)
 
-relays : (on : Link) (old new : System) → RelaysOn on old new → Moved none old new
-relays (Below station) old new (Steps pending sends) = moved_none old new (LinkRelays station old.now)
+relays : (on : Link) (old new : System) → RelaysOn on old new → Moved (centre_of on) none old new
+relays (Below station) old new (Steps pending sends) = moved_none old new (LinkRelays station old.now) (λ _. refl)
     (lines_same (Below station) _ (with_link (told old (Below station) (step_on old (Below station))) station _) new sends)
-relays (Above centre) old new (Steps pending sends) = moved_none old new (CentreRelays old.now)
+relays (Above centre) old new (Steps pending sends) = moved_none old new (CentreRelays old.now) (λ at. absurd (cc))
     (ap ends_of sends.1)
 relays on old new (Refuses refused same) = same_system old new same
 
-master_ticks : (on : Link) (old new : System) → MasterTicks on old new → Moved none old new
+master_ticks : (on : Link) (old new : System) → MasterTicks on old new → Moved (centre_of on) none old new
 master_ticks (Below station) old new after = by _ after
   where
     ticked : System
     ticked = with_link old station (relaying.ticked (link_at old.concentrator station) old.now)
 
-    by : (b : Bool) → new ≡ (if b then with_lost ticked station else ticked) → Moved none old new
-    by true is = moved_none old new (LinkUsed station (LinkTicks old.now)) (ap ends_of is)
-    by false is = moved_none old new (LinkUsed station (LinkTicks old.now)) (ap ends_of is)
-master_ticks (Above centre) old new after = moved_none old new (CentreUsed (LinkTicks old.now)) (ap ends_of after)
+    by : (b : Bool) → new ≡ (if b then with_lost ticked station else ticked) → Moved None none old new
+    by true is = moved_none old new (LinkUsed station (LinkTicks old.now)) (λ _. refl) (ap ends_of is)
+    by false is = moved_none old new (LinkUsed station (LinkTicks old.now)) (λ _. refl) (ap ends_of is)
+master_ticks (Above centre) old new after = moved_none old new (CentreUsed (LinkTicks old.now)) (λ _. refl) (ap ends_of after)
 
-ticks : (on : Link) (old new : System) → OutstationTicks on old new → Moved none old new
+ticks : (on : Link) (old new : System) → OutstationTicks on old new → Moved (centre_of on) none old new
 ticks (Below station) old new c =
     calls_at station _ _ old new (λ was is s. refl) (λ was is there steps. record { call = Ticks old.now; after = ap station_of steps.after; moved = refl }) c
 ticks (Above centre) old new m = rests old new (ap ends_of m.after)
@@ -251,18 +265,18 @@ gone_same : (xs : List SubstationState) → map station_of (map master_gone xs) 
 gone_same [] = refl
 gone_same (x ∷ xs) = ap (λ (ys : List State). station_of x ∷ ys) (gone_same xs)
 
-if_there : (b : Bool) (Change : System → System → Type 0) (old new : System) → (Change old new → Moved none old new) → IfThere b Change old new
-    → Moved none old new
+if_there : {o : Option ℕ} (b : Bool) (Change : System → System → Type 0) (old new : System) → (Change old new → Moved o none old new)
+    → IfThere b Change old new → Moved o none old new
 if_there true Change old new touched h = touched h
 if_there false Change old new touched same = same_system old new same
 
-if_moved : (b : Bool) (Change : System → System → Type 0) (station : ℕ) (moves : List Move) (old new : System)
-    → (Change old new → Moved (at_only station moves) old new) → IfThere b Change old new
-    → Moved (λ i. if b && station == i then moves else []) old new
+if_moved : {o : Option ℕ} (b : Bool) (Change : System → System → Type 0) (station : ℕ) (moves : List Move) (old new : System)
+    → (Change old new → Moved o (at_only station moves) old new) → IfThere b Change old new
+    → Moved o (λ i. if b && station == i then moves else []) old new
 if_moved true Change station moves old new moved h = moved h
 if_moved false Change station moves old new moved same = same_system old new same
 
-pub does : (old new : System) (e : Event) → Happens old e new → Does (moves_at old e) (issued_by old e) (ends_of old) (ends_of new)
+pub does : (old new : System) (e : Event) → Happens old e new → Does (centre_at e) (moves_at old e) (issued_by old e) (ends_of old) (ends_of new)
 does old new (event.Open on) h = if_there (has_link old on) (OpensOn on) old new (opens on old new) h
 does old new (event.HangUp on e) h = if_there (has_link old on) (HangsUpOn on e) old new (hangs_up on e old new) h
 does old new (event.Deliver on w) h = if_there (has_link old on) (ComesOn delivered_on on w) old new (comes delivered_on on w old new) h
@@ -273,17 +287,18 @@ does old new (event.Change station kind index reading) h =
     if_moved (has_station old station) (system.Reads station kind index reading) station (PointReads kind index reading ∷ []) old new
     (moved_by_reading station kind index reading old new) h
 does old new (event.Ask on task) h = if_there (has_link old on) (AsksOn (is_own task) on task) old new (asks (is_own task) on task old new) h
-does old new (event.Issue centre station command) h = issues (command_above old.centre.indices station command) station command old new refl h
+does old new (event.Issue centre station command) h = issues centre (command_above old.centre.indices station command) station command old new refl h
 does old new (event.Relay on) h = if_there (has_link old on) (RelaysOn on) old new (relays on old new) h
 does old new (event.Pass ms) h = rests old new (ap ends_of h)
 does old new (event.Tick on end.Master) h = if_there (has_link old on) (MasterTicks on) old new (master_ticks on old new) h
 does old new (event.Tick on end.Outstation) h = if_there (has_link old on) (OutstationTicks on) old new (ticks on old new) h
 does old new (event.Restart (place.Centre centre)) h = hangs_up (Above centre) end.Master old new h
-does old new (event.Restart place.Concentrator) h = moved_none old new (AllHangUp)
+does old new (event.Restart place.Concentrator) h = moved_none old new AllHangUp (λ _. refl)
     (ap ends_of h ∙ ap (λ (xs : List State). record (after_used (ends_of old) AllHangUp) { outstations = xs }) (gone_same old.substations))
 does old new (event.Restart (place.Substation station)) h =
     if_moved (has_station old station) (SubstationRestarts station) station (PointsRestart ∷ []) old new
-    (changes_points (PointsRestart ∷ []) station _ _ old new old.concentrator Nothing refl refl (λ was is s. refl) (λ was is there after. record { call = Restarts; after = ap station_of after; moved = refl })) h
+    (changes_points (PointsRestart ∷ []) station _ _ old new old.concentrator Nothing refl refl refl (λ was is s. refl)
+    (λ was is there after. record { call = Restarts; after = ap station_of after; moved = refl })) h
 
 pub touches : (old new : System) (e : Event) → Happens old e new → Touched old new
 touches old new e h = (does old new e h).touched

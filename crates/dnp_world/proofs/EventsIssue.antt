@@ -1,17 +1,16 @@
 -- What lists of events issue.
 use Rattle.std.proofs.Common.{◌≡◌, ℕ, zero, suc, Bool, true, false, Option, Some, None, arith, List, [], ◌∷◌, ◌++◌, append-nil, append_assoc, take, Result, is_some, if◌then◌else◌, inl, inr, refl, sym, ap, ◌∙◌}
-use Rattle.std.specs.Prelude.{⊤, nat_lt}
+use Rattle.std.specs.Prelude.{⊤}
 use Rattle.std.specs.List.{All, flat_map}
-use Rattle.std.proofs.lemmas.List.Elements.{All-head, All-tail}
+use Rattle.std.proofs.lemmas.List.Elements.{All-head, All-tail, All-take}
 use Rattle.dnp_concentrator.specs.Mapped.{command_above}
 use Rattle.dnp_concentrator.specs.declared.span.Spans.{Spans}
 use Rattle.dnp_eventbuf.specs.Sides.{ForEach}
-use Rattle.dnp_eventbuf.specs.declared.pair.TheConstants.{CENTRES}
 use Rattle.dnp_objects.specs.declared.command.Command.{Command}
 use Rattle.dnp_world.specs.Controls.{ControlEnds}
 use Rattle.dnp_world.specs.Rounds.{IsRound, StopsInRound}
 use Rattle.dnp_world.specs.BothSteady.{Issues, issued_by}
-use Rattle.dnp_world.specs.Centres.{ChangesAll, HappensToAll, SeesElsewhere, centre_at, centre_of, is_there, may_stop, seen_at}
+use Rattle.dnp_world.specs.Centres.{ChangesAll, HappensToAll, centre_at, centre_of, is_there, may_stop, seen_at}
 use Rattle.dnp_world.specs.Steady as one
 use Rattle.dnp_world.specs.SystemRuns.{CountsFor, Happens, IfThere, RunsTo, StopsAfter}
 use Rattle.dnp_world.specs.Systems.{System}
@@ -20,9 +19,9 @@ use Rattle.dnp_world.specs.declared.event.Event.{Event}
 use Rattle.dnp_world.specs.declared.event.Event.TheVariants as event
 use Rattle.dnp_world.specs.declared.event.Link.{Link}
 use Rattle.dnp_world.specs.declared.round_fault.ControlFault.{ControlFault}
-use Rattle.dnp_world.proofs.EachCentre.{for_both, no_such}
+use Rattle.dnp_world.proofs.EachCentre.{by_place, for_both, no_such}
 use Rattle.dnp_world.proofs.EventTouches.{Does, does}
-use Rattle.dnp_world.proofs.Lasting.{all_taken, control_leaves, ran_round}
+use Rattle.dnp_world.proofs.Lasting.{control_leaves, ran_round}
 use Rattle.dnp_world.proofs.SystemControls.{IsOfControl}
 use Rattle.dnp_world.proofs.SystemRounds.{IsOfRound, Ran, StopsIn, stops_round}
 use Rattle.dnp_world.proofs.SystemRuns.{at_a_stop}
@@ -40,7 +39,7 @@ same_map e used = refl
 
 event_issues : (old new : System) (e : Event) → Happens old e new → new.history.issued ≡ old.history.issued ++ one.issued_by old e
 event_issues old new e h =
-    let d : Does _ (one.issued_by old e) (ends_of old) (ends_of new) = does old new e h in
+    let d : Does _ _ (one.issued_by old e) (ends_of old) (ends_of new) = does old new e h in
     ap (λ (x : Ends). x.issued) d.touched.after
     ∙ used_issues (ends_of old) d.touched.used
     ∙ ap (λ (commands : List (ℕ × Command)). old.history.issued ++ commands) d.issued
@@ -56,36 +55,26 @@ whole_issues : (old new : Whole) (e : Event) (o : Option ℕ) → IfThere (is_th
 whole_issues old new e None h = event_issues (seen_by 0 old) (seen_by 0 new) e (h 0 (omega arith))
 whole_issues old new e (Some zero) h = event_issues (seen_by 0 old) (seen_by 0 new) e (h 0 (omega arith))
 whole_issues old new e (Some (suc zero)) h = event_issues (seen_by 1 old) (seen_by 1 new) e (h 1 (omega arith))
-whole_issues old new e (Some (suc (suc n))) h = by (nat_lt (suc (suc n)) CENTRES) (no_such n) h
-  where
-    by : (b : Bool) → b ≡ false → IfThere b (ChangesAll (Some (suc (suc n))) (λ s t. Happens s e t)) old new
-        → new.history.issued ≡ old.history.issued ++ (if b then one.issued_by (seen_at (Some (suc (suc n))) old) e else [])
-    by true is change = absurd (cc)
-    by false is same = ap (λ (w : Whole). w.history.issued) same ∙ sym (append-nil old.history.issued)
+whole_issues old new e (Some (suc (suc n))) h =
+    rw (no_such n) (ap (λ (w : Whole). w.history.issued) (rw (no_such n) at h) ∙ sym (append-nil old.history.issued))
 
 -- no centre's index map changes
 keeps_map : (old next : System) (e : Event) → Happens old e next → next.centre.indices ≡ old.centre.indices
 keeps_map old next e h =
-    let d : Does _ (one.issued_by old e) (ends_of old) (ends_of next) = does old next e h in
+    let d : Does _ _ (one.issued_by old e) (ends_of old) (ends_of next) = does old next e h in
     ap (λ (x : Ends). x.centre_indices) d.touched.after ∙ same_map (ends_of old) d.touched.used
 
 abbrev KeepMaps : Whole → Whole → Type 0
 KeepMaps old next = ForEach (λ centre. (seen_by centre next).centre.indices ≡ (seen_by centre old).centre.indices)
 
-maps_kept : (old next : Whole) (e : Event) (o : Option ℕ) → IfThere (is_there o) (ChangesAll o (λ s t. Happens s e t)) old next → KeepMaps old next
-maps_kept old next e None h =
-    for_both _ (keeps_map (seen_by 0 old) (seen_by 0 next) e (h 0 (omega arith))) (keeps_map (seen_by 1 old) (seen_by 1 next) e (h 1 (omega arith)))
-maps_kept old next e (Some zero) h =
-    for_both _ (keeps_map (seen_by 0 old) (seen_by 0 next) e (h 0 (omega arith)))
-    (let x : SeesElsewhere (seen_by 1 old) (seen_by 1 next) = h 1 (omega arith) in ap (λ (s : System). s.centre.indices) x.after)
-maps_kept old next e (Some (suc zero)) h =
-    for_both _ (let x : SeesElsewhere (seen_by 0 old) (seen_by 0 next) = h 0 (omega arith) in ap (λ (s : System). s.centre.indices) x.after)
-    (keeps_map (seen_by 1 old) (seen_by 1 next) e (h 1 (omega arith)))
-maps_kept old next e (Some (suc (suc n))) h = by (nat_lt (suc (suc n)) CENTRES) (no_such n) h
-  where
-    by : (b : Bool) → b ≡ false → IfThere b (ChangesAll (Some (suc (suc n))) (λ s t. Happens s e t)) old next → KeepMaps old next
-    by true is change = absurd (cc)
-    by false is same = λ centre low. ap (λ (w : Whole). (seen_by centre w).centre.indices) same
+maps_kept : (old next : Whole) (e : Event) → HappensToAll old e next → KeepMaps old next
+maps_kept old next e h =
+    let at_first = keeps_map (seen_by 0 old) (seen_by 0 next) e in
+    let at_second = keeps_map (seen_by 1 old) (seen_by 1 next) e in
+    by_place (KeepMaps old next) (λ s t. Happens s e t) (centre_at e) old next (λ at first second. for_both _ (at_first first) (at_second second))
+    (λ at first second. for_both _ (at_first first) (ap (λ (s : System). s.centre.indices) second.after))
+    (λ at first second. for_both _ (ap (λ (s : System). s.centre.indices) first.after) (at_second second))
+    (λ n at same. λ centre low. ap (λ (w : Whole). (seen_by centre w).centre.indices) same) h
 
 -- ---- lists of events
 
@@ -98,12 +87,7 @@ issued_alike : (old next : Whole) → KeepMaps old next → (e : Event) (o : Opt
 issued_alike old next same e None = by_map (seen_by 0 old) (seen_by 0 next) (same 0 (omega arith)) e
 issued_alike old next same e (Some zero) = by_map (seen_by 0 old) (seen_by 0 next) (same 0 (omega arith)) e
 issued_alike old next same e (Some (suc zero)) = by_map (seen_by 1 old) (seen_by 1 next) (same 1 (omega arith)) e
-issued_alike old next same e (Some (suc (suc n))) = by (nat_lt (suc (suc n)) CENTRES) (no_such n)
-  where
-    by : (b : Bool) → b ≡ false
-        → (if b then one.issued_by (seen_at (Some (suc (suc n))) next) e else []) ≡ (if b then one.issued_by (seen_at (Some (suc (suc n))) old) e else [])
-    by true is = absurd (cc)
-    by false is = refl
+issued_alike old next same e (Some (suc (suc n))) = rw (no_such n)
 
 all_by_map : (old next : Whole) → KeepMaps old next → (events : List Event)
     → flat_map (issued_by next) events ≡ flat_map (issued_by old) events
@@ -119,7 +103,7 @@ ran_issues (e ∷ events) old new (next, h, ran) =
     ∙ ap (λ (commands : List (ℕ × Command)). commands ++ flat_map (issued_by next) events) (whole_issues old next e (centre_at e) h)
     ∙ append_assoc old.history.issued (issued_by old e) (flat_map (issued_by next) events)
     ∙ ap (λ (commands : List (ℕ × Command)). old.history.issued ++ (issued_by old e ++ commands))
-    (all_by_map old next (maps_kept old next e (centre_at e) h) events)
+    (all_by_map old next (maps_kept old next e h) events)
 
 -- no event but one that issues does
 either_none : (b : Bool) → (if b then (let none : List (ℕ × Command) = [] in none) else []) ≡ []
@@ -165,7 +149,7 @@ ran_none P none old new r = nothing_after P none r.events r.all old new (ran_iss
 stop_none : (P : Event → Type 0) → ((e : Event) → P e → (s : Whole) → issued_by s e ≡ []) → (old new : Whole) → StopsIn P old new
     → new.history.issued ≡ old.history.issued
 stop_none P none old new r =
-    nothing_after P none (take r.done r.events) (all_taken P r.done r.events r.all) old new
+    nothing_after P none (take r.done r.events) (All-take P r.done r.events r.all) old new
     (so_far_issues (take r.done r.events) old r.stops.before new r.stops.event r.stops.ran r.stops.counts)
 
 of_round : (on : Link) (e : Event) → IsOfRound on e → (s : Whole) → issued_by s e ≡ []

@@ -1,12 +1,13 @@
 -- What holds of a system's lists where links of the law stand behind them.
-use Rattle.std.proofs.Common.{◌≡◌, ℕ, ◌+◌, ◌<◌, ◌≤◌, ◌⊎◌, inl, inr, Bool, true, false, not, cond, List, [], ◌∷◌, ◌++◌, length, refl, sym, ap, ◌∙◌, subst, arith}
+use Rattle.std.proofs.Common.{◌≡◌, ℕ, ◌+◌, ◌<◌, ◌≤◌, ◌⊎◌, inl, inr, Bool, true, not, List, ◌++◌, length, refl, sym, ap, ◌∙◌, subst, arith}
 use Rattle.std.specs.Prelude.{nat_eq}
 use Rattle.std.specs.List.{All, Contains, count_by}
 use Rattle.std.specs.List.Sorted.{IsPermutation}
 use Rattle.std.proofs.lemmas.Bool.{cases_lt}
 use Rattle.std.proofs.lemmas.List.{map-append, length-map}
-use Rattle.std.proofs.lemmas.List.Sums.{count_by-le-length}
+use Rattle.std.proofs.lemmas.List.Sums.{count_by-le-length, length-filter}
 use Rattle.std.proofs.lemmas.List.Elements.{All-weaker, All-contains_itself, filter_map-append}
+use Rattle.std.proofs.lemmas.List.Filters.{length-filter_both}
 use Rattle.dnp_objects.specs.declared.row.Row.{Row}
 use Rattle.dnp_objects.specs.Counts.{IsCoveredBy}
 use Rattle.dnp_objects.specs.Equality.{row_eq, command_eq, pair_eq}
@@ -20,7 +21,7 @@ use Rattle.dnp_world.specs.Link.{Link}
 use Rattle.dnp_world.specs.Reports.{Holds, happened, times}
 use Rattle.dnp_world.specs.Standing.{Stands}
 use Rattle.dnp_world.specs.Stations.{of_station, HasSameCounts}
-use Rattle.dnp_world.proofs.Counting.{count_by-append, count_by-cons}
+use Rattle.dnp_world.proofs.Counting.{count_by-append}
 use Rattle.dnp_world.proofs.ByStations.{Covers, count_pair, covered_by_stations, contains_counts, some_there}
 use Rattle.dnp_world.proofs.SystemCounts.{count_by-filter_map, passes, picked, counted_all, same_map, same_permutation, covered_filter_map, of_station-append}
 
@@ -175,15 +176,11 @@ queue_mapped laws indices links k b =
     (λ test. omega (arith, stood_counts laws l b.above_stands test, b.queue.same test))
     (λ test. omega (arith, least test (rows_of l.released), least test (rows_of l.left)))
 
-each_once : (b : Bool) → cond b 1 0 + cond (not b) 1 0 ≡ 1
-each_once true = refl
-each_once false = refl
-
 -- each row passes a test or doesn't
 both_counts : (test : Row → Bool) (rows : List Row) → count_by test rows + count_by (λ row. not (test row)) rows ≡ length rows
-both_counts test [] = refl
-both_counts test (row ∷ rows) =
-    omega (arith, count_by-cons test row rows, count_by-cons (λ x. not (test x)) row rows, each_once (test row), both_counts test rows)
+both_counts test rows =
+    let other : Row → Bool = λ row. not (test row) in
+    omega (arith, length-filter_both test other (λ row. refl) rows, length-filter test rows, length-filter other rows)
 
 -- what was taken above stood in the queue
 pub journal_mapped : LinkLaws → (indices : List Spans) {el : Elsewhere} (links : Links) (k : Kept) → IsBehind indices el links k

@@ -1,8 +1,8 @@
 -- What a list of events makes of the points of a link, and which rows they make.
-use Rattle.std.proofs.Common.{◌≡◌, ℕ, suc, zero, ◌-◌, ◌&&◌, Bool, true, false, if◌then◌else◌, List, [], ◌∷◌, ◌++◌, Option, Some, None, Result, Ok, Err, option_to_list, refl, sym, ap, ◌∙◌, append_assoc, slice_set, slice_index_or}
+use Rattle.std.proofs.Common.{◌≡◌, ℕ, suc, zero, ◌-◌, ◌&&◌, Bool, true, false, if◌then◌else◌, List, [], ◌∷◌, ◌++◌, Option, Some, None, Result, Ok, Err, option_to_list, refl, sym, ap, ◌∙◌, append_assoc}
 use Rattle.std.specs.Prelude.{slice_get}
 use Rattle.std.specs.List.{flat_map}
-use Rattle.std.proofs.lemmas.List.{map-append}
+use Rattle.std.proofs.lemmas.List.{map-append, set-get_or}
 use Rattle.dnp_objects.specs.declared.lane.LaneRow.{LaneRow}
 use Rattle.dnp_objects.specs.declared.row.Kind.{Kind}
 use Rattle.dnp_objects.specs.declared.row.Row.{Row}
@@ -54,15 +54,11 @@ made_behind database e events =
 
 -- ---- a change that is refused leaves the points as they are
 
-set_same : {A : Type 0} (xs : List A) (n : ℕ) (d : A) → slice_set xs n (slice_index_or xs n d) ≡ xs
-set_same [] n d = refl
-set_same (x ∷ xs) zero d = refl
-set_same (x ∷ xs) (suc n) d = ap (λ ys. x ∷ ys) (set_same xs n d)
-
 same_blocks : (database : Database) (kind : Kind) (blocks : List BlockState) → blocks ≡ blocks_of database kind
     → with_blocks database kind blocks ≡ database
 same_blocks database kind blocks e =
-    ap (with_blocks database kind) e ∙ ap (λ (banks : List (List BlockState)). let d : Database = record { banks = banks } in d) (set_same database.banks (kind_number kind) [])
+    ap (with_blocks database kind) e ∙ ap (λ (banks : List (List BlockState)). let d : Database = record { banks = banks } in d)
+    (set-get_or database.banks (kind_number kind) [])
 
 none_updated : (change : PointState → PointState) (points : List PointState) (place : ℕ) → slice_get points place ≡ None
     → updated change points place ≡ points

@@ -1,14 +1,15 @@
 -- The ways of a link, event by event: what `dnp_line` says of them, over the lines and ports of the link.
-use Rattle.std.proofs.Common.{◌≡◌, ℕ, Bool, true, false, List, [], ◌∷◌, ◌++◌, length, drop, Option, Some, None, refl, sym, ap, ◌∙◌, subst, append_assoc, append-nil}
+use Rattle.std.proofs.Common.{◌≡◌, ℕ, Bool, true, false, List, [], ◌∷◌, ◌++◌, length, Option, Some, None, refl, sym, ap, ◌∙◌, subst, append_assoc, append-nil}
 use Rattle.std.specs.Prelude.{if◌then◌else◌}
+use Rattle.std.proofs.lemmas.List.{append_cancel_left}
 use Rattle.dnp_linkstation.specs.Station.{ends}
 use Rattle.dnp_linkstation.specs.declared.station.LinkStation.{LinkStation}
 use Rattle.dnp_transport.specs.Assembly.{Assembly}
 use Rattle.dnp_transport.specs.Cuts.{cut_count}
-use Rattle.dnp_line.specs.Flows.{AreFacing, Flows, MayGive, Nothing, One, RestMoves}
+use Rattle.dnp_line.specs.Flows.{Flows, MayGive, Nothing, One, RestMoves}
 use Rattle.dnp_line.specs.Lines.{LineState, front_of, delivered_on, repeated_on, lost_on, cleared_on, Damages}
 use Rattle.dnp_line.specs.Ports.{PortState, moved_on, reset_of}
-use Rattle.dnp_line.specs.Ways.{Way, WayEvent, Send, Deliver, Repeat, Lose, Damage, Clear, SenderReset, WayBack, Happens, Brings, opened_on, AFrame, NoFrame, HearsIfAny, all_sent_on}
+use Rattle.dnp_line.specs.Ways.{Way, WayEvent, Send, Deliver, Repeat, Lose, Damage, Clear, SenderReset, WayBack, Happens, Brings, AFrame, NoFrame, HearsIfAny, all_sent_on}
 use Rattle.dnp_world.specs.Joined.{Carries}
 use Rattle.dnp_world.specs.Channels.{IsSent, AreSent}
 use Rattle.dnp_world.specs.steps.MoveLaws.{LineLaws}
@@ -137,16 +138,12 @@ heard_behind (Some unit) old new g given (NoFrame never same e) =
 -- ---- what it gives
 
 -- after what was given before, as after nothing
-same_behind : {X : Type 0} (xs ys zs : List X) → xs ++ ys ≡ xs ++ zs → ys ≡ zs
-same_behind [] ys zs e = e
-same_behind (x ∷ xs) ys zs e = same_behind xs ys zs (ap (λ (l : List _). drop 1 l) e)
-
 behind_none : {X : Type 0} (xs ys : List X) → xs ++ ys ≡ xs → ys ≡ []
-behind_none xs ys e = same_behind xs ys [] (e ∙ sym (append-nil xs))
+behind_none xs ys e = append_cancel_left xs ys [] (e ∙ sym (append-nil xs))
 
 gives_anew : (rest g rest' given : List (List ℕ)) → MayGive rest g rest' (g ++ given) → MayGive rest [] rest' given
 gives_anew rest g rest' given (Nothing e f) = Nothing e (behind_none g given f)
-gives_anew rest g rest' given (One n fragment at e f) = One n fragment at e (same_behind g given (fragment ∷ []) f)
+gives_anew rest g rest' given (One n fragment at e f) = One n fragment at e (append_cancel_left g given (fragment ∷ []) f)
 
 -- what may still come then
 pub record Came (line : LineState) (sender receiver : PortState) (is_open : Bool) (rest given : List (List ℕ)) : Type 0 where

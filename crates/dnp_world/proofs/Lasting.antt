@@ -1,8 +1,9 @@
 -- Lists of events over a whole system that is steady to both centres.
-use Rattle.std.proofs.Common.{◌≡◌, ℕ, zero, suc, List, [], ◌∷◌, ◌++◌, take, Option, Some, None, Result, Ok, Err, inl, inr, refl, sym, subst, arith, append-nil, append_assoc, ap, ◌∙◌}
+use Rattle.std.proofs.Common.{◌≡◌, ℕ, List, [], ◌∷◌, ◌++◌, take, Option, Some, None, Result, Ok, Err, inl, inr, refl, sym, subst, arith, append-nil, append_assoc, ap, ◌∙◌}
 use Rattle.std.specs.Prelude.{◌≢◌, All, IfErr, OnOk, ⊤}
 use Rattle.std.proofs.Math.Logic.{∥∥₁_elim, ∥∥₁_map}
 use Rattle.std.proofs.Props.{props}
+use Rattle.std.proofs.lemmas.List.Elements.{All-head, All-tail, All-take}
 use Rattle.dnp_objects.specs.declared.row.Row.{Row}
 use Rattle.dnp_world.specs.BothSteady.{AreSteady, GoesOn, IsFateOfAll, Lasts}
 use Rattle.dnp_world.specs.Centres.{HappensToAll, may_stop}
@@ -88,13 +89,8 @@ stops laws e old new s counts =
 -- what a list made, and nothing after it
 goes_then : LastingLaws → (made : ℕ → List Row) (old mid new : Whole) → GoesOn made old mid → GoesOn (λ i. []) mid new
     → GoesOn made old new
-goes_then laws made old mid new f g = record {
-  steady = g.steady;
-  fate = λ centre low.
-      fate_as (λ i. made i ++ []) made (report_of (seen_by centre old)) (report_of (seen_by centre new)) (λ i. append-nil (made i))
-      (laws.joined made (λ i. []) (report_of (seen_by centre old)) (report_of (seen_by centre mid)) (report_of (seen_by centre new))
-      (f.fate centre low) (g.fate centre low));
-}
+goes_then laws made old mid new f g =
+    goes_as (λ i. made i ++ []) made old new (λ i. append-nil (made i)) (goes_on laws made (λ i. []) old mid new f g)
 
 pub goes_stopped : LastingLaws → (events : List Event) (done : ℕ) (old new : Whole) → AreSteady old
     → (stop : StopsAfter HappensToAll may_stop old events done new) → GoesOn (made_by old (take done events)) old new
@@ -147,29 +143,18 @@ lasts_on laws old mid new first second ran one two centre low =
 
 -- ---- events that make no row
 
-pub all_taken : {A : Type 0} (P : A → Type 0) (n : ℕ) (xs : List A) → All P xs → All P (take n xs)
-all_taken P zero xs all k d low = absurd (omega (arith, low))
-all_taken P (suc n) [] all k d low = absurd (omega (arith, low))
-all_taken P (suc n) (x ∷ xs) all zero d low = all zero d (omega arith)
-all_taken P (suc n) (x ∷ xs) all (suc k) d low =
-    all_taken P n xs (λ j e lt. all (suc j) e (omega (arith, lt))) k d (omega (arith, low))
-
 -- such events make none, in whatever system
 abbrev MakeNone : (Event → Type 0) → Type 0
 MakeNone P = (e : Event) → P e → (s : Whole) (i : ℕ) → made_by s (e ∷ []) i ≡ []
-
-one_calm : LastingLaws → (P : Event → Type 0) → MakeNone P → (e : Event) → P e → (old new : Whole) → AreSteady old → HappensToAll old e new
-    → GoesOn (λ i. []) old new
-one_calm laws P none e is old new s h =
-    goes_as (made_by old (e ∷ [])) (λ i. []) old new (none e is old) (laws.goes old new e s h)
 
 pub calm : LastingLaws → (P : Event → Type 0) → MakeNone P → (events : List Event) → All P events → (old new : Whole) → AreSteady old
     → RunsTo HappensToAll old events new → GoesOn (λ i. []) old new
 calm laws P none [] all old new s same = rests old new s same
 calm laws P none (e ∷ events) all old new s (next, h, ran) =
-    let first : GoesOn (λ i. []) old next = one_calm laws P none e (all zero e (omega arith)) old next s h in
+    let first : GoesOn (λ i. []) old next =
+    goes_as (made_by old (e ∷ [])) (λ i. []) old next (none e (All-head P e events all) old) (laws.goes old next e s h) in
     goes_on laws (λ i. []) (λ i. []) old next new first
-    (calm laws P none events (λ k d low. all (suc k) d (omega (arith, low))) next new first.steady ran)
+    (calm laws P none events (All-tail P e events all) next new first.steady ran)
 
 pub calm_run : LastingLaws → (P : Event → Type 0) → MakeNone P → (old new : Whole) → AreSteady old → Ran P old new
     → GoesOn (λ i. []) old new
@@ -179,7 +164,7 @@ pub calm_stop : LastingLaws → (P : Event → Type 0) → MakeNone P → (old n
     → GoesOn (λ i. []) old new
 calm_stop laws P none old new s r =
     let first : GoesOn (λ i. []) old r.stops.before =
-    calm laws P none (take r.done r.events) (all_taken P r.done r.events r.all) old r.stops.before s r.stops.ran in
+    calm laws P none (take r.done r.events) (All-take P r.done r.events r.all) old r.stops.before s r.stops.ran in
     goes_on laws (λ i. []) (λ i. []) old r.stops.before new first (stops laws r.stops.event r.stops.before new first.steady r.stops.counts)
 
 -- ---- rounds and controls
@@ -258,19 +243,6 @@ pub steady_after : (events : List Event) (old new : Whole) (r : Result ⊤ Stopp
     → OnOk r (RunsTo HappensToAll old events new) → IfErr r (λ stopped. StopsAfter HappensToAll may_stop old events stopped.done new) → ∥ AreSteady new ∥₁
 steady_after events old new (Ok done) ran stopped some all stop = ∥∥₁_map some (λ s. ran s all)
 steady_after events old new (Err stopped_by) ran stopped some all stop = ∥∥₁_map some (λ s. stopped stopped_by.done s stop)
-
--- what it made, where it was done and where it stopped
-pub lasts_if_done : (events : List Event) (old new : Whole) (r : Result ⊤ Stopped)
-    → (∥ AreSteady old ∥₁ → RunsTo HappensToAll old events new → Lasts events old new) → ∥ AreSteady old ∥₁ → OnOk r (RunsTo HappensToAll old events new)
-    → OnOk r (Lasts events old new)
-lasts_if_done events old new (Ok done) ran some all = ran some all
-lasts_if_done events old new (Err stopped_by) ran some all = all
-
-pub lasts_if_stopped : (events : List Event) (old new : Whole) (r : Result ⊤ Stopped)
-    → ((done : ℕ) → ∥ AreSteady old ∥₁ → StopsAfter HappensToAll may_stop old events done new → Lasts (take done events) old new) → ∥ AreSteady old ∥₁
-    → IfErr r (λ stopped. StopsAfter HappensToAll may_stop old events stopped.done new) → IfErr r (λ stopped. Lasts (take stopped.done events) old new)
-lasts_if_stopped events old new (Ok done) stopped some stop = stop
-lasts_if_stopped events old new (Err stopped_by) stopped some stop = stopped stopped_by.done some stop
 
 -- what a clean round leaves, by what is so where it was done, where it stopped, and where nothing happened
 pub round_leaves : (Left : Type 0) (see : Whole → System) (on : Link) (old new : Whole) (r : Result ⊤ RoundFault)

@@ -151,8 +151,8 @@ mod Seen
 mod MovesForAll
 mod CentrePlaces
 mod CentreIssues
-mod WholeEvents
 mod CentreReads
 mod CentreStores
 mod NewWholes
 mod SystemCalls
+pub mod OnResults

@@ -1,5 +1,5 @@
 -- The list of what all substations have, where one of them is set.
-use Rattle.std.proofs.Common.{◌≡◌, ◌≢◌, ℕ, zero, suc, ◌+◌, ◌<◌, List, [], ◌∷◌, ◌++◌, Some, None, refl, sym, ap, ◌∙◌, arith}
+use Rattle.std.proofs.Common.{◌≡◌, ◌≢◌, ℕ, zero, suc, ◌+◌, ◌<◌, List, [], ◌∷◌, ◌++◌, Some, None, refl, sym, ap, ◌∙◌, arith, append-nil}
 use Rattle.std.specs.Prelude.{slice_get, slice_set, Option}
 use Rattle.std.proofs.lemmas.Option.{none-some}
 use Rattle.dnp_world.specs.Stations.{of_station, listed_from}
@@ -21,12 +21,6 @@ set_there (x ∷ xs) zero (suc j) is other = refl
 set_there (x ∷ xs) (suc i) zero is other = refl
 set_there (x ∷ xs) (suc i) (suc j) is other = set_there xs i j is (λ same. other (ap (λ (n : ℕ). suc n) same))
 
--- a place that was written can be written again
-pub set_again : {A : Type 0} (xs : List A) (i : ℕ) (a b : A) → slice_set (slice_set xs i a) i b ≡ slice_set xs i b
-set_again [] i a b = refl
-set_again (x ∷ xs) zero a b = refl
-set_again {A} (x ∷ xs) (suc i) a b = ap (λ (ys : List A). x ∷ ys) (set_again xs i a b)
-
 -- ---- what one of them has
 
 abbrev pub things_at : {S A : Type 0} → (S → List A) → Option S → List A
@@ -46,8 +40,7 @@ none_before {S} {A} things_of n j (x ∷ xs) low =
     ∙ rest
 
 append_none : {A : Type 0} (xs ys : List A) → ys ≡ [] → xs ++ ys ≡ xs
-append_none [] ys e = e
-append_none {A} (x ∷ xs) ys e = ap (λ (zs : List A). x ∷ zs) (append_none xs ys e)
+append_none {A} xs ys e = ap (λ (zs : List A). xs ++ zs) e ∙ append-nil xs
 
 listed_on : {S A : Type 0} (things_of : S → List A) (n j : ℕ) (xs : List S)
     → of_station (n + j) (listed_from things_of n xs) ≡ things_at things_of (slice_get xs j)

@@ -1,14 +1,15 @@
 -- What asking, opening, a hang-up and a tick of a master are to the link.
-use Rattle.std.proofs.Common.{◌≡◌, ℕ, ◌<◌, Bool, true, false, List, [], length, drop, Option, None, Result, Ok, IfOk, refl, sym, ap, ◌∙◌, subst, arith}
-use Rattle.std.specs.Prelude.{if◌then◌else◌, is_some}
+use Rattle.std.proofs.Common.{◌≡◌, ℕ, ◌<◌, Bool, true, false, List, [], length, drop, Option, None, Result, Ok, IfOk, refl, sym, ap, ◌∙◌, subst, arith, Some}
+use Rattle.std.specs.Prelude.{if◌then◌else◌, is_none, is_some}
 use Rattle.std.proofs.lemmas.List.{drop_all}
+use Rattle.std.proofs.lemmas.Bool.{and_parts}
 use Rattle.dnp_appfragment.specs.Fragments.{request_octets}
 use Rattle.dnp_master.specs.declared.fault.AskFault.{AskFault}
 use Rattle.dnp_master.specs.declared.task.Task.{Task}
 use Rattle.dnp_master.specs.declared.task.Task.TheVariants.{Poll}
-use Rattle.dnp_master.specs.Calls.{ask_answer, asked}
-use Rattle.dnp_master.specs.Requests.{request_for}
-use Rattle.dnp_master.specs.State.{State, closed, is_timed_out, ticked}
+use Rattle.dnp_master.specs.Calls.{ask_answer, asked, may_follow}
+use Rattle.dnp_master.specs.Requests.{is_good, request_for}
+use Rattle.dnp_master.specs.State.{State, closed, is_idle, is_timed_out, ticked}
 use Rattle.dnp_master.specs.LinkCalls as seen
 use Rattle.dnp_world.specs.Octets.{seq_in}
 use Rattle.dnp_world.specs.Link.{Asks, Master, Link, Up}
@@ -32,6 +33,18 @@ asked_down seq task = refl
 
 busy_none : {A : Type 0} (o : Option A) → o ≡ None → is_some o ≡ false
 busy_none o e = ap is_some e
+
+-- a master with no request is not busy
+pub not_busy : {A : Type 0} (o : Option A) → is_none o ≡ true → is_some o ≡ false
+not_busy None e = refl
+not_busy (Some x) e = absurd (cc)
+
+-- when it is idle it asks what may follow
+pub answers_idle : (s : State) (task : Task) → is_idle s ≡ true → may_follow s.selected task ≡ true → is_good task ≡ true
+    → ask_answer s task ≡ Ok (request_octets (request_for s.seq task))
+answers_idle s task idle follows good =
+    let parts = and_parts s.is_open (is_none s.request) idle in
+    rw parts.0 (rw (not_busy s.request parts.1) (rw follows (rw good refl)))
 
 master_same : (is_open is_open' busy busy' : Bool) (seq seq' : ℕ) → is_open ≡ is_open' → busy ≡ busy' → seq ≡ seq'
     → (let m : Master = record { is_open = is_open; is_busy = busy; seq = seq } in m)

@@ -1,5 +1,5 @@
 -- What a call of the concentrator's outstation towards one centre leaves, as an outstation's end promises it.
-use Rattle.std.proofs.Common.{◌≡◌, ℕ, Bool, List, [], Result, refl, ap, slice_index_or}
+use Rattle.std.proofs.Common.{ℕ, Bool, List, [], Result, refl, ap, slice_index_or}
 use Rattle.dnp_objects.specs.declared.store.StoreFault.{StoreFault}
 use Rattle.dnp_controls.specs.Book.{Ledger}
 use Rattle.dnp_eventbuf.specs.Sides.{other_than}

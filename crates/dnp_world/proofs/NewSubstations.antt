@@ -1,5 +1,6 @@
 -- Substations are made by their numbers.
-use Rattle.std.proofs.Common.{◌≡◌, ℕ, zero, suc, ◌+◌, ◌<◌, List, [], ◌∷◌, ◌++◌, length, drop, get_or, refl, sym, ap, ◌∙◌, arith, append_assoc}
+use Rattle.std.proofs.Common.{◌≡◌, ℕ, suc, ◌+◌, ◌<◌, List, [], ◌∷◌, ◌++◌, length, drop, get_or, sym, ap, ◌∙◌, arith, append_assoc}
+use Rattle.std.proofs.lemmas.List.{drop_more}
 use Rattle.dnp_pointdb.specs.declared.times.Times.{Times}
 use Rattle.dnp_concentrator.specs.declared.plan.SubPlan.{SubPlan}
 use Rattle.dnp_world.specs.FreshSystems.{fresh_substation, fresh_substations}
@@ -15,12 +16,7 @@ one_made times k its plans plan made new all one low same is one_is put whole =
     ap (λ (xs : List SubstationState). xs ++ fresh_substations times (k + 1) (drop (k + 1) plans)) put
     ∙ append_assoc made (one ∷ []) (fresh_substations times (k + 1) (drop (k + 1) plans))
     ∙ ap (λ (s : SubstationState). made ++ s ∷ fresh_substations times (k + 1) (drop (k + 1) plans)) one_here
-    ∙ ap (λ (n : ℕ). made ++ fresh_substation times k plan ∷ fresh_substations times n (drop n plans)) next
-    ∙ ap (λ (p : SubPlan). made ++ fresh_substations times k (p ∷ drop (suc k) plans)) is
-    ∙ ap (λ (ps : List SubPlan). made ++ fresh_substations times k ps) (sym (drop_one plans k plan low))
+    ∙ ap (λ (n : ℕ). made ++ fresh_substation times k plan ∷ fresh_substations times n (drop (k + 1) plans)) next
+    ∙ ap (λ (p : SubPlan). made ++ fresh_substations times k (p ∷ drop (k + 1) plans)) is
+    ∙ ap (λ (ps : List SubPlan). made ++ fresh_substations times k ps) (sym (drop_more plans k plan low))
     ∙ whole
-  where
-    drop_one : {X : Type 0} (xs : List X) (i : ℕ) (d : X) → i < length xs → drop i xs ≡ get_or xs i d ∷ drop (suc i) xs
-    drop_one [] i d under = absurd (omega (arith, under))
-    drop_one (x ∷ xs) zero d under = refl
-    drop_one (x ∷ xs) (suc i) d under = drop_one xs i d (omega (arith, under))

@@ -16,11 +16,10 @@ use Rattle.dnp_concentrator.specs.declared.plan.SubPlan.{SubPlan}
 use Rattle.dnp_concentrator.specs.declared.span.Spans.{Spans}
 use Rattle.dnp_concentrator.proofs.SoundPoints.{sound_above, sound_at}
 use Rattle.dnp_controls.specs.Book.{Ledger}
-use Rattle.dnp_controls.specs.declared.book.Entry.{Entry}
 use Rattle.dnp_eventbuf.specs.Archive.{Archive}
 use Rattle.dnp_eventbuf.specs.Buffered.{buffered_as, buffered_from}
 use Rattle.dnp_eventbuf.specs.Sound as stock
-use Rattle.dnp_eventbuf.specs.Stock.{LaneState, Stock, empty_lane, empty_stock, lane_rows, lost_in, row_of, rows_in}
+use Rattle.dnp_eventbuf.specs.Stock.{LaneState, Stock, empty_lane, empty_stock, lane_rows, row_of, rows_in}
 use Rattle.dnp_eventbuf.specs.declared.numbered.Numbered.{Numbered}
 use Rattle.dnp_master.specs.State.{new_state}
 use Rattle.dnp_objects.specs.declared.command.Command.{Command}
@@ -35,7 +34,7 @@ use Rattle.dnp_world.specs.Behind.{alone, IsBehind, IsUntouched, Links}
 use Rattle.dnp_world.specs.Channels.{fresh_channel}
 use Rattle.dnp_world.specs.FreshSystems.{fresh_substation, fresh_substations, fresh_system}
 use Rattle.dnp_world.specs.Joined.{Joined}
-use Rattle.dnp_world.specs.Kept.{Kept, kept_in, lane_rows_of, nothing_kept, report_of, shown_of}
+use Rattle.dnp_world.specs.Kept.{kept_in, lane_rows_of, nothing_kept, report_of, shown_of}
 use Rattle.dnp_world.specs.Lanes.{HasLanes, fresh_link}
 use Rattle.dnp_world.specs.NewSystems.{AreEmpty, CanBegin, HasAllLanes, nothing_shown}
 use Rattle.dnp_world.specs.OutstationSeen.{Shows}
@@ -163,24 +162,8 @@ none_listed times n number (s ∷ plans) =
 nothing_in : (plan : Plan) (centre : ℕ) (queue : Stock) (journal : Archive) (controls orders : Ledger) → AreEmpty queue journal controls orders
     → kept_in (fresh_system plan centre queue journal controls orders) ≡ nothing_kept
 nothing_in plan centre queue journal controls orders empty =
-    let kept : List (ℕ × Row) → List Row → List Row → ℕ → List Entry → List Entry → Kept =
-    λ buffered rows events lost entries ordered. record nothing_kept {
-      buffered = buffered;
-      queue = rows;
-      journal = events;
-      lost = lost;
-      controls = entries;
-      orders = ordered;
-    } in
-    let buffered : List (ℕ × Row) = listed_from lane_rows_of 0 (fresh_substations plan.times 0 plan.substations) in
-    let b : buffered ≡ [] = none_listed plan.times 0 0 plan.substations in
-    let j : map row_of journal.rows ≡ [] = ap (map row_of) empty.no_events in
-    ap (λ (xs : List (ℕ × Row)). kept xs (rows_in queue) (map row_of journal.rows) (lost_in queue) controls.entries orders.entries) b
-    ∙ ap (λ (xs : List Row). kept [] xs (map row_of journal.rows) (lost_in queue) controls.entries orders.entries) empty.no_rows
-    ∙ ap (λ (xs : List Row). kept [] [] xs (lost_in queue) controls.entries orders.entries) j
-    ∙ ap (λ (n : ℕ). kept [] [] [] n controls.entries orders.entries) empty.none_lost
-    ∙ ap (λ (xs : List Entry). kept [] [] [] 0 xs orders.entries) empty.no_controls
-    ∙ ap (λ (xs : List Entry). kept [] [] [] 0 [] xs) empty.no_orders
+    let journaled : map row_of journal.rows ≡ [] = ap (map row_of) empty.no_events in
+    rw (none_listed plan.times 0 0 plan.substations, empty.no_rows, journaled, empty.none_lost, empty.no_controls, empty.no_orders)
 
 pub nothing_to_show : (plan : Plan) (centre : ℕ) (queue : Stock) (journal : Archive) (controls orders : Ledger) → AreEmpty queue journal controls orders
     → report_of (fresh_system plan centre queue journal controls orders) ≡ nothing_shown

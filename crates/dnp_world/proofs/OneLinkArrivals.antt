@@ -1,5 +1,5 @@
 -- What comes over the lines of a link.
-use Rattle.std.proofs.Common.{◌≡◌, ℕ, Bool, true, false, List, [], ◌∷◌, ◌++◌, length, take, ◌⊎◌, inl, inr, Option, Some, Result, Ok, Err, OnOk, sym, ap, ◌∙◌, subst, arith}
+use Rattle.std.proofs.Common.{◌≡◌, ℕ, Bool, true, false, List, [], ◌∷◌, ◌++◌, length, take, ◌⊎◌, inl, inr, Option, Some, Result, Ok, Err, sym, ap, ◌∙◌, subst, arith}
 use Rattle.std.specs.Prelude.{if◌then◌else◌, OnErr}
 use Rattle.std.proofs.lemmas.List.{take_all}
 use Rattle.dnp_objects.specs.declared.row.Row.{Row}
@@ -117,10 +117,6 @@ stops_up keeps s old new before after k same = record {
 }
 
 -- ---- answers
-
-pub on_ok : {A E : Type 0} (r : Result A E) (P Q : Type 0) → (P → Q) → OnOk r P → OnOk r Q
-on_ok (Ok x) P Q f h = f h
-on_ok (Err e) P Q f h = tt
 
 pub on_err : {A E : Type 0} (r : Result A E) (P Q R : Type 0) → (P → Q → R) → OnErr r P → OnErr r Q → OnErr r R
 on_err (Ok x) P Q R f h k = tt

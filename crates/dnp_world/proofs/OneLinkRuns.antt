@@ -1,7 +1,8 @@
 -- Lists of events of a link by itself.
-use Rattle.std.proofs.Common.{◌≡◌, ℕ, zero, suc, ◌+◌, ◌<◌, ◌≤◌, true, List, [], ◌∷◌, ◌++◌, length, take, get_or, Some, Result, Ok, Err, refl, sym, ap, ◌∙◌, subst, arith}
-use Rattle.std.specs.Prelude.{OnErr, slice_get}
-use Rattle.std.proofs.lemmas.List.{take_all}
+use Rattle.std.proofs.Common.{◌≡◌, ℕ, ◌+◌, ◌<◌, ◌≤◌, true, List, [], ◌∷◌, ◌++◌, length, take, get_or, Some, Result, Ok, Err, refl, sym, ap, ◌∙◌, subst}
+use Rattle.std.specs.Prelude.{OnErr}
+use Rattle.std.proofs.lemmas.List.{take_all, take_more}
+use Rattle.std.proofs.lemmas.Option.{slice_get-get_or}
 use Rattle.dnp_objects.specs.declared.row.Row.{Row}
 use Rattle.dnp_controls.specs.Latches.{no_panel}
 use Rattle.dnp_world.specs.declared.link_event.LinkEvent.{LinkEvent}
@@ -29,19 +30,13 @@ runs_more takes old mid new [] event ran h =
 runs_more takes old mid new (first ∷ events) event ran h =
     (ran.0, ran.1, runs_more takes ran.0 mid new events event ran.2 h)
 
-pub take_more : {A : Type 0} (xs : List A) (k : ℕ) (d : A) → k < length xs → take (suc k) xs ≡ take k xs ++ get_or xs k d ∷ []
-take_more [] k d low = absurd (omega arith)
-take_more (x ∷ xs) zero d low = refl
-take_more (x ∷ xs) (suc k) d low = ap (λ (ys : List _). x ∷ ys) (take_more xs k d (omega (arith, low)))
-
 -- one event more was done
 pub one_done : {S : Type 0} (takes : S → List Row → List Row → List Row → S → Type 0) (old mid new : LinkState S) (events : List LinkEvent) (k : ℕ)
     (event : LinkEvent) → k < length events → event ≡ get_or events k event → RunsTo takes old (take k events) mid → HappensOn takes no_panel mid event new
     → RunsTo takes old (take (k + 1) events) new
 one_done takes old mid new events k event low is ran h =
-    let next : k + 1 ≡ suc k = omega arith in
     subst (λ (es : List LinkEvent). RunsTo takes old es new)
-    (ap (λ (e : LinkEvent). take k events ++ e ∷ []) is ∙ sym (take_more events k event low) ∙ ap (λ (n : ℕ). take n events) (sym next))
+    (ap (λ (e : LinkEvent). take k events ++ e ∷ []) is ∙ sym (take_more events k event low))
     (runs_more takes old mid new (take k events) event ran h)
 
 pub all_done : {S : Type 0} (takes : S → List Row → List Row → List Row → S → Type 0) (old new : LinkState S) (events : List LinkEvent) (k : ℕ)
@@ -49,13 +44,8 @@ pub all_done : {S : Type 0} (takes : S → List Row → List Row → List Row �
 all_done takes old new events k high ran =
     subst (λ (es : List LinkEvent). RunsTo takes old es new) (take_all k events high) ran
 
-pub get_some : {A : Type 0} (xs : List A) (k : ℕ) (d : A) → k < length xs → slice_get xs k ≡ Some (get_or xs k d)
-get_some [] k d low = absurd (omega arith)
-get_some (x ∷ xs) zero d low = refl
-get_some (x ∷ xs) (suc k) d low = get_some xs k d (omega (arith, low))
-
 pub stops_after : {S : Type 0} (takes : S → List Row → List Row → List Row → S → Type 0) (keeps : S → S → Type 0) (old mid new : LinkState S)
     (events : List LinkEvent) (k : ℕ) (event : LinkEvent) → k < length events → event ≡ get_or events k event → RunsTo takes old (take k events) mid
     → may_stop mid event ≡ true → StopsAt takes keeps mid event new → StopsAfter takes keeps old events k new
 stops_after takes keeps old mid new events k event low is ran may stops =
-    record { before = mid; ran = ran; event = event; next = get_some events k event low ∙ ap Some (sym is); may = may; stops = stops }
+    record { before = mid; ran = ran; event = event; next = slice_get-get_or events k event low ∙ ap Some (sym is); may = may; stops = stops }

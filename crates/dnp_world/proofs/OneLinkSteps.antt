@@ -1,8 +1,9 @@
 -- What the outstation's calls are to a link by itself.
-use Rattle.std.proofs.Common.{◌≡◌, ◌≢◌, ℕ, ◌≤◌, Bool, true, false, cond, ◌&&◌, List, [], ◌∷◌, ◌++◌, length, map, take, Option, Some, None, Result, Ok, Err, IfOk, IfErr, refl, sym, ap, ◌∙◌, subst, arith, length-append, append-nil}
+use Rattle.std.proofs.Common.{◌≡◌, ◌≢◌, ℕ, ◌≤◌, Bool, true, false, ◌&&◌, List, [], ◌∷◌, ◌++◌, length, map, take, Option, Some, None, Result, Ok, Err, IfOk, IfErr, refl, sym, ap, ◌∙◌, subst, arith, length-append, append-nil}
 use Rattle.std.specs.Prelude.{if◌then◌else◌, IfSome, option_to_list, nat_le, option_map}
 use Rattle.std.specs.List.{filter}
 use Rattle.std.proofs.lemmas.List.{length-map}
+use Rattle.std.proofs.lemmas.List.Sums.{count_by-le-length, length-filter}
 use Rattle.std.proofs.lemmas.Option.{none-some}
 use Rattle.dnp_objects.specs.declared.row.Row.{Row}
 use Rattle.dnp_objects.specs.declared.row.Kind.{Kind}
@@ -50,14 +51,6 @@ steps_on old step state does lines e goes none =
 
 -- ---- how many rows leave
 
-one_length : {A : Type 0} (b : Bool) (x : A) (xs ys : List A) → length ys ≤ length xs → length (cond b (x ∷ ys) ys) ≤ length (x ∷ xs)
-one_length true x xs ys h = omega (arith, h)
-one_length false x xs ys h = omega (arith, h)
-
-filter_length : {A : Type 0} (p : A → Bool) (xs : List A) → length (filter p xs) ≤ length xs
-filter_length p [] = omega arith
-filter_length p (x ∷ xs) = one_length (p x) x xs (filter p xs) (filter_length p xs)
-
 released_length : (lanes : List LaneState) (upto : List ℕ) → length (lanes_up_to lanes upto) ≤ length (lane_rows lanes)
 released_length [] upto = omega arith
 released_length (lane ∷ lanes) [] = omega arith
@@ -68,7 +61,8 @@ released_length (lane ∷ lanes) (u ∷ us) =
       length-append (map row_of lane.rows) (lane_rows lanes),
       length-map (filter (λ x. nat_le x.id u) lane.rows) row_of,
       length-map lane.rows row_of,
-      filter_length (λ x. nat_le x.id u) lane.rows,
+      length-filter (λ x. nat_le x.id u) lane.rows,
+      count_by-le-length (λ x. nat_le x.id u) lane.rows,
       released_length lanes us,
     )
 

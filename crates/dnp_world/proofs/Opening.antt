@@ -1,7 +1,8 @@
 -- A link that was opened is quiet, where its outstation sends no unsolicited responses.
 use Rattle.std.proofs.Common.{◌≡◌, ℕ, zero, suc, arith, ◌<◌, Bool, true, false, not, ◌&&◌, if◌then◌else◌, List, [], ◌∷◌, ◌++◌, length, Option, Some, refl, sym, ap, ◌∙◌, subst, ltb-true}
 use Rattle.std.specs.Prelude.{nat_lt, slice_get}
-use Rattle.std.proofs.lemmas.Bool.{and_parts, both_ways, cond-false}
+use Rattle.std.proofs.lemmas.Bool.{and_from, and_parts, both_ways, cond-false}
+use Rattle.std.proofs.lemmas.List.{length-set}
 use Rattle.dnp_concentrator.specs.Relaying as relaying
 use Rattle.dnp_concentrator.specs.Relaying.{Relaying}
 use Rattle.dnp_line.specs.Lines.{LineState, quiet_line}
@@ -26,7 +27,7 @@ use Rattle.dnp_world.specs.declared.event.Event.{Event}
 use Rattle.dnp_world.specs.declared.event.Event.TheVariants.{Open}
 use Rattle.dnp_world.specs.declared.event.Link.{Link}
 use Rattle.dnp_world.specs.declared.event.Link.TheVariants.{Below, Above}
-use Rattle.dnp_world.proofs.ArrivingLinks.{has_set, length_set}
+use Rattle.dnp_world.proofs.ArrivingLinks.{has_set}
 use Rattle.dnp_world.proofs.EachCentre.{no_such}
 use Rattle.dnp_world.proofs.ListedAt.{set_here}
 use Rattle.dnp_world.proofs.SystemPlans.{link_here}
@@ -93,9 +94,6 @@ opened_quiet s now c lines core is off h =
 
 -- ---- a link of the plan
 
-both_true : (a b : Bool) → a ≡ true → b ≡ true → (a && b) ≡ true
-both_true a b first second = ap (λ (x : Bool). x && b) first ∙ second
-
 opens_below : (station : ℕ) (old new : System) → has_station old station ≡ true → reports_on new (Below station) ≡ false
     → OpensOn (Below station) old new → is_quiet_on new (Below station) ≡ true
 opens_below station old new has off e =
@@ -110,17 +108,17 @@ opens_below station old new has off e =
     let there : slice_get last.substations station ≡ Some e.is = set_here old.substations station e.was e.is e.there in
     let lists : System → ℕ → Bool = λ s count. nat_lt station (length s.substations) && nat_lt station count in
     let has_last : has_station last station ≡ true =
-    has_set set station station e.is ∙ ap (λ (n : ℕ). lists old n) (length_set old.concentrator.links station link) ∙ has in
+    has_set set station station e.is ∙ ap (λ (n : ℕ). lists old n) (length-set old.concentrator.links station link) ∙ has in
     let off_last : e.is.core.times.unsolicited ≡ false =
     sym (ap (λ (o : Option SubstationState). reports_at o) there) ∙ sym (ap (λ (s : System). reports_on s (Below station)) e.after) ∙ off in
     let q : OpenedQuiet e.is.core e.is.channel =
     opened_quiet (station_of e.was) old.now e.was.channel e.is.channel e.is.core (ap (λ (s : SubstationState). s.core) e.changed.after) off_last
     e.changed.sent in
     let quiet : is_quiet_at (slice_get last.substations station) ≡ true =
-    ap (λ (o : Option SubstationState). is_quiet_at o) there ∙ both_true (is_quiet e.is.core) (are_quiet e.is.channel) q.core_is q.lines_are in
+    ap (λ (o : Option SubstationState). is_quiet_at o) there ∙ and_from (is_quiet e.is.core) (are_quiet e.is.channel) q.core_is q.lines_are in
     ap (λ (s : System). is_quiet_on s (Below station)) e.after
-    ∙ both_true (has_station last station) (is_idle (link_at last.concentrator station).master && is_quiet_at (slice_get last.substations station)) has_last
-    (both_true (is_idle (link_at last.concentrator station).master) (is_quiet_at (slice_get last.substations station)) idle quiet)
+    ∙ and_from (has_station last station) (is_idle (link_at last.concentrator station).master && is_quiet_at (slice_get last.substations station)) has_last
+    (and_from (is_idle (link_at last.concentrator station).master) (is_quiet_at (slice_get last.substations station)) idle quiet)
 
 opens_above : (centre : ℕ) (old new : System) → reports_on new (Above centre) ≡ false → OpensOn (Above centre) old new → is_quiet_on new (Above centre) ≡ true
 opens_above centre old new off e =
@@ -128,8 +126,8 @@ opens_above centre old new off e =
     opened_quiet (middle_of old.concentrator) old.now old.above new.above new.concentrator.core (ap (λ (s : System). s.concentrator.core) e.after) off
     e.sent in
     let idle : is_idle new.centre.link.master ≡ true = ap (λ (s : System). is_idle s.centre.link.master) e.after in
-    both_true (is_idle new.centre.link.master) (is_quiet new.concentrator.core && are_quiet new.above) idle
-    (both_true (is_quiet new.concentrator.core) (are_quiet new.above) q.core_is q.lines_are)
+    and_from (is_idle new.centre.link.master) (is_quiet new.concentrator.core && are_quiet new.above) idle
+    (and_from (is_quiet new.concentrator.core) (are_quiet new.above) q.core_is q.lines_are)
 
 pub opens_quiet : (on : Link) (old new : System) → has_link old on ≡ true → reports_on new on ≡ false → Happens old (Open on) new
     → is_quiet_on new on ≡ true

@@ -1,7 +1,7 @@
 -- Rows that anybody appends to the lanes of an outstation, as moves of its link.
-use Rattle.std.proofs.Common.{◌≡◌, ℕ, zero, suc, ◌+◌, ◌<◌, Bool, true, false, if◌then◌else◌, ◌||◌, nat_lt, List, [], ◌∷◌, ◌++◌, refl, sym, ap, ◌∙◌, subst, arith, append-nil, slice_set, slice_index_or}
+use Rattle.std.proofs.Common.{◌≡◌, ℕ, zero, suc, ◌+◌, ◌<◌, Bool, true, false, if◌then◌else◌, nat_lt, List, [], ◌∷◌, ◌++◌, refl, sym, ap, ◌∙◌, subst, arith, append-nil, slice_set, slice_index_or}
 use Rattle.std.specs.List.{All, list_any}
-use Rattle.std.proofs.lemmas.Bool.{both_ways, lt-ltb, ltb-true}
+use Rattle.std.proofs.lemmas.Bool.{both_ways, false_from_ne_true, lt-ltb, ltb-true, or_from, or_parts}
 use Rattle.std.proofs.lemmas.List.Elements.{All-nil, All-cons, All-head, All-tail}
 use Rattle.dnp_objects.specs.Lanes.{lane_number}
 use Rattle.dnp_objects.specs.declared.lane.LaneRow.{LaneRow}
@@ -21,22 +21,9 @@ use Rattle.dnp_world.proofs.OutstationSteps.{Grown, grown_none, grown_both, goes
 
 -- ---- lanes that are not past their limits were not so before
 
-neither : (a b : Bool) → (a || b) ≡ false → (a ≡ false) × (b ≡ false)
-neither false false e = (refl, refl)
-neither false true e = (refl, e)
-neither true b e = absurd (cc)
-
-both_false : (a b : Bool) → a ≡ false → b ≡ false → (a || b) ≡ false
-both_false false b e f = f
-both_false true b e f = e
-
-unless : (a : Bool) → (a ≡ true → ⊥) → a ≡ false
-unless false h = refl
-unless true h = absurd (h refl)
-
 less_before : (most n : ℕ) → nat_lt most (n + 1) ≡ false → nat_lt most n ≡ false
 less_before most n e =
-    unless (nat_lt most n) (λ is.
+    false_from_ne_true (nat_lt most n) (λ is.
     let over : most < n = ltb-true most n is in
     both_ways (nat_lt most (n + 1)) e (lt-ltb most (n + 1) (omega (arith, over))))
 
@@ -44,11 +31,11 @@ any_before : (p : LaneState → Bool) (lanes : List LaneState) (n : ℕ) (lane :
     → list_any p (slice_set lanes n lane) ≡ false → list_any p lanes ≡ false
 any_before p [] n lane h e = refl
 any_before p (x ∷ lanes) zero lane h e =
-    let parts : (p lane ≡ false) × (list_any p lanes ≡ false) = neither (p lane) (list_any p lanes) e in
-    both_false (p x) (list_any p lanes) (unless (p x) (λ is. both_ways (p lane) parts.0 (h is))) parts.1
+    let parts : (p lane ≡ false) × (list_any p lanes ≡ false) = or_parts (p lane) (list_any p lanes) e in
+    or_from (p x) (list_any p lanes) (false_from_ne_true (p x) (λ is. both_ways (p lane) parts.0 (h is))) parts.1
 any_before p (x ∷ lanes) (suc n) lane h e =
-    let parts : (p x ≡ false) × (list_any p (slice_set lanes n lane) ≡ false) = neither (p x) (list_any p (slice_set lanes n lane)) e in
-    both_false (p x) (list_any p lanes) parts.0 (any_before p lanes n lane h parts.1)
+    let parts : (p x ≡ false) × (list_any p (slice_set lanes n lane) ≡ false) = or_parts (p x) (list_any p (slice_set lanes n lane)) e in
+    or_from (p x) (list_any p lanes) parts.0 (any_before p lanes n lane h parts.1)
 
 lost_grows : (lane : LaneState) (x : Numbered) → nat_lt MAX_ID lane.lost ≡ true → nat_lt MAX_ID (put_in lane x).lost ≡ true
 lost_grows lane x is = by (is_full lane)
@@ -63,8 +50,8 @@ past_before s x e =
     let number : ℕ = lane_number x.lane in
     let row : Numbered = record { id = s.last_id + 1; row = x.row } in
     let parts : (nat_lt MAX_ID (s.last_id + 1) ≡ false) × (list_any p (with_row s x).lanes ≡ false) =
-    neither (nat_lt MAX_ID (s.last_id + 1)) (list_any p (with_row s x).lanes) e in
-    both_false (nat_lt MAX_ID s.last_id) (list_any p s.lanes) (less_before MAX_ID s.last_id parts.0)
+    or_parts (nat_lt MAX_ID (s.last_id + 1)) (list_any p (with_row s x).lanes) e in
+    or_from (nat_lt MAX_ID s.last_id) (list_any p s.lanes) (less_before MAX_ID s.last_id parts.0)
     (any_before p s.lanes number (put_in (lane_at s number) row) (lost_grows (lane_at s number) row) parts.1)
 
 rows_before : (s : Stock) (rows : List LaneRow) → is_past (with_rows s rows) ≡ false → is_past s ≡ false

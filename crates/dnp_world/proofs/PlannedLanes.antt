@@ -1,12 +1,12 @@
 -- Each row in the lanes of a system is of a point that the master at the other end asks for, with a class.
-use Rattle.std.proofs.Common.{◌≡◌, ℕ, zero, suc, ◌<◌, ◌≤◌, true, false, List, [], ◌∷◌, ◌++◌, length, Option, Some, None, refl, sym, ap, ◌∙◌, subst, arith, rules}
+use Rattle.std.proofs.Common.{◌≡◌, ℕ, zero, suc, ◌<◌, ◌≤◌, true, false, List, [], ◌∷◌, length, Option, Some, None, refl, sym, ap, ◌∙◌, subst, arith, rules}
 use Rattle.std.specs.Prelude.{filter_map, nat_eq, nat_lt, slice_get}
 use Rattle.std.specs.List.{All}
 use Rattle.std.specs.Option.{IsSome, IsSomeAnd, option_and_then, option_map, option_map_or}
 use Rattle.std.proofs.lemmas.Bool.{lt-ltb}
-use Rattle.std.proofs.lemmas.List.{get_or_append_left, length-append}
 use Rattle.std.proofs.lemmas.List.Elements.{All-cons, All-head, All-nil, All-tail, All-weaker}
 use Rattle.std.proofs.lemmas.Option.{none-some, same_Some}
+use Rattle.std.proofs.lemmas.List.Sums.{count_by-le-length}
 use Rattle.dnp_concentrator.specs.Below.{link_in}
 use Rattle.dnp_concentrator.specs.IndexKinds.{kind_of_points}
 use Rattle.dnp_concentrator.specs.IndexMap.{IsMap, index_above, index_below}
@@ -37,7 +37,8 @@ use Rattle.dnp_world.specs.Systems.{SubstationState, System, link_at}
 use Rattle.dnp_world.proofs.HappenedRows.{all_at, all_counted}
 use Rattle.dnp_world.proofs.Headline.{LinkLaws, queue_happened, queue_mapped}
 use Rattle.dnp_world.proofs.ListedAt.{listed_at, things_at}
-use Rattle.dnp_world.proofs.SystemCounts.{given, given_first}
+use Rattle.dnp_world.proofs.Offers.{all_left}
+use Rattle.dnp_world.proofs.SystemCounts.{given, given_first, count_by-filter_map, counted_all, passes}
 use Rattle.dnp_world.proofs.TakenPlans.{IsMasterOf, master_there}
 
 -- what the crate of the index map promises
@@ -50,14 +51,11 @@ pub record MapLaws : Type 0 where
 
 -- ---- below
 
-all_first : {A : Type 0} (P : A → Type 0) (xs ys : List A) → All P (xs ++ ys) → All P xs
-all_first P xs ys all = λ k d low. subst P (get_or_append_left xs ys d k low) (all k d (omega (arith, low, length-append xs ys)))
-
 here : (plan : Plan) (s : System) (station : ℕ) (was : SubstationState) → HappenedAsPlanned plan s → slice_get s.substations station ≡ Some was
     → All (λ row. IsPlanned plan (station, row)) (rows_in was.lanes)
 here plan s station was h there =
     let buffered : List (ℕ × Row) = listed_from lane_rows_of 0 s.substations in
-    let all : All (IsPlanned plan) buffered = all_first (IsPlanned plan) buffered _ h.rows in
+    let all : All (IsPlanned plan) buffered = all_left (IsPlanned plan) buffered _ h.rows in
     subst (All (λ row. IsPlanned plan (station, row)))
     (listed_at lane_rows_of station s.substations ∙ ap (things_at lane_rows_of) there) (all_at (IsPlanned plan) station buffered all)
 
@@ -97,9 +95,9 @@ in_lane : (row : Row) (o : Option ℕ) (x : LaneRow)
 in_lane row None x is = absurd (none-some x is)
 in_lane row (Some class) x is = with_class class class row x is refl
 
-some_there : {A : Type 0} (o : Option A) → IsSome o → (x : A) × (o ≡ Some x)
-some_there None h = absurd (search (rules, h))
-some_there (Some x) h = (x, refl)
+pub some_one : {A : Type 0} (o : Option A) → IsSome o → (x : A) × (o ≡ Some x)
+some_one None h = absurd (search (rules, h))
+some_one (Some x) h = (x, refl)
 
 reported_above : MapLaws → (plan : Plan) → KeepsLimits plan → IsMap (map_of plan) → (row : Row) (x : ℕ × Row) → row_below (map_of plan) row ≡ Some x
     → IsPlanned plan x → is_reported (points_above plan) row ≡ true
@@ -115,7 +113,7 @@ reported_above laws plan limits is_map row x is planned = by (index_below (map_o
         let lane : IsSome (lane_row (points_above plan) row) =
         subst (λ (o : Option ℕ). IsSome (option_and_then (lane_row (points_above plan)) (option_map (λ (index : ℕ). record row { index = index }) o)))
         (laws.above (map_of plan) (kind_of_points row.kind) p.0 p.1 row.index below) queued in
-        let some = some_there (lane_row (points_above plan) row) lane in
+        let some = some_one (lane_row (points_above plan) row) lane in
         in_lane row (class_at (points_above plan) row.kind row.index) some.0 some.1
 
     by : (o : Option (ℕ × ℕ)) → index_below (map_of plan) (kind_of_points row.kind) row.index ≡ o
@@ -129,12 +127,13 @@ reported_above laws plan limits is_map row x is planned = by (index_below (map_o
 -- ---- lists through the map
 
 fewer : {A B : Type 0} (f : A → Option B) (xs : List A) → length (filter_map f xs) ≤ length xs
-fewer f [] = omega arith
-fewer {A} {B} f (x ∷ xs) = subst (λ (ys : List B). length ys ≤ length (x ∷ xs)) (sym (given_first f x xs)) (by (f x) (fewer f xs))
-  where
-    by : (o : Option B) → length (filter_map f xs) ≤ length xs → length (given o (filter_map f xs)) ≤ length (x ∷ xs)
-    by None few = omega (arith, few)
-    by (Some y) few = omega (arith, few)
+fewer f xs =
+    omega (
+      arith,
+      counted_all (filter_map f xs),
+      count_by-filter_map (λ _. true) f xs,
+      count_by-le-length (λ x. passes (λ _. true) (f x)) xs,
+    )
 
 -- where each member has one, what holds of those holds for these
 each_mapped : {A B : Type 0} (f : A → Option B) (P : B → Type 0) (Q : A → Type 0) → ((x : A) (y : B) → f x ≡ Some y → P y → Q x) → (xs : List A)

@@ -1,8 +1,8 @@
 -- What a master that asked a READ of classes 1, 2 and 3 makes of what is offered.
-use Rattle.std.proofs.Common.{◌≡◌, Bool, true, false, not, ◌==◌, if◌then◌else◌, refl, sym, ap, ◌∙◌, subst, ℕ, ◌≤◌, List, [], ◌∷◌, length, Option, None, Some, is_none, is_some, Result, Ok, Err, eq-eqb, arith}
+use Rattle.std.proofs.Common.{◌≡◌, Bool, true, false, not, ◌==◌, if◌then◌else◌, refl, sym, ap, ◌∙◌, subst, ℕ, ◌≤◌, List, [], ◌∷◌, length, None, Some, is_none, is_some, Result, Ok, Err, eq-eqb, arith}
 use Rattle.std.specs.List.{All, list_all}
-use Rattle.std.proofs.lemmas.Bool.{and_from, and_parts}
-use Rattle.std.proofs.lemmas.List.Elements.{All-head, All-tail}
+use Rattle.std.proofs.lemmas.Bool.{and_parts}
+use Rattle.std.proofs.lemmas.List.Sums.{list_all-from_AllPass}
 use Rattle.dnp_appfragment.specs.Control.{ControlBits}
 use Rattle.dnp_appfragment.specs.EventRows.{events_in}
 use Rattle.dnp_appfragment.specs.Fragments.{Answered}
@@ -28,6 +28,7 @@ use Rattle.dnp_outstation.specs.State as outstation
 use Rattle.dnp_pointdb.specs.Plan.{Plan}
 use Rattle.dnp_world.specs.Polled.{Takes}
 use Rattle.dnp_world.specs.Rounds.{events_polled}
+use Rattle.dnp_world.proofs.MasterAsks.{not_busy}
 
 -- what the crate of outstations promises of a fragment of some classes
 abbrev pub SaidLaw : Type 0
@@ -36,16 +37,12 @@ SaidLaw = (s : Stock) (enabled : List Bool) → IsSound s → length enabled ≤
 
 -- ---- asking
 
-no_request : (o : Option OpenRequest) → is_none o ≡ true → is_some o ≡ false
-no_request None e = refl
-no_request (Some r) e = absurd (cc)
-
 pub asks_polled : (m : State) → is_idle m ≡ true → ask_answer m events_polled ≡ Ok (poll_octets m.seq)
 asks_polled m idle =
     let both = and_parts m.is_open (is_none m.request) idle in
     let answer : Result (List ℕ) AskFault = Ok (poll_octets m.seq) in
     ap (λ (b : Bool). if not b then Err Closed else (if is_some m.request then Err Busy else answer)) both.0
-    ∙ ap (λ (b : Bool). if b then Err Busy else answer) (no_request m.request both.1)
+    ∙ ap (λ (b : Bool). if b then Err Busy else answer) (not_busy m.request both.1)
 
 pub polled_by : (m : State) (now : ℕ) → is_idle m ≡ true → asked m now events_polled ≡ asking m now events_polled
 polled_by m now idle = ap (asked_by m now events_polled) (asks_polled m idle)
@@ -55,14 +52,9 @@ polled_by m now idle = ap (asked_by m now events_polled) (asks_polled m idle)
 rows_are : SaidLaw → (s : Stock) → IsSound s → events_in (headers_of (polled_held s)) ≡ polled_rows s
 rows_are law s sound = law s (true ∷ true ∷ true ∷ []) sound (omega arith)
 
-all_pass : {A : Type 0} (p : A → Bool) (xs : List A) → All (λ x. p x ≡ true) xs → list_all p xs ≡ true
-all_pass p [] all = refl
-all_pass p (x ∷ xs) all =
-    and_from (p x) (list_all p xs) (All-head (λ y. p y ≡ true) x xs all) (all_pass p xs (All-tail (λ y. p y ≡ true) x xs all))
-
 pub from_plan : (plan : Plan) (answered : Answered) (rows : List Row) → events_in answered.headers ≡ rows
     → All (λ row. is_reported plan row ≡ true) rows → is_from_plan plan answered.headers ≡ true
-from_plan plan answered rows is all = ap (list_all (is_reported plan)) is ∙ all_pass (is_reported plan) rows all
+from_plan plan answered rows is all = ap (list_all (is_reported plan)) is ∙ list_all-from_AllPass (is_reported plan) rows all
 
 -- ---- taking
 

@@ -1,21 +1,19 @@
 -- What a step of relaying makes of the book, and what it is to the link.
-use Rattle.std.proofs.Common.{◌≡◌, ℕ, ◌<◌, true, false, List, [], ◌∷◌, ◌++◌, map, Option, Some, None, IfSome, Result, Ok, Err, refl, ap, ◌∙◌, subst, arith}
-use Rattle.std.specs.Prelude.{IsTrue, is_none, is_some, ⊤}
+use Rattle.std.proofs.Common.{◌≡◌, ℕ, ◌<◌, List, [], ◌∷◌, ◌++◌, map, Option, Some, None, IfSome, Result, Ok, Err, refl, ap, ◌∙◌, subst, arith}
+use Rattle.std.specs.Prelude.{IsTrue, ⊤}
 use Rattle.std.specs.Option.{IsSomeAnd}
-use Rattle.std.proofs.lemmas.Bool.{and_parts}
 use Rattle.dnp_objects.specs.Counts.{IsCoveredBy}
 use Rattle.dnp_objects.specs.declared.command.Command.{Command}
 use Rattle.dnp_appfragment.specs.Fragments.{request_octets}
-use Rattle.dnp_controls.specs.Book.{Ledger, Has, entry_of, is_pending}
+use Rattle.dnp_controls.specs.Book.{Ledger, entry_of, is_pending}
 use Rattle.dnp_controls.specs.declared.book.Entry.{Entry}
 use Rattle.dnp_controls.specs.declared.book.State.TheVariants.{Spent, Finished}
 use Rattle.dnp_concentrator.specs.Relaying.{Relaying, Step, Waits, Selects, Operates, Finishes, ledger_after, relaying_after, step_of}
 use Rattle.dnp_concentrator.specs.declared.progress.Progress.{Progress}
-use Rattle.dnp_master.specs.Calls.{ask_answer, asked, asked_by, may_follow}
-use Rattle.dnp_master.specs.Requests.{is_good, request_for}
+use Rattle.dnp_master.specs.Calls.{ask_answer, asked, asked_by}
+use Rattle.dnp_master.specs.Requests.{request_for}
 use Rattle.dnp_master.specs.State as master
 use Rattle.dnp_master.specs.declared.fault.AskFault.{AskFault}
-use Rattle.dnp_master.specs.declared.request.OpenRequest.{OpenRequest}
 use Rattle.dnp_master.specs.declared.task.Task.{Task}
 use Rattle.dnp_master.specs.declared.task.Task.TheVariants as task
 use Rattle.dnp_outstation.specs.State.{State}
@@ -34,6 +32,7 @@ use Rattle.dnp_world.proofs.Books.{IsOfCommand, in_state_same, in_state_used, pi
 use Rattle.dnp_world.proofs.Counting.{count_by-append}
 use Rattle.dnp_world.proofs.JoinedOctets.{AreOctets}
 use Rattle.dnp_world.proofs.JoinedSteps.{stays_as}
+use Rattle.dnp_world.proofs.MasterAsks.{answers_idle}
 use Rattle.dnp_world.proofs.RelaySteps.{IfSends, in_progress, operates_from, selects_from}
 
 -- what laws promise of requests that commands have
@@ -95,17 +94,6 @@ book_used pick of same r book target (Finishes id status) is picks goes pending 
 
 -- ---- the request
 
-busy : (o : Option OpenRequest) → is_none o ≡ true → is_some o ≡ false
-busy None e = refl
-busy (Some request) e = absurd (cc)
-
--- an idle master asks what may follow
-answers : (s : master.State) (t : Task) → master.is_idle s ≡ true → may_follow s.selected t ≡ true → is_good t ≡ true
-    → ask_answer s t ≡ Ok (request_octets (request_for s.seq t))
-answers s t idle follows good =
-    let parts = and_parts s.is_open (is_none s.request) idle in
-    rw parts.0 (rw (busy s.request parts.1) (rw follows (rw good refl)))
-
 -- the link by itself, with these lines and this master
 abbrev at_lines : State → RowLists → ℕ → master.State → ChannelState → LinkState ⊤
 at_lines o lists now m lines = seen o m lines now lists
@@ -132,13 +120,13 @@ step_goes laws o lists now r entries target was is l (Selects id command) from w
     subst (λ (asks : List Command). Follows [] [] asks o.performed l (at_lines o lists now (asked r.master now (task.Select command)) is))
     (laws.selected r.master.seq command j.number)
     (request_goes laws o lists now r.master was is l (task.Select command) (laws.selects r.master.seq command j.number widths)
-    (answers r.master (task.Select command) idle refl refl) j down)
+    (answers_idle r.master (task.Select command) idle refl refl) j down)
 step_goes laws o lists now r entries target was is l (Operates id command) from widths j down =
     let (idle, chosen, origin) = operates_from r entries target id command from in
     subst (λ (asks : List Command). Follows [] [] asks o.performed l (at_lines o lists now (asked r.master now (task.Operate command)) is))
     (laws.operated r.master.seq command j.number widths)
     (request_goes laws o lists now r.master was is l (task.Operate command) (laws.operates r.master.seq command j.number widths)
-    (answers r.master (task.Operate command) idle chosen refl) j down)
+    (answers_idle r.master (task.Operate command) idle chosen refl) j down)
 step_goes laws o lists now r entries target was is l (Finishes id status) from widths j down =
     stays_as [] l (at_lines o lists now r.master is) (at_lines o lists now r.master was)
     (ap (at_lines o lists now r.master) (none_goes was is down)) j

@@ -45,6 +45,7 @@ use Rattle.dnp_world.specs.declared.link_event.End.{End}
 use Rattle.dnp_world.specs.declared.link_event.End.TheVariants as end
 use Rattle.dnp_world.specs.declared.link_event.Way.{Way}
 use Rattle.dnp_world.specs.declared.link_event.Way.TheVariants as way
+use Rattle.dnp_world.proofs.Restarted.{nothing_written, same_centre, same_middle}
 
 -- what the crates below promise
 pub record Forgets : Type 0 where
@@ -70,58 +71,44 @@ pub record Forgets : Type 0 where
 
 -- ---- places as they were
 
-same_middle : (c : ConcentratorState) → WritesOne c c
-same_middle c = record { above = refl; below = refl; indices = refl; points = refl; one = inl refl }
+-- the two places; the lines, the moment and the history are others
+record Places : Type 0 where
+  middle : ConcentratorState
+  centre : CentreState
 
-same_centre : (c : CentreState) → CentreWritesOne c c
-same_centre c = record { link = refl; indices = refl; one = inl refl }
+abbrev places_of : System → Places
+places_of s = record { middle = s.concentrator; centre = s.centre }
 
--- with other lines, another moment and another history
-after : (old x new : System) → WriteOne old x → new.concentrator ≡ x.concentrator → new.centre ≡ x.centre → WriteOne old new
-after old x new w middle centre = record {
-  concentrator = subst (λ (c : ConcentratorState). WritesOne old.concentrator c) (sym middle) w.concentrator;
-  centre = subst (λ (c : CentreState). CentreWritesOne old.centre c) (sym centre) w.centre;
+after : (old x new : System) → WriteOne old x → places_of new ≡ places_of x → WriteOne old new
+after old x new w same = record {
+  concentrator = subst (λ (p : Places). WritesOne old.concentrator p.middle) (sym same) w.concentrator;
+  centre = subst (λ (p : Places). CentreWritesOne old.centre p.centre) (sym same) w.centre;
+}
+
+-- and before
+from_same : (old between new : System) → places_of between ≡ places_of old → WriteOne between new → WriteOne old new
+from_same old between new same w = record {
+  concentrator = subst (λ (p : Places). WritesOne p.middle new.concentrator) same w.concentrator;
+  centre = subst (λ (p : Places). CentreWritesOne p.centre new.centre) same w.centre;
 }
 
 same_system : (old new : System) → new ≡ old → WriteOne old new
-same_system old new same = after old old new (record { concentrator = same_middle old.concentrator; centre = same_centre old.centre })
-    (ap (λ (s : System). s.concentrator) same) (ap (λ (s : System). s.centre) same)
+same_system old new same = after old old new (nothing_written old) (ap places_of same)
 
 -- the lines change alone
+lines_same : (on : Link) (Change : ChannelState → ChannelState → Type 0) (x new : System) → LinesChange on Change x new → places_of new ≡ places_of x
+lines_same (Below station) Change x new c = ap places_of c.after
+lines_same (Above centre) Change x new c = ap places_of c.1
+
 lines_after : (on : Link) (Change : ChannelState → ChannelState → Type 0) (old x new : System) → WriteOne old x → LinesChange on Change x new
     → WriteOne old new
-lines_after (Below station) Change old x new w c =
-    after old x new w (ap (λ (s : System). s.concentrator) c.after) (ap (λ (s : System). s.centre) c.after)
-lines_after (Above centre) Change old x new w c = after old x new w (ap (λ (s : System). s.concentrator) c.1) (ap (λ (s : System). s.centre) c.1)
+lines_after on Change old x new w c = after old x new w (lines_same on Change x new c)
 
 -- a substation changes, and what its change makes of the rest
 changes_after : (station : ℕ) (Change : SubstationState → SubstationState → Type 0) (rest : SubstationState → SubstationState → System → System)
-    (old x new : System)
-    → ((was is : SubstationState) (s : System) → ((rest was is s).concentrator ≡ s.concentrator) × ((rest was is s).centre ≡ s.centre))
+    (old x new : System) → ((was is : SubstationState) (s : System) → places_of (rest was is s) ≡ places_of s)
     → WriteOne old x → ChangesAt station Change rest x new → WriteOne old new
-changes_after station Change rest old x new same w h =
-    after old x new w (ap (λ (s : System). s.concentrator) h.after ∙ (same h.was h.is _).0) (ap (λ (s : System). s.centre) h.after ∙ (same h.was h.is _).1)
-
--- by what both places are
-by_places : (old x new is : System) → WriteOne old x → new ≡ is → is.concentrator ≡ x.concentrator → is.centre ≡ x.centre → WriteOne old new
-by_places old x new is w same middle centre =
-    after old x new w (ap (λ (s : System). s.concentrator) same ∙ middle) (ap (λ (s : System). s.centre) same ∙ centre)
-
-none : (s : System) → WriteOne s s
-none s = record { concentrator = same_middle s.concentrator; centre = same_centre s.centre }
-
--- the lines changed before
-lines_places : (on : Link) (Change : ChannelState → ChannelState → Type 0) (x new : System) → LinesChange on Change x new
-    → (new.concentrator ≡ x.concentrator) × (new.centre ≡ x.centre)
-lines_places (Below station) Change x new c = (ap (λ (s : System). s.concentrator) c.after, ap (λ (s : System). s.centre) c.after)
-lines_places (Above centre) Change x new c = (ap (λ (s : System). s.concentrator) c.1, ap (λ (s : System). s.centre) c.1)
-
-from_same : (old between new : System) → (between.concentrator ≡ old.concentrator) × (between.centre ≡ old.centre) → WriteOne between new
-    → WriteOne old new
-from_same old between new same w = record {
-  concentrator = subst (λ (c : ConcentratorState). WritesOne c new.concentrator) same.0 w.concentrator;
-  centre = subst (λ (c : CentreState). CentreWritesOne c new.centre) same.1 w.centre;
-}
+changes_after station Change rest old x new same w h = after old x new w (ap places_of h.after ∙ same h.was h.is _)
 
 if_there : (b : Bool) (Change : System → System → Type 0) (old new : System) → (Change old new → WriteOne old new) → IfThere b Change old new
     → WriteOne old new
@@ -169,41 +156,36 @@ module _ (f : Forgets) where
   opens : (on : Link) (old new : System) → OpensOn on old new → WriteOne old new
   opens (Below station) old new h =
       let r : Relaying = link_at old.concentrator station in
-      changes_after station _ _ old (with_link old station (relaying.opened r)) new (λ was is s. (refl, refl))
+      changes_after station _ _ old (with_link old station (relaying.opened r)) new (λ was is s. refl)
       (with_link_one old station (relaying.opened r) (f.link_opened r)) h
   opens (Above centre) old new h =
       let c : ConcentratorState = old.concentrator in
       after old (with_centre_link (record old { concentrator = _ }) (relaying.opened old.centre.link)) new (record {
         concentrator = middle_one c _ _ _ (f.opened (middle_of c) old.now) (inr refl);
         centre = record { link = f.link_opened old.centre.link; indices = refl; one = inl refl };
-      }) (ap (λ (s : System). s.concentrator) h.after) (ap (λ (s : System). s.centre) h.after)
+      }) (ap places_of h.after)
 
   hangs_up : (on : Link) (e : End) (old new : System) → HangsUpOn on e old new → WriteOne old new
   hangs_up (Below station) end.Master old new h =
       let r : Relaying = link_at old.concentrator station in
-      changes_after station _ _ old (with_lost (with_link old station (relaying.hung_up r)) station) new (λ was is s. (refl, refl))
+      changes_after station _ _ old (with_lost (with_link old station (relaying.hung_up r)) station) new (λ was is s. refl)
       (middle_only old _ (lost_one old.concentrator station (relaying.hung_up r) (f.link_again r))) h
-  hangs_up (Below station) end.Outstation old new h = changes_after station _ _ old old new (λ was is s. (refl, refl)) (none old) h
+  hangs_up (Below station) end.Outstation old new h = changes_after station _ _ old old new (λ was is s. refl) (nothing_written old) h
   hangs_up (Above centre) end.Master old new h =
-      by_places old (with_centre_link old (relaying.hung_up old.centre.link)) new _
-      (with_centre_one old (relaying.hung_up old.centre.link) (f.link_again old.centre.link)) h refl refl
+      after old (with_centre_link old (relaying.hung_up old.centre.link)) new
+      (with_centre_one old (relaying.hung_up old.centre.link) (f.link_again old.centre.link)) (ap places_of h)
   hangs_up (Above centre) end.Outstation old new h =
       let c : ConcentratorState = old.concentrator in
-      by_places old (record old { concentrator = record c { core = closed c.core } }) new _
-      (middle_only old _ (record { above = f.closes c.core; below = refl; indices = refl; points = refl; one = inl refl })) h refl refl
+      after old (record old { concentrator = record c { core = closed c.core } }) new
+      (middle_only old _ (record { above = f.closes c.core; below = refl; indices = refl; points = refl; one = inl refl })) (ap places_of h)
 
   -- what it says of each case of what came
   heard_one : (c : ConcentratorState) (now : ℕ) (fragment : List ℕ) (x : Case) → case_of c.core fragment ≡ x
       → ((connection_after (middle_of c) (middle_panel c now) now fragment).state.lanes ≡ c.queue)
       ⊎ (all_added c.indices c.controls (performed_for c.core (middle_panel c now) now fragment x) ≡ c.controls)
-  heard_one c now fragment case.PassedOver is = inr refl
-  heard_one c now fragment case.Confirms is = inr refl
-  heard_one c now fragment case.ConfirmsUnsolicited is = inr refl
-  heard_one c now fragment case.Stray is = inr refl
-  heard_one c now fragment case.Again is = inr refl
-  heard_one c now fragment case.Waits is = inr refl
   heard_one c now fragment case.Asks is =
       inl (f.releases (middle_of c) (middle_panel c now) now fragment (λ other. cc (sym is ∙ other)) (λ other. cc (sym is ∙ other))).lanes
+  heard_one c now fragment x is = inr refl
 
   middle_answers : (given : List (List ℕ)) (old new : System) → MiddleAnswers given old new → WriteOne old new
   middle_answers [] old new same = same_system old new same
@@ -212,7 +194,7 @@ module _ (f : Forgets) where
       after old (record old { concentrator = _ }) new
       (middle_only old _ (middle_one c _ _ _ (f.received (middle_of c) (middle_panel c old.now) old.now fragment)
       (heard_one c old.now fragment (case_of c.core fragment) refl)))
-      (ap (λ (s : System). s.concentrator) m.after) (ap (λ (s : System). s.centre) m.after)
+      (ap places_of m.after)
 
   -- the master's part of what it took
   taken_link : (r : Relaying) (now : ℕ) (fragment : List ℕ) (t : Taking) → receive_of r.master now fragment ≡ Ok t
@@ -239,7 +221,7 @@ module _ (f : Forgets) where
       after old (taken_on old (Above centre) t) new (record {
         concentrator = same_middle old.concentrator;
         centre = record { link = taken_link old.centre.link now fragment t is; indices = refl; one = inr refl };
-      }) (ap (λ (s : System). s.concentrator) h.1.1) (ap (λ (s : System). s.centre) h.1.1)
+      }) (ap places_of h.1.1)
   receives on now fragment (Err fault) old new is same = same_system old new same
 
   takes : (on : Link) (given : List (List ℕ)) (old new : System) → MasterTakes on given old new → WriteOne old new
@@ -248,19 +230,19 @@ module _ (f : Forgets) where
 
   comes_up : (left : LineState → LineState) (on : Link) (old new : System) → ComesUp left on old new → WriteOne old new
   comes_up left on old new c =
-      from_same old c.between new (lines_places on _ old c.between c.heard) (takes on c.given c.between new c.came)
+      from_same old c.between new (lines_same on _ old c.between c.heard) (takes on c.given c.between new c.came)
 
   comes : (left : LineState → LineState) (on : Link) (w : Way) (old new : System) → ComesOn left on w old new → WriteOne old new
-  comes left (Below station) way.Down old new c = changes_after station _ _ old old new (λ was is s. (refl, refl)) (none old) c.came
+  comes left (Below station) way.Down old new c = changes_after station _ _ old old new (λ was is s. refl) (nothing_written old) c.came
   comes left (Above centre) way.Down old new c =
-      from_same old (record old { above = record old.above { down = left old.above.down; outstation_port = c.port } }) new (refl, refl)
+      from_same old (record old { above = record old.above { down = left old.above.down; outstation_port = c.port } }) new refl
       (middle_answers c.given (record old { above = record old.above { down = left old.above.down; outstation_port = c.port } }) new c.came)
   comes left (Below station) way.Up old new c = comes_up left (Below station) old new c
   comes left (Above centre) way.Up old new c = comes_up left (Above centre) old new c
 
   reads_by : (station : ℕ) (kind : Kind) (index : ℕ) (reading : Reading) (r : Result (Option LaneRow) ChangeFault) (was : SubstationState) (old new : System)
       → ReadsBy r station kind index reading was old new → WriteOne old new
-  reads_by station kind index reading (Ok made) was old new h = changes_after station _ _ old old new (λ x is s. (refl, refl)) (none old) h.1
+  reads_by station kind index reading (Ok made) was old new h = changes_after station _ _ old old new (λ x is s. refl) (nothing_written old) h.1
   reads_by station kind index reading (Err fault) was old new same = same_system old new same
 
   asks : (own : Bool) (on : Link) (task : Task) (old new : System) → AsksOn own on task old new → WriteOne old new
@@ -273,8 +255,8 @@ module _ (f : Forgets) where
   issues : (o : Option Command) (station : ℕ) (command : Command) (old new : System) → IssuesBy o station command old new → WriteOne old new
   issues None station command old new same = same_system old new same
   issues (Some above) station command old new h =
-      by_places old (record old { centre = record old.centre { orders = _ } }) new _
-      (centre_only old _ (record { link = refl; indices = refl; one = inl refl })) h.2 refl refl
+      after old (record old { centre = record old.centre { orders = _ } }) new
+      (centre_only old _ (record { link = refl; indices = refl; one = inl refl })) (ap places_of h.2)
 
   relays : (on : Link) (old new : System) → RelaysOn on old new → WriteOne old new
   relays (Below station) old new (Steps granted sends) =
@@ -294,7 +276,7 @@ module _ (f : Forgets) where
       let step : relaying.Step = step_on old (Above centre) in
       after old (with_centre_link (told old (Above centre) step) (relaying.relaying_after r old.now step)) new
       (centre_only old _ (record { link = f.link_relayed r old.now step; indices = refl; one = inl refl }))
-      (ap (λ (s : System). s.concentrator) sends.1) (ap (λ (s : System). s.centre) sends.1)
+      (ap places_of sends.1)
   relays on old new (Refuses refused same) = same_system old new same
 
   master_ticks : (on : Link) (old new : System) → MasterTicks on old new → WriteOne old new
@@ -308,21 +290,21 @@ module _ (f : Forgets) where
 
       by : (b : Bool) → new ≡ (if b then with_lost ticked station else ticked) → WriteOne old new
       by true is =
-          by_places old (with_lost ticked station) new _
-          (middle_only old _ (lost_one old.concentrator station (relaying.ticked r old.now) (f.link_ticked r old.now))) is refl refl
-      by false is = by_places old ticked new _ (with_link_one old station (relaying.ticked r old.now) (f.link_ticked r old.now)) is refl refl
+          after old (with_lost ticked station) new
+          (middle_only old _ (lost_one old.concentrator station (relaying.ticked r old.now) (f.link_ticked r old.now))) (ap places_of is)
+      by false is = after old ticked new (with_link_one old station (relaying.ticked r old.now) (f.link_ticked r old.now)) (ap places_of is)
   master_ticks (Above centre) old new h =
       let r : Relaying = old.centre.link in
-      by_places old (with_centre_link old (relaying.ticked r old.now)) new _
-      (with_centre_one old (relaying.ticked r old.now) (f.link_ticked r old.now)) h refl refl
+      after old (with_centre_link old (relaying.ticked r old.now)) new
+      (with_centre_one old (relaying.ticked r old.now) (f.link_ticked r old.now)) (ap places_of h)
 
   ticks : (on : Link) (old new : System) → OutstationTicks on old new → WriteOne old new
-  ticks (Below station) old new h = changes_after station _ _ old old new (λ was is s. (refl, refl)) (none old) h
+  ticks (Below station) old new h = changes_after station _ _ old old new (λ was is s. refl) (nothing_written old) h
   ticks (Above centre) old new m =
       let c : ConcentratorState = old.concentrator in
       after old (record old { concentrator = _ }) new
       (middle_only old _ (middle_one c _ _ _ (f.ticked (middle_of c) old.now) (inr refl)))
-      (ap (λ (s : System). s.concentrator) m.after) (ap (λ (s : System). s.centre) m.after)
+      (ap places_of m.after)
 
   each_again : (links : List Relaying) → map hung_up (map hung_up links) ≡ map hung_up links
   each_again [] = refl
@@ -331,7 +313,7 @@ module _ (f : Forgets) where
 
   restarts : (old new : System) → new ≡ concentrator_restarted old → WriteOne old new
   restarts old new h =
-      by_places old (concentrator_restarted old) new _ (record {
+      after old (concentrator_restarted old) new (record {
         concentrator = record {
           above = f.again old.concentrator.core;
           below = each_again old.concentrator.links;
@@ -340,26 +322,26 @@ module _ (f : Forgets) where
           one = inl refl;
         };
         centre = same_centre old.centre;
-      }) h refl refl
+      }) (ap places_of h)
 
   pub writes_one : (old new : System) (e : Event) → Happens old e new → WriteOne old new
   writes_one old new (event.Open on) h = if_there (has_link old on) (OpensOn on) old new (opens on old new) h
   writes_one old new (event.HangUp on e) h = if_there (has_link old on) (HangsUpOn on e) old new (hangs_up on e old new) h
   writes_one old new (event.Deliver on w) h = if_there (has_link old on) (ComesOn delivered_on on w) old new (comes delivered_on on w old new) h
   writes_one old new (event.Repeat on w) h = if_there (has_link old on) (ComesOn repeated_on on w) old new (comes repeated_on on w old new) h
-  writes_one old new (event.Lose on w) h = if_there (has_link old on) _ old new (λ c. lines_after on _ old old new (none old) c) h
-  writes_one old new (event.Damage on w octets) h = if_there (has_link old on) _ old new (λ c. lines_after on _ old old new (none old) c) h
+  writes_one old new (event.Lose on w) h = if_there (has_link old on) _ old new (λ c. lines_after on _ old old new (nothing_written old) c) h
+  writes_one old new (event.Damage on w octets) h = if_there (has_link old on) _ old new (λ c. lines_after on _ old old new (nothing_written old) c) h
   writes_one old new (event.Change station kind index reading) h =
       if_there (has_station old station) (system.Reads station kind index reading) old new
       (λ c. reads_by station kind index reading (answer_of c.was.core.points kind index reading) c.was old new c.reads) h
   writes_one old new (event.Ask on task) h = if_there (has_link old on) (AsksOn (is_own task) on task) old new (asks (is_own task) on task old new) h
   writes_one old new (event.Issue centre station command) h = issues (command_above old.centre.indices station command) station command old new h
   writes_one old new (event.Relay on) h = if_there (has_link old on) (RelaysOn on) old new (relays on old new) h
-  writes_one old new (event.Pass ms) h = by_places old old new _ (none old) h refl refl
+  writes_one old new (event.Pass ms) h = after old old new (nothing_written old) (ap places_of h)
   writes_one old new (event.Tick on end.Master) h = if_there (has_link old on) (MasterTicks on) old new (master_ticks on old new) h
   writes_one old new (event.Tick on end.Outstation) h = if_there (has_link old on) (OutstationTicks on) old new (ticks on old new) h
   writes_one old new (event.Restart (place.Centre centre)) h = hangs_up (Above centre) end.Master old new h
   writes_one old new (event.Restart place.Concentrator) h = restarts old new h
   writes_one old new (event.Restart (place.Substation station)) h =
       if_there (has_station old station) (SubstationRestarts station) old new
-      (λ c. changes_after station _ _ old old new (λ was is s. (refl, refl)) (none old) c) h
+      (λ c. changes_after station _ _ old old new (λ was is s. refl) (nothing_written old) c) h

@@ -1,5 +1,5 @@
 -- The READ of an idle master is the last request again only where the response to that went past its first fragment.
-use Rattle.std.proofs.Common.{◌≡◌, ℕ, ◌<◌, Bool, true, false, List, Option, Some, None, IfSome, IsSome, is_none, is_some, option_map, refl, sym, ap, ◌∙◌, subst, arith, rules}
+use Rattle.std.proofs.Common.{◌≡◌, ℕ, ◌<◌, Bool, true, false, List, Option, Some, IfSome, is_none, is_some, option_map, refl, sym, ap, ◌∙◌, subst, arith}
 use Rattle.std.proofs.lemmas.Bool.{and_parts}
 use Rattle.dnp_master.specs.State as master
 use Rattle.dnp_outstation.specs.Connection.{case_of, is_last_request}
@@ -18,6 +18,8 @@ use Rattle.dnp_world.specs.OutstationSeen.{Shows, last_seen, reply_seen}
 use Rattle.dnp_world.specs.Standing.{Agrees, IsReply, Stands}
 use Rattle.dnp_world.proofs.RepeatedPoll.{WentOn}
 use Rattle.dnp_world.proofs.RoundExchange.{AgainLaw}
+use Rattle.dnp_world.proofs.PlannedLanes.{some_one}
+use Rattle.dnp_world.proofs.MasterAsks.{not_busy}
 
 -- what the crate of outstations promises of each case
 abbrev pub CaseLaw : Type 0
@@ -49,24 +51,16 @@ poll_seq : (seq : ℕ) → seq < 16 → seq_in (poll_octets seq) ≡ seq
 unfolding seq_in
 poll_seq seq low = omega (arith, low)
 
-idle_none : {A : Type 0} (o : Option A) → is_none o ≡ true → is_some o ≡ false
-idle_none None e = refl
-idle_none (Some x) e = absurd (cc)
-
-some_last : (o : Option LastRequest) → IsSome o → (last : LastRequest) × (o ≡ Some last)
-some_last None h = absurd (search (rules, h))
-some_last (Some last) h = (last, refl)
-
 pub went_on : AgainLaw → CaseLaw → (s : State) (m : master.State) (l : Link) → Shows s l → l.master ≡ master_of m → Stands l → s.core.is_open ≡ true
     → master.is_idle m ≡ true → m.seq < 16 → is_last_request s.core.session (poll_octets m.seq) ≡ true → WentOn s
 went_on recognized law s m l shows master_is stands opens idle low again =
     let comes : ComesAgain s.core (poll_octets m.seq) =
     subst (λ (x : Case). CaseSays s.core (poll_octets m.seq) x) (recognized s.core m.seq low opens again) (law s.core (poll_octets m.seq)) in
-    let last = some_last s.core.session.last comes.has_last in
+    let last = some_one s.core.session.last comes.has_last in
     let parts = and_parts m.is_open (is_none m.request) idle in
     let open_below : l.outstation.is_open ≡ true = sym (ap (λ (o : Outstation). o.is_open) shows.outstation) ∙ opens in
     let open_above : l.master.is_open ≡ true = ap (λ (x : Master). x.is_open) master_is ∙ parts.0 in
-    let busy : l.master.is_busy ≡ false = ap (λ (x : Master). x.is_busy) master_is ∙ idle_none m.request parts.1 in
+    let busy : l.master.is_busy ≡ false = ap (λ (x : Master). x.is_busy) master_is ∙ not_busy m.request parts.1 in
     let seq : l.master.seq ≡ m.seq = ap (λ (x : Master). x.seq) master_is in
     let seen : l.outstation.last ≡ Some (last_seen s.core.session last.0) =
     sym (ap (λ (o : Outstation). o.last) shows.outstation) ∙ ap (option_map (last_seen s.core.session)) last.1 in

@@ -3,8 +3,9 @@ use Rattle.std.proofs.Common.{◌≡◌, ℕ, zero, suc, ◌+◌, ◌<◌, List,
 use Rattle.std.specs.Prelude.{filter_map, option_to_list}
 use Rattle.std.specs.List.{swap}
 use Rattle.std.specs.List.Sorted.{IsPermutation}
-use Rattle.std.proofs.lemmas.List.{set_split, set-get_or, map-set, get_or-map, length-map, drop_more, drop-map}
+use Rattle.std.proofs.lemmas.List.{set_split, set-get_or, map-set, get_or-map, length-map, drop_more}
 use Rattle.std.proofs.lemmas.List.Sorted.{IsPermutation-append_comm, IsPermutation-append_left, IsPermutation-append_right, IsPermutation-keeps, IsPermutation-refl, IsPermutation-trans}
+use Rattle.std.proofs.lemmas.List.Elements.{filter_map-append}
 use Rattle.dnp_objects.specs.declared.row.Row.{Row}
 use Rattle.dnp_world.specs.Kept.{lane_rows_of}
 use Rattle.dnp_world.specs.Stations.{listed_from}
@@ -70,29 +71,22 @@ filtered_one {A} {B} f x xs = by (f x) refl
     by (Some y) is = rw (is) refl
     by None is = rw (is) refl
 
-filtered_both : {A B : Type 0} (f : A → Option B) (xs ys : List A) → filter_map f (xs ++ ys) ≡ filter_map f xs ++ filter_map f ys
-filtered_both f [] ys = refl
-filtered_both {A} {B} f (x ∷ xs) ys =
-    let here : List B = option_to_list (f x) in
-    filtered_one f x (xs ++ ys)
-    ∙ ap (λ (zs : List B). here ++ zs) (filtered_both f xs ys)
-    ∙ sym (append_assoc here (filter_map f xs) (filter_map f ys))
-    ∙ ap (λ (zs : List B). zs ++ filter_map f ys) (sym (filtered_one f x xs))
+pub one_left : (f : Row → Option (ℕ × Row)) (rows : List Row) (k : ℕ) (d : Row) (list new all : List (ℕ × Row)) → k < length rows
+    → new ≡ list ++ option_to_list (f (get_or rows k d)) → list ++ filter_map f (drop k rows) ≡ all → new ++ filter_map f (drop (k + 1) rows) ≡ all
+one_left f rows k d list new all low put whole =
+    let row : Row = get_or rows k d in
+    let left : List Row = drop (k + 1) rows in
+    ap (λ (xs : List (ℕ × Row)). xs ++ filter_map f left) put ∙ append_assoc list (option_to_list (f row)) (filter_map f left)
+    ∙ ap (λ (xs : List (ℕ × Row)). list ++ xs) (sym (filtered_one f row left))
+    ∙ ap (λ (xs : List Row). list ++ filter_map f xs) (sym (drop_more rows k d low)) ∙ whole
 
 -- one row more was put, of those that were left
 pub one_below : {Thing : Type 0} (f : Row → Option (ℕ × Row)) (g : Thing → Row) (things : List Thing) (k : ℕ) (d : Thing) (list new all : List (ℕ × Row))
     → k < length things → new ≡ list ++ option_to_list (f (g (get_or things k d)))
     → list ++ filter_map f (drop k (map g things)) ≡ all → new ++ filter_map f (drop (k + 1) (map g things)) ≡ all
-one_below {Thing} f g things k d list new all low put whole =
-    let row : Row = g (get_or things k d) in
-    let left : List Row = map g (drop (k + 1) things) in
-    ap (λ (rows : List Row). new ++ filter_map f rows) (drop-map g (k + 1) things)
-    ∙ ap (λ (xs : List (ℕ × Row)). xs ++ filter_map f left) put
-    ∙ append_assoc list (option_to_list (f row)) (filter_map f left)
-    ∙ ap (λ (xs : List (ℕ × Row)). list ++ xs) (sym (filtered_one f row left))
-    ∙ ap (λ (ts : List Thing). list ++ filter_map f (map g ts)) (sym (drop_more things k d low))
-    ∙ ap (λ (rows : List Row). list ++ filter_map f rows) (sym (drop-map g k things))
-    ∙ whole
+one_below f g things k d list new all low put whole =
+    one_left f (map g things) k (g d) list new all (omega (arith, low, length-map things g))
+    (put ∙ ap (λ (row : Row). list ++ option_to_list (f row)) (sym (get_or-map g things k d (g d) low))) whole
 
 -- ---- in another order
 
@@ -114,7 +108,7 @@ filtered_at : {A B : Type 0} (f : A → Option B) (x : A) (xs : List A) (k : ℕ
     → filter_map f (set xs k x) ≡ filter_map f (take k xs) ++ (option_to_list (f x) ++ filter_map f (drop (suc k) xs))
 filtered_at {A} {B} f x xs k low =
     ap (λ (ys : List A). filter_map f ys) (set_split xs k x low)
-    ∙ filtered_both f (take k xs) (x ∷ drop (suc k) xs)
+    ∙ filter_map-append f (take k xs) (x ∷ drop (suc k) xs)
     ∙ ap (λ (ys : List B). filter_map f (take k xs) ++ ys) (filtered_one f x (drop (suc k) xs))
 
 -- the first thing and a later one change their places

@@ -17,14 +17,14 @@ use Rattle.dnp_outstation.specs.Controls.{is_control}
 use Rattle.dnp_outstation.specs.State.{State, Step, is_quiet, still}
 use Rattle.dnp_outstation.specs.declared.case.Case.{Case}
 use Rattle.dnp_outstation.specs.declared.case.Case.TheVariants.{Asks}
-use Rattle.dnp_world.specs.Arriving.{Arrives, HearsAt, IsClearOn, UnderWay, confirms_of}
-use Rattle.dnp_world.specs.Channels.{ChannelState, GoDown, are_quiet}
+use Rattle.dnp_world.specs.Arriving.{Arrives, IsClearOn, UnderWay, confirms_of}
+use Rattle.dnp_world.specs.Channels.{are_quiet}
 use Rattle.dnp_world.specs.Movement.{Leave, MovesAbove, Released, Rested}
 use Rattle.dnp_outstation.specs.Polled.{Portion, no_rows, poll_octets}
 use Rattle.dnp_world.specs.Rounds.{IsRound, events_polled, is_quiet_above}
-use Rattle.dnp_world.specs.SystemEvents.{LinesChange, MasterReceives, MiddleAnswers, SendsDown, centre_taken, relaying_at, taken_above, with_centre_link}
+use Rattle.dnp_world.specs.SystemEvents.{MasterReceives, SendsDown, centre_taken, relaying_at, taken_above}
 use Rattle.dnp_world.specs.SystemRuns.{Happens}
-use Rattle.dnp_world.specs.Systems.{CentreState, ConcentratorState, History, SubstationState, System, itself, middle_of, middle_panel}
+use Rattle.dnp_world.specs.Systems.{CentreState, ConcentratorState, System, itself, middle_of, middle_panel}
 use Rattle.dnp_world.specs.declared.event.Link.{Link}
 use Rattle.dnp_world.specs.declared.event.Link.TheVariants.{Above}
 use Rattle.dnp_world.specs.declared.link_event.Way.TheVariants.{Down, Up}
@@ -38,7 +38,7 @@ abbrev step_in : ConcentratorState → ℕ → List ℕ → Step
 step_in c now fragment = connection_after (middle_of c) (middle_panel c now) now fragment
 
 -- the concentrator after a fragment
-abbrev concentrator_after : ConcentratorState → ℕ → List ℕ → ConcentratorState
+abbrev pub concentrator_after : ConcentratorState → ℕ → List ℕ → ConcentratorState
 concentrator_after c now fragment = record c {
   core = (step_in c now fragment).state.core;
   queue = (step_in c now fragment).state.lanes;
@@ -53,69 +53,9 @@ no_commands c now fragment none = by (case_of c.core fragment)
     by Asks = ap (λ (b : Bool). if b then performed_at c.core (middle_panel c now) now fragment else []) none
     by x = refl
 
--- what the round leaves alone
-record Rest : Type 0 where
-  substations : List SubstationState
-  history : History
-  now : ℕ
-
--- the concentrator and the centre are these, and all else but lines is as it was
-record IsNow (rest : Rest) (c : ConcentratorState) (centre : CentreState) (s : System) : Type 0 where
-  concentrator : s.concentrator ≡ c
-  centre_is : s.centre ≡ centre
-  substations : s.substations ≡ rest.substations
-  history : s.history ≡ rest.history
-  now : s.now ≡ rest.now
-
-module _ (rest : Rest) (c : ConcentratorState) (centre : CentreState) where
-  lines_change : (number : ℕ) (Change : ChannelState → ChannelState → Type 0) (old new : System) → LinesChange (Above number) Change old new → IsNow rest c centre old
-      → IsNow rest c centre new
-  lines_change number Change old new change n =
-      subst (IsNow rest c centre) (sym change.1) record {
-        concentrator = n.concentrator;
-        centre_is = n.centre_is;
-        substations = n.substations;
-        history = n.history;
-        now = n.now;
-      }
-
-  -- the concentrator answers
-  middle_steps : (fragment : List ℕ) (old new : System) → MiddleAnswers (fragment ∷ []) old new → IsNow rest c centre old
-      → IsNow rest (concentrator_after c rest.now fragment) centre new
-  middle_steps fragment old new answers n =
-      subst (IsNow rest (concentrator_after c rest.now fragment) centre) (sym answers.after) record {
-        concentrator = ap (λ (x : ConcentratorState). concentrator_after x old.now fragment) n.concentrator
-            ∙ ap (λ (k : ℕ). concentrator_after c k fragment) n.now;
-        centre_is = n.centre_is;
-        substations = n.substations;
-        history = n.history;
-        now = n.now;
-      }
-
-  middle_sends : (fragment : List ℕ) (s : System) → IsNow rest c centre s
-      → (step_in s.concentrator s.now fragment).does.send ≡ (step_in c rest.now fragment).does.send
-  middle_sends fragment s n =
-      ap (λ (x : ConcentratorState). (step_in x s.now fragment).does.send) n.concentrator
-      ∙ ap (λ (k : ℕ). (step_in c k fragment).does.send) n.now
-
-  -- the centre takes its rows
-  rows_taken : (t : Taking) (s : System) → IsNow rest c centre s → IsNow rest c (centre_taken centre t) (taken_above s t)
-  rows_taken t s n = record {
-    concentrator = n.concentrator;
-    centre_is = ap (λ (x : CentreState). centre_taken x t) n.centre_is;
-    substations = n.substations;
-    history = n.history;
-    now = n.now;
-  }
-
-  link_set : (r : Relaying) (s : System) → IsNow rest c centre s → IsNow rest c (record centre { link = r }) (with_centre_link s r)
-  link_set r s n = record {
-    concentrator = n.concentrator;
-    centre_is = ap (λ (x : CentreState). record x { link = r }) n.centre_is;
-    substations = n.substations;
-    history = n.history;
-    now = n.now;
-  }
+-- what it makes of the system, but for lines
+abbrev pub answered_in : System → List ℕ → System
+answered_in s fragment = record s { concentrator = concentrator_after s.concentrator s.now fragment }
 
 -- ---- what the round begins with
 
@@ -160,17 +100,20 @@ module _ (laws : StationLaws) (lines : LineLaws) (number : ℕ) (old new : Syste
   abbrev centre1 : CentreState
   centre1 = record old.centre { link = asking }
 
-  abbrev rest : Rest
-  rest = record { substations = old.substations; history = old.history; now = old.now }
+  -- the lines are left out of it
+  abbrev still_lines : System → System
+  still_lines s = record s { above = old.above }
+
+  -- the concentrator and the centre are these, and all else but lines is as it was
+  abbrev IsNow : ConcentratorState → CentreState → System → Type 0
+  IsNow c centre s = still_lines s ≡ record old { concentrator = c; centre = centre }
 
   -- the poll goes down
   sends : SendsDown on (poll ∷ []) asking old round.asked
   sends = asks_so on old round.asked true poll refl (laws.asks link.master begins.idle) round.asks
 
-  once_asked : IsNow rest c0 centre1 round.asked
-  once_asked = lines_change rest c0 centre1 number (GoDown (poll ∷ [])) (with_centre_link old asking) round.asked sends
-      (link_set rest c0 old.centre asking old
-      (record { concentrator = refl; centre_is = refl; substations = refl; history = refl; now = refl }))
+  once_asked : IsNow c0 centre1 round.asked
+  once_asked = ap still_lines sends.1
 
   poll_under_way : UnderWay on (poll ∷ []) [] round.asked
   poll_under_way = lines.asked on (poll ∷ []) [] [] asking old round.asked clear sends
@@ -183,17 +126,17 @@ module _ (laws : StationLaws) (lines : LineLaws) (number : ℕ) (old new : Syste
   c1 = concentrator_after c0 old.now poll
 
   record IsAnswered (answers : List (List ℕ)) : Type 0 where
-    is : IsNow rest c1 centre1 round.answered
+    is : IsNow c1 centre1 round.answered
     under_way : UnderWay on [] answers round.answered
 
   answered : (answers : List (List ℕ)) → step1.does.send ≡ answers → IsAnswered answers
   answered answers sent =
       let d = lines.down on (poll ∷ []) [] round.asked round.answered poll_under_way round.down in
       let a : Arrives on Down poll d.0 round.asked round.answered = one_arrives on Down poll d.0 round.asked round.answered d.1 in
-      let heard = lines_change rest c0 centre1 number (HearsAt Down) round.asked a.heard a.hears once_asked in
-      let back : d.0 ≡ answers = a.sends ∙ middle_sends rest c0 centre1 poll a.heard heard ∙ sent in
+      let heard : IsNow c0 centre1 a.heard = ap still_lines a.hears.1 ∙ once_asked in
+      let back : d.0 ≡ answers = a.sends ∙ ap (λ (s : System). (step_in s.concentrator s.now poll).does.send) heard ∙ sent in
       record {
-        is = middle_steps rest c0 centre1 poll a.heard round.answered a.takes heard;
+        is = ap still_lines a.takes.after ∙ ap (λ (s : System). answered_in s poll) heard;
         under_way = subst (λ (up : List (List ℕ)). UnderWay on [] up round.answered) back d.2;
       }
 
@@ -216,7 +159,7 @@ module _ (laws : StationLaws) (lines : LineLaws) (number : ℕ) (old new : Syste
   record IsDone (c : ConcentratorState) (centre : CentreState) : Type 0 where
     left : Leave portion c0.queue c.queue
     plain : c ≡ record c0 { core = c.core; queue = c.queue }
-    is : IsNow rest c centre new
+    is : IsNow c centre new
 
   -- ---- a fragment is exchanged
   module _ (x : Exchange link.master old.now (middle_of c0) (middle_panel c0 old.now) portion) where
@@ -224,7 +167,7 @@ module _ (laws : StationLaws) (lines : LineLaws) (number : ℕ) (old new : Syste
     centre2 = centre_taken centre1 x.taken
 
     record IsTaken : Type 0 where
-      is : IsNow rest c1 centre2 round.taken
+      is : IsNow c1 centre2 round.taken
       under_way : UnderWay on (option_to_list x.confirm) [] round.taken
 
     -- it comes, and is taken
@@ -234,18 +177,14 @@ module _ (laws : StationLaws) (lines : LineLaws) (number : ℕ) (old new : Syste
         let before = answered (x.fragment ∷ []) x.sent in
         let u = lines.up on [] (x.fragment ∷ []) round.answered round.taken before.under_way round.up in
         let b : Arrives on Up x.fragment u.0 round.answered round.taken = one_arrives on Up x.fragment u.0 round.answered round.taken u.1 in
-        let heard = lines_change rest c1 centre1 number (HearsAt Up) round.answered b.heard b.hears before.is in
+        let heard : IsNow c1 centre1 b.heard = ap still_lines b.hears.1 ∙ before.is in
         let got : receive_of (relaying_at b.heard on).master b.heard.now x.fragment ≡ Ok t =
-        ap (λ (y : CentreState). receive_of y.link.master b.heard.now x.fragment) heard.centre_is
-        ∙ ap (λ (n : ℕ). receive_of asking.master n x.fragment) heard.now
-        ∙ x.is_taken
-        in
+        ap (λ (s : System). receive_of s.centre.link.master s.now x.fragment) heard ∙ x.is_taken in
         let received : MasterReceives on (Ok t) b.heard round.taken =
         subst (λ (r : Result Taking MasterFault). MasterReceives on r b.heard round.taken) got b.takes in
         let sent : u.0 ≡ option_to_list x.confirm = b.sends ∙ ap confirms_of got ∙ ap option_to_list x.confirm_is in
         record {
-          is = lines_change rest c1 centre2 number (GoDown (option_to_list t.confirm)) (taken_above b.heard t) round.taken received.1
-              (rows_taken rest c1 centre1 t b.heard heard);
+          is = ap still_lines received.1.1 ∙ ap (λ (s : System). taken_above s t) heard;
           under_way = subst (λ (down : List (List ℕ)). UnderWay on down [] round.taken) sent u.2;
         }
 
@@ -255,20 +194,20 @@ module _ (laws : StationLaws) (lines : LineLaws) (number : ℕ) (old new : Syste
     confirms (Some octets) is under_way =
         let d = lines.down on (octets ∷ []) [] round.taken new under_way round.confirms in
         let a : Arrives on Down octets d.0 round.taken new = one_arrives on Down octets d.0 round.taken new d.1 in
-        let heard = lines_change rest c1 centre2 number (HearsAt Down) round.taken a.heard a.hears taken.is in
+        let heard : IsNow c1 centre2 a.heard = ap still_lines a.hears.1 ∙ taken.is in
         let r : Frees portion c0.queue (middle_of c1).performed (step_in c1 old.now octets) = x.frees octets is (middle_of c1).performed (middle_panel c1 old.now) in (
           concentrator_after c1 old.now octets,
           record {
             left = Released x.released r.lanes;
             plain = plain_after c1 octets (x.no_control octets is) plain_polled;
-            is = middle_steps rest c1 centre2 octets a.heard new a.takes heard;
+            is = ap still_lines a.takes.after ∙ ap (λ (s : System). answered_in s octets) heard;
           },
         )
     confirms None is under_way =
         let d = lines.down on [] [] round.taken new under_way round.confirms in
         let same : new ≡ round.taken = d.1.1 in (
           c1,
-          record { left = Rested (x.none is) x.lanes; plain = plain_polled; is = subst (IsNow rest c1 centre2) (sym same) taken.is },
+          record { left = Rested (x.none is) x.lanes; plain = plain_polled; is = ap still_lines same ∙ taken.is },
         )
 
   -- ---- the poll is passed over
@@ -283,7 +222,7 @@ module _ (laws : StationLaws) (lines : LineLaws) (number : ℕ) (old new : Syste
       record {
         left = Rested (ap (λ (x : Portion). x.rows) none) (ap (λ (step : Step). step.state.lanes) rests);
         plain = plain_polled;
-        is = subst (IsNow rest c1 centre1) (sym (third ∙ second)) before.is;
+        is = ap still_lines (third ∙ second) ∙ before.is;
       }
 
   -- ---- all of it
@@ -297,14 +236,14 @@ module _ (laws : StationLaws) (lines : LineLaws) (number : ℕ) (old new : Syste
       → centre ≡ record old.centre { link = centre.link; journal = with_events old.centre.journal portion.rows } → Moved centre.link.master
   moved c centre done journal = record {
     moves = record {
-      left = subst (λ (x : ConcentratorState). Leave portion c0.queue x.queue) (sym done.is.concentrator) done.left;
-      concentrator = subst (λ (x : ConcentratorState). x ≡ record c0 { core = x.core; queue = x.queue }) (sym done.is.concentrator) done.plain;
-      centre = subst (λ (x : CentreState). x ≡ record old.centre { link = x.link; journal = with_events old.centre.journal portion.rows })
-          (sym done.is.centre_is) journal;
-      substations = done.is.substations;
-      history = done.is.history;
+      left = subst (λ (s : System). Leave portion c0.queue s.concentrator.queue) (sym done.is) done.left;
+      concentrator = subst (λ (s : System). s.concentrator ≡ record c0 { core = s.concentrator.core; queue = s.concentrator.queue }) (sym done.is) done.plain;
+      centre = subst (λ (s : System). s.centre ≡ record old.centre { link = s.centre.link; journal = with_events old.centre.journal portion.rows })
+          (sym done.is) journal;
+      substations = ap (λ (s : System). s.substations) done.is;
+      history = ap (λ (s : System). s.history) done.is;
     };
-    master_is = ap (λ (x : CentreState). x.link.master) done.is.centre_is;
+    master_is = ap (λ (s : System). s.centre.link.master) done.is;
   }
 
   abbrev with_journal : CentreState → Archive → CentreState

@@ -154,6 +154,16 @@ module _ (laws : StationLaws) (lines : LineLaws) (station : ℕ) (old new : Syst
   with_performed : (xs : List Command) → xs ≡ p0.outputs.performed → record p0.outputs { performed = xs } ≡ p0.outputs
   with_performed xs same = ap (λ (ys : List Command). record p0.outputs { performed = ys }) same
 
+  -- no row moves, and the round ends as it was
+  rested : (c : ConcentratorState) (h : History) (before : System) → portion.rows ≡ [] → step1.state.lanes ≡ p0.lanes
+      → step1.state.performed ≡ p0.outputs.performed → new ≡ before → IsNow station rest p1 c h before → IsDone p1 c h
+  rested c h before none lanes kept same is = record {
+    left = Rested none lanes;
+    outputs = with_performed step1.state.performed kept;
+    is = subst (λ (s : System). IsNow station rest p1 c (with_confirmed station portion.rows h) s) (sym same)
+        (subst (λ (x : History). IsNow station rest p1 c x before) (sym (none_confirmed portion.rows h none)) is);
+  }
+
   -- ---- a fragment is exchanged
   module _ (x : Exchange link.master old.now (state_in p0) (panel_in p0) portion) where
     abbrev c2 : ConcentratorState
@@ -207,16 +217,7 @@ module _ (laws : StationLaws) (lines : LineLaws) (station : ℕ) (old new : Syst
         )
     confirms None is under_way =
         let d = lines.down on [] [] round.taken new under_way round.confirms in
-        let same : new ≡ round.taken = d.1.1 in
-        let none : portion.rows ≡ [] = x.none is in (
-          p1,
-          record {
-            left = Rested none x.lanes;
-            outputs = with_performed step1.state.performed x.performed;
-            is = subst (λ (s : System). IsNow station rest p1 c2 (with_confirmed station portion.rows h2) s) (sym same)
-                (subst (λ (h : History). IsNow station rest p1 c2 h round.taken) (sym (none_confirmed portion.rows h2 none)) taken.is);
-          },
-        )
+        (p1, rested c2 h2 round.taken (x.none is) x.lanes x.performed d.1.1 taken.is)
 
   -- ---- the poll is passed over
   passes : step1 ≡ still (state_in p0) → portion ≡ no_rows → IsDone p1 c1 h0
@@ -224,17 +225,9 @@ module _ (laws : StationLaws) (lines : LineLaws) (station : ℕ) (old new : Syst
       let kept : step1.state.performed ≡ p0.outputs.performed = ap (λ (step : Step). step.state.performed) rests in
       let before = answered [] (ap (λ (step : Step). step.does.send) rests) (ap (λ (step : Step). step.does.discarded) rests) kept in
       let u = lines.up on [] [] round.answered round.taken before.under_way round.up in
-      let second : round.taken ≡ round.answered = u.1.1 in
       let quiet : UnderWay on [] [] round.taken = subst (λ (down : List (List ℕ)). UnderWay on down [] round.taken) u.1.0 u.2 in
       let d = lines.down on [] [] round.taken new quiet round.confirms in
-      let third : new ≡ round.taken = d.1.1 in
-      let no : portion.rows ≡ [] = ap (λ (x : Portion). x.rows) none in
-      record {
-        left = Rested no (ap (λ (step : Step). step.state.lanes) rests);
-        outputs = with_performed step1.state.performed kept;
-        is = subst (λ (s : System). IsNow station rest p1 c1 (with_confirmed station portion.rows h0) s) (sym (third ∙ second))
-            (subst (λ (h : History). IsNow station rest p1 c1 h round.answered) (sym (none_confirmed portion.rows h0 no)) before.is);
-      }
+      rested c1 h0 round.answered (ap (λ (x : Portion). x.rows) none) (ap (λ (step : Step). step.state.lanes) rests) kept (d.1.1 ∙ u.1.1) before.is
 
   -- ---- all of it
 

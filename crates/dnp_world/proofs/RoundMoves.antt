@@ -1,11 +1,10 @@
 -- Clean rounds over quiet links of steady systems.
-use Rattle.std.proofs.Common.{◌≡◌, ℕ, ◌<◌, ◌≤◌, suc, Bool, true, false, if◌then◌else◌, List, [], ◌∷◌, ◌++◌, length, Option, Some, IfSome, is_some, refl, sym, ap, ◌∙◌, subst, arith}
+use Rattle.std.proofs.Common.{◌≡◌, ℕ, ◌<◌, ◌≤◌, Bool, true, false, if◌then◌else◌, List, [], ◌∷◌, ◌++◌, length, Option, Some, IfSome, is_some, refl, sym, ap, ◌∙◌, subst, arith}
 use Rattle.std.specs.Prelude.{map, nat_le, slice_get}
 use Rattle.std.specs.List.{All, filter}
 use Rattle.std.proofs.lemmas.Bool.{and_parts}
-use Rattle.std.proofs.lemmas.List.{get_or_append_left, length-append}
-use Rattle.std.proofs.lemmas.List.Elements.{All-append, All-cons, All-filter, All-head, All-map, All-nil, All-tail}
-use Rattle.dnp_controls.specs.Panel.{Panel}
+use Rattle.std.proofs.lemmas.List.{drop_at}
+use Rattle.std.proofs.lemmas.List.Elements.{All-append, All-cons, All-drop, All-filter, All-head, All-map, All-nil, All-tail}
 use Rattle.dnp_eventbuf.specs.Sound.{IsSound}
 use Rattle.dnp_eventbuf.specs.Stock.{LaneState, Stock, lane_rows, lanes_up_to, row_of, rows_in, up_to}
 use Rattle.dnp_eventbuf.specs.declared.numbered.Numbered.{Numbered}
@@ -17,6 +16,7 @@ use Rattle.dnp_outstation.specs.Content.{source_of}
 use Rattle.dnp_outstation.specs.Links.{IsInOrder}
 use Rattle.dnp_outstation.specs.Polled.{Portion, no_rows, poll_octets, polled_rows, reported}
 use Rattle.dnp_outstation.specs.State.{State, is_free}
+use Rattle.dnp_world.specs.Arriving.{IsClearOn}
 use Rattle.dnp_world.specs.Behind.{Elsewhere}
 use Rattle.dnp_world.specs.Movement.{MovesAbove, MovesBelow, first_reported, first_rows, passed_rows, is_repeated_at, is_repeated_on}
 use Rattle.dnp_world.specs.OutstationSeen.{IsWell, ShowOctets}
@@ -27,9 +27,10 @@ use Rattle.dnp_world.specs.Settled.{IsSettled, may_report}
 use Rattle.dnp_world.specs.Steady.{IsSteadyBeside}
 use Rattle.dnp_world.specs.SystemEvents.{relaying_at}
 use Rattle.dnp_world.specs.SystemStanding.{IsJoinedBelow, IsStanding}
-use Rattle.dnp_world.specs.Systems.{SubstationState, System, itself, link_at, middle_of, middle_panel, panel_of, station_of}
+use Rattle.dnp_world.specs.Systems.{ConcentratorState, SubstationState, System, itself, link_at, middle_of, middle_panel, panel_of, station_of}
 use Rattle.dnp_world.specs.declared.event.Link.TheVariants.{Above, Below}
 use Rattle.dnp_world.proofs.AllQueued.{QueuedLaw, all_are_queued}
+use Rattle.dnp_world.proofs.Offers.{all_left}
 use Rattle.dnp_world.proofs.RepeatedPoll.{ReportLaws, WentOn, repeated}
 use Rattle.dnp_world.proofs.RepeatedRequests.{CaseLaw, went_on}
 use Rattle.dnp_world.proofs.RoundAbove as above
@@ -48,12 +49,8 @@ pub record LaneLaws : Type 0 where
 
 -- ---- what is polled is of the lanes
 
-all_front : {A : Type 0} (P : A → Type 0) (xs ys : List A) → All P (xs ++ ys) → All P xs
-all_front P xs ys all = λ k d low. subst P (get_or_append_left xs ys d k low) (all k d (omega (arith, low, length-append xs ys)))
-
 all_behind : {A : Type 0} (P : A → Type 0) (xs ys : List A) → All P (xs ++ ys) → All P ys
-all_behind P [] ys all = all
-all_behind P (x ∷ xs) ys all = all_behind P xs ys (λ k d low. all (suc k) d (omega (arith, low)))
+all_behind P xs ys all = subst (All P) (drop_at xs ys (length xs) refl) (All-drop P (length xs) (xs ++ ys) all)
 
 map_back : (P : Row → Type 0) (xs : List Numbered) → All P (map row_of xs) → All (λ x. P x.row) xs
 map_back P [] all = All-nil (λ x. P x.row)
@@ -68,7 +65,7 @@ first_of_lanes : (P : Row → Type 0) (lanes : List LaneState) (ids : List ℕ) 
 first_of_lanes P [] ids all = All-nil P
 first_of_lanes P (lane ∷ lanes) [] all = All-nil P
 first_of_lanes P (lane ∷ lanes) (id ∷ ids) all =
-    All-append P (up_to id lane) (lanes_up_to lanes ids) (first_of_lane P id lane (all_front P (map row_of lane.rows) (lane_rows lanes) all))
+    All-append P (up_to id lane) (lanes_up_to lanes ids) (first_of_lane P id lane (all_left P (map row_of lane.rows) (lane_rows lanes) all))
     (first_of_lanes P lanes ids (all_behind P (map row_of lane.rows) (lane_rows lanes) all))
 
 all_reported : ReleaseLaw → (P : Row → Type 0) (s : Stock) (enabled : List Bool) → IsSound s → length enabled ≤ 3 → All P (rows_in s)
@@ -79,140 +76,129 @@ all_reported law P s enabled sound few all =
 all_polled : ReleaseLaw → (P : Row → Type 0) (s : Stock) → IsSound s → All P (rows_in s) → All P (polled_rows s)
 all_polled law P s sound all = all_reported law P s (true ∷ true ∷ true ∷ []) sound (omega arith) all
 
--- ---- the two links
+-- ---- the link to a substation
 
--- what stands of a substation and of its master
-joined_to : (station : ℕ) (old : System) {el : Elsewhere} (steady : IsSteadyBeside el old) (begins : below.BeginsBelow station old)
-    → IsJoinedBelow old.now (link_at old.concentrator station) (steady.standing.links.below station) begins.was
-joined_to station old steady begins =
-    subst
-    (λ (o : Option SubstationState). IfSome o (IsJoinedBelow old.now (link_at old.concentrator station) (steady.standing.links.below station)))
-    begins.there (steady.standing.below station)
-
-pub fit_below : StationLaws → (station : ℕ) (old : System) {el : Elsewhere} → IsSteadyBeside el old → (begins : below.BeginsBelow station old)
-    → AreFit (link_at old.concentrator station).master (station_of begins.was) (panel_of begins.was)
-fit_below stations station old steady begins =
-    let was : SubstationState = begins.was in
-    let joined = joined_to station old steady begins in
-    let well : IsWell (station_of was) = joined.joined.outstation.well in
-    record {
-      idle = begins.idle;
-      quiet = begins.quiet;
-      sound = well.lanes;
-      writable = stations.writable (source_of (station_of was) (panel_of was)) well.points joined.shown.outputs joined.shown.status;
-      seq = joined.joined.number;
-    }
-
--- the outputs above show no status
-none_shown : (s : System) → ShowOctets (middle_panel s.concentrator s.now)
-none_shown s = record { outputs = omega arith; status = λ index low. omega arith }
-
-pub fit_above : StationLaws → (old : System) {el : Elsewhere} → IsSteadyBeside el old → above.BeginsAbove old
-    → AreFit old.centre.link.master (middle_of old.concentrator) (middle_panel old.concentrator old.now)
-fit_above stations old steady begins =
-    let well : IsWell (middle_of old.concentrator) = steady.standing.above.outstation.well in
-    let shown : ShowOctets (middle_panel old.concentrator old.now) = none_shown old in
-    record {
-      idle = begins.idle;
-      quiet = begins.quiet;
-      sound = well.lanes;
-      writable = stations.writable (source_of (middle_of old.concentrator) (middle_panel old.concentrator old.now)) well.points shown.outputs shown.status;
-      seq = steady.standing.above.number;
-    }
-
--- ---- a poll that is answered
-
-pub polled_below : StationLaws → LineLaws → LaneLaws → (station : ℕ) (old new : System) {el : Elsewhere} → IsSteadyBeside el old
-    → is_quiet_on old (Below station) ≡ true
-    → IsRound Happens itself (Below station) old new → is_repeated_on old (Below station) ≡ false → MovesBelow station first_rows old new
-polled_below stations lines lanes station old new steady quiet round other =
-    let begins : below.BeginsBelow station old = below.begins_below station old quiet in
-    let was : SubstationState = begins.was in
-    let m : master.State = (link_at old.concentrator station).master in
-    let fit : AreFit m (station_of was) (panel_of was) = fit_below stations station old steady begins in
-    let asked : All (λ row. is_reported m.plan row ≡ true) (polled_rows was.lanes) =
-    all_polled stations.released (λ row. is_reported m.plan row ≡ true) was.lanes fit.sound (lanes.below old station was steady.planned begins.low begins.there)
-    in
-    (below.moves stations lines station old new begins (lines.quiet (Below station) old steady.standing quiet) first_rows round
-    (all_are_queued lanes.queued old station steady.standing begins.low (polled_rows was.lanes) asked)
-    (Exchanges (polled_exchange stations m old.now (station_of was) (panel_of was) fit asked
-    (ap (λ (o : Option SubstationState). is_repeated_at o (poll_octets m.seq)) (sym begins.there) ∙ other)))).moves
-
-pub polled_above : StationLaws → LineLaws → LaneLaws → (centre : ℕ) (old new : System) {el : Elsewhere} → IsSteadyBeside el old
-    → is_quiet_above old ≡ true → IsRound Happens itself (Above centre) old new → is_repeated_on old (Above centre) ≡ false → MovesAbove first_rows old new
-polled_above stations lines lanes centre old new steady quiet round other =
-    let begins : above.BeginsAbove old = above.begins_above old quiet in
-    let c = old.concentrator in
-    let m : master.State = old.centre.link.master in
-    let fit : AreFit m (middle_of c) (middle_panel c old.now) = fit_above stations old steady begins in
-    (above.moves stations lines centre old new begins (lines.quiet (Above centre) old steady.standing quiet) first_rows round
-    (Exchanges (polled_exchange stations m old.now (middle_of c) (middle_panel c old.now) fit
-    (all_polled stations.released (λ row. is_reported m.plan row ≡ true) c.queue fit.sound (lanes.above old steady.standing steady.planned)) other))).moves
-
--- ---- a poll that is taken for the last request
-
--- the master waits on, and nothing moved, since the substation has started what it may
+-- the substation has started what it may, so nothing moved
 pub record PassedBelow (station : ℕ) (old new : System) : Type 0 where
   pub moves : MovesBelow station (passed_rows (Below station)) old new
   pub busy : is_some (relaying_at new (Below station)).master.request ≡ true
 
--- the answer to a poll that is passed over
-record Passed (m : master.State) (now : ℕ) (s : State) (o : Panel) (portion : Portion) : Type 0 where
-  answer : Answer m now s o portion
-  busy : is_some (master_after m now s o portion answer).request ≡ true
+module _ (stations : StationLaws) (lines : LineLaws) (lanes : LaneLaws) (station : ℕ) (old new : System) {el : Elsewhere} (steady : IsSteadyBeside el old)
+    (quiet : is_quiet_on old (Below station) ≡ true) (round : IsRound Happens itself (Below station) old new) where
+  begins : below.BeginsBelow station old
+  begins = below.begins_below station old quiet
 
-passed_below : StationLaws → LineLaws → (station : ℕ) (old new : System) {el : Elsewhere} → IsSteadyBeside el old → is_quiet_on old (Below station) ≡ true
-    → IsRound Happens itself (Below station) old new → (begins : below.BeginsBelow station old)
-    → Passed (link_at old.concentrator station).master old.now (station_of begins.was) (panel_of begins.was) no_rows → PassedBelow station old new
-passed_below stations lines station old new steady quiet round begins passed =
-    let x = below.moves stations lines station old new begins (lines.quiet (Below station) old steady.standing quiet) (passed_rows (Below station)) round
-    refl passed.answer in
-    record { moves = x.moves; busy = ap (λ (a : master.State). is_some a.request) x.master_is ∙ passed.busy }
+  abbrev was : SubstationState
+  was = begins.was
 
-pub repeated_below : StationLaws → LineLaws → LaneLaws → ReportLaws → CaseLaw → (station : ℕ) (old new : System) {el : Elsewhere} → IsSteadyBeside el old
-    → is_quiet_on old (Below station) ≡ true → IsRound Happens itself (Below station) old new → is_repeated_on old (Below station) ≡ true
-    → PassedBelow station old new
-repeated_below stations lines lanes reports cases station old new steady quiet round again =
-    let begins : below.BeginsBelow station old = below.begins_below station old quiet in
-    let was : SubstationState = begins.was in
-    let m : master.State = (link_at old.concentrator station).master in
-    let fit : AreFit m (station_of was) (panel_of was) = fit_below stations station old steady begins in
-    let joined = joined_to station old steady begins in
-    let order : IsInOrder was.core = joined.joined.outstation.well.order in
-    let same : is_last_request was.core.session (poll_octets m.seq) ≡ true =
-    ap (λ (o : Option SubstationState). is_repeated_at o (poll_octets m.seq)) (sym begins.there) ∙ again in
-    let went : WentOn (station_of was) =
-    went_on stations.again cases (station_of was) m (steady.standing.links.below station) joined.joined.outstation joined.joined.master
-    (steady.standing.behind.below_stands station) (and_parts was.core.is_open (is_free was.core) begins.quiet).0 fit.idle fit.seq same in
-    let r = repeated reports m old.now (station_of was) (panel_of was) fit order
-    (all_reported stations.released (λ row. is_reported m.plan row ≡ true) was.lanes was.core.enabled fit.sound order.classes
-    (lanes.below old station was steady.planned begins.low begins.there)) same went in
-    let settled : may_report (station_of was) ≡ false =
-    subst (λ (o : Option SubstationState). IfSome o IsSettled) begins.there (steady.settled station) in
-    let none : first_reported (station_of was) ≡ no_rows =
-    ap (λ (b : Bool). if b then reported was.lanes was.core.enabled else no_rows) settled in
-    passed_below stations lines station old new steady quiet round begins
-    (subst (λ (x : Portion). Passed m old.now (station_of was) (panel_of was) x) none (record { answer = r.answer; busy = r.busy }))
+  abbrev m : master.State
+  m = (link_at old.concentrator station).master
+
+  clear : IsClearOn (Below station) old
+  clear = lines.quiet (Below station) old steady.standing quiet
+
+  -- what stands of the substation and of its master
+  joined : IsJoinedBelow old.now (link_at old.concentrator station) (steady.standing.links.below station) was
+  joined =
+      subst
+      (λ (o : Option SubstationState). IfSome o (IsJoinedBelow old.now (link_at old.concentrator station) (steady.standing.links.below station)))
+      begins.there (steady.standing.below station)
+
+  well : IsWell (station_of was)
+  well = joined.joined.outstation.well
+
+  fit : AreFit m (station_of was) (panel_of was)
+  fit = record {
+    idle = begins.idle;
+    quiet = begins.quiet;
+    sound = well.lanes;
+    writable = stations.writable (source_of (station_of was) (panel_of was)) well.points joined.shown.outputs joined.shown.status;
+    seq = joined.joined.number;
+  }
+
+  asked : All (λ row. is_reported m.plan row ≡ true) (rows_in was.lanes)
+  asked = lanes.below old station was steady.planned begins.low begins.there
+
+  again_is : is_last_request was.core.session (poll_octets m.seq) ≡ is_repeated_on old (Below station)
+  again_is = ap (λ (o : Option SubstationState). is_repeated_at o (poll_octets m.seq)) (sym begins.there)
+
+  pub polled_below : is_repeated_on old (Below station) ≡ false → MovesBelow station first_rows old new
+  polled_below other =
+      let polled = all_polled stations.released (λ row. is_reported m.plan row ≡ true) was.lanes fit.sound asked in
+      (below.moves stations lines station old new begins clear first_rows round
+      (all_are_queued lanes.queued old station steady.standing begins.low (polled_rows was.lanes) polled)
+      (Exchanges (polled_exchange stations m old.now (station_of was) (panel_of was) fit polled (again_is ∙ other)))).moves
+
+  pub repeated_below : ReportLaws → CaseLaw → is_repeated_on old (Below station) ≡ true → PassedBelow station old new
+  repeated_below reports cases again =
+      let same : is_last_request was.core.session (poll_octets m.seq) ≡ true = again_is ∙ again in
+      let went : WentOn (station_of was) =
+      went_on stations.again cases (station_of was) m (steady.standing.links.below station) joined.joined.outstation joined.joined.master
+      (steady.standing.behind.below_stands station) (and_parts was.core.is_open (is_free was.core) begins.quiet).0 fit.idle fit.seq same in
+      let r = repeated reports m old.now (station_of was) (panel_of was) fit well.order
+      (all_reported stations.released (λ row. is_reported m.plan row ≡ true) was.lanes was.core.enabled fit.sound well.order.classes asked) same went in
+      let settled : may_report (station_of was) ≡ false =
+      subst (λ (o : Option SubstationState). IfSome o IsSettled) begins.there (steady.settled station) in
+      let none : first_reported (station_of was) ≡ no_rows =
+      ap (λ (b : Bool). if b then reported was.lanes was.core.enabled else no_rows) settled in
+      let Passes : Portion → Type 0 = λ x.
+      (answer : Answer m old.now (station_of was) (panel_of was) x)
+      × (is_some (master_after m old.now (station_of was) (panel_of was) x answer).request ≡ true)
+      in
+      let (answer, busy) = subst Passes none (r.answer, r.busy) in
+      let x = below.moves stations lines station old new begins clear (passed_rows (Below station)) round refl answer in
+      record { moves = x.moves; busy = ap (λ (a : master.State). is_some a.request) x.master_is ∙ busy }
+
+-- ---- the link between concentrator and centre
 
 -- here at most an unsolicited response moved its rows
 pub record PassedAbove (old new : System) : Type 0 where
   pub moves : MovesAbove first_reported old new
   pub busy : is_some new.centre.link.master.request ≡ true
 
-pub repeated_above : StationLaws → LineLaws → LaneLaws → ReportLaws → CaseLaw → (centre : ℕ) (old new : System) {el : Elsewhere}
-    → IsSteadyBeside el old → is_quiet_above old ≡ true → IsRound Happens itself (Above centre) old new → is_repeated_on old (Above centre) ≡ true
-    → PassedAbove old new
-repeated_above stations lines lanes reports cases centre old new steady quiet round again =
-    let begins : above.BeginsAbove old = above.begins_above old quiet in
-    let c = old.concentrator in
-    let m : master.State = old.centre.link.master in
-    let fit : AreFit m (middle_of c) (middle_panel c old.now) = fit_above stations old steady begins in
-    let order : IsInOrder c.core = steady.standing.above.outstation.well.order in
-    let went : WentOn (middle_of c) =
-    went_on stations.again cases (middle_of c) m steady.standing.links.above steady.standing.above.outstation steady.standing.above.master
-    steady.standing.behind.above_stands (and_parts c.core.is_open (is_free c.core) begins.quiet).0 fit.idle fit.seq again in
-    let r = repeated reports m old.now (middle_of c) (middle_panel c old.now) fit order
-    (all_reported stations.released (λ row. is_reported m.plan row ≡ true) c.queue c.core.enabled fit.sound order.classes (lanes.above old steady.standing steady.planned))
-    again went in
-    let x = above.moves stations lines centre old new begins (lines.quiet (Above centre) old steady.standing quiet) first_reported round r.answer in
-    record { moves = x.moves; busy = ap (λ (a : master.State). is_some a.request) x.master_is ∙ r.busy }
+module _ (stations : StationLaws) (lines : LineLaws) (lanes : LaneLaws) (centre : ℕ) (old new : System) {el : Elsewhere} (steady : IsSteadyBeside el old)
+    (quiet : is_quiet_above old ≡ true) (round : IsRound Happens itself (Above centre) old new) where
+  at_first : above.BeginsAbove old
+  at_first = above.begins_above old quiet
+
+  abbrev c : ConcentratorState
+  c = old.concentrator
+
+  abbrev asking : master.State
+  asking = old.centre.link.master
+
+  clear_above : IsClearOn (Above centre) old
+  clear_above = lines.quiet (Above centre) old steady.standing quiet
+
+  fit_above : AreFit asking (middle_of c) (middle_panel c old.now)
+  fit_above =
+      let stands : IsWell (middle_of c) = steady.standing.above.outstation.well in
+      let shown : ShowOctets (middle_panel c old.now) = record { outputs = omega arith; status = λ index low. omega arith } in
+      record {
+        idle = at_first.idle;
+        quiet = at_first.quiet;
+        sound = stands.lanes;
+        writable = stations.writable (source_of (middle_of c) (middle_panel c old.now)) stands.points shown.outputs shown.status;
+        seq = steady.standing.above.number;
+      }
+
+  asked_above : All (λ row. is_reported asking.plan row ≡ true) (rows_in c.queue)
+  asked_above = lanes.above old steady.standing steady.planned
+
+  pub polled_above : is_repeated_on old (Above centre) ≡ false → MovesAbove first_rows old new
+  polled_above other =
+      (above.moves stations lines centre old new at_first clear_above first_rows round
+      (Exchanges (polled_exchange stations asking old.now (middle_of c) (middle_panel c old.now) fit_above
+      (all_polled stations.released (λ row. is_reported asking.plan row ≡ true) c.queue fit_above.sound asked_above) other))).moves
+
+  pub repeated_above : ReportLaws → CaseLaw → is_repeated_on old (Above centre) ≡ true → PassedAbove old new
+  repeated_above reports cases again =
+      let order : IsInOrder c.core = steady.standing.above.outstation.well.order in
+      let went : WentOn (middle_of c) =
+      went_on stations.again cases (middle_of c) asking steady.standing.links.above steady.standing.above.outstation steady.standing.above.master
+      steady.standing.behind.above_stands (and_parts c.core.is_open (is_free c.core) at_first.quiet).0 fit_above.idle fit_above.seq again in
+      let r = repeated reports asking old.now (middle_of c) (middle_panel c old.now) fit_above order
+      (all_reported stations.released (λ row. is_reported asking.plan row ≡ true) c.queue c.core.enabled fit_above.sound order.classes asked_above)
+      again went in
+      let x = above.moves stations lines centre old new at_first clear_above first_reported round r.answer in
+      record { moves = x.moves; busy = ap (λ (a : master.State). is_some a.request) x.master_is ∙ r.busy }

@@ -162,17 +162,7 @@ refused_seen centre low id status old new (AtConcentrator its above is accepted 
 -- ---- over a link that is elsewhere
 
 pub sees_same : (old new : System) → new ≡ old → SeesElsewhere old new
-sees_same old new same = record {
-  commands = [];
-  issues = [];
-  after = same
-      ∙ ap (λ (r : ℕ → Option Command). record old { concentrator = record old.concentrator { reserved = r } })
-      (sym (ap (λ (s : System). s.concentrator.reserved) same))
-      ∙ ap (λ (xs : List (ℕ × Command)). record old {
-        concentrator = record old.concentrator { reserved = new.concentrator.reserved };
-        history = record old.history { issued = xs };
-      }) (sym (append-nil old.history.issued));
-}
+sees_same old new same = subst (SeesElsewhere old) (sym same) (record { commands = []; issues = []; after = simp append-nil })
 
 -- one after the other
 sees_both : (old mid new : System) → SeesElsewhere old mid → SeesElsewhere mid new → SeesElsewhere old new

@@ -1,9 +1,9 @@
 -- What calls of a book make of the controls in progress: they stay in step with it.
 use Rattle.std.proofs.Common.{◌≡◌, ℕ, suc, ◌+◌, ◌<◌, ◌≤◌, ◌==◌, ◌&&◌, Bool, true, false, cond, List, [], ◌∷◌, ◌++◌, ◌⊎◌, inl, inr, Option, Some, None, IfSome, refl, sym, ap, ◌∙◌, subst, arith}
 use Rattle.std.specs.List.{All, AllPairs}
-use Rattle.std.specs.Option.{option_or}
+use Rattle.std.specs.Option.{option_map, option_or}
 use Rattle.std.proofs.lemmas.Option.{none-some, same_Some}
-use Rattle.std.proofs.lemmas.Bool.Decides.{Decides-eqb}
+use Rattle.std.proofs.lemmas.Bool.Decides.{Decides-eqb, nat_tests}
 use Rattle.std.proofs.lemmas.List.Elements.{All-nil, All-cons, All-head, All-tail, All-map}
 use Rattle.std.proofs.lemmas.List.Folds.{find-append}
 use Rattle.dnp_objects.specs.declared.command.Command.{Command}
@@ -60,11 +60,7 @@ carried_on a b c h k = record {
 
 -- an entry of another id isn't found
 other_id : (e : Entry) (id : ℕ) → id < e.id → entry_of (e ∷ []) id ≡ None
-other_id e id low = by (e.id == id) (Decides-eqb e.id id).0
-  where
-    by : (b : Bool) → (b ≡ true → e.id ≡ id) → cond b (Some e) None ≡ None
-    by true same = absurd (let is : e.id ≡ id = same refl in omega (arith, low, is))
-    by false same = refl
+other_id e id low = let apart : (e.id == id) ≡ false = grind (arith, nat_tests, low) in rw apart refl
 
 added_entry : (entries : List Entry) (new : Entry) (target : ℕ) (p : Progress) → p.id < new.id → IfSome (entry_of entries p.id) (IsOfEntry target p)
     → IfSome (entry_of (entries ++ new ∷ []) p.id) (IsOfEntry target p)
@@ -162,17 +158,16 @@ next_found (x ∷ xs) target e rising is =
     later_id rest =
         (next_has (λ (y : Entry). x.id < y.id) xs target e (λ k d inside. rising 0 (suc k) d (omega arith) (omega (arith, inside))) rest).0
 
-    here : (b : Bool) → (b ≡ true → x.id ≡ e.id) → x.id < e.id → cond b (Some x) (entry_of xs e.id) ≡ entry_of xs e.id
-    here true same low = absurd (let is : x.id ≡ e.id = same refl in omega (arith, low, is))
-    here false same low = refl
-
     by : (b : Bool) → cond b (Some x) (next_of xs target) ≡ Some e → (next_of xs target ≡ Some e → entry_of xs e.id ≡ Some e)
         → cond (x.id == e.id) (Some x) (entry_of xs e.id) ≡ Some e
     by true same later =
         let is : x ≡ e = same_Some x e same in
         ap (λ (b : Bool). cond b (Some x) (entry_of xs e.id)) ((Decides-eqb x.id e.id).1 (ap (λ (y : Entry). y.id) is))
         ∙ ap (λ (y : Entry). Some y) is
-    by false same later = here (x.id == e.id) (Decides-eqb x.id e.id).0 (later_id same) ∙ later same
+    by false same later =
+        let low : x.id < e.id = later_id same in
+        let apart : (x.id == e.id) ≡ false = grind (arith, nat_tests, low) in
+        rw apart (later same)
 
 -- another of the same id and command, at a stage before its OPERATE where this one is
 renamed : (book : Ledger) (target : ℕ) (p q : Progress) → p.id ≡ q.id → p.command ≡ q.command → IsUnspent q.stage
@@ -185,24 +180,22 @@ renamed book target p q ids commands unspent h =
     by None k = k
     by (Some e) k = (k.0, k.1 ∙ commands, λ pending. unspent)
 
--- an entry that comes into a state is in it
-state_put : (entries : List Entry) (id : ℕ) (state : State) → IfSome (entry_of (in_state entries id state) id) (λ e. e.state ≡ state)
-state_put [] id state = tt
-state_put (x ∷ xs) id state = by (x.id == id) refl (state_put xs id state)
+-- an entry that comes into a state is there in it
+pub entry_put : (entries : List Entry) (id : ℕ) (state : State)
+    → entry_of (in_state entries id state) id ≡ option_map (put state) (entry_of entries id)
+entry_put [] id state = refl
+entry_put (x ∷ xs) id state = by (x.id == id) refl (entry_put xs id state)
   where
-    by : (b : Bool) → (x.id == id) ≡ b → IfSome (entry_of (in_state xs id state) id) (λ e. e.state ≡ state)
-        → IfSome (entry_of (cond b (put state x) x ∷ in_state xs id state) id) (λ e. e.state ≡ state)
+    by : (b : Bool) → (x.id == id) ≡ b → entry_of (in_state xs id state) id ≡ option_map (put state) (entry_of xs id)
+        → entry_of (cond b (put state x) x ∷ in_state xs id state) id ≡ option_map (put state) (cond b (Some x) (entry_of xs id))
     by true one later = rw one refl
     by false other later = rw other later
 
 -- one whose entry is spent may be at any stage
-spent_goes : (target : ℕ) (p q : Progress) → p.command ≡ q.command → (o : Option Entry) → IfSome o (IsOfEntry target p) → IfSome o (λ e. e.state ≡ Spent)
-    → IfSome o (IsOfEntry target q)
-spent_goes target p q commands None k spent = tt
-spent_goes target p q commands (Some e) k spent = (k.0, k.1 ∙ commands, λ pending. absurd (never pending))
-  where
-    never : is_pending e.state ≡ true → ⊥
-    never pending = let both : false ≡ true = sym (ap is_pending spent) ∙ pending in cc
+spent_goes : (target : ℕ) (p q : Progress) → p.command ≡ q.command → (o : Option Entry) → IfSome o (IsOfEntry target p)
+    → IfSome (option_map (put Spent) o) (IsOfEntry target q)
+spent_goes target p q commands None k = tt
+spent_goes target p q commands (Some e) k = (k.0, k.1 ∙ commands, λ pending. absurd (let never : false ≡ true = pending in cc))
 
 pub step_in_progress : SoundLaw → (r : Relaying) (now : ℕ) (book : Ledger) (target : ℕ) (step : Step) → step_of r book.entries target ≡ step
     → IsInStep r book target → IfSome (relaying_after r now step).progress (GoesWith (ledger_after book step) target)
@@ -231,13 +224,12 @@ step_in_progress sound r now book target (Selects id command) is h =
 step_in_progress sound r now book target (Operates id command) is h =
     let (idle, chosen, (p, there, ids, commands)) = operates_from r book.entries target id command is in
     let g : GoesWith book target p = in_progress r book target p there h.control in
-    let stays : IfSome (entry_of (in_state book.entries id Spent) id) (IsOfEntry target p) =
-    subst (λ (n : ℕ). IfSome (entry_of (in_state book.entries id Spent) n) (IsOfEntry target p)) ids
-    (put_entry book.entries id Spent refl target p g.entry) in
+    let after : Progress = record { id = id; command = command; stage = Operating } in
     record {
       given = subst (λ (n : ℕ). n ≤ book.last_id) ids g.given;
-      entry = spent_goes target p (record { id = id; command = command; stage = Operating }) commands (entry_of (in_state book.entries id Spent) id) stays
-          (state_put book.entries id Spent);
+      entry = subst (λ (o : Option Entry). IfSome o (IsOfEntry target after)) (sym (entry_put book.entries id Spent))
+          (spent_goes target p after commands (entry_of book.entries id)
+          (subst (λ (n : ℕ). IfSome (entry_of book.entries n) (IsOfEntry target p)) ids g.entry));
       widths = step_widths r book target (Operates id command) is h;
     }
 step_in_progress sound r now book target (Finishes id status) is h = tt

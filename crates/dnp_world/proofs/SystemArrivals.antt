@@ -1,7 +1,7 @@
 -- What comes up the lines of a system.
 use Rattle.std.proofs.Common.{◌≡◌, ℕ, ◌<◌, true, length, List, [], ◌∷◌, ◌++◌, map, get_or, slice_set, None, Some, Result, Ok, Err, refl, sym, ap, ◌∙◌, subst, append-nil, arith}
 use Rattle.std.specs.Prelude.{slice_get}
-use Rattle.std.proofs.lemmas.List.{map-set}
+use Rattle.std.proofs.lemmas.List.{map-set, set-set}
 use Rattle.dnp_objects.specs.declared.row.Row.{Row}
 use Rattle.dnp_line.specs.Lines.{LineState}
 use Rattle.dnp_master.specs.declared.fault.MasterFault.{MasterFault}
@@ -28,7 +28,7 @@ use Rattle.dnp_world.specs.steps.WholeSteps as all
 use Rattle.dnp_world.specs.steps.WholeSteps.{HaveNumbers, of_both}
 use Rattle.dnp_world.proofs.CentrePlaces.{centre_view, own_there}
 use Rattle.dnp_world.proofs.EachCentre.{for_both}
-use Rattle.dnp_world.proofs.ListedAt.{set_again, set_here}
+use Rattle.dnp_world.proofs.ListedAt.{set_here}
 use Rattle.dnp_world.proofs.SystemPlaces.{is_there, there}
 
 -- ---- to a centre
@@ -51,8 +51,7 @@ with_above s centre lines = record s { centre = centre; above = lines }
 
 above_same : (old : System) (centre : CentreState) (between lines : ChannelState) → lines ≡ between → centre ≡ old.centre
     → with_above old centre lines ≡ record old { above = between }
-above_same old centre between lines is same =
-    ap (λ (c : ChannelState). with_above old centre c) is ∙ ap (λ (k : CentreState). with_above old k between) same
+above_same old centre between lines is same = cc
 
 above_by : (number : ℕ) (Beside : Type 0) (old : System) (centre : CentreState) (between lines : ChannelState) (r : Result Taking MasterFault)
     → TakesBy r (λ t. (centre ≡ centre_taken old.centre t) × Beside) ((centre ≡ old.centre) × Beside) between lines
@@ -98,15 +97,7 @@ comes_to_centre archive orders n low left rest centres above before k lines_befo
     let base : System = centre_view archive orders n rest before lines_before in
     let Dropped : Type 0 = ListsDropped none_dropped rest.history.dropped.first rest.history.dropped.second first second in
     let none : Dropped = beside_given came.given base.centre.link.master rest.now _ _ Dropped _ (state_of lines) came.came in
-    let is : List Row → List Row → Whole = λ xs ys. record rest {
-      centres = of_both (centre_of archive orders) (with_at n centres k);
-      above = of_both state_of (with_at n above lines);
-      history = record rest.history { dropped = record { first = xs; second = ys } };
-    } in
-    let old : Whole = record rest { centres = of_both (centre_of archive orders) centres; above = of_both state_of above } in
-    subst (λ (new : Whole). ChangesAll (Some n) (ComesUp left (Above n)) old new)
-    (sym (ap (λ (xs : List Row). is xs second) (none.to_first ∙ append-nil rest.history.dropped.first)
-    ∙ ap (λ (ys : List Row). is rest.history.dropped.first ys) (none.to_second ∙ append-nil rest.history.dropped.second)))
+    rw (none.to_first, append-nil, none.to_second, append-nil)
     (own_there archive orders n low (ComesUp left (Above n)) rest centres above before k lines_before lines there lines_there
     (comes_above n Dropped left base (centre_of archive orders k) (state_of lines) came))
 
@@ -132,9 +123,7 @@ below_same : (old : System) (station : ℕ) (was : SubstationState) (middle : Co
     → lines ≡ between → MiddleSame old middle dropped
     → with_below old station (record was { channel = lines }) middle dropped ≡ with_substation old station (record was { channel = between })
 below_same old station was middle between lines dropped is same =
-    ap (λ (c : ChannelState). with_below old station (record was { channel = c }) middle dropped) is
-    ∙ ap (λ (k : ConcentratorState). with_below old station (record was { channel = between }) k dropped) same.0
-    ∙ ap (λ (rows : List Row). with_below old station (record was { channel = between }) old.concentrator rows) same.1
+    rw (is, same.0, same.1)
 
 below_by : (old : System) (station : ℕ) (was : SubstationState) (middle : ConcentratorState) (between lines : ChannelState) (dropped : List Row)
     (r : Result Taking MasterFault) → slice_get old.substations station ≡ Some was
@@ -154,7 +143,7 @@ below_by old station was middle between lines dropped (Ok t) at (down, took) =
         after =
             ap (λ (k : ConcentratorState). with_below old station is k dropped) took.0.1
             ∙ ap (λ (rows : List Row). with_below old station is (concentrator_taken old.concentrator station t) rows) took.1
-            ∙ ap (λ (xs : List SubstationState). record (taken_below old station t) { substations = xs }) (sym (set_again old.substations station mid is));
+            ∙ ap (λ (xs : List SubstationState). record (taken_below old station t) { substations = xs }) (sym (set-set old.substations station mid is));
       },
     )
 
@@ -199,13 +188,10 @@ comes_below : (left : LineState → LineState) (old : System) (station i : ℕ) 
     })
 comes_below left old station i xs was middle lines dropped list same has at came =
     let low : i < length xs = rw same (is_there old xs station list has) in
-    let here : slice_get old.substations station ≡ Some (substation_of was) =
-    subst (λ (ys : List SubstationState). slice_get ys station ≡ Some (substation_of was)) (sym list)
-    (subst (λ (n : ℕ). slice_get (map substation_of xs) n ≡ Some (substation_of was)) same (there substation_of xs i was was low at)) in
+    let here : slice_get old.substations station ≡ Some (substation_of was) = rw (list, ← same) (there substation_of xs i was was low at) in
     let is : Substation = record was { channel = lines } in
     let written : map substation_of (slice_set xs i is) ≡ slice_set old.substations station (substation_of is) =
-    map-set substation_of xs i is ∙ ap (λ (ys : List SubstationState). slice_set ys i (substation_of is)) (sym list)
-    ∙ ap (λ (n : ℕ). slice_set old.substations n (substation_of is)) same in
+    rw (list, ← same) (map-set substation_of xs i is) in
     subst (λ (ys : List SubstationState). ComesUp left (Below station) old
     (record old { substations = ys; concentrator = middle; history = record old.history { dropped = dropped } })) (sym written)
     (comes_at left old station (substation_of was) middle (state_of lines) dropped here came)

@@ -6,7 +6,6 @@ use Rattle.dnp_concentrator.specs.BookOutputs.{book_in, map_in}
 use Rattle.dnp_concentrator.specs.Centre as centre
 use Rattle.dnp_concentrator.specs.Concentrator.{above_of, core_of, links_of, outputs_of, plan_above, queue_of, without_link}
 use Rattle.dnp_concentrator.specs.Relaying as relaying
-use Rattle.dnp_concentrator.specs.Reserving.{reserved_by}
 use Rattle.dnp_concentrator.specs.Two.{at, with_at}
 use Rattle.dnp_concentrator.specs.declared.book_outputs.BookOutputs.{BookOutputs}
 use Rattle.dnp_concentrator.specs.declared.centre.Centre.{Centre}
@@ -32,7 +31,7 @@ use Rattle.dnp_world.specs.declared.channel.Channel.{Channel}
 use Rattle.dnp_world.specs.declared.event.Link.TheVariants.{Above, Below}
 use Rattle.dnp_world.specs.declared.link_event.End.TheVariants.{Master, Outstation}
 use Rattle.dnp_world.specs.steps.WholeSteps.{of_both}
-use Rattle.dnp_world.proofs.CentrePlaces.{StaysApart, both_seen, centre_there, centre_view, link_there, middle_seen, middle_there, middle_view, own_there}
+use Rattle.dnp_world.proofs.CentrePlaces.{StaysApart, both_seen, centre_there, link_there, middle_seen, middle_there, middle_view, own_there}
 use Rattle.dnp_world.proofs.EachCentre.{for_both}
 use Rattle.dnp_world.proofs.SystemComing.{Follows, stays_apart, stepped}
 
@@ -57,9 +56,7 @@ pub hangs_up_at_centre : {J B : Type 0} (archive : J → Archive) (orders : B �
     (record rest { centres = of_both (centre_of archive orders) (with_at n centres k); above = of_both state_of (with_at n above lines) })
 hangs_up_at_centre archive orders n low rest centres above was k before lines there lines_there gone hung =
     own_there archive orders n low (HangsUpOn (Above n) Master) rest centres above was k before lines there lines_there
-    (ap (λ (m : CentreState). record (seen_by n rest) { centre = m; above = state_of lines }) gone
-    ∙ ap (λ (l : ChannelState). let s : System = centre_view archive orders n rest was before in
-    record (with_centre_link s (relaying.hung_up (centre.link_of was))) { above = l }) hung)
+    (cc)
 
 -- ---- of the concentrator, where it serves a centre
 
@@ -72,13 +69,7 @@ pub hangs_up_at_middle : {Q A : Type 0} (stock : Q → ℕ → Stock) (ledger : 
 hangs_up_at_middle {Q} {A} stock ledger n low rest c d above before lines there core other queue outputs links plan hung =
     let is : ConcentratorState = middle_view stock ledger n d in
     let was : ConcentratorState = record (middle_view stock ledger n c) { core = closed (core_of n c) } in
-    let closes : is ≡ was =
-    ap (λ (k : Core). record is { core = k }) core
-    ∙ ap (λ (k : Core). record is { core = was.core; reserved = reserved_by k }) other
-    ∙ ap (λ (q : Q). record is { core = was.core; reserved = was.reserved; queue = stock q n }) queue
-    ∙ ap (λ (o : BookOutputs A). record was { indices = map_in o; controls = ledger (book_in o); points = is.points; links = is.links }) outputs
-    ∙ ap (λ (l : List relaying.Relaying). record was { points = is.points; links = l }) links
-    ∙ ap (λ (p : points.Plan). record was { points = p }) plan in
+    let closes : is ≡ was = cc in
     let stays : StaysApart stock ledger n [] c d = record {
       core = other;
       queue = ap (λ (q : Q). stock q (other_than n)) queue;
@@ -88,8 +79,7 @@ hangs_up_at_middle {Q} {A} stock ledger n low rest c d above before lines there 
       links = links;
     } in
     middle_there stock ledger n low (HangsUpOn (Above n) Outstation) rest c d [] stays above before lines there
-    (ap (λ (k : ConcentratorState). record (seen_by n rest) { concentrator = k; above = state_of lines }) closes
-    ∙ ap (λ (l : ChannelState). record (seen_by n rest) { concentrator = was; above = l }) hung)
+    (cc closes)
 
 pub ticks_at_middle : {Q A : Type 0} (honest : Q → Type 0) (stock : Q → ℕ → Stock) (ledger : A → Ledger) (n : ℕ) → n < CENTRES → (rest : Whole)
     (c d : Concentrator Q A) → honest (queue_of d) → Follows honest stock ledger n c d [] → (does : Actions)
@@ -160,24 +150,14 @@ restarts_all {Q} {A} stock ledger rest c d substations above first second first_
     let is : WholeConcentrator = concentrator_of stock ledger d in
     let cores : Two Core = of_both restarted_core was.cores in
     let to : WholeConcentrator = record was { cores = cores; links = map relaying.hung_up was.links } in
-    let same : is ≡ to =
-    ap (λ (k : Core). record is { cores = record is.cores { first = k } }) first_core
-    ∙ ap (λ (k : Core). record is { cores = record cores { second = k } }) second_core
-    ∙ ap (λ (q : Q). record is { cores = cores; queues = record { first = stock q 0; second = stock q 1 } }) queue
-    ∙ ap (λ (o : BookOutputs A). record to { indices = map_in o; controls = ledger (book_in o); points = is.points; links = is.links }) outputs
-    ∙ ap (λ (p : points.Plan). record to { points = p; links = is.links }) plan
-    ∙ ap (λ (l : List relaying.Relaying). record to { links = l }) links in
+    let same : is ≡ to = cc in
     let new : List SubstationState → WholeConcentrator → ChannelState → ChannelState → Whole = λ ys k a b. record rest {
       substations = ys;
       concentrator = k;
       above = record { first = a; second = b };
     } in
     let all : new substations is (state_of first) (state_of second)
-    ≡ new (map master_gone rest.substations) to (hung_up_at Outstation (state_of above.first)) (hung_up_at Outstation (state_of above.second)) =
-    ap (λ (ys : List SubstationState). new ys is (state_of first) (state_of second)) gone
-    ∙ ap (λ (k : WholeConcentrator). new (map master_gone rest.substations) k (state_of first) (state_of second)) same
-    ∙ ap (λ (l : ChannelState). new (map master_gone rest.substations) to l (state_of second)) first_hung
-    ∙ ap (λ (l : ChannelState). new (map master_gone rest.substations) to (hung_up_at Outstation (state_of above.first)) l) second_hung in
+    ≡ new (map master_gone rest.substations) to (hung_up_at Outstation (state_of above.first)) (hung_up_at Outstation (state_of above.second)) = cc same in
     for_both _ (ap (λ (w : Whole). seen_by 0 w) all) (ap (λ (w : Whole). seen_by 1 w) all)
 
 -- its master of a substation looks at its timer

@@ -1,21 +1,18 @@
 -- What comes to the concentrator from above.
-use Rattle.std.proofs.Common.{◌≡◌, ◌==◌, ℕ, zero, suc, ◌<◌, if◌then◌else◌, Bool, true, false, List, [], ◌∷◌, Some, refl, sym, ap, ◌∙◌, subst, arith}
+use Rattle.std.proofs.Common.{◌≡◌, ℕ, zero, suc, ◌<◌, Bool, List, [], ◌∷◌, Some, refl, sym, ap, ◌∙◌, subst, arith}
 use Rattle.dnp_objects.specs.declared.command.Command.{Command}
 use Rattle.dnp_controls.specs.Book.{Ledger}
 use Rattle.dnp_eventbuf.specs.Sides.{other_than}
 use Rattle.dnp_eventbuf.specs.Stock.{Stock}
 use Rattle.dnp_eventbuf.specs.declared.pair.TheConstants.{CENTRES}
-use Rattle.dnp_outstation.specs.State.{Core, State, Step, Actions}
+use Rattle.dnp_outstation.specs.State.{State, Step, Actions}
 use Rattle.dnp_outstation.specs.Calls.{performed_in}
 use Rattle.dnp_pointdb.specs.Plan as points
 use Rattle.dnp_concentrator.specs.BookOutputs.{Performs, all_added, book_in, map_in}
 use Rattle.dnp_concentrator.specs.Concentrator.{above_of, core_of, links_of, outputs_of, panel_above, plan_above, queue_of}
-use Rattle.dnp_concentrator.specs.Relaying.{Relaying}
-use Rattle.dnp_concentrator.specs.Reserving.{reserved_by}
 use Rattle.dnp_concentrator.specs.Two.{at, with_at}
 use Rattle.dnp_concentrator.specs.declared.book_outputs.BookOutputs.{BookOutputs}
 use Rattle.dnp_concentrator.specs.declared.concentrator.Concentrator.{Concentrator}
-use Rattle.dnp_concentrator.specs.declared.span.Spans.{Spans}
 use Rattle.dnp_concentrator.specs.declared.two.Two.{Two}
 use Rattle.dnp_line.specs.Lines.{LineState}
 use Rattle.dnp_line.specs.Ports.{PortState}
@@ -24,10 +21,11 @@ use Rattle.dnp_world.specs.Channels.{AnswersTo, ChannelState, ComesToOutstation,
 use Rattle.dnp_world.specs.SystemEvents.{ComesDownAbove, MiddleAnswers, MiddleSteps}
 use Rattle.dnp_world.specs.SystemParts.{concentrator_of}
 use Rattle.dnp_world.specs.Systems.{ConcentratorState, System}
-use Rattle.dnp_world.specs.Wholes.{Whole, WholeConcentrator, seen_by}
+use Rattle.dnp_world.specs.Wholes.{Whole, seen_by}
 use Rattle.dnp_world.specs.declared.channel.Channel.{Channel}
 use Rattle.dnp_world.specs.steps.WholeSteps.{KeepsOtherCentre, of_both}
 use Rattle.dnp_world.proofs.CentrePlaces.{StaysApart, middle_there, middle_view}
+use Rattle.dnp_world.proofs.CentreReads.{same_there}
 
 -- what went up with another line down
 pub relined : (fragments : List (List ℕ)) (old new : ChannelState) (line : LineState) → GoUp fragments old new
@@ -52,15 +50,7 @@ pub stepped : {Q A : Type 0} (stock : Q → ℕ → Stock) (ledger : A → Ledge
     }
 stepped stock ledger n old new state commands is performs other links plan =
     let both = all_in ledger commands (outputs_of old) (outputs_of new) performs in
-    let step : ConcentratorState → ConcentratorState = λ c. record c { core = state.core; queue = state.lanes } in
-    let from : ConcentratorState = middle_view stock ledger n new in
-    let to : ConcentratorState = middle_view stock ledger n old in
-    ap (λ (s : State). record from { core = s.core; queue = s.lanes }) (sym is)
-    ∙ ap (λ (k : Core). step (record from { reserved = reserved_by k })) other
-    ∙ ap (λ (l : List Relaying). step (record from { reserved = to.reserved; links = l })) links
-    ∙ ap (λ (m : List Spans). step (record from { reserved = to.reserved; links = to.links; indices = m })) both.0
-    ∙ ap (λ (p : points.Plan). step (record to { controls = from.controls; points = p })) plan
-    ∙ ap (λ (l : Ledger). step (record to { controls = l })) both.1
+    rw is (cc (both.0, both.1))
 
 -- the system with this concentrator
 abbrev with_concentrator : {Q A : Type 0} → (Q → ℕ → Stock) → (A → Ledger) → ℕ → System → Concentrator Q A → System
@@ -154,43 +144,16 @@ comes_from honest stock ledger n low rest c d is does answered repeats above bef
 
 -- ---- where nothing came of it
 
-concentrator_same : {Q A : Type 0} (stock : Q → ℕ → Stock) (ledger : A → Ledger) (c d : Concentrator Q A) → core_of 0 d ≡ core_of 0 c
-    → core_of 1 d ≡ core_of 1 c → stock (queue_of d) 0 ≡ stock (queue_of c) 0 → stock (queue_of d) 1 ≡ stock (queue_of c) 1
-    → map_in (outputs_of d) ≡ map_in (outputs_of c) → ledger (book_in (outputs_of d)) ≡ ledger (book_in (outputs_of c)) → plan_above d ≡ plan_above c
-    → links_of d ≡ links_of c → concentrator_of stock ledger d ≡ concentrator_of stock ledger c
-concentrator_same stock ledger c d first second queue other indices controls plan links =
-    let is : WholeConcentrator = concentrator_of stock ledger d in
-    let was : WholeConcentrator = concentrator_of stock ledger c in
-    ap (λ (k : Core). record is { cores = record is.cores { first = k } }) first
-    ∙ ap (λ (k : Core). record is { cores = record was.cores { second = k } }) second
-    ∙ ap (λ (q : Stock). record is { cores = was.cores; queues = record is.queues { first = q } }) queue
-    ∙ ap (λ (q : Stock). record is { cores = was.cores; queues = record was.queues { second = q } }) other
-    ∙ ap (λ (m : List Spans). record is { cores = was.cores; queues = was.queues; indices = m }) indices
-    ∙ ap (λ (l : Ledger). record was { controls = l; points = is.points; links = is.links }) controls
-    ∙ ap (λ (p : points.Plan). record was { points = p; links = is.links }) plan
-    ∙ ap (λ (l : List Relaying). record was { links = l }) links
-
 -- the concentrator stays, where what the centre and the other one see of it does
 concentrator_stays : {Q A : Type 0} (honest : Q → Type 0) (stock : Q → ℕ → Stock) (ledger : A → Ledger) (n : ℕ) → n < CENTRES → (c d : Concentrator Q A)
     → honest (queue_of d) → map_in (outputs_of d) ≡ map_in (outputs_of c) → ledger (book_in (outputs_of d)) ≡ ledger (book_in (outputs_of c))
     → KeepsOtherCentre honest stock n c d → above_of stock ledger n d ≡ above_of stock ledger n c
     → concentrator_of stock ledger d ≡ concentrator_of stock ledger c
 concentrator_stays honest stock ledger zero low c d is indices controls keeps same =
-    concentrator_same stock ledger c d (ap (λ (s : State). s.core) same) keeps.core (ap (λ (s : State). s.lanes) same) (keeps.side is) indices controls
-    keeps.plan keeps.links
+    cc (ap (λ (s : State). s.core) same, keeps.core, ap (λ (s : State). s.lanes) same, keeps.side is, keeps.plan, keeps.links)
 concentrator_stays honest stock ledger (suc zero) low c d is indices controls keeps same =
-    concentrator_same stock ledger c d keeps.core (ap (λ (s : State). s.core) same) (keeps.side is) (ap (λ (s : State). s.lanes) same) indices controls
-    keeps.plan keeps.links
+    cc (keeps.core, ap (λ (s : State). s.core) same, keeps.side is, ap (λ (s : State). s.lanes) same, keeps.plan, keeps.links)
 concentrator_stays honest stock ledger (suc (suc n)) low c d is indices controls keeps same = absurd (omega (arith, low))
-
-lines_stay : (n : ℕ) (above : Two Channel) (before lines : Channel) → before ≡ at n above → state_of lines ≡ state_of before
-    → of_both state_of (with_at n above lines) ≡ of_both state_of above
-lines_stay n above before lines there same = by (n == 0) (same ∙ ap (λ (c : Channel). state_of c) there)
-  where
-    by : (b : Bool) → state_of lines ≡ state_of (if b then above.first else above.second)
-        → of_both state_of (if b then record above { first = lines } else record above { second = lines }) ≡ of_both state_of above
-    by true e = ap (λ (c : ChannelState). record (of_both state_of above) { first = c }) e
-    by false e = ap (λ (c : ChannelState). record (of_both state_of above) { second = c }) e
 
 -- so the whole stays
 pub all_stays : {Q A : Type 0} (honest : Q → Type 0) (stock : Q → ℕ → Stock) (ledger : A → Ledger) (n : ℕ) → n < CENTRES → (rest : Whole)
@@ -201,10 +164,7 @@ pub all_stays : {Q A : Type 0} (honest : Q → Type 0) (stock : Q → ℕ → St
     → record rest { concentrator = concentrator_of stock ledger d; above = of_both state_of (with_at n above lines) }
     ≡ record rest { concentrator = concentrator_of stock ledger c; above = of_both state_of above }
 all_stays honest stock ledger n low rest c d is indices controls keeps same above before lines there lines_same =
-    ap (λ (k : WholeConcentrator). record rest { concentrator = k; above = of_both state_of (with_at n above lines) })
-    (concentrator_stays honest stock ledger n low c d is indices controls keeps same)
-    ∙ ap (λ (l : Two ChannelState). record rest { concentrator = concentrator_of stock ledger c; above = l })
-    (lines_stay n above before lines there lines_same)
+    cc (concentrator_stays honest stock ledger n low c d is indices controls keeps same, same_there state_of n above before lines there lines_same)
 
 -- also where nothing was performed
 pub all_stays_idle : {Q A : Type 0} (honest : Q → Type 0) (stock : Q → ℕ → Stock) (ledger : A → Ledger) (n : ℕ) → n < CENTRES → (rest : Whole)

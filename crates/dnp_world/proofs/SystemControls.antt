@@ -95,31 +95,12 @@ stops_for see centre (Some station) id old new s =
 -- ---- how it ended
 
 -- what ends a part of the way ends the whole
-pub ends_of : (Refusal All : ℕ → Type 0) (Stop Stopped : Type 0) (fault : ControlFault) → ((status : ℕ) → Refusal status → All status)
+pub ends_of : {Refusal All : ℕ → Type 0} {Stop Stopped : Type 0} (fault : ControlFault) → ((status : ℕ) → Refusal status → All status)
     → (Stop → Stopped) → EndsBy Refusal Stop fault → EndsBy All Stopped fault
-ends_of Refusal All Stop Stopped NotQuiet refusal stop ends = ends
-ends_of Refusal All Stop Stopped NotNext refusal stop ends = ends
-ends_of Refusal All Stop Stopped (Refused status) refusal stop ends = refusal status ends
-ends_of Refusal All Stop Stopped (Fault cause) refusal stop ends = stop ends
-
--- a part of the way from the same system, of the same control
-pub accepted_from : (see : Whole → System) (on : Link) (its id : Option ℕ) (old mid new : Whole) → mid ≡ old → its ≡ id
-    → IsAccepted HappensToAll see on its mid new → IsAccepted HappensToAll see on id old new
-accepted_from see on its id old mid new same is accepted =
-    subst (λ (s : Whole). IsAccepted HappensToAll see on id s new) same (subst (λ (x : Option ℕ). IsAccepted HappensToAll see on x mid new) is accepted)
-
-pub refused_from : (see : Whole → System) (on : Link) (its id : Option ℕ) (status : ℕ) (old mid new : Whole) → mid ≡ old → its ≡ id
-    → IsRefusedOn HappensToAll see on its status mid new
-    → IsRefusedOn HappensToAll see on id status old new
-refused_from see on its id status old mid new same is refused =
-    subst (λ (s : Whole). IsRefusedOn HappensToAll see on id status s new) same
-    (subst (λ (x : Option ℕ). IsRefusedOn HappensToAll see on x status mid new) is refused)
-
-pub stops_from : (see : Whole → System) (on : Link) (its id : Option ℕ) (old mid new : Whole) → mid ≡ old → its ≡ id
-    → StopsOn HappensToAll see may_stop on its mid new → StopsOn HappensToAll see may_stop on id old new
-stops_from see on its id old mid new same is stops =
-    subst (λ (s : Whole). StopsOn HappensToAll see may_stop on id s new) same
-    (subst (λ (x : Option ℕ). StopsOn HappensToAll see may_stop on x mid new) is stops)
+ends_of NotQuiet refusal stop ends = ends
+ends_of NotNext refusal stop ends = ends
+ends_of (Refused status) refusal stop ends = refusal status ends
+ends_of (Fault cause) refusal stop ends = stop ends
 
 -- how the whole way ends is how the call ends
 pub control_of : (see : Whole → System) (centre : ℕ) (id : ℕ) (station : Option ℕ) (old new : Whole) (result : Result ⊤ ControlFault) → CanGo id (see old)

@@ -19,7 +19,6 @@ use Rattle.dnp_world.specs.declared.link_event.Way.{Way}
 use Rattle.dnp_world.specs.declared.link_event.Way.TheVariants.{Down, Up}
 use Rattle.dnp_world.proofs.CentrePlaces.{low_of, rests_there}
 use Rattle.dnp_world.proofs.IdleLines.{idle_line, idle_port}
-use Rattle.dnp_world.proofs.SystemPlaces.{both_first}
 
 -- ---- the line up
 
@@ -94,7 +93,8 @@ idle_below repeats Up station s was is none = record {
 
 pub is_under : (s : System) (station : ℕ) → has_station s station ≡ true → station < length s.substations
 is_under s station has =
-    let low : nat_lt station (length s.substations) ≡ true = both_first (nat_lt station (length s.substations)) (nat_lt station (length s.concentrator.links)) has in
+    let low : nat_lt station (length s.substations) ≡ true =
+    (and_parts (nat_lt station (length s.substations)) (nat_lt station (length s.concentrator.links)) has).0 in
     grind (arith, nat_tests, low)
 
 pub comes_idle : (repeats : Bool) (on : Link) (way : Way) (s : System) → has_link s on ≡ true → front_on s on way ≡ None

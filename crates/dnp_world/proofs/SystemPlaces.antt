@@ -1,17 +1,17 @@
 -- One substation of a system, where it stands in the list.
-use Rattle.std.proofs.Common.{◌≡◌, ℕ, zero, suc, ◌<◌, Bool, true, false, ◌&&◌, List, [], ◌∷◌, length, map, None, Some, refl, sym, ap, ◌∙◌, subst, arith, get_or, slice_set}
+use Rattle.std.proofs.Common.{◌≡◌, ℕ, ◌<◌, true, List, length, map, None, Some, refl, sym, ap, ◌∙◌, subst, arith, get_or, slice_set}
 use Rattle.std.specs.Prelude.{slice_get, nat_lt}
+use Rattle.std.proofs.lemmas.Bool.{and_parts}
 use Rattle.std.proofs.lemmas.Bool.Decides.{nat_tests}
-use Rattle.std.proofs.lemmas.List.{map-set, length-map, set-get_or}
+use Rattle.std.proofs.lemmas.List.{map-set, length-map, set-get_or, get_or-map}
+use Rattle.std.proofs.lemmas.Option.{slice_get-get_or, slice_get-map}
+use Rattle.std.specs.Option.{option_map}
 use Rattle.dnp_controls.specs.Book.{Ledger}
 use Rattle.dnp_eventbuf.specs.Stock.{Stock}
 use Rattle.dnp_outstation.specs.State.{Core}
-use Rattle.dnp_pointdb.specs.Plan as points
-use Rattle.dnp_concentrator.specs.BookOutputs.{book_in, map_in}
-use Rattle.dnp_concentrator.specs.Concentrator.{core_of, links_of, plan_above, KeepsStores}
+use Rattle.dnp_concentrator.specs.Concentrator.{core_of, links_of, KeepsStores}
 use Rattle.dnp_concentrator.specs.Below.{link_in}
 use Rattle.dnp_concentrator.specs.Relaying.{Relaying, hung_up}
-use Rattle.dnp_concentrator.specs.declared.book_outputs.BookOutputs.{BookOutputs}
 use Rattle.dnp_concentrator.specs.declared.concentrator.Concentrator.{Concentrator}
 use Rattle.dnp_concentrator.specs.declared.two.Two.{Two}
 use Rattle.dnp_world.specs.Centres.{ChangesAll, has_link}
@@ -29,9 +29,7 @@ use Rattle.dnp_world.specs.steps.WholeSteps.{of_both}
 use Rattle.dnp_world.proofs.EachCentre.{for_both}
 
 pub there : {A B : Type 0} (f : A → B) (xs : List A) (i : ℕ) (x d : A) → i < length xs → x ≡ get_or xs i d → slice_get (map f xs) i ≡ Some (f x)
-there f [] i x d low is = absurd (omega (arith, low))
-there f (y ∷ ys) zero x d low is = ap (λ z. Some (f z)) (sym is)
-there f (y ∷ ys) (suc i) x d low is = there f ys i x d (omega (arith, low)) is
+there f xs i x d low is = slice_get-map f xs i ∙ ap (option_map f) (slice_get-get_or xs i d low ∙ ap Some (sym is))
 
 -- what a view of fields is, by the equation that it is a value
 abbrev pub viewed : {V : Type 0} {view value : V} → view ≡ value → V
@@ -54,15 +52,11 @@ changes_at station i Change rest old new xs was is list same low at changed afte
       ∙ ap (λ (n : ℕ). slice_set old.substations n (substation_of is)) same);
 }
 
-pub both_first : (a b : Bool) → a && b ≡ true → a ≡ true
-both_first true b e = refl
-both_first false b e = e
-
 -- there is such a substation
 pub is_there : (s : System) (xs : List Substation) (station : ℕ) → s.substations ≡ map substation_of xs → has_station s station ≡ true → station < length xs
 is_there s xs station list has =
     let low : nat_lt station (length s.substations) ≡ true =
-    both_first (nat_lt station (length s.substations)) (nat_lt station (length s.concentrator.links)) has in
+    (and_parts (nat_lt station (length s.substations)) (nat_lt station (length s.concentrator.links)) has).0 in
     let same : length s.substations ≡ length xs = ap (λ (ys : List SubstationState). length ys) list ∙ length-map xs substation_of in
     let under : station < length s.substations = grind (arith, nat_tests, low) in
     omega (arith, under, same)
@@ -73,23 +67,8 @@ is_there s xs station list has =
 pub concentrator_with : {Q A : Type 0} (stock : Q → ℕ → Stock) (ledger : A → Ledger) (old new : Concentrator Q A) (cores : Two Core) (links : List Relaying)
     → core_of 0 new ≡ cores.first → core_of 1 new ≡ cores.second → links_of new ≡ links → KeepsStores old new
     → concentrator_of stock ledger new ≡ record (concentrator_of stock ledger old) { cores = cores; links = links }
-concentrator_with {Q} {A} stock ledger old new cores links first_is second_is links_is stores =
-    ap (λ (k : Core). record (concentrator_of stock ledger new) { cores = record { first = k; second = core_of 1 new } }) first_is
-    ∙ ap (λ (k : Core). record (concentrator_of stock ledger new) { cores = record cores { second = k } }) second_is
-    ∙ ap (λ (k : List Relaying). record (concentrator_of stock ledger new) { cores = cores; links = k }) links_is
-    ∙ ap (λ (q : Q). record (concentrator_of stock ledger new) {
-      cores = cores;
-      links = links;
-      queues = record { first = stock q 0; second = stock q 1 };
-    }) stores.queue
-    ∙ ap (λ (o : BookOutputs A). record (concentrator_of stock ledger old) {
-      cores = cores;
-      links = links;
-      indices = map_in o;
-      controls = ledger (book_in o);
-      points = plan_above new;
-    }) stores.outputs
-    ∙ ap (λ (p : points.Plan). record (concentrator_of stock ledger old) { cores = cores; links = links; points = p }) stores.plan
+concentrator_with stock ledger old new cores links first_is second_is links_is stores =
+    rw (first_is, second_is) (cc (stores.queue, stores.outputs, stores.plan))
 
 -- ---- lines
 
@@ -103,9 +82,7 @@ lines_change_at station i Change old xs was lines list same has at changed =
     (record was { channel = lines }) list same (rw same (is_there old xs station list has)) at (changed, refl) refl
 
 pub read_there : {A B : Type 0} (f : A → B) (xs : List A) (i : ℕ) (x d : A) → i < length xs → x ≡ get_or xs i d → f x ≡ get_or (map f xs) i (f x)
-read_there f [] i x d low is = absurd (omega (arith, low))
-read_there f (y ∷ ys) zero x d low is = ap f is
-read_there f (y ∷ ys) (suc i) x d low is = read_there f ys i x d (omega (arith, low)) is
+read_there f xs i x d low is = ap f is ∙ sym (get_or-map f xs i d (f x) low)
 
 -- a substation that is what it was
 pub unchanged_at : (old : Whole) (xs : List Substation) (station i : ℕ) (was is : Substation) → old.substations ≡ map substation_of xs

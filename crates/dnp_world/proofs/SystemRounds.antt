@@ -2,6 +2,7 @@
 use Rattle.std.proofs.Common.{◌≡◌, ℕ, true, zero, suc, ◌+◌, ◌<◌, List, [], ◌∷◌, ◌++◌, length, take, inl, inr, Some, refl, sym, ap, ◌∙◌, subst, zero-add, arith}
 use Rattle.std.specs.Prelude.{◌⊎◌, All, replicate, slice_get}
 use Rattle.std.proofs.lemmas.List.{replicate_more, take-replicate}
+use Rattle.std.proofs.lemmas.List.Elements.{All-append, All-cons, All-nil, All-replicate}
 use Rattle.dnp_world.specs.Rounds.{Flushes, StopsFlushing, StopsFlushingAll, StopsInRound, StopsInTurn, deliveries, events_polled}
 use Rattle.dnp_world.specs.Centres.{HappensToAll, may_stop}
 use Rattle.dnp_world.specs.SystemRuns.{CountsFor, RunsTo, StopsAfter}
@@ -28,21 +29,6 @@ get_past {A} (x ∷ xs) ys n =
     let next : suc (length xs) + n ≡ suc (length xs + n) = omega arith in
     ap (λ (k : ℕ). slice_get (x ∷ (xs ++ ys)) k) next ∙ get_past xs ys n
 
-all_joined : {A : Type 0} (P : A → Type 0) (xs ys : List A) → All P xs → All P ys → All P (xs ++ ys)
-all_joined P [] ys all others k d low = others k d low
-all_joined P (x ∷ xs) ys all others zero d low = all zero d (omega arith)
-all_joined P (x ∷ xs) ys all others (suc k) d low =
-    all_joined P xs ys (λ i e lt. all (suc i) e (omega (arith, lt))) others k d (omega (arith, low))
-
-all_one : {A : Type 0} (P : A → Type 0) (x : A) → P x → All P (x ∷ [])
-all_one P x p zero d low = p
-all_one P x p (suc k) d low = absurd (omega (arith, low))
-
-all_same : {A : Type 0} (P : A → Type 0) (x : A) (n : ℕ) → P x → All P (replicate n x)
-all_same P x zero p k d low = absurd (omega (arith, low))
-all_same P x (suc n) p zero d low = p
-all_same P x (suc n) p (suc k) d low = all_same P x n p k d (omega (arith, low))
-
 get_same : {A : Type 0} (x : A) (n k : ℕ) → k < n → slice_get (replicate n x) k ≡ Some x
 get_same x zero k low = absurd (omega (arith, low))
 get_same x (suc n) zero low = refl
@@ -56,21 +42,21 @@ pub record Ran (IsOne : Event → Type 0) (old new : Whole) : Type 0 where
   pub all : All IsOne events
   pub ran : RunsTo HappensToAll old events new
 
-runs_joined : (old mid new : Whole) (xs ys : List Event) → RunsTo HappensToAll old xs mid → RunsTo HappensToAll mid ys new
+pub runs_joined : (old mid new : Whole) (xs ys : List Event) → RunsTo HappensToAll old xs mid → RunsTo HappensToAll mid ys new
     → RunsTo HappensToAll old (xs ++ ys) new
 runs_joined old mid new [] ys ran more = subst (λ (s : Whole). RunsTo HappensToAll s ys new) ran more
 runs_joined old mid new (x ∷ xs) ys ran more = (ran.0, ran.1, runs_joined ran.0 mid new xs ys ran.2 more)
 
 -- one event
 pub ran_one : (P : Event → Type 0) (old new : Whole) (event : Event) → P event → HappensToAll old event new → Ran P old new
-ran_one P old new event is h = record { events = event ∷ []; all = all_one P event is; ran = (new, h, refl) }
+ran_one P old new event is h = record { events = event ∷ []; all = All-cons P event [] is (All-nil P); ran = (new, h, refl) }
 
 -- what stood on a line
 pub ran_flush : (see : Whole → System) (P : Event → Type 0) (on : Link) (way : Way) (old new : Whole) → P (Deliver on way)
     → Flushes HappensToAll see on way old new → Ran P old new
 ran_flush see P on way old new is ran = record {
   events = deliveries (standing_on (see old) on way) on way;
-  all = all_same P (Deliver on way) (standing_on (see old) on way) is;
+  all = All-replicate P (standing_on (see old) on way) (Deliver on way) is;
   ran = ran;
 }
 
@@ -78,7 +64,7 @@ ran_flush see P on way old new is ran = record {
 pub ran_both : (P : Event → Type 0) (old mid new : Whole) → Ran P old mid → Ran P mid new → Ran P old new
 ran_both P old mid new first more = record {
   events = first.events ++ more.events;
-  all = all_joined P first.events more.events first.all more.all;
+  all = All-append P first.events more.events first.all more.all;
   ran = runs_joined old mid new first.events more.events first.ran more.ran;
 }
 
@@ -108,7 +94,7 @@ pub stops_at : (P : Event → Type 0) (old new : Whole) (event : Event) → P ev
 stops_at P old new event is counts = record {
   events = event ∷ [];
   done = 0;
-  all = all_one P event is;
+  all = All-cons P event [] is (All-nil P);
   stops = record { before = old; ran = refl; event = event; next = refl; counts = counts };
 }
 
@@ -117,7 +103,7 @@ pub stops_after : (P : Event → Type 0) (old mid new : Whole) → Ran P old mid
 stops_after P old mid new first s = record {
   events = first.events ++ s.events;
   done = length first.events + s.done;
-  all = all_joined P first.events s.events first.all s.all;
+  all = All-append P first.events s.events first.all s.all;
   stops = record {
     before = s.stops.before;
     ran = subst (λ (es : List Event). RunsTo HappensToAll old es s.stops.before) (sym (take_past first.events s.events s.done))
@@ -164,7 +150,7 @@ stops_flushing : (see : Whole → System) (P : Event → Type 0) (on : Link) (wa
 stops_flushing see P on way is old new (done, stops) = record {
   events = deliveries (standing_on (see old) on way) on way;
   done = done;
-  all = all_same P (Deliver on way) (standing_on (see old) on way) is;
+  all = All-replicate P (standing_on (see old) on way) (Deliver on way) is;
   stops = stays_after old (deliveries (standing_on (see old) on way) on way) done new stops;
 }
 

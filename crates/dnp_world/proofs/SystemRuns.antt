@@ -1,6 +1,8 @@
 -- Lists of events of a system.
-use Rattle.std.proofs.Common.{◌≡◌, ℕ, suc, ◌+◌, ◌<◌, ◌≤◌, true, List, [], ◌∷◌, ◌++◌, length, take, get_or, Some, refl, sym, ap, ◌∙◌, subst, arith}
-use Rattle.std.proofs.lemmas.List.{take_all}
+use Rattle.std.proofs.Common.{◌≡◌, ℕ, ◌+◌, ◌<◌, ◌≤◌, true, List, [], ◌∷◌, ◌++◌, length, take, get_or, Some, Result, refl, sym, ap, ◌∙◌, subst}
+use Rattle.std.specs.Prelude.{OnErr}
+use Rattle.std.proofs.lemmas.List.{take_all, take_more}
+use Rattle.std.proofs.lemmas.Option.{slice_get-get_or}
 use Rattle.dnp_world.specs.declared.event.Event.{Event}
 use Rattle.dnp_world.specs.declared.event.Event.TheVariants as event
 use Rattle.dnp_world.specs.declared.event.Link.{Link}
@@ -8,7 +10,7 @@ use Rattle.dnp_world.specs.declared.link_event.Way.{Way}
 use Rattle.dnp_world.specs.Centres.{HappensToAll, may_stop}
 use Rattle.dnp_world.specs.SystemRuns.{CountsFor, RunsTo, StopsAfter}
 use Rattle.dnp_world.specs.Wholes.{Whole}
-use Rattle.dnp_world.proofs.OneLinkRuns.{take_more, get_some}
+use Rattle.dnp_world.proofs.OneLinkRuns.{any_err}
 
 pub runs_more : (old mid new : Whole) (events : List Event) (event : Event) → RunsTo HappensToAll old events mid → HappensToAll mid event new
     → RunsTo HappensToAll old (events ++ event ∷ []) new
@@ -19,9 +21,8 @@ runs_more old mid new (first ∷ events) event ran h = (ran.0, ran.1, runs_more 
 pub one_done : (old mid new : Whole) (events : List Event) (k : ℕ) (event : Event) → k < length events → event ≡ get_or events k event
     → RunsTo HappensToAll old (take k events) mid → HappensToAll mid event new → RunsTo HappensToAll old (take (k + 1) events) new
 one_done old mid new events k event low is ran h =
-    let next : k + 1 ≡ suc k = omega arith in
     subst (λ (es : List Event). RunsTo HappensToAll old es new)
-    (ap (λ (e : Event). take k events ++ e ∷ []) is ∙ sym (take_more events k event low) ∙ ap (λ (n : ℕ). take n events) (sym next))
+    (ap (λ (e : Event). take k events ++ e ∷ []) is ∙ sym (take_more events k event low))
     (runs_more old mid new (take k events) event ran h)
 
 pub all_done : (old new : Whole) (events : List Event) (k : ℕ) → length events ≤ k → RunsTo HappensToAll old (take k events) new
@@ -35,7 +36,7 @@ stops_after old mid new events k event low is ran may counts = record {
   before = mid;
   ran = ran;
   event = event;
-  next = get_some events k event low ∙ ap Some (sym is);
+  next = slice_get-get_or events k event low ∙ ap Some (sym is);
   may = may;
   counts = counts;
 }
@@ -49,7 +50,8 @@ at_a_stop Leaves lost rests e old new same = rests old new same
 -- ---- what stays of a system that an event doesn't touch
 
 -- what stops an event other than a delivery
-pub left_out : (old new : Whole) (event its : Event) → event ≡ its → ((s : Whole) → CountsFor HappensToAll s its s) → new ≡ old
-    → CountsFor HappensToAll old event new
-left_out old new event its is counts same =
-    subst (λ (s : Whole). CountsFor HappensToAll s event new) same (subst (λ (e : Event). CountsFor HappensToAll new e new) (sym is) (counts new))
+pub left_out : {A E : Type 0} (result : Result A E) (old new : Whole) (event its : Event) → event ≡ its → ((s : Whole) → CountsFor HappensToAll s its s)
+    → new ≡ old → OnErr result (CountsFor HappensToAll old event new)
+left_out result old new event its is counts same =
+    any_err result _
+    (subst (λ (s : Whole). CountsFor HappensToAll s event new) same (subst (λ (e : Event). CountsFor HappensToAll new e new) (sym is) (counts new)))

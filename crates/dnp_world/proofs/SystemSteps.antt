@@ -2,6 +2,7 @@
 use Rattle.std.proofs.Common.{◌≡◌, ℕ, ◌≤◌, Bool, true, false, List, [], ◌∷◌, ◌++◌, ◌-◌, length, take, drop, refl, sym, ap, ◌∙◌, subst, arith}
 use Rattle.std.specs.Prelude.{if◌then◌else◌, nat_lt, pos}
 use Rattle.std.proofs.lemmas.Bool.Decides.{nat_tests}
+use Rattle.std.proofs.lemmas.List.{drop_at}
 use Rattle.dnp_objects.specs.declared.command.Command.{Command}
 use Rattle.dnp_objects.specs.declared.row.Row.{Row}
 use Rattle.dnp_controls.specs.Latches.{PlainState, plain_panel}
@@ -74,10 +75,6 @@ comes was is now does answered repeats lines came = record {
 
 -- ---- how much is performed
 
-drop_front : {A : Type 0} (xs ys : List A) → drop (length xs) (xs ++ ys) ≡ ys
-drop_front [] ys = refl
-drop_front (x ∷ xs) ys = drop_front xs ys
-
 abbrev pub PerformLaw : Type 0
 PerformLaw = (s : State) (o : Panel) (now : ℕ) (octets : List ℕ) → those.Performs o octets s.performed (connection_after s o now octets).state.performed
 
@@ -89,7 +86,8 @@ few_given law follows panel now before after does answered old new (fragment ∷
     let p = law before panel now fragment in
     let performed : after.performed ≡ before.performed ++ p.those = ap (λ (step : Step). step.state.performed) (sym step_is) ∙ p.is in
     subst (λ (commands : List Command). length commands ≤ panel.most)
-    (sym (ap (λ (commands : List Command). drop (length before.performed) commands) performed ∙ drop_front before.performed p.those)) p.few
+    (sym (ap (λ (commands : List Command). drop (length before.performed) commands) performed
+    ∙ drop_at before.performed p.those (length before.performed) refl)) p.few
 
 -- no more commands are performed than one request may have
 pub few_performed : PerformLaw → (follows : List Command → Type 0) (panel : Panel) (now : ℕ) (before after : State) (does : Actions) (answered : Bool)

@@ -1,6 +1,7 @@
 -- Steps of relaying, as what is answered tells them.
 use Rattle.std.proofs.Common.{◌≡◌, ℕ, ◌&&◌, if◌then◌else◌, Bool, true, false, not, List, map, get_or, slice_set, ◌⊎◌, inl, inr, Option, Some, None, Result, Ok, Err, refl, ap, ◌∙◌, subst, arith}
 use Rattle.std.proofs.lemmas.Bool.{both_ways}
+use Rattle.std.proofs.lemmas.Result.{on_err_weaker}
 use Rattle.std.specs.Option.{IsSomeAnd}
 use Rattle.std.specs.Result.{IfErr, IfOk, IsErr, IsOk, OnErr, OnOk}
 use Rattle.dnp_concentrator.specs.Relayed.{IsPast, Tells, asks_book, asks_progress, asks_stage, moves_of}
@@ -15,8 +16,6 @@ use Rattle.dnp_controls.specs.declared.book.BookFault.TheVariants.{NoControl, No
 use Rattle.dnp_controls.specs.declared.book.Entry.{Entry}
 use Rattle.dnp_eventbuf.specs.Archive.{Archive}
 use Rattle.dnp_eventbuf.specs.Stock.{Stock}
-use Rattle.dnp_outstation.specs.State.{Core}
-use Rattle.dnp_pointdb.specs.Plan as points
 use Rattle.dnp_concentrator.specs.Centre as centre
 use Rattle.dnp_concentrator.specs.Concentrator.{SetsLink, book_of, core_of, indices_of, link_at, links_of, plan_above, queue_of}
 use Rattle.dnp_concentrator.specs.Relaying.{Relaying, ledger_after, relaying_after, step_by, step_of, step_of_progress}
@@ -28,7 +27,6 @@ use Rattle.dnp_objects.specs.declared.command.Command.{Command}
 use Rattle.dnp_concentrator.specs.declared.progress.Progress.{Progress}
 use Rattle.dnp_concentrator.specs.declared.centre.Centre.{Centre}
 use Rattle.dnp_concentrator.specs.declared.concentrator.Concentrator.{Concentrator}
-use Rattle.dnp_concentrator.specs.declared.span.Spans.{Spans}
 use Rattle.dnp_eventbuf.specs.Sides.{ForEach}
 use Rattle.dnp_world.specs.Centres.{ChangesAll, has_link}
 use Rattle.dnp_world.specs.Channels.{ChannelState, GoDown, state_of}
@@ -144,27 +142,14 @@ stops_by (Err fault) (Err cause) X failed unmoved = unmoved
 pub centre_with : {J B : Type 0} (archive : J → Archive) (ledger : B → Ledger) (old new : Centre J B) (link : Relaying) (orders : Ledger)
     → centre.link_of new ≡ link → ledger (centre.book_of new) ≡ orders → centre.journal_of new ≡ centre.journal_of old
     → centre.indices_of new ≡ centre.indices_of old → centre_of archive ledger new ≡ record (centre_of archive ledger old) { link = link; orders = orders }
-centre_with {J} archive ledger old new link orders link_is orders_is journal indices =
-    ap (λ (l : Relaying). record (centre_of archive ledger new) { link = l }) link_is
-    ∙ ap (λ (o : Ledger). record (centre_of archive ledger new) { link = link; orders = o }) orders_is
-    ∙ ap (λ (j : J). record (centre_of archive ledger new) { link = link; orders = orders; journal = archive j }) journal
-    ∙ ap (λ (m : List Spans). record (centre_of archive ledger old) { link = link; orders = orders; indices = m }) indices
+centre_with archive ledger old new link orders link_is orders_is journal indices = cc
 
 -- the concentrator's links and its book become others
 pub concentrator_told : {Q A : Type 0} (stock : Q → ℕ → Stock) (ledger : A → Ledger) (old new : Concentrator Q A) (links : List Relaying)
     (controls : Ledger) → links_of new ≡ links → ledger (book_of new) ≡ controls → ForEach (λ centre. core_of centre new ≡ core_of centre old)
     → queue_of new ≡ queue_of old → indices_of new ≡ indices_of old → plan_above new ≡ plan_above old
     → concentrator_of stock ledger new ≡ record (concentrator_of stock ledger old) { links = links; controls = controls }
-concentrator_told {Q} stock ledger old new links controls links_is controls_is cores queue indices plan =
-    let first : WholeConcentrator = record (concentrator_of stock ledger new) { links = links; controls = controls } in
-    let second : WholeConcentrator = record (concentrator_of stock ledger old) { links = links; controls = controls } in
-    ap (λ (l : List Relaying). record (concentrator_of stock ledger new) { links = l }) links_is
-    ∙ ap (λ (o : Ledger). record (concentrator_of stock ledger new) { links = links; controls = o }) controls_is
-    ∙ ap (λ (k : Core). record first { cores = record { first = k; second = core_of 1 new } }) (cores 0 (omega arith))
-    ∙ ap (λ (k : Core). record first { cores = record { first = core_of 0 old; second = k } }) (cores 1 (omega arith))
-    ∙ ap (λ (q : Q). record first { cores = second.cores; queues = record { first = stock q 0; second = stock q 1 } }) queue
-    ∙ ap (λ (m : List Spans). record second { indices = m; points = plan_above new }) indices
-    ∙ ap (λ (p : points.Plan). record second { points = p }) plan
+concentrator_told stock ledger old new links controls links_is controls_is cores queue indices plan = cc (cores 0 (omega arith), cores 1 (omega arith))
 
 -- the system with this concentrator and these substations
 abbrev pub below : {Q A : Type 0} → (Q → ℕ → Stock) → (A → Ledger) → Whole → Concentrator Q A → List Substation → Whole
@@ -214,15 +199,9 @@ pub relays_below : (station : ℕ) (old new : Whole) (answer : Result Relayed Bo
     → OnOk result (OnErr answer (IsRefused (entries_on (seen_by 0 old) (Below station)) (step_on (seen_by 0 old) (Below station))))
     → OnOk result (ChangesAll None (RelaysOn (Below station)) old new)
 relays_below station old new answer (Err cause) granted sends unmoved refused = tt
-relays_below station old new answer (Ok done) granted sends unmoved refused = λ number low. by answer number granted (sends number) unmoved refused
-  where
-    by : (answer : Result Relayed BookFault) (number : ℕ)
-        → OnOk answer (IsGranted (entries_on (seen_by 0 old) (Below station)) (step_on (seen_by 0 old) (Below station)))
-        → OnOk answer (Sends (Below station) (seen_by number old) (seen_by number new)) → OnErr answer (new ≡ old)
-        → OnErr answer (IsRefused (entries_on (seen_by 0 old) (Below station)) (step_on (seen_by 0 old) (Below station)))
-        → RelaysOn (Below station) (seen_by number old) (seen_by number new)
-    by (Ok told) number granted sends unmoved refused = Steps granted sends
-    by (Err fault) number granted sends unmoved refused = Refuses refused (ap (seen_by number) unmoved)
+relays_below station old new answer (Ok done) granted sends unmoved refused = λ number low.
+    relays_by (Below station) (seen_by number old) (seen_by number new) answer (Ok done) granted (sends number)
+    (on_err_weaker answer (λ same. ap (seen_by number) same) unmoved) refused
 
 -- what follows of a call's answer does where it is Ok
 pub on_ok : {Answer Fault : Type 0} (result : Result Answer Fault) (X Y : Type 0) → (X → Y) → OnOk result X → OnOk result Y

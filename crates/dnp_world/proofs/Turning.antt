@@ -65,8 +65,7 @@ mapped_kept indices station links old new b t =
       arith,
       grown,
       length-append was (at_station station t.here.taken),
-      length-map {B =
-          ℕ × Row} t.here.taken (λ row. (station, row)),
+      length-map {B = ℕ × Row} t.here.taken (λ row. (station, row)),
       t.mapped,
       b.mapped,
       same_length (rows_of t.above.stood) (rows_of links.above.stood ++ t.there.made) t.above_grows.stood,

@@ -47,6 +47,24 @@ centre_at (event.Pass ms) = None
 centre_at (event.Tick on end) = centre_of on
 centre_at (event.Restart place) = centre_in place
 
+-- the link that an event is on, or that to the station that it names; none where it names neither
+abbrev pub link_of : Event → Option Link
+link_of (event.Open on) = Some on
+link_of (event.HangUp on end) = Some on
+link_of (event.Deliver on way) = Some on
+link_of (event.Repeat on way) = Some on
+link_of (event.Lose on way) = Some on
+link_of (event.Damage on way octets) = Some on
+link_of (event.Change station kind index reading) = Some (Below station)
+link_of (event.Ask on task) = Some on
+link_of (event.Issue centre station command) = Some (Above centre)
+link_of (event.Relay on) = Some on
+link_of (event.Pass ms) = None
+link_of (event.Tick on end) = Some on
+link_of (event.Restart (place.Centre centre)) = Some (Above centre)
+link_of (event.Restart place.Concentrator) = None
+link_of (event.Restart (place.Substation station)) = Some (Below station)
+
 -- there is such a centre, or none is named
 abbrev pub is_there : Option ℕ → Bool
 is_there None = true
@@ -95,6 +113,15 @@ HappensToAll old event new = IfThere (is_there (centre_at event)) (ChangesAll (c
 
 abbrev pub has_link : Whole → Link → Bool
 has_link w on = is_there (centre_of on) && one_system.has_link (seen_at (centre_of on) w) on
+
+-- there is the link, or none is named
+abbrev pub has_named : Whole → Option Link → Bool
+has_named w None = true
+has_named w (Some on) = has_link w on
+
+-- the plan has the link or the station that an event names, if it names one
+abbrev pub names_plan : Whole → Event → Bool
+names_plan w event = has_named w (link_of event)
 
 -- how many units stand on the line of a link, none on one outside the plan
 abbrev pub standing_on : Whole → Link → Way → ℕ

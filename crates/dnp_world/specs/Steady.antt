@@ -8,7 +8,7 @@ use Rattle.dnp_objects.specs.declared.command.Command.{Command}
 use Rattle.dnp_objects.specs.declared.row.Row.{Row}
 use Rattle.dnp_pointdb.specs.Database.{Database}
 use Rattle.dnp_pointdb.specs.Runs.{Move, Change, Restart, rows_of}
-use Rattle.dnp_world.specs.Behind.{Elsewhere, alone}
+use Rattle.dnp_world.specs.Behind.{Elsewhere}
 use Rattle.dnp_world.specs.ControlsInStep.{InStep}
 use Rattle.dnp_world.specs.Happened.{HappenedAsEvents}
 use Rattle.dnp_world.specs.Kept.{report_of}
@@ -29,10 +29,6 @@ pub record IsSteadyBeside (el : Elsewhere) (s : System) : Type 0 where
   pub planned : IsAsPlanned s
   pub settled : AreSettled s
   pub controls : InStep s
-
--- with one centre
-abbrev pub IsSteady : System → Type 0
-IsSteady s = IsSteadyBeside alone s
 
 -- ---- what happens at the substations
 

@@ -1,21 +1,22 @@
 //! The lines between the two stations of a link.
 
-ghost use Rattle.std.specs.Prelude.{option_copied, ◌≡◌, ◌<◌, ◌≤◌, ℕ, true, false, if◌then◌else◌, Err, IfErr, IfOk, OnErr, OnOk, List, [], ◌∷◌, ◌++◌, length, option_to_list};
-ghost use Rattle.dnp_line.specs.Lines.{front_of, quiet_line, room_of};
+ghost use Rattle.std.specs.Prelude.{option_copied, ◌≡◌, ◌≤◌, ℕ, true, false, if◌then◌else◌, Err, IfOk, OnErr, OnOk, List, [], ◌∷◌, length};
+ghost use Rattle.dnp_line.specs.Lines.{front_of, quiet_line};
 ghost use Rattle.dnp_line.specs.Ports.{IsShown, reset_of};
 ghost use Rattle.dnp_line.specs.Ways.{HearsIfAny};
 ghost use Rattle.dnp_master.specs.Calls.{receive_of};
 ghost use Rattle.dnp_outstation.specs.Calls.{connection_after, opened_of, performed_in, tick_of};
 ghost use Rattle.dnp_outstation.specs.Station.{actions_of};
 ghost use Rattle.dnp_world.specs.Causes.{TellsDevice};
-ghost use Rattle.dnp_world.specs.Channels.{state_of, are_quiet, cleared, fresh_channel, hung_up_at, left_at, left_by, line_of, lost_at, DamagesAt, GoDown, GoUp, ComesToOutstation};
+ghost use Rattle.dnp_world.specs.Channels.{state_of, are_quiet, cleared, fresh_channel, hung_up_at, left_at, left_by, line_of, lost_at, DamagesAt, GoUp, ComesToOutstation};
 ghost use Rattle.dnp_world.specs.MasterEnds.{ComesToMaster, ListsDropped, TakesBy, none_dropped};
 
 use crate::ends::{MasterEnd, OutstationEnd};
 use crate::event::Damaged;
 use crate::link_event::{End, Way};
 use crate::listing::count_events;
-use crate::sending::{FRAGMENT_UNITS, hear, send, send_all, send_confirm, shows};
+use crate::room::reserve_for_events;
+use crate::sending::{FRAGMENT_UNITS, hear, send_all, shows};
 use crate::stopped::stops_for;
 use dnp_concentrator::{Cause, Two};
 use dnp_line::{Line, Port};
@@ -24,7 +25,6 @@ use dnp_master::Fragment;
 use dnp_master::laws::what_comes_is_taken_or_passed_over;
 use dnp_objects::Row;
 use dnp_outstation::Actions;
-use dnp_transport::MAX_FRAGMENT;
 use std::alloc::Global;
 
 /// The lines between an outstation and its master, one each way, and the ports at their ends.
@@ -173,36 +173,6 @@ impl Channel {
         }
     }
 
-    /// Reserves room for one fragment more on the line down.
-    pub fn reserve_down(&mut self) -> Result<(), Cause>
-        ensures same { state_of self.new ≡ state_of self.old }
-        ensures room { OnOk result (FRAGMENT_UNITS ≤ room_of self.new.down) }
-        ensures named { IfErr result (λ cause. cause ≡ Cause.Memory) }
-    {
-        self.down.reserve(FRAGMENT_UNITS)?;
-        Ok(())
-    }
-
-    /// Sends a fragment down, where there is room for it. An empty one is not sent.
-    pub fn send_down(&mut self, fragment: &[u8])
-        requires fits { length fragment.now ≤ MAX_FRAGMENT }
-        requires room { FRAGMENT_UNITS ≤ room_of self.old.down }
-        ensures { 0 < length fragment.now → GoDown (fragment.now ∷ []) (state_of self.old) (state_of self.new) }
-    {
-        if !fragment.is_empty() {
-            send(&mut self.down, &mut self.master_port, fragment);
-        }
-    }
-
-    /// Sends a confirm down, if there is one, where there is room for it.
-    pub fn confirm(&mut self, confirm: Option<[u8; 2]>)
-        requires { FRAGMENT_UNITS ≤ room_of self.old.down }
-        ensures down { GoDown (option_to_list confirm) (state_of self.old) (state_of self.new) }
-        ensures before { self.new.before ≡ self.old.before }
-    {
-        send_confirm(&mut self.down, &mut self.master_port, confirm);
-    }
-
     /// Clears both lines and resets both ports, and then opens the outstation's end. What that does is put into the
     /// actions. Where it refuses, nothing is cleared.
     pub fn open<E: OutstationEnd>(
@@ -223,7 +193,9 @@ impl Channel {
         ensures lines { OnErr result (state_of self.new ≡ state_of self.old) }
         ensures device { TellsDevice (E.is_stopped end.old) (E.is_stopped end.new) (result ≡ Err Cause.Device) }
     {
-        self.up.reserve(2 * FRAGMENT_UNITS)?;
+        let Ok(()) = self.up.reserve(2 * FRAGMENT_UNITS) else {
+            return Err(Cause::Memory);
+        };
         end.opened(number, actions, alloc, now)?;
         self.clear();
         send_all(&mut self.up, &mut self.outstation_port, &actions.send);
@@ -250,7 +222,9 @@ impl Channel {
         ensures lines { OnErr result (state_of self.new ≡ state_of self.old) }
         ensures device { TellsDevice (E.is_stopped end.old) (E.is_stopped end.new) (result ≡ Err Cause.Device) }
     {
-        self.up.reserve(2 * FRAGMENT_UNITS)?;
+        let Ok(()) = self.up.reserve(2 * FRAGMENT_UNITS) else {
+            return Err(Cause::Memory);
+        };
         end.tick(number, actions, alloc, now)?;
         send_all(&mut self.up, &mut self.outstation_port, &actions.send);
         Ok(())
@@ -278,7 +252,9 @@ impl Channel {
         ensures device { TellsDevice (E.is_stopped end.old) (E.is_stopped end.new) (result ≡ Err Cause.Device) }
         ensures before { self.new.before ≡ self.old.before }
     {
-        self.up.reserve(2 * FRAGMENT_UNITS)?;
+        let Ok(()) = self.up.reserve(2 * FRAGMENT_UNITS) else {
+            return Err(Cause::Memory);
+        };
         end.receive(number, actions, alloc, now, self.outstation_port.fragment())?;
         send_all(&mut self.up, &mut self.outstation_port, &actions.send);
         Ok(())
@@ -358,14 +334,11 @@ impl Channel {
         ensures unlisted { OnErr result (ListsDropped none_dropped dropped.old.first.items dropped.old.second.items dropped.new.first.items dropped.new.second.items) }
         ensures before { self.new.before ≡ self.old.before }
     {
-        what_comes_is_taken_or_passed_over();
         let fragment = self.master_port.fragment();
-        let count = count_events(fragment);
-        dropped.first.reserve(count)?;
-        dropped.second.reserve(count)?;
-        self.down.reserve(FRAGMENT_UNITS)?;
+        reserve_for_events(&mut self.down, count_events(fragment), dropped)?;
         match end.take_in(alloc, link, now, fragment) {
             Ok((actions, other)) => {
+                what_comes_is_taken_or_passed_over();
                 self.confirm(actions.send);
                 let _ = dropped.first.extend_from_slice(actions.dropped.as_slice());
                 let _ = dropped.second.extend_from_slice(other.as_slice());

@@ -143,8 +143,10 @@ impl<L: Lanes, O: Outputs> OutstationEnd for Outstation<L, O> {
         now: u64,
         octets: &[u8],
     ) -> Result<(), Cause> {
-        self.receive_into(actions, alloc, now, octets)?;
-        Ok(())
+        match self.receive_into(actions, alloc, now, octets) {
+            Ok(()) => Ok(()),
+            Err(fault) => Err(Cause::from(fault)),
+        }
     }
 
     fn tick(
@@ -154,8 +156,10 @@ impl<L: Lanes, O: Outputs> OutstationEnd for Outstation<L, O> {
         alloc: Global,
         now: u64,
     ) -> Result<(), Cause> {
-        self.tick_into(actions, alloc, now)?;
-        Ok(())
+        match self.tick_into(actions, alloc, now) {
+            Ok(()) => Ok(()),
+            Err(fault) => Err(Cause::from(fault)),
+        }
     }
 }
 
@@ -197,8 +201,10 @@ impl<Q: PairLanes, B: Book> OutstationEnd for Concentrator<Q, B> {
         now: u64,
         octets: &[u8],
     ) -> Result<(), Cause> {
-        self.receive_above(number, actions, alloc, now, octets)?;
-        Ok(())
+        match self.receive_above(number, actions, alloc, now, octets) {
+            Ok(()) => Ok(()),
+            Err(fault) => Err(Cause::from(fault)),
+        }
     }
 
     fn tick(
@@ -208,8 +214,10 @@ impl<Q: PairLanes, B: Book> OutstationEnd for Concentrator<Q, B> {
         alloc: Global,
         now: u64,
     ) -> Result<(), Cause> {
-        self.tick_above(number, actions, alloc, now)?;
-        Ok(())
+        match self.tick_above(number, actions, alloc, now) {
+            Ok(()) => Ok(()),
+            Err(fault) => Err(Cause::from(fault)),
+        }
     }
 }
 

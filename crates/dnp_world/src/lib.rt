@@ -30,6 +30,7 @@ pub mod planned_laws;
 mod reading;
 pub mod relay_laws;
 mod report;
+mod room;
 mod round_fault;
 mod sending;
 pub mod settled_laws;

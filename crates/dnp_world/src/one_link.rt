@@ -143,27 +143,26 @@ impl<L: Lanes, S: Sink> OneLink<L, S> {
         ensures named { OnErr result (may_stop (link_of L.contents self.old) event.now ≡ true) }
     {
         match event {
-            LinkEvent::Open => self.open(alloc)?,
-            LinkEvent::HangUp(end) => self.hang_up(*end),
-            LinkEvent::Deliver(Way::Down) => self.deliver_down(alloc)?,
-            LinkEvent::Deliver(Way::Up) => self.deliver_up(alloc)?,
-            LinkEvent::Repeat(Way::Down) => self.repeat_down(alloc)?,
-            LinkEvent::Repeat(Way::Up) => self.repeat_up(alloc)?,
-            LinkEvent::Lose(way) => self.channel.lose(*way),
-            LinkEvent::Damage(way, octets) => self.channel.damage_to(*way, octets.as_slice()),
+            LinkEvent::Open => self.open(alloc),
+            LinkEvent::HangUp(end) => Ok(self.hang_up(*end)),
+            LinkEvent::Deliver(Way::Down) => self.deliver_down(alloc),
+            LinkEvent::Deliver(Way::Up) => self.deliver_up(alloc),
+            LinkEvent::Repeat(Way::Down) => self.repeat_down(alloc),
+            LinkEvent::Repeat(Way::Up) => self.repeat_up(alloc),
+            LinkEvent::Lose(way) => Ok(self.channel.lose(*way)),
+            LinkEvent::Damage(way, octets) => Ok(self.channel.damage_to(*way, octets.as_slice())),
             LinkEvent::Change {
                 kind,
                 index,
                 reading,
-            } => self.change(alloc, *kind, *index, *reading)?,
-            LinkEvent::Ask(task) => self.ask(*task)?,
-            LinkEvent::Pass(ms) => self.pass(*ms),
-            LinkEvent::Tick(End::Master) => self.tick_master(),
-            LinkEvent::Tick(End::Outstation) => self.tick_outstation(alloc)?,
-            LinkEvent::Restart(End::Master) => self.hang_up(End::Master),
-            LinkEvent::Restart(End::Outstation) => self.restart_outstation(alloc)?,
+            } => self.change(alloc, *kind, *index, *reading),
+            LinkEvent::Ask(task) => self.ask(*task),
+            LinkEvent::Pass(ms) => Ok(self.pass(*ms)),
+            LinkEvent::Tick(End::Master) => Ok(self.tick_master()),
+            LinkEvent::Tick(End::Outstation) => self.tick_outstation(alloc),
+            LinkEvent::Restart(End::Master) => Ok(self.hang_up(End::Master)),
+            LinkEvent::Restart(End::Outstation) => self.restart_outstation(alloc),
         }
-        Ok(())
     }
 
     /// The events happen, one after the other, up to the first at which the lanes, the sink or a request for memory

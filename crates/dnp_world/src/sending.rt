@@ -1,12 +1,14 @@
 //! What goes over a line, as a link's ends send it and hear it.
 
-ghost use Rattle.std.specs.Prelude.{◌≡◌, ℕ, ◌*◌, ◌+◌, ◌<◌, ◌≤◌, if◌then◌else◌, All, List, [], ◌∷◌, ◌++◌, length, option_to_list};
+ghost use Rattle.std.specs.Prelude.{◌≡◌, ℕ, ◌*◌, ◌+◌, ◌<◌, ◌≤◌, if◌then◌else◌, All, IfErr, List, OnOk, [], ◌∷◌, ◌++◌, length, option_to_list};
 ghost use Rattle.dnp_line.specs.Lines.{room_of};
 ghost use Rattle.dnp_line.specs.Ports.{IsShown};
 ghost use Rattle.dnp_line.specs.Ways.{Hears};
 ghost use Rattle.dnp_outstation.specs.Station.{sent_of};
-ghost use Rattle.dnp_world.specs.Channels.{IsSent, AreSent};
+ghost use Rattle.dnp_world.specs.Channels.{IsSent, AreSent, GoDown, state_of};
 
+use crate::channel::Channel;
+use dnp_concentrator::Cause;
 use dnp_line::{Line, Port, way};
 use dnp_linkframe::read_frame;
 use dnp_outstation::Fragment;
@@ -64,5 +66,37 @@ pub(crate) fn send_confirm(line: &mut Line, port: &mut Port, confirm: Option<[u8
 {
     if let Some(octets) = confirm {
         send(line, port, &octets);
+    }
+}
+
+impl Channel {
+    /// Reserves room for one fragment more on the line down.
+    pub fn reserve_down(&mut self) -> Result<(), Cause>
+        ensures same { state_of self.new ≡ state_of self.old }
+        ensures room { OnOk result (FRAGMENT_UNITS ≤ room_of self.new.down) }
+        ensures named { IfErr result (λ cause. cause ≡ Cause.Memory) }
+    {
+        self.down.reserve(FRAGMENT_UNITS)?;
+        Ok(())
+    }
+
+    /// Sends a fragment down, where there is room for it. An empty one is not sent.
+    pub fn send_down(&mut self, fragment: &[u8])
+        requires fits { length fragment.now ≤ MAX_FRAGMENT }
+        requires room { FRAGMENT_UNITS ≤ room_of self.old.down }
+        ensures { 0 < length fragment.now → GoDown (fragment.now ∷ []) (state_of self.old) (state_of self.new) }
+    {
+        if !fragment.is_empty() {
+            send(&mut self.down, &mut self.master_port, fragment);
+        }
+    }
+
+    /// Sends a confirm down, if there is one, where there is room for it.
+    pub fn confirm(&mut self, confirm: Option<[u8; 2]>)
+        requires { FRAGMENT_UNITS ≤ room_of self.old.down }
+        ensures down { GoDown (option_to_list confirm) (state_of self.old) (state_of self.new) }
+        ensures before { self.new.before ≡ self.old.before }
+    {
+        send_confirm(&mut self.down, &mut self.master_port, confirm);
     }
 }

@@ -18,17 +18,18 @@ use crate::channel::Channel;
 use crate::history::History;
 use crate::link_event::{End, Way};
 use crate::listing::rows_waiting;
+use crate::room::{reserve_for_reading, reserve_for_unit};
 use crate::sending::{FRAGMENT_UNITS, send_all};
 use crate::station_list::StationList;
 use dnp_concentrator::Cause;
-use dnp_controls::{MAX_COMMANDS, PlainOutputs};
+use dnp_controls::PlainOutputs;
 use dnp_eventbuf::RingLanes;
 use dnp_objects::{Kind, Row};
 use dnp_outstation::link_laws::{
     a_confirm_releases_what_its_fragment_reported, commands_are_performed_as_they_are_asked,
     each_case_says_what_came,
 };
-use dnp_outstation::{Actions, Fault, Outstation};
+use dnp_outstation::{Actions, Outstation};
 use dnp_pointdb::Reading;
 use std::alloc::Global;
 
@@ -126,25 +127,17 @@ impl Substation {
         if made.is_err() {
             return Ok(());
         }
-        overwritten.reserve(1)?;
-        self.channel.up.reserve(2 * FRAGMENT_UNITS)?;
-        match self
-            .outstation
-            .change_into(actions, alloc, now, kind, index, reading)
-        {
-            Ok(()) => {
-                let Channel {
-                    up,
-                    outstation_port,
-                    ..
-                } = &mut self.channel;
-                send_all(up, outstation_port, &actions.send);
-                overwritten.put_all(station, actions.overwritten.as_slice());
-                Ok(())
-            }
-            Err(Fault::NoPoint | Fault::ValueRange | Fault::TimeRange) => Ok(()),
-            Err(fault) => Err(Cause::from(fault)),
-        }
+        let Channel {
+            up,
+            outstation_port,
+            ..
+        } = &mut self.channel;
+        reserve_for_reading(up, overwritten)?;
+        self.outstation
+            .change_into(actions, alloc, now, kind, index, reading)?;
+        send_all(up, outstation_port, &actions.send);
+        overwritten.put_all(station, actions.overwritten.as_slice());
+        Ok(())
     }
 
     /// The front unit comes to the substation of this number, and stays on the line where it is repeated. What is released and
@@ -168,18 +161,17 @@ impl Substation {
         ensures unlisted { OnErr result (history_of history.new ≡ history_of history.old) }
         ensures device { result ≢ Err Cause.Device }
     {
-        each_case_says_what_came();
-        a_confirm_releases_what_its_fragment_reported();
-        commands_are_performed_as_they_are_asked();
         let waiting = rows_waiting(self.outstation.lanes());
-        history.confirmed.reserve(waiting)?;
-        history.operated.reserve(MAX_COMMANDS)?;
+        reserve_for_unit(waiting, &mut history.confirmed, &mut history.operated)?;
         let before = self.outstation.outputs().operated().len();
         let answered = self
             .channel
             .come_down(actions, alloc, now, &mut self.outstation, 0)?;
         self.channel.settle(Way::Down, repeats);
         if answered {
+            each_case_says_what_came();
+            a_confirm_releases_what_its_fragment_reported();
+            commands_are_performed_as_they_are_asked();
             history
                 .confirmed
                 .put_all(station, actions.discarded.as_slice());
@@ -208,7 +200,9 @@ impl Substation {
         ensures device { result ≢ Err Cause.Device }
     {
         let waiting = rows_waiting(self.outstation.lanes());
-        gone.reserve(waiting)?;
+        let Ok(()) = gone.reserve(waiting) else {
+            return Err(Cause::Memory);
+        };
         let rows = self.outstation.restart(alloc, false)?;
         self.channel.hang_up(End::Outstation);
         gone.put_all(station, rows.as_slice());

@@ -1,11 +1,14 @@
 //! The words of `dnp poll`.
 
+ghost use Rattle.std.specs.Prelude.{◌<◌, IfSome};
+
 use crate::numbers::number_given;
 use crate::options::HINT;
 use clap::ArgMatches;
 use dnp_daemons::{issue_in, number_in};
 use dnp_master::{Classes, Task};
 use dnp_objects::{Command, MAX_TIME};
+use dnp_tcp::RoundSettings;
 use std::alloc::{AllocError, Global};
 use std::rt::Clock;
 
@@ -28,12 +31,8 @@ const ALL: Classes = Classes([true; 4]);
 /// What the words of the command line say.
 #[derive(Clone, Copy)]
 pub(crate) struct Words<'a> {
-    /// The outstation's host and port.
-    pub place: &'a str,
-    /// The link address of the master.
-    pub own: u16,
-    /// The link address of the outstation.
-    pub peer: u16,
+    /// Who is asked in rounds, by whom, and how.
+    pub rounds: RoundSettings<'a>,
     /// The classes to read, if any are.
     pub classes: Option<Classes>,
     /// Whether the restart indication is cleared.
@@ -42,16 +41,6 @@ pub(crate) struct Words<'a> {
     pub time: Option<u64>,
     /// The command to select and operate, if there is one.
     pub command: Option<Command>,
-    /// How long to wait between two rounds, in milliseconds.
-    pub repeat_ms: u64,
-    /// How many rounds there are.
-    pub count: u64,
-    /// Whether fragments are confirmed.
-    pub confirms: bool,
-    /// How long the connection and each fragment is awaited, in milliseconds.
-    pub timeout_ms: u64,
-    /// Whether lines are JSON objects.
-    pub json: bool,
 }
 
 /// Says that the value of an option is wrong, and what it should be.
@@ -102,13 +91,15 @@ fn interval_in(text: &str) -> Option<u64> {
 }
 
 /// The time that a word names: this machine's, or so many milliseconds since 1970-01-01 00:00 UTC.
-fn time_in<C: Clock>(clock: &C, text: &str) -> Option<u64> {
+fn time_in<C: Clock>(clock: &C, text: &str) -> Option<u64>
+    ensures { IfSome result (λ time. time < MAX_TIME) }
+{
     let time = if text == "now" {
         u64::try_from(clock.since_1970().ok()?.as_millis()).ok()?
     } else {
         number_in(text)?
     };
-    if time <= MAX_TIME { Some(time) } else { None }
+    if time < MAX_TIME { Some(time) } else { None }
 }
 
 /// The command that a text names, as the words of an `issue` line after the substation.
@@ -276,19 +267,22 @@ fn all_given<'a, R: Eprint>(rt: &R, given: &ArgMatches<'a>, wanted: &Wanted) -> 
     let timeout_ms = number_given(rt, given, "timeout", "MS", 1, MAX_TIMEOUT)?;
     let confirms = is_yes(rt, given.get_str("confirm").unwrap_or(""))?;
     let (repeat_ms, count) = rounds_given(rt, given)?;
-    Some(Words {
+    let rounds = RoundSettings {
         place,
         own: u16::try_from(own).ok()?,
         peer: u16::try_from(peer).ok()?,
-        classes: wanted.classes,
-        clear_restart: given.get_flag("clear-restart"),
-        time: wanted.time,
-        command: wanted.command,
         repeat_ms,
         count,
         confirms,
         timeout_ms,
         json: given.get_flag("json"),
+    };
+    Some(Words {
+        rounds,
+        classes: wanted.classes,
+        clear_restart: given.get_flag("clear-restart"),
+        time: wanted.time,
+        command: wanted.command,
     })
 }
 

@@ -1,6 +1,8 @@
 -- Words of private steps: the database of a queue for two centres, as a statement for one of them finds and leaves it.
-use Rattle.std.specs.Prelude.{◌≡◌, ℕ, List}
+use Rattle.std.specs.Prelude.{◌≡◌, ◌⊎◌, ℕ, List}
 use Rattle.sqlite.specs.Table.{Table}
+use Rattle.sqlite.specs.Term.{Term}
+use Rattle.sqlite.specs.Schema.{Schema}
 use Rattle.sqlite.specs.Order.{Row as SqlRow}
 use Rattle.sqlite.specs.Tree.{Trees}
 use Rattle.sqlite.specs.Effect.{Database, IsDatabase}
@@ -9,8 +11,8 @@ use Rattle.dnp_eventbuf.specs.Stock.{Stock}
 use Rattle.dnp_store.specs.declared.queue_side.QueueSide.{QueueSide}
 use Rattle.dnp_store.specs.declared.queue_side.QueueSide.TheVariants.{First, Second}
 use Rattle.dnp_store.specs.Tables.{HaveOwnIds, IsCounted, checks_at, counts_of}
-use Rattle.dnp_store.specs.QueueTables.{Figures, is_raised}
-use Rattle.dnp_store.specs.PairTables.{Checks, HoldsOn, HoldsSide, IsForm2, Sides, beside, pair_schema, rows_name}
+use Rattle.dnp_store.specs.QueueTables.{Figures, HoldsLanes, is_raised, queue_schema}
+use Rattle.dnp_store.specs.PairTables.{Checks, HoldsOn, HoldsSide, IsForm2, Sides, beside, lanes_tree, pair_schema, rows_name, rows_tree}
 
 -- it holds these lanes on this side, with these figures, and others on the other side
 pub record HoldsFor (side : QueueSide) (others : Stock) (db : Database) (s : Stock) (figures : List Figures) : Type 0 where
@@ -51,3 +53,18 @@ pub record CountsTwo (rows : List SqlRow) (n m : ℕ) : Type 0 where
   pub own : HaveOwnIds rows
   pub first : IsCounted (rows_name First) (counts_of (rows_name First) rows) n
   pub second : IsCounted (rows_name Second) (counts_of (rows_name Second) rows) m
+
+-- the tables of this side stand there: in those of a queue for two centres, or as the first in those of one
+abbrev pub HasSide : QueueSide → Schema → Type 0
+HasSide side schema =
+    ((c : Checks) × (schema ≡ pair_schema c)) ⊎ ((form rows lanes : List Term) × (side ≡ First) × (schema ≡ queue_schema form rows lanes))
+
+-- a database that has them, of either form, shows this of its trees, and stays as it was
+abbrev pub ReadsSide : QueueSide → State → State → (Trees → Type 0) → Type 0
+ReadsSide side old new P = IsDatabase old.now → HasSide side old.now.schema → (new.now ≡ old.now) × P old.now.trees
+
+-- they hold these lanes, whose last id used stands among these counts; their overflow stands where one of them has raised it
+pub record HoldsAmong (side : QueueSide) (db : Trees) (counts : List SqlRow) (s : Stock) : Type 0 where
+  pub figures : List Figures
+  pub lanes : HoldsLanes (rows_name side) (db (rows_tree side)) counts (db (lanes_tree side)) s figures
+  pub overflow : s.overflow ≡ is_raised figures

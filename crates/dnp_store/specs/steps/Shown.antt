@@ -1,5 +1,5 @@
 -- Words of private steps: what queries show of tables, and the lanes that are put together from it.
-use Rattle.std.specs.Prelude.{◌≡◌, ◌≢◌, ◌⊎◌, ℕ, ◌<◌, ◌≤◌, ℤ, pos, true, if◌then◌else◌, List, [], ◌∷◌, map, length, slice_index_or}
+use Rattle.std.specs.Prelude.{◌≡◌, ◌≢◌, ◌⊎◌, ℕ, ◌<◌, ◌≤◌, ℤ, pos, Bool, IsTrue, true, if◌then◌else◌, List, [], ◌∷◌, map, length, slice_index_or}
 use Rattle.std.specs.List.{AllByRecursion}
 use Rattle.std.specs.List.Sorted.{IsPermutation}
 use Rattle.sqlite.specs.declared.types.Value.TheVariants.{Int, Text}
@@ -119,3 +119,11 @@ pub record PutBack (rows : List SqlRow) (a b : Stock) : Type 0 where
   pub lanes : (k : ℕ) → k < LANES → lane_at b k ≡ record (lane_at a k) { rows = in_lane k queued }
   pub overflow : b.overflow ≡ a.overflow
   pub last_is : b.last_id ≡ a.last_id
+
+-- the lanes begin without rows, with these figures, and take these rows; the last id used is the one noted if they say so
+pub record IsPutBack (figures : List Figures) (rows : List SqlRow) (noted : ℕ) (s : Stock) (is_noted : Bool) : Type 0 where
+  pub last : ℕ
+  pub bare : Stock
+  pub begun : IsBegun bare figures last
+  pub restored : Restores 0 rows bare s
+  pub same : IsTrue is_noted → noted ≡ last

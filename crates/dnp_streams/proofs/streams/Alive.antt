@@ -15,7 +15,7 @@ use Rattle.dnp_streams.specs.declared.stream.session.Session.{Session}
 use Rattle.dnp_streams.specs.declared.writing.NotWritten.{NotWritten}
 use Rattle.dnp_streams.specs.streams.Counts.{none_served}
 use Rattle.dnp_streams.specs.streams.Lives.{Life}
-use Rattle.dnp_streams.specs.streams.Living.{Stage, Unopened, Idle, Standing, standing_of, NoneIsDue, IsIdle, EndsLive, Lives, frames_in}
+use Rattle.dnp_streams.specs.streams.Living.{Stage, Idle, Standing, standing_of, first_stage, NoneIsDue, IsIdle, EndsLive, Lives, frames_in}
 use Rattle.dnp_streams.specs.streams.Spelled.{AreSpelled}
 use Rattle.dnp_streams.specs.streams.Stations.{Opening, Receiving, Endpoint}
 use Rattle.dnp_streams.specs.steps.Living.{Brings, GoesThrough, HasRead, IsFramesNoted}
@@ -31,7 +31,7 @@ pub record Alive {S : Type 0} (opens : Opening S) (receives : Receiving S) (life
   pub gives : Gives octets heard waiting
   pub turns : ℕ
   pub often : reads ≤ turns
-  pub brings : Brings opens receives life heard turns old (standing_of Unopened session) none_served held (Ok tt) new (standing_of Idle session') served held'
+  pub brings : Brings opens receives life heard turns old (standing_of (first_stage session) session) none_served held (Ok tt) new (standing_of Idle session') served held'
 
 -- the first that is counted
 pub counted_first : {S : Type 0} (opens : Opening S) (receives : Receiving S) (life : Life S) (old new : Endpoint S) (from to : Standing) (none served : Served)
@@ -40,10 +40,18 @@ pub counted_first : {S : Type 0} (opens : Opening S) (receives : Receiving S) (l
 counted_first opens receives life old new from to none served held held' result first b =
     subst (λ (s : Served). Brings opens receives life [] 0 old from s held result new to served held') first b
 
+-- what a session begins with
+pub begun_at : {S : Type 0} (opens : Opening S) (receives : Receiving S) (life : Life S) (old new : Endpoint S) (session : Session) (to : Standing) (served served' : Served)
+    (held held' : Option (List ℕ)) (result : Result ⊤ NotWritten) (from : Stage) → first_stage session ≡ from
+    → Brings opens receives life [] 0 old (standing_of from session) served held result new to served' held'
+    → Brings opens receives life [] 0 old (standing_of (first_stage session) session) served held result new to served' held'
+begun_at opens receives life old new session to served served' held held' result from is b =
+    subst (λ (stage : Stage). Brings opens receives life [] 0 old (standing_of stage session) served held result new to served' held') (sym is) b
+
 -- what the opening brings could not be written
 pub fails_first : {S : Type 0} (opens : Opening S) (receives : Receiving S) (life : Life S) (reads : ℕ) (old new : Endpoint S) (session session' : Session)
     (left held held' : Option (List ℕ)) (served : Served) (fault : NotWritten) → reads ≡ 0
-    → Brings opens receives life [] 0 old (standing_of Unopened session) none_served held (Err fault) new (standing_of Idle session') served held'
+    → Brings opens receives life [] 0 old (standing_of (first_stage session) session) none_served held (Err fault) new (standing_of Idle session') served held'
     → Lives opens receives life reads old session session' left left held held' served (Err WriteFailed) new
 fails_first opens receives life reads old new session session' left held held' served fault none b = record {
   traffic = record { octets = []; refused = []; output = b.output; unheard = []; written = b.written.written; unwritten = b.written.unwritten };
@@ -64,7 +72,7 @@ fails_first opens receives life reads old new session session' left held held' s
 -- what the opening brings closed the connection
 pub closes_first : {S : Type 0} (opens : Opening S) (receives : Receiving S) (life : Life S) (reads : ℕ) (old new : Endpoint S) (session session' : Session)
     (left held held' : Option (List ℕ)) (served : Served) → reads ≡ 0
-    → Brings opens receives life [] 0 old (standing_of Unopened session) none_served held (Ok tt) new (standing_of Idle session') served held' → served.closed ≡ true
+    → Brings opens receives life [] 0 old (standing_of (first_stage session) session) none_served held (Ok tt) new (standing_of Idle session') served held' → served.closed ≡ true
     → Lives opens receives life reads old session session' left left held held' served (Ok tt) new
 closes_first opens receives life reads old new session session' left held held' served none b closed =
     let output_closed : b.output.closed ≡ true = sym b.counted.closed ∙ closed in
@@ -124,7 +132,7 @@ pub alive_fails : {S : Type 0} (opens : Opening S) (receives : Receiving S) (lif
 alive_fails opens receives life reads reads' old mid new session at session' left left' left'' held held' held'' waiting waiting' piece frames served served' fault
     i open_still last few gives goes =
     let b =
-    brings_then opens receives life i.heard goes.heard i.turns goes.turns old mid new (standing_of Unopened session) (standing_of Idle at)
+    brings_then opens receives life i.heard goes.heard i.turns goes.turns old mid new (standing_of (first_stage session) session) (standing_of Idle at)
     (standing_of goes.stage session') none_served served served' held held' held'' tt (Err fault) i.brings open_still goes.brings in
     record {
       traffic = record {
@@ -161,7 +169,7 @@ pub alive_closes : {S : Type 0} (opens : Opening S) (receives : Receiving S) (li
 alive_closes opens receives life reads reads' old mid new session at session' left left' left'' held held' held'' waiting waiting' piece frames served served'
     i open_still last few gives goes closed =
     let b =
-    brings_then opens receives life i.heard goes.heard i.turns goes.turns old mid new (standing_of Unopened session) (standing_of Idle at)
+    brings_then opens receives life i.heard goes.heard i.turns goes.turns old mid new (standing_of (first_stage session) session) (standing_of Idle at)
     (standing_of goes.stage session') none_served served served' held held' held'' tt (Ok tt) i.brings open_still goes.brings in
     let output_closed : b.output.closed ≡ true = sym b.counted.closed ∙ closed in
     record {
@@ -193,7 +201,7 @@ alive_on opens receives life reads old mid new session at session' left left' le
     i open_still last gives goes still =
     let (none, idle, some) = goes.goes_on still in
     let b =
-    brings_then opens receives life i.heard goes.heard i.turns goes.turns old mid new (standing_of Unopened session) (standing_of Idle at)
+    brings_then opens receives life i.heard goes.heard i.turns goes.turns old mid new (standing_of (first_stage session) session) (standing_of Idle at)
     (standing_of goes.stage session') none_served served served' held held' held'' tt (Ok tt) i.brings open_still goes.brings in
     record {
       octets = i.octets ++ piece;
@@ -205,7 +213,7 @@ alive_on opens receives life reads old mid new session at session' left left' le
       turns = i.turns + goes.turns;
       often = let often = i.often in omega (arith, often, some);
       brings =
-          subst (λ (g : Stage). Brings opens receives life (i.heard ++ goes.heard) (i.turns + goes.turns) old (standing_of Unopened session) none_served held (Ok tt)
+          subst (λ (g : Stage). Brings opens receives life (i.heard ++ goes.heard) (i.turns + goes.turns) old (standing_of (first_stage session) session) none_served held (Ok tt)
           new (standing_of g session') served' held'') idle b;
     }
 

@@ -31,7 +31,7 @@ pub answered : (answer : Answer) (actions : MasterActions) (t : Taking) (dropped
 answered answer actions t dropped is by =
     is ∙ ap (λ (a : MasterActions). record { send = option_to_list a.send; close = false; taken = a.taken; outcome = a.outcome }) by
 
-abbrev below : ℕ → List Relaying → Core → Core → List Spans → points.Plan → Stock → Stock → Ledger → BelowSeen
+abbrev pub below : ℕ → List Relaying → Core → Core → List Spans → points.Plan → Stock → Stock → Ledger → BelowSeen
 below at links core other indices plan queue more book = record {
   substation = at;
   links = links;

@@ -1,6 +1,6 @@
 -- Definition: the law of a live session on a stream: what was written is what the steps of a station and its port sent, each at a moment:
 -- the opening, frames that came, waits in which none came, time that passed, and changes that were due.
-use Rattle.std.specs.Prelude.{◌≡◌, ℕ, ◌+◌, ◌<◌, ◌≤◌, true, false, List, [], ◌∷◌, ◌++◌, Option, Result, Ok, Err, ⊤}
+use Rattle.std.specs.Prelude.{◌≡◌, ℕ, ◌+◌, ◌<◌, ◌≤◌, if◌then◌else◌, true, false, List, [], ◌∷◌, ◌++◌, Option, Result, Ok, Err, ⊤}
 use Rattle.std.specs.Io.KnownBytes.{Appends, Consumes, IsAtEnd}
 use Rattle.dnp_linkframe.specs.declared.frame.Frame.{Frame}
 use Rattle.dnp_linkframe.specs.Stream.{Gives}
@@ -58,6 +58,10 @@ pub record Standing : Type 0 where
 
 abbrev pub standing_of : Stage → Session → Standing
 standing_of stage session = record { stage = stage; now = session.now; changes = session.changes.now }
+
+-- where a session begins: with an opening, or, where the connection stands, between two steps
+abbrev pub first_stage : Session → Stage
+first_stage session = if session.stands then Idle else Unopened
 
 -- the next change is still to be waited for
 abbrev pub NoneIsDue : ℕ → List Change → Type 0
@@ -125,7 +129,7 @@ pub record Lives {S : Type 0} (opens : Opening S) (receives : Receiving S) (life
   pub read : Consumes left left' (traffic.octets ++ traffic.refused)
   pub gives : Gives traffic.octets (frames_in steps ++ traffic.unheard) waiting
   pub each_read : reads ≤ turns_in steps + 1
-  pub follows : FollowsAll (standing_of Unopened session) steps (standing_of stage session')
+  pub follows : FollowsAll (standing_of (first_stage session) session) steps (standing_of stage session')
   pub sends : SendsAll opens receives life old steps traffic.output new
   pub spelled : AreSpelled traffic.output.frames (traffic.written ++ traffic.unwritten)
   pub appended : Appends held held' traffic.written

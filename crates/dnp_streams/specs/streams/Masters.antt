@@ -12,6 +12,10 @@ use Rattle.dnp_streams.specs.streams.Stations.{Answer}
 abbrev pub nothing_answered : Answer
 nothing_answered = record { send = []; close = false; taken = 0; outcome = None }
 
+-- nothing is sent, no row was stored and no task came out; the connection is closed, or it isn't
+abbrev pub closing : Bool → Answer
+closing closes = record nothing_answered { close = closes }
+
 -- a fragment that was taken is confirmed where it wants that, and may bring a task to its end
 abbrev pub answer_taking : Taking → Answer
 answer_taking taking =

@@ -25,7 +25,7 @@ use std::io::{Read, Write};
 
 /// While the station is idle, asks and relays, and writes what each step sends. Whether the dialogue stops. It asks for no memory
 /// but the station's.
-fn go_on<S: Asker, W: Write>(
+pub(super) fn go_on<S: Asker, W: Write>(
     alloc: Global,
     station: &mut S,
     port: &mut Port,
@@ -99,7 +99,7 @@ fn finish<S: Asker, W: Write>(
 }
 
 /// Opens the station, writes what that sends, and goes on. Whether the dialogue stops.
-fn begin<S: Asker, W: Write>(
+pub(super) fn begin<S: Asker, W: Write>(
     alloc: Global,
     station: &mut S,
     port: &mut Port,
@@ -129,7 +129,7 @@ fn begin<S: Asker, W: Write>(
 
 /// Hears a frame, writes what that sends, and goes on. Whether the dialogue stops. Memory is asked for only where no outcome more
 /// has room.
-fn hear_one<S: Asker, W: Write>(
+pub(super) fn hear_one<S: Asker, W: Write>(
     alloc: Global,
     station: &mut S,
     port: &mut Port,

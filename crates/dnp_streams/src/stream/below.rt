@@ -1,10 +1,11 @@
 //! One link of a concentrator to a substation, on a stream.
 
-ghost use Rattle.std.specs.Prelude.{◌≡◌, ◌≢◌, ◌<◌, ◌⊎◌, All, Err, IfErr, IfOk, IsTrue, OnErr, OnOk, false, nat_lt, length};
+ghost use Rattle.std.specs.Prelude.{◌≡◌, ◌≢◌, ◌<◌, ◌⊎◌, All, Err, IfErr, IfOk, IsTrue, OnErr, OnOk, false, if◌then◌else◌, nat_lt, length};
 ghost use Rattle.dnp_eventbuf.specs.Sides.{either_exhausts};
-ghost use Rattle.dnp_concentrator.specs.Concentrator.{book_of, links_of, queue_of, queued_at, taking_at};
+ghost use Rattle.dnp_concentrator.specs.Concentrator.{book_of, links_of, queue_of, queued_at, taking_at, KeepsStores};
 ghost use Rattle.dnp_concentrator.specs.declared.cause.Cause.TheVariants as cause;
 ghost use Rattle.dnp_streams.specs.declared.stream.station.StationFault.TheVariants as told;
+ghost use Rattle.dnp_streams.specs.streams.BelowLives.{cut, has_ended};
 ghost use Rattle.dnp_streams.specs.streams.Concentrators.{BelowReceives, BelowRefuses, below_seen};
 ghost use Rattle.dnp_streams.specs.streams.Lent.{kept_below, lent_below, substation_of};
 ghost use Rattle.dnp_streams.specs.streams.Stations.{answer_in, answer_of};
@@ -48,14 +49,29 @@ impl<'a, Q: PairLanes, B: Book> Below<'a, Q, B> {
     {
         usize::from(self.substation) < self.concentrator.substations()
     }
+
+    /// Time has passed for the link, where the plan has the substation. Whether it has closed now.
+    pub(super) fn pass(&mut self, now: u64) -> bool
+        ensures kept { kept_below self.new ≡ kept_below self.old }
+        ensures stores { KeepsStores (lent_below self.old).now (lent_below self.new).now }
+        ensures closes { result ≡ has_ended (below_seen Q.contents B.contents (lent_below self.old).now (substation_of self.old)) now }
+        ensures ticked { below_seen Q.contents B.contents (lent_below self.new).now (substation_of self.new)
+            ≡ (if result then cut (below_seen Q.contents B.contents (lent_below self.old).now (substation_of self.old)) now
+            else below_seen Q.contents B.contents (lent_below self.old).now (substation_of self.old)) }
+    {
+        if !self.is_there() {
+            return false;
+        }
+        self.concentrator.tick_below(self.substation, now)
+    }
 }
 
 impl<'a, Q: PairLanes, B: Book> Station for Below<'a, Q, B> {
     ghost use Rattle.dnp_concentrator.specs.Concentrator.{book_of, queue_of};
     ghost use Rattle.dnp_streams.specs.streams.Asking.{below_asking};
+    ghost use Rattle.dnp_streams.specs.streams.BelowLives.{below_lives};
     ghost use Rattle.dnp_streams.specs.streams.Concentrators.{BelowSeen, below_hung_up, below_opens, below_receives, below_seen};
     ghost use Rattle.dnp_streams.specs.streams.Lent.{KeptBelow, kept_below, lent_below, substation_of};
-    ghost use Rattle.dnp_streams.specs.streams.Lives.{lifeless};
 
     ghost State = { BelowSeen };
 
@@ -73,7 +89,7 @@ impl<'a, Q: PairLanes, B: Book> Station for Below<'a, Q, B> {
 
     ghost asking = { below_asking };
 
-    ghost life = { lifeless };
+    ghost life = { below_lives };
 
     ghost hung_up_of = { below_hung_up };
 

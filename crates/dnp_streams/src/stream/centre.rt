@@ -25,8 +25,8 @@ impl<J: JournalStore, B: Book> Station for Centre<J, B> {
     ghost use Rattle.dnp_concentrator.specs.declared.span.Spans.{Spans};
     ghost use Rattle.std.specs.Prelude.{List};
     ghost use Rattle.dnp_streams.specs.streams.Asking.{centre_asking};
+    ghost use Rattle.dnp_streams.specs.streams.CentreLives.{centre_lives};
     ghost use Rattle.dnp_streams.specs.streams.Centres.{CentreSeen, centre_hung_up, centre_opens, centre_receives, centre_seen};
-    ghost use Rattle.dnp_streams.specs.streams.Lives.{lifeless};
 
     ghost State = { CentreSeen };
 
@@ -44,7 +44,7 @@ impl<J: JournalStore, B: Book> Station for Centre<J, B> {
 
     ghost asking = { centre_asking };
 
-    ghost life = { lifeless };
+    ghost life = { centre_lives };
 
     ghost hung_up_of = { centre_hung_up };
 

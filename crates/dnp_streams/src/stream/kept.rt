@@ -2,7 +2,7 @@
 
 ghost use Rattle.std.specs.Prelude.{◌≡◌, ◌<◌, [], false, None, All, IfSome, IsSome, length, option_to_list};
 ghost use Rattle.dnp_outstation.specs.Station.{actions_of, sent_of};
-ghost use Rattle.dnp_streams.specs.streams.Masters.{nothing_answered};
+ghost use Rattle.dnp_streams.specs.streams.Masters.{closing, nothing_answered};
 ghost use Rattle.dnp_streams.specs.streams.Outstations.{answer_by};
 ghost use Rattle.dnp_streams.specs.streams.Stations.{answer_in, answer_of};
 
@@ -112,6 +112,16 @@ impl KeptAnswer {
         self.actions.close = false;
         self.taken = actions.taken;
         self.outcome = actions.outcome;
+    }
+
+    /// Nothing is sent, and the connection is closed, or it isn't, in place of what was there.
+    pub(super) fn put_closing(&mut self, closes: bool)
+        ensures { answer_in self.new ≡ closing closes }
+    {
+        empty(&mut self.actions.send[0]);
+        empty(&mut self.actions.send[1]);
+        self.actions.close = closes;
+        self.done();
     }
 
     /// The same answer by value.

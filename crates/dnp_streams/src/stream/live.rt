@@ -1,6 +1,6 @@
 //! A stream on which a station lives, to its end.
 
-ghost use Rattle.std.specs.Prelude.{◌≡◌};
+ghost use Rattle.std.specs.Prelude.{◌≡◌, true};
 ghost use Rattle.dnp_streams.specs.streams.Counts.{none_served};
 ghost use Rattle.dnp_streams.specs.streams.Logs.{new_log};
 ghost use Rattle.dnp_streams.specs.streams.Stations.{endpoint};
@@ -81,7 +81,7 @@ fn live<S: Living, R: Waiting, W: Write, C: Clock>(
 
 /// Lives on a stream of octets: serves it as `serve_stream` does, and lets time pass and changes be made while it waits.
 ///
-/// The station is opened. Then each read waits at most until the next change is due, and no longer than it is to. Each
+/// The station is opened, unless the session goes on where the connection stands already. Then each read waits at most until the next change is due, and no longer than it is to. Each
 /// frame that it brings is heard, or where it brings none, the wait is over; then time passes for the station, and the
 /// changes that are due by then are made, in order. What each of these steps brings is written before the next one is
 /// made, and each is at the moment that the clock shows, or at that of the step before, where the clock fails or goes
@@ -89,8 +89,8 @@ fn live<S: Living, R: Waiting, W: Write, C: Clock>(
 ///
 /// It ends with Ok where the input ends, or after the step by which the station closed the connection; the caller hangs
 /// the station up then. A fault is one of those of `serve_stream`, and the station is hung up; that nothing has come yet
-/// is none. Either way it is told what was served. The session says where it came to: its last moment, and the changes that
-/// are left. What was asked of the
+/// is none. Either way it is told what was served. The session says where it came to: its last moment, the changes that are
+/// left, and that the station was opened. What was asked of the
 /// reader and the writer is noted in a new log.
 ///
 /// Reader and writer are lent, and nothing is flushed: a writer that keeps octets back would keep the peer waiting.
@@ -112,6 +112,7 @@ pub fn live_stream<S: Living, R: Waiting, W: Write, C: Clock>(
         × Lives S.opens S.receives S.life log.new.reads (endpoint (S.state station.old) port.old)
         session.old session.new (R.Read.remaining reader.old) (R.Read.remaining reader.new)
         (W.contents out.old) (W.contents out.new) result.served result.result (endpoint ended port.new) }
+    ensures stands { session.new.stands ≡ true }
     ensures noted { IsNoted limits.turns result.result log.new }
 {
     let mut course = Course {
@@ -134,6 +135,7 @@ pub fn live_stream<S: Living, R: Waiting, W: Write, C: Clock>(
         station.hung_up();
     }
     *session = course.session;
+    session.stands = true;
     *log = course.log;
     Lived {
         served: course.served,

@@ -2,7 +2,7 @@
 
 ghost use Rattle.std.specs.Prelude.{◌≡◌, [], true, false, MatchResult, OnOk};
 ghost use Rattle.dnp_streams.specs.streams.Stations.{endpoint};
-ghost use Rattle.dnp_streams.specs.streams.Living.{NoneIsDue, Idle, Owing, Unopened, standing_of};
+ghost use Rattle.dnp_streams.specs.streams.Living.{NoneIsDue, Idle, Owing, Unopened, first_stage, standing_of};
 ghost use Rattle.dnp_streams.specs.steps.Living.{Brings};
 ghost use Rattle.dnp_streams.specs.steps.Outgoing.{OpensTo};
 
@@ -162,7 +162,7 @@ pub(super) fn settle<S: Living, W: Write>(
 }
 
 /// Opens the station, makes the changes that are due by then, and writes what that brings.
-pub(super) fn begin<S: Living, W: Write, C: Clock>(
+fn start<S: Living, W: Write, C: Clock>(
     alloc: Global,
     station: &mut S,
     port: &mut Port,
@@ -191,4 +191,29 @@ pub(super) fn begin<S: Living, W: Write, C: Clock>(
         return Ok(());
     }
     make_due(alloc, station, port, course, out)
+}
+
+/// Begins a session: opens the station, unless the connection stands, makes the changes that are due by then, and writes what
+/// that brings.
+pub(super) fn begin<S: Living, W: Write, C: Clock>(
+    alloc: Global,
+    station: &mut S,
+    port: &mut Port,
+    clock: &C,
+    course: &mut Course<'_>,
+    out: &mut W,
+) -> Result<(), NotWritten>
+    requires { course.old.served.closed ≡ false }
+    ensures kept { S.kept station.new ≡ S.kept station.old }
+    ensures held { S.honest station.new → S.honest station.old }
+    ensures begun { S.honest station.new → Brings S.opens S.receives S.life [] 0
+        (endpoint (S.state station.old) port.old) (standing_of (first_stage course.old.session) course.old.session) course.old.served (W.contents out.old) result
+        (endpoint (S.state station.new) port.new) (standing_of Idle course.new.session) course.new.served (W.contents out.new) }
+    ensures none_due { OnOk result (course.new.served.closed ≡ false → NoneIsDue course.new.session.now course.new.session.changes.now) }
+    ensures noted { MatchResult result (λ _. course.new.log ≡ course.old.log) (λ _. course.new.log ≡ record course.old.log { write_failed = true }) }
+{
+    if course.session.stands {
+        return make_due(alloc, station, port, course, out);
+    }
+    start(alloc, station, port, clock, course, out)
 }

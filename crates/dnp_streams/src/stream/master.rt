@@ -1,7 +1,7 @@
 //! What a master does, as an answer on a stream.
 
 ghost use Rattle.std.specs.Prelude.{◌≡◌};
-ghost use Rattle.dnp_streams.specs.streams.Masters.{fault_told, nothing_answered};
+ghost use Rattle.dnp_streams.specs.streams.Masters.{closing, fault_told, nothing_answered};
 ghost use Rattle.dnp_streams.specs.streams.Stations.{answer_of};
 
 use crate::stream::station::{Answer, StationFault};
@@ -15,6 +15,18 @@ pub(super) fn nothing() -> Answer
     Answer {
         send: [None, None],
         close: false,
+        taken: 0,
+        outcome: None,
+    }
+}
+
+/// Nothing is sent, and the connection is closed, or it isn't.
+pub(super) fn closing(closes: bool) -> Answer
+    ensures { answer_of result ≡ closing closes }
+{
+    Answer {
+        send: [None, None],
+        close: closes,
         taken: 0,
         outcome: None,
     }

@@ -8,6 +8,8 @@ pub struct Session<'a> {
     /// The moment of the last step, in milliseconds. Where the clock fails or goes back, the next step is at this moment
     /// too.
     pub now: u64,
+    /// Whether the connection stands: the station was opened on it before, and is not opened again.
+    pub stands: bool,
     /// The changes that are to come, in order: each is made when no change before it is left and it is due.
     pub changes: &'a [Change],
 }

@@ -15,12 +15,12 @@ ghost use Rattle.dnp_world.specs.declared.link_event.Way.TheVariants as way;
 use super::OneLink;
 use crate::link_event::{End, Way};
 use crate::listing::rows_waiting;
-use crate::sending::{FRAGMENT_UNITS, send_all};
+use crate::room::reserve_for_left;
+use crate::sending::send_all;
 use dnp_concentrator::{Cause, Two};
 use dnp_eventbuf::{Lanes, Sink};
 use dnp_master::Task;
 use dnp_objects::Kind;
-use dnp_outstation::Fault;
 use dnp_outstation::link_laws::{
     a_confirm_releases_what_its_fragment_reported, each_case_says_what_came,
 };
@@ -40,8 +40,6 @@ impl<L: Lanes, S: Sink> OneLink<L, S> {
         if self.channel.front(Way::Down).is_none() {
             return Ok(());
         }
-        each_case_says_what_came();
-        a_confirm_releases_what_its_fragment_reported();
         let waiting = rows_waiting(self.outstation.lanes());
         self.released.reserve(waiting)?;
         let answered = self.channel.come_down(
@@ -53,6 +51,8 @@ impl<L: Lanes, S: Sink> OneLink<L, S> {
         )?;
         self.channel.settle(Way::Down, repeats);
         if answered {
+            each_case_says_what_came();
+            a_confirm_releases_what_its_fragment_reported();
             let _ = self
                 .released
                 .extend_from_slice(self.actions.discarded.as_slice());
@@ -204,25 +204,18 @@ impl<L: Lanes, S: Sink> OneLink<L, S> {
         ensures done { L.honest (lanes_of self.new) → OnOk result (HappensOn S.takes no_panel (link_of L.contents self.old) (event.Change kind index reading) (link_of L.contents self.new)) }
         ensures stopped { L.honest (lanes_of self.new) → OnErr result (link_of L.contents self.new ≡ link_of L.contents self.old) }
     {
+        reserve_for_left(&mut self.channel.up, &mut self.left)?;
+        self.outstation.change_into(&mut self.actions, alloc, self.moment, kind, index, reading)?;
+        send_all(
+            &mut self.channel.up,
+            &mut self.channel.outstation_port,
+            &self.actions.send,
+        );
         a_confirm_releases_what_its_fragment_reported();
-        self.channel.up.reserve(2 * FRAGMENT_UNITS)?;
-        self.left.reserve(1)?;
-        match self
-            .outstation
-            .change(alloc, self.moment, kind, index, reading)
-        {
-            Ok(actions) => {
-                send_all(
-                    &mut self.channel.up,
-                    &mut self.channel.outstation_port,
-                    &actions.send,
-                );
-                let _ = self.left.extend_from_slice(actions.overwritten.as_slice());
-                Ok(())
-            }
-            Err(Fault::NoPoint | Fault::ValueRange | Fault::TimeRange) => Ok(()),
-            Err(fault) => Err(Cause::from(fault)),
-        }
+        let _ = self
+            .left
+            .extend_from_slice(self.actions.overwritten.as_slice());
+        Ok(())
     }
 
     /// Whether the master asks a task of its own now.
@@ -285,8 +278,7 @@ impl<L: Lanes, S: Sink> OneLink<L, S> {
             self.moment,
             &mut self.outstation,
             0,
-        )?;
-        Ok(())
+        )
     }
 
     /// The outstation's device starts again: the outstation hangs up, and its lanes are emptied.
@@ -297,7 +289,9 @@ impl<L: Lanes, S: Sink> OneLink<L, S> {
         ensures stopped { L.honest (lanes_of self.new) → OnErr result (link_of L.contents self.new ≡ link_of L.contents self.old) }
     {
         let waiting = rows_waiting(self.outstation.lanes());
-        self.left.reserve(waiting)?;
+        let Ok(()) = self.left.reserve(waiting) else {
+            return Err(Cause::Memory);
+        };
         let rows = self.outstation.restart(alloc, false)?;
         self.channel.hang_up(End::Outstation);
         let _ = self.left.extend_from_slice(rows.as_slice());

@@ -36,8 +36,7 @@ impl<Q: PairLanes, J: JournalStore, A: Book, B: Book> Parts<Q, J, A, B> {
             station,
             repeats,
             &mut self.history,
-        )?;
-        Ok(())
+        )
     }
 
     /// The front unit comes to the concentrator from this centre.
@@ -76,8 +75,7 @@ impl<Q: PairLanes, J: JournalStore, A: Book, B: Book> Parts<Q, J, A, B> {
             repeats,
             &mut self.concentrator,
             &mut self.history.dropped,
-        )?;
-        Ok(())
+        )
     }
 
     /// The front unit comes to this centre.
@@ -95,8 +93,7 @@ impl<Q: PairLanes, J: JournalStore, A: Book, B: Book> Parts<Q, J, A, B> {
             repeats,
             self.centres.at_mut(centre),
             &mut self.history.dropped,
-        )?;
-        Ok(())
+        )
     }
 
     /// The front unit of this way of the link comes to its end, and stays on the line where it is repeated. On an empty line
@@ -119,11 +116,10 @@ impl<Q: PairLanes, J: JournalStore, A: Book, B: Book> Parts<Q, J, A, B> {
             return Ok(());
         }
         match (on, way) {
-            (Link::Below(station), Way::Down) => self.come_down_below(alloc, station, repeats)?,
-            (Link::Above(centre), Way::Down) => self.come_down_above(alloc, centre, repeats)?,
-            (Link::Below(station), Way::Up) => self.come_up_below(alloc, station, repeats)?,
-            (Link::Above(centre), Way::Up) => self.come_up_above(alloc, centre, repeats)?,
+            (Link::Below(station), Way::Down) => self.come_down_below(alloc, station, repeats),
+            (Link::Above(centre), Way::Down) => self.come_down_above(alloc, centre, repeats),
+            (Link::Below(station), Way::Up) => self.come_up_below(alloc, station, repeats),
+            (Link::Above(centre), Way::Up) => self.come_up_above(alloc, centre, repeats),
         }
-        Ok(())
     }
 }

@@ -57,19 +57,16 @@ impl<Q: PairLanes, J: JournalStore, A: Book, B: Book> Parts<Q, J, A, B> {
         match on {
             Link::Below(station) => {
                 let substation = &mut self.substations[usize::from(station)];
-                substation.tick(&mut self.actions, alloc, self.moment)?;
+                substation.tick(&mut self.actions, alloc, self.moment)
             }
-            Link::Above(centre) => {
-                self.above.at_mut(centre).tick(
-                    &mut self.actions,
-                    alloc,
-                    self.moment,
-                    &mut self.concentrator,
-                    centre,
-                )?;
-            }
+            Link::Above(centre) => self.above.at_mut(centre).tick(
+                &mut self.actions,
+                alloc,
+                self.moment,
+                &mut self.concentrator,
+                centre,
+            ),
         }
-        Ok(())
     }
 
     /// The concentrator's device starts again: the concentrator hangs up all its ends.
@@ -93,7 +90,6 @@ impl<Q: PairLanes, J: JournalStore, A: Book, B: Book> Parts<Q, J, A, B> {
         ensures device { TellsDevice (⟦<Self as Stored>⟧.is_stopped self.old) (⟦<Self as Stored>⟧.is_stopped self.new) (result ≡ Err Cause.Device) }
     {
         let substation = &mut self.substations[usize::from(station)];
-        substation.restart(alloc, station, &mut self.history.gone)?;
-        Ok(())
+        substation.restart(alloc, station, &mut self.history.gone)
     }
 }

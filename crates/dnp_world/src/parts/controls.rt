@@ -304,8 +304,7 @@ impl<Q: PairLanes, J: JournalStore, A: Book, B: Book> Parts<Q, J, A, B> {
     {
         self.exchange(alloc, on, id, carrier)?;
         self.exchange(alloc, on, id, carrier)?;
-        self.relay_one(alloc, on, id)?;
-        Ok(())
+        self.relay_one(alloc, on, id)
     }
 
     /// The control of this id goes over the link to its centre, and then over the one to its substation.
@@ -328,8 +327,7 @@ impl<Q: PairLanes, J: JournalStore, A: Book, B: Book> Parts<Q, J, A, B> {
             return Ok(());
         };
         let queued = self.next_below(alloc, station)?;
-        self.relay_through(alloc, Link::Below(station), queued, carrier)?;
-        Ok(())
+        self.relay_through(alloc, Link::Below(station), queued, carrier)
     }
 
     /// The control of this id goes from the centre to its substation, over quiet links. Refused, with nothing changed, is

@@ -5,7 +5,7 @@ ghost use Rattle.dnp_world.specs.Carriers.{Crosses, FrontCrosses, RunsOver, Tell
 ghost use Rattle.dnp_world.specs.Causes.{IsStoppedBy, TellsDevice};
 ghost use Rattle.dnp_world.specs.SystemEvents.{ComesOn};
 ghost use Rattle.dnp_world.specs.SystemRuns.{CountsFor, RunsTo, StopsAfter};
-ghost use Rattle.dnp_world.specs.Centres.{ChangesAll, HappensToAll, centre_of, front_on, has_link, may_stop};
+ghost use Rattle.dnp_world.specs.Centres.{ChangesAll, HappensToAll, centre_of, front_on, has_link, link_of, may_stop, names_plan};
 ghost use Rattle.dnp_world.specs.declared.event.Event.TheVariants as event;
 ghost use Rattle.dnp_line.specs.Lines.{delivered_on};
 
@@ -20,7 +20,34 @@ use dnp_controls::Book;
 use dnp_eventbuf::{CENTRES, JournalStore, PairLanes};
 use std::alloc::Global;
 
+/// The link that the event is on, or that to the station that it names.
+fn link_of(event: &Event) -> Option<Link>
+    ensures { result ≡ link_of event.now }
+{
+    match event {
+        Event::Open(on) | Event::HangUp(on, _) => Some(*on),
+        Event::Deliver(on, _) | Event::Repeat(on, _) | Event::Lose(on, _) => Some(*on),
+        Event::Damage(on, _, _) | Event::Ask(on, _) => Some(*on),
+        Event::Relay(on) | Event::Tick(on, _) => Some(*on),
+        Event::Change { substation, .. } => Some(Link::Below(*substation)),
+        Event::Issue { centre, .. } => Some(Link::Above(*centre)),
+        Event::Pass(_) | Event::Restart(Place::Concentrator) => None,
+        Event::Restart(Place::Centre(centre)) => Some(Link::Above(*centre)),
+        Event::Restart(Place::Substation(station)) => Some(Link::Below(*station)),
+    }
+}
+
 impl<Q: PairLanes, J: JournalStore, A: Book, B: Book> Parts<Q, J, A, B> {
+    /// Whether the plan has the link or the station that the event names, if it names one.
+    fn names_plan(&self, event: &Event) -> bool
+        ensures { result ≡ names_plan self.now.system event.now }
+    {
+        match link_of(event) {
+            Some(on) => self.has(on),
+            None => true,
+        }
+    }
+
     /// The front unit of this way of the link comes to its end. Where that is refused, the unit is lost.
     fn deliver(&mut self, alloc: Global, on: Link, way: Way) -> Result<(), Cause>
         requires { has_link self.old.system on ≡ true }
@@ -47,39 +74,37 @@ impl<Q: PairLanes, J: JournalStore, A: Book, B: Book> Parts<Q, J, A, B> {
         ensures named { OnErr result (may_stop self.old.system event.now ≡ true) }
         ensures device { TellsDevice (⟦<Self as Stored>⟧.is_stopped self.old) (⟦<Self as Stored>⟧.is_stopped self.new) (result ≡ Err Cause.Device) }
     {
+        if !self.names_plan(event) {
+            return Ok(());
+        }
         match event {
-            Event::Open(on) if self.has(*on) => self.open(alloc, *on)?,
-            Event::HangUp(on, end) if self.has(*on) => self.hang_up(*on, *end),
-            Event::Deliver(on, way) if self.has(*on) => self.deliver(alloc, *on, *way)?,
-            Event::Repeat(on, way) if self.has(*on) => self.come(alloc, *on, *way, true)?,
-            Event::Lose(on, way) if self.has(*on) => self.lose(*on, *way),
-            Event::Damage(on, way, octets) if self.has(*on) => self.damage(*on, *way, octets),
-            Event::Ask(on, task) if self.has(*on) => self.ask(*on, *task)?,
-            Event::Relay(on) if self.has(*on) => self.relay(alloc, *on)?,
-            Event::Tick(on, End::Master) if self.has(*on) => self.tick_master(*on),
-            Event::Tick(on, End::Outstation) if self.has(*on) => self.tick_outstation(alloc, *on)?,
+            Event::Open(on) => return self.open(alloc, *on),
+            Event::HangUp(on, end) => self.hang_up(*on, *end),
+            Event::Deliver(on, way) => return self.deliver(alloc, *on, *way),
+            Event::Repeat(on, way) => return self.come(alloc, *on, *way, true),
+            Event::Lose(on, way) => self.lose(*on, *way),
+            Event::Damage(on, way, octets) => self.damage(*on, *way, octets),
+            Event::Ask(on, task) => return self.ask(*on, *task),
+            Event::Relay(on) => return self.relay(alloc, *on),
+            Event::Tick(on, End::Master) => self.tick_master(*on),
+            Event::Tick(on, End::Outstation) => return self.tick_outstation(alloc, *on),
             Event::Change {
                 substation,
                 kind,
                 index,
                 reading,
-            } if self.has(Link::Below(*substation)) => {
-                self.change(alloc, *substation, *kind, *index, *reading)?
-            }
+            } => return self.change(alloc, *substation, *kind, *index, *reading),
             Event::Issue {
                 centre,
                 substation,
                 command,
-            } if *centre < CENTRES => self.issue(alloc, *centre, *substation, command)?,
+            } => return self.issue(alloc, *centre, *substation, command),
             Event::Pass(ms) => self.pass(*ms),
-            Event::Restart(Place::Centre(centre)) if *centre < CENTRES => {
-                self.restart_centre(*centre)
-            }
+            Event::Restart(Place::Centre(centre)) => self.restart_centre(*centre),
             Event::Restart(Place::Concentrator) => self.restart_concentrator(alloc),
-            Event::Restart(Place::Substation(station)) if self.has(Link::Below(*station)) => {
-                self.restart_substation(alloc, *station)?
+            Event::Restart(Place::Substation(station)) => {
+                return self.restart_substation(alloc, *station);
             }
-            _ => {}
         }
         Ok(())
     }

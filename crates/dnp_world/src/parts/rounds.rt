@@ -77,8 +77,7 @@ impl<Q: PairLanes, J: JournalStore, A: Book, B: Book> Parts<Q, J, A, B> {
         self.happen(alloc, &Event::Ask(on, Task::Poll(classes)))?;
         self.flush(alloc, on, Way::Down, carrier)?;
         self.flush(alloc, on, Way::Up, carrier)?;
-        self.flush(alloc, on, Way::Down, carrier)?;
-        Ok(())
+        self.flush(alloc, on, Way::Down, carrier)
     }
 
     /// A round over a quiet link. Refused, with nothing changed, is a link that isn't quiet. Each unit is carried.

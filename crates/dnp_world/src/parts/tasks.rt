@@ -79,6 +79,13 @@ fn cause_of(fault: BookFault) -> Option<Cause>
     }
 }
 
+/// Whether the task is one of the events' own: a command belongs to whoever keeps the commands.
+fn is_own(task: &Task) -> bool
+    ensures { result ≡ is_own task.now }
+{
+    !matches!(task, Task::Select(_) | Task::Operate(_))
+}
+
 impl Channel {
     /// Sends the request down that stands in its place, where there is room for it. An empty one is not sent.
     fn send_request(&mut self)
@@ -207,17 +214,16 @@ impl<Q: PairLanes, J: JournalStore, A: Book, B: Book> Parts<Q, J, A, B> {
         ensures named { OnErr result ((is_own task && is_ok (ask_answer (relaying_at (seen_at (centre_of on) self.old.system) on).master task)) ≡ true) }
         ensures device { TellsDevice (⟦<Self as Stored>⟧.is_stopped self.old) (⟦<Self as Stored>⟧.is_stopped self.new) (result ≡ Err Cause.Device) }
     {
-        if matches!(task, Task::Select(_) | Task::Operate(_)) {
+        if !is_own(&task) {
             return Ok(());
         }
         if !self.asks(on, &task) {
             return Ok(());
         }
         match on {
-            Link::Below(station) => self.ask_below(station, task)?,
-            Link::Above(centre) => self.ask_above(centre, task)?,
+            Link::Below(station) => self.ask_below(station, task),
+            Link::Above(centre) => self.ask_above(centre, task),
         }
-        Ok(())
     }
 
     /// A step of relaying the concentrator's controls to a substation.
@@ -266,10 +272,9 @@ impl<Q: PairLanes, J: JournalStore, A: Book, B: Book> Parts<Q, J, A, B> {
             return Ok(());
         }
         match on {
-            Link::Below(station) => self.relay_below(alloc, station)?,
-            Link::Above(centre) => self.relay_above(alloc, centre)?,
+            Link::Below(station) => self.relay_below(alloc, station),
+            Link::Above(centre) => self.relay_above(alloc, centre),
         }
-        Ok(())
     }
 
     /// A substation reads a point. A reading that its points refuse does nothing.
@@ -298,8 +303,7 @@ impl<Q: PairLanes, J: JournalStore, A: Book, B: Book> Parts<Q, J, A, B> {
             index,
             reading,
             &mut self.history.overwritten,
-        )?;
-        Ok(())
+        )
     }
 
     /// A command is issued at this centre. One to no output does nothing, and asks for no memory.

@@ -1,28 +1,22 @@
-use Rattle.std.proofs.Common.{rules, ◌≡◌, ◌+◌, length, arith, subst}
+use Rattle.std.proofs.Common.{sym, subst}
 use Rattle.sqlite.specs.Held.{state}
-use Rattle.dnp_store.specs.steps.JournalShown.{AreInOrder, ShowEvents, Gathers}
-use Rattle.dnp_store.proofs.JournalOpening.{few_in_order}
+use Rattle.dnp_store.specs.steps.JournalShown.{ShowEvents, Gathers}
+use Rattle.dnp_store.proofs.Outcomes.{on_any}
+use Rattle.dnp_store.proofs.Stepping.{if_ok, step_as}
 use Rattle.dnp_store.proofs.journal_paging.read_more.Goals as goal
 
 pub returns-clause-read : goal.returns-clause-read
-returns-clause-read g c clean f j m sound has =
+returns-clause-read g c clean =
     let old = state g.S.Store c.args.tx.now.conn.now in
-    let rows = c.in_ok-rows.rows.items in
-    let events = c.in_ok-events.events.items in
     let before = c.args.so_far in
-    let last = c.in-Some.last in
-    let page = c.in_ok-rows.ensures.read clean f j m sound has in
-    let each : ShowEvents rows events = search rules in
-    let rises : AreInOrder before.last last events = search rules in
-    let long : length events ≡ c.len.result = search rules in
-    (page.0, λ so_far. subst (λ n. Gathers (old.now.trees 1) last (before.count + n)) long (page.1 events last before.count each rises c.in-Some.ensures.range.0 so_far))
+    if_ok _ _ c.with_page.result (λ more page f j m sound has.
+    let got = c.in_ok-rows.ensures.read clean f j m sound has in
+    let each = subst (λ rs. ShowEvents rs page.events) c.deref.ensures.value page.shown in
+    (got.0, λ so_far. subst (Gathers (old.now.trees 1) more.last) (sym page.many) (got.1 page.events more.last before.count each page.rise page.up so_far)))
+    c.with_page.ensures.shown
 
-pub returns-clause-range : goal.returns-clause-range
-returns-clause-range g c =
-    let events = c.in_ok-events.events.items in
-    let before = c.args.so_far in
-    let last = c.in-Some.last in
-    let rises : AreInOrder before.last last events = search rules in
-    let few = few_in_order before.last last events rises c.in-Some.ensures.range.0 in
-    let long : length events ≡ c.len.result = search rules in
-    (c.in-Some.ensures.range.1, omega (arith, c.requires.range))
+pub returns-clause-open : goal.returns-clause-open
+returns-clause-open g c clean = on_any _ c.with_page.result (c.in_ok-rows.ensures.open clean)
+
+pub returns-clause-step : goal.returns-clause-step
+returns-clause-step g c = step_as g.S.Store c.args.tx.now.conn c.read_page.new.tx.conn _ _ c.in_ok-rows.ensures.step

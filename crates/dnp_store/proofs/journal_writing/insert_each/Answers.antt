@@ -1,5 +1,5 @@
 use Rattle.std.proofs.Common.{take, arith, sym, ap, subst, ◌∙◌, rules}
-use Rattle.std.proofs.lemmas.List.{take_more}
+use Rattle.std.proofs.lemmas.List.{take_all, take_more}
 use Rattle.sqlite.specs.State.{HasCleanDisk}
 use Rattle.sqlite.specs.Held.{state}
 use Rattle.dnp_eventbuf.specs.Archive.{with_events}
@@ -44,3 +44,15 @@ loop-row-init g c =
       step = step_none g.S.Store c.args.tx.now.conn c.requires.inside;
       added = λ clean a held. subst (IsJournal start.now) (sym (with-none a)) held;
     }
+
+pub insert-requires-clause-inside : goal.insert-requires-clause-inside
+insert-requires-clause-inside g c = c.loop-row.invariant.step.inside
+
+pub returns-clause-added : goal.returns-clause-added
+returns-clause-added g c clean a held =
+    let now = state g.S.Store c.loop-row.tx.conn.now in
+    let all = take_all c.loop-row.row-index c.args.events.now (omega arith) in
+    subst (λ xs. IsJournal now.now (with_events a xs)) all (c.loop-row.invariant.added clean a held)
+
+pub returns-clause-step : goal.returns-clause-step
+returns-clause-step g c = c.loop-row.invariant.step

@@ -1,9 +1,9 @@
-use Rattle.std.proofs.Common.{Ok, length-set, map, ap, sym, subst, ◌∙◌, arith, rules, refl}
+use Rattle.std.proofs.Common.{Ok, length-set, map, ap, sym, subst, ◌∙◌, arith, refl}
 use Rattle.std.specs.Prelude.{slice_index_or}
 use Rattle.std.proofs.lemmas.List.{take_all}
 use Rattle.sqlite.specs.Values.{bound}
 use Rattle.sqlite.specs.Held.{state}
-use Rattle.sqlite.specs.State.{HasCleanDisk, Executes}
+use Rattle.sqlite.specs.State.{Executes}
 use Rattle.dnp_store.specs.steps.Steps.{cells_of}
 use Rattle.dnp_store.specs.steps.JournalShown.{no_event}
 use Rattle.dnp_store.proofs.QueueStatements.{insert_params}
@@ -11,7 +11,7 @@ use Rattle.dnp_store.proofs.JournalHolding.{logged_for}
 use Rattle.dnp_store.proofs.Sixteen.{given_all, given_more}
 use Rattle.dnp_store.proofs.JournalMany.{insert_text_16, holds_16}
 use Rattle.dnp_store.specs.declared.store_kind.StoreKind.TheVariants.{Journal}
-use Rattle.dnp_store.proofs.Refusing.{by_statement}
+use Rattle.dnp_store.proofs.Running.{statement_refused, ran_then}
 use Rattle.dnp_store.proofs.journal_writing.insert_many.Goals as goal
 
 pub loop-number-preserved : goal.loop-number-preserved
@@ -27,10 +27,9 @@ loop-number-preserved g c =
     }
 
 pub returns-clause-added : goal.returns-clause-added
-returns-clause-added g c clean a holds =
+returns-clause-added g c clean =
     let old = state g.S.Store c.args.tx.now.conn.now in
-    let new = state g.S.Store c.execute.new.self.conn.now in
-    let early : HasCleanDisk old = omega (arith, c.execute.ensures.survives.clean) in
+    let new = state g.S.Store c.run.new.tx.conn.now in
     let xs = c.args.events.now in
     let n = c.loop-number.number in
     let all = c.loop-number.invariant in
@@ -38,13 +37,12 @@ returns-clause-added g c clean a holds =
     let rows = take_all n xs (omega (arith, c.requires.sixteen)) in
     let given = given_all (logged_for 0) xs c.loop-number.given
     (ap (map bound) (sym cells) ∙ all.given ∙ ap (map (λ x. insert_params (logged_for 0 x))) rows) in
-    let ran = c.in_ok-execute.ensures.runs clean (c.requires.inside early) in
-    holds_16 old new a xs c.in_ok-execute.field-0 c.requires.sixteen
-    (subst (λ ps. Executes insert_text_16 ps old new (Ok c.in_ok-execute.field-0)) (ap bound c.as_flattened.ensures.value ∙ given) ran.0) holds
+    ran_then old new _ _ _ c.run.result (c.run.ensures.ran clean) (λ count ran a holds. holds_16 old new a xs count c.requires.sixteen
+    (subst (λ ps. Executes insert_text_16 ps old new (Ok count)) (ap bound c.as_flattened.ensures.value ∙ given) ran) holds)
 
-pub returns-in_err-execute-clause-refused : goal.returns-in_err-execute-clause-refused
-returns-in_err-execute-clause-refused g c clean =
-    let early : HasCleanDisk (state g.S.Store c.args.tx.now.conn.now) = omega (arith, clean, c.execute.ensures.survives.clean) in
-    let here = by_statement g.S.Store Journal c.args.tx.now.conn.now c.execute.new.self.conn.now _ _ _ (1, refl) (c.requires.inside early)
-    (c.in_err-execute.ensures.runs clean (c.requires.inside early)) in
-    search (rules, here)
+pub returns-clause-refused : goal.returns-clause-refused
+returns-clause-refused g c clean =
+    statement_refused g.S.Store Journal c.args.tx.now.conn.now c.run.new.tx.conn.now _ _ c.run.result (1, refl) (c.run.ensures.refused clean)
+
+pub returns-clause-step : goal.returns-clause-step
+returns-clause-step g c = c.run.ensures.step

@@ -3,10 +3,10 @@ use Rattle.sqlite.specs.State.{HasCleanDisk}
 use Rattle.sqlite.specs.Held.{state}
 use Rattle.sqlite.specs.Effect.{Database, IsDatabase}
 use Rattle.dnp_store.specs.Tables.{HaveOwnIds}
-use Rattle.dnp_store.specs.QueueTables.{IsQueue}
 use Rattle.dnp_store.specs.PairTables.{HoldsSide, IsForm}
 use Rattle.dnp_store.specs.declared.queue_side.QueueSide.TheVariants.{First, Second}
-use Rattle.dnp_store.proofs.PairOpening.{no_number}
+use Rattle.dnp_store.proofs.PairOpening.{no_number, shown_one}
+use Rattle.dnp_store.specs.steps.Pairs.{HoldsAmong}
 use Rattle.dnp_store.proofs.Stepping.{step_then, step_as}
 use Rattle.dnp_store.proofs.queue_opening.read_numbered.Goals as goal
 
@@ -14,13 +14,15 @@ pub returns-in_ok-lanes-in-1-clause-read : goal.returns-in_ok-lanes-in-1-clause-
 returns-in_ok-lanes-in-1-clause-read g c clean =
     let old = state g.S.Store c.args.tx.now.conn.now in
     let one = state g.S.Store c.read_number.new.tx.conn.now in
-    let early : HasCleanDisk one = omega (arith, clean, c.read_all.ensures.step.survives.clean) in
+    let early : HasCleanDisk one = omega (arith, clean, c.read_one.ensures.step.survives.clean) in
     let lanes = c.in_ok-lanes-in-1.lanes in
     let number : c.in_ok-read_number.field-0 ≡ 1 = search rules in (
       λ counted f q l sound has.
-          let same : one.now ≡ old.now = (c.in_ok-read_number.ensures.read early f q l sound has).0 in
-          subst (λ (d : Database). IsQueue d lanes) same (c.in_ok-lanes-in-1.ensures.read clean counted f q l (subst IsDatabase (sym same) sound)
-          (ap (λ (d : Database). d.schema) same ∙ has)),
+          let r1 = c.in_ok-read_number.ensures.read early f q l sound has in
+          let same : one.now ≡ old.now = r1.0 in
+          let r2 = c.in_ok-lanes-in-1.ensures.read clean counted f q l (subst IsDatabase (sym same) sound) (ap (λ (d : Database). d.schema) same ∙ has) in
+          shown_one old.now f q l lanes has (subst (λ (n : ℕ). IsForm n (old.now.trees 0)) number r1.1)
+          (subst (λ (d : Database). HoldsAmong First d.trees (d.trees 2) lanes) same r2.1),
       λ sound sides is.
           no_number (old.now.trees 0) c.in_ok-read_number.field-0 number (c.in_ok-read_number.ensures.read_pair early is.checks sound is.schema).1 is.holds.form,
     )
@@ -50,7 +52,7 @@ returns-in_ok-first-in-2-clause-read g c clean counted checks sound has =
 
 pub returns-in_ok-lanes-in-1-clause-step : goal.returns-in_ok-lanes-in-1-clause-step
 returns-in_ok-lanes-in-1-clause-step g c =
-    step_as g.S.Store c.args.tx.now.conn c.read_all.new.tx.conn _ _ (step_then g.S.Store c.args.tx.now.conn c.read_number.new.tx.conn c.read_all.new.tx.conn
+    step_as g.S.Store c.args.tx.now.conn c.read_one.new.tx.conn _ _ (step_then g.S.Store c.args.tx.now.conn c.read_number.new.tx.conn c.read_one.new.tx.conn
     _ _ c.in_ok-read_number.ensures.step
     c.in_ok-lanes-in-1.ensures.step)
 

@@ -1,4 +1,4 @@
-use Rattle.std.proofs.Common.{◌≡◌, ◌<◌, false, arith, sym, ◌∙◌, rules}
+use Rattle.std.proofs.Common.{◌≡◌, ◌<◌, false, arith, sym, ◌∙◌}
 use Rattle.sqlite.specs.State.{HasCleanDisk}
 use Rattle.sqlite.specs.Held.{state}
 use Rattle.dnp_objects.specs.declared.limits.TheConstants.{LANES}
@@ -7,6 +7,7 @@ use Rattle.dnp_store.proofs.Releasing.{note_step, lowered_step, none_raised}
 use Rattle.dnp_store.proofs.Stepping.{step_then, step_none}
 use Rattle.dnp_store.specs.declared.store_kind.StoreKind.TheVariants.{Queue}
 use Rattle.dnp_store.proofs.Refusing.{refused_after}
+use Rattle.dnp_store.proofs.Running.{err_too, step_too}
 use Rattle.dnp_store.proofs.queue_release.lower_all.Goals as goal
 
 pub loop-number-preserved : goal.loop-number-preserved
@@ -39,13 +40,13 @@ pub returns-in_err-note-clause-refused : goal.returns-in_err-note-clause-refused
 returns-in_err-note-clause-refused g c clean =
     let here = refused_after g.S.Store Queue c.args.tx.now.conn.now c.loop-number.tx.conn.now c.note.new.tx.conn.now _ c.loop-number.invariant.step.survives
     (c.in_err-note.ensures.refused clean) in
-    search (rules, here)
+    err_too _ c.from_residual.result _ c.from_residual.ensures here
 
 pub returns-in_err-note-clause-step : goal.returns-in_err-note-clause-step
 returns-in_err-note-clause-step g c =
     let here = step_then g.S.Store c.args.tx.now.conn c.loop-number.tx.conn c.note.new.tx.conn _ _ c.loop-number.invariant.step
     c.in_err-note.ensures.step in
-    record { same_reference = here.same_reference; inside = search rules; kept = here.kept; survives = here.survives }
+    step_too g.S.Store _ _ _ c.from_residual.result c.from_residual.ensures here
 
 pub loop-number-init : goal.loop-number-init
 loop-number-init g c = record { step = step_none g.S.Store c.args.tx.now.conn c.requires.inside; lowered = λ clean others s figures nine same held. (figures, held, λ k low. absurd (omega arith)) }

@@ -8,6 +8,7 @@ use Rattle.dnp_store.proofs.Releasing.{lost_left, nine_left, kept_mark, lowered_
 use Rattle.dnp_store.specs.declared.store_kind.StoreKind.TheVariants.{Queue}
 use Rattle.dnp_store.proofs.Refusing.{refused_after}
 use Rattle.dnp_store.proofs.Stepping.{step_then}
+use Rattle.dnp_store.proofs.Running.{err_too, step_too}
 use Rattle.dnp_store.proofs.queue_release.release_in.Goals as goal
 
 pub returns-in_ok-lower_all-clause-released : goal.returns-in_ok-lower_all-clause-released
@@ -39,13 +40,13 @@ pub returns-in_err-lower_all-clause-refused : goal.returns-in_err-lower_all-clau
 returns-in_err-lower_all-clause-refused g c clean =
     let here = refused_after g.S.Store Queue c.args.tx.now.conn.now c.take_all.new.tx.conn.now c.lower_all.new.tx.conn.now _ c.take_all.ensures.step.survives
     (c.in_err-lower_all.ensures.refused clean) in
-    search (rules, here)
+    err_too _ c.from_residual-in_err-lower_all.result _ c.from_residual-in_err-lower_all.ensures here
 
 pub returns-in_err-lower_all-clause-step : goal.returns-in_err-lower_all-clause-step
 returns-in_err-lower_all-clause-step g c =
     let here = step_then g.S.Store c.args.tx.now.conn c.take_all.new.tx.conn c.lower_all.new.tx.conn _ _ c.take_all.ensures.step
     c.in_err-lower_all.ensures.step in
-    record { same_reference = here.same_reference; inside = search rules; kept = here.kept; survives = here.survives }
+    step_too g.S.Store _ _ _ c.from_residual-in_err-lower_all.result c.from_residual-in_err-lower_all.ensures here
 
 pub returns-in_ok-lower_all-clause-step : goal.returns-in_ok-lower_all-clause-step
 returns-in_ok-lower_all-clause-step g c =

@@ -1,21 +1,20 @@
-use Rattle.std.proofs.Common.{arith, rules, refl}
-use Rattle.sqlite.specs.State.{HasCleanDisk}
+use Rattle.std.proofs.Common.{refl}
 use Rattle.sqlite.specs.Held.{state}
-use Rattle.dnp_store.proofs.Seconding.{created_queue_b}
 use Rattle.dnp_store.specs.declared.store_kind.StoreKind.TheVariants.{Queue}
-use Rattle.dnp_store.proofs.Refusing.{by_making}
+use Rattle.dnp_store.proofs.Seconding.{created_queue_b}
+use Rattle.dnp_store.proofs.Running.{making_refused, ran_then}
 use Rattle.dnp_store.proofs.queue_second.make_queue_b.Goals as goal
 
-pub returns-clause-made : goal.returns-clause-made
-returns-clause-made g c clean f q l s has holds =
-    let old = state g.S.Store c.args.tx.now.conn.now in
-    let new = state g.S.Store c.execute.new.self.conn.now in
-    let early : HasCleanDisk old = omega (arith, c.execute.ensures.survives.clean) in
-    created_queue_b old new c.in_ok-execute.field-0 f q l s has holds (c.in_ok-execute.ensures.runs clean (c.requires.inside early)).0
+pub returns-clause-step : goal.returns-clause-step
+returns-clause-step g c = c.run.ensures.step
 
-pub returns-in_err-execute-clause-refused : goal.returns-in_err-execute-clause-refused
-returns-in_err-execute-clause-refused g c clean =
-    let early : HasCleanDisk (state g.S.Store c.args.tx.now.conn.now) = omega (arith, clean, c.execute.ensures.survives.clean) in
-    let here = by_making g.S.Store Queue c.args.tx.now.conn.now c.execute.new.self.conn.now _ _ _ (6, refl) (c.requires.inside early)
-    (c.in_err-execute.ensures.runs clean (c.requires.inside early)) in
-    search (rules, here)
+pub returns-clause-made : goal.returns-clause-made
+returns-clause-made g c clean =
+    let old = state g.S.Store c.args.tx.now.conn.now in
+    let new = state g.S.Store c.run.new.tx.conn.now in
+    ran_then old new _ _ _ c.run.result (c.run.ensures.ran clean) (λ count ran f q l s has holds.
+    created_queue_b old new count f q l s has holds ran)
+
+pub returns-clause-refused : goal.returns-clause-refused
+returns-clause-refused g c clean =
+    making_refused g.S.Store Queue c.args.tx.now.conn.now c.run.new.tx.conn.now _ _ c.run.result (6, refl) (c.run.ensures.refused clean)

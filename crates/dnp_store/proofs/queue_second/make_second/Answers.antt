@@ -1,4 +1,4 @@
-use Rattle.std.proofs.Common.{arith, sym, subst, rules}
+use Rattle.std.proofs.Common.{arith, sym, subst}
 use Rattle.sqlite.specs.State.{HasCleanDisk}
 use Rattle.sqlite.specs.Held.{state}
 use Rattle.dnp_store.specs.PairTables.{migrated}
@@ -6,6 +6,7 @@ use Rattle.dnp_store.specs.steps.Seconds.{IsSecond}
 use Rattle.dnp_store.specs.declared.store_kind.StoreKind.TheVariants.{Queue}
 use Rattle.dnp_store.proofs.Refusing.{refused_after}
 use Rattle.dnp_store.proofs.Stepping.{step_then}
+use Rattle.dnp_store.proofs.Running.{err_too, step_too}
 use Rattle.dnp_store.proofs.queue_second.make_second.Goals as goal
 
 pub returns-clause-made : goal.returns-clause-made
@@ -26,14 +27,14 @@ pub returns-in_err-make_lanes_b-clause-refused : goal.returns-in_err-make_lanes_
 returns-in_err-make_lanes_b-clause-refused g c clean =
     let here = refused_after g.S.Store Queue c.args.tx.now.conn.now c.make_queue_b.new.tx.conn.now c.make_lanes_b.new.tx.conn.now _ c.make_queue_b.ensures.step.survives
     ((c.in_err-make_lanes_b.ensures.refused clean)) in
-    search (rules, here)
+    err_too _ c.from_residual-in_err-make_lanes_b.result _ c.from_residual-in_err-make_lanes_b.ensures here
 
 pub returns-in_err-put_lanes_b-clause-refused : goal.returns-in_err-put_lanes_b-clause-refused
 returns-in_err-put_lanes_b-clause-refused g c clean =
     let here = refused_after g.S.Store Queue c.args.tx.now.conn.now c.make_queue_b.new.tx.conn.now c.put_lanes_b.new.tx.conn.now _ c.make_queue_b.ensures.step.survives
     (refused_after g.S.Store Queue c.make_queue_b.new.tx.conn.now c.make_lanes_b.new.tx.conn.now c.put_lanes_b.new.tx.conn.now _ c.make_lanes_b.ensures.step.survives
     ((c.in_err-put_lanes_b.ensures.refused clean))) in
-    search (rules, here)
+    err_too _ c.from_residual-in_err-put_lanes_b.result _ c.from_residual-in_err-put_lanes_b.ensures here
 
 pub returns-in_err-number_second-clause-refused : goal.returns-in_err-number_second-clause-refused
 returns-in_err-number_second-clause-refused g c clean =
@@ -41,7 +42,7 @@ returns-in_err-number_second-clause-refused g c clean =
     (refused_after g.S.Store Queue c.make_queue_b.new.tx.conn.now c.make_lanes_b.new.tx.conn.now c.number_second.new.tx.conn.now _ c.make_lanes_b.ensures.step.survives
     (refused_after g.S.Store Queue c.make_lanes_b.new.tx.conn.now c.put_lanes_b.new.tx.conn.now c.number_second.new.tx.conn.now _ c.put_lanes_b.ensures.step.survives
     ((c.in_err-number_second.ensures.refused clean)))) in
-    search (rules, here)
+    err_too _ c.from_residual-in_err-number_second.result _ c.from_residual-in_err-number_second.ensures here
 
 pub returns-in_err-keep_probe-clause-refused : goal.returns-in_err-keep_probe-clause-refused
 returns-in_err-keep_probe-clause-refused g c clean =
@@ -50,20 +51,20 @@ returns-in_err-keep_probe-clause-refused g c clean =
     (refused_after g.S.Store Queue c.make_lanes_b.new.tx.conn.now c.put_lanes_b.new.tx.conn.now c.keep_probe.new.tx.conn.now _ c.put_lanes_b.ensures.step.survives
     (refused_after g.S.Store Queue c.put_lanes_b.new.tx.conn.now c.number_second.new.tx.conn.now c.keep_probe.new.tx.conn.now _ c.number_second.ensures.step.survives
     ((c.in_err-keep_probe.ensures.refused clean Queue))))) in
-    search (rules, here)
+    err_too _ c.from_residual-in_err-keep_probe.result _ c.from_residual-in_err-keep_probe.ensures here
 
 pub returns-in_err-make_lanes_b-clause-step : goal.returns-in_err-make_lanes_b-clause-step
 returns-in_err-make_lanes_b-clause-step g c =
     let here = (step_then g.S.Store c.args.tx.now.conn c.make_queue_b.new.tx.conn c.make_lanes_b.new.tx.conn _ _ c.make_queue_b.ensures.step
     c.in_err-make_lanes_b.ensures.step) in
-    record { same_reference = here.same_reference; inside = search rules; kept = here.kept; survives = here.survives }
+    step_too g.S.Store _ _ _ c.from_residual-in_err-make_lanes_b.result c.from_residual-in_err-make_lanes_b.ensures here
 
 pub returns-in_err-put_lanes_b-clause-step : goal.returns-in_err-put_lanes_b-clause-step
 returns-in_err-put_lanes_b-clause-step g c =
     let here = (step_then g.S.Store c.args.tx.now.conn c.make_queue_b.new.tx.conn c.put_lanes_b.new.tx.conn _ _ c.make_queue_b.ensures.step
     (step_then g.S.Store c.make_queue_b.new.tx.conn c.make_lanes_b.new.tx.conn c.put_lanes_b.new.tx.conn _ _ c.make_lanes_b.ensures.step
     c.in_err-put_lanes_b.ensures.step)) in
-    record { same_reference = here.same_reference; inside = search rules; kept = here.kept; survives = here.survives }
+    step_too g.S.Store _ _ _ c.from_residual-in_err-put_lanes_b.result c.from_residual-in_err-put_lanes_b.ensures here
 
 pub returns-in_err-number_second-clause-step : goal.returns-in_err-number_second-clause-step
 returns-in_err-number_second-clause-step g c =
@@ -71,7 +72,7 @@ returns-in_err-number_second-clause-step g c =
     (step_then g.S.Store c.make_queue_b.new.tx.conn c.make_lanes_b.new.tx.conn c.number_second.new.tx.conn _ _ c.make_lanes_b.ensures.step
     (step_then g.S.Store c.make_lanes_b.new.tx.conn c.put_lanes_b.new.tx.conn c.number_second.new.tx.conn _ _ c.put_lanes_b.ensures.step
     c.in_err-number_second.ensures.step))) in
-    record { same_reference = here.same_reference; inside = search rules; kept = here.kept; survives = here.survives }
+    step_too g.S.Store _ _ _ c.from_residual-in_err-number_second.result c.from_residual-in_err-number_second.ensures here
 
 pub returns-in_err-keep_probe-clause-step : goal.returns-in_err-keep_probe-clause-step
 returns-in_err-keep_probe-clause-step g c =
@@ -80,7 +81,7 @@ returns-in_err-keep_probe-clause-step g c =
     (step_then g.S.Store c.make_lanes_b.new.tx.conn c.put_lanes_b.new.tx.conn c.keep_probe.new.tx.conn _ _ c.put_lanes_b.ensures.step
     (step_then g.S.Store c.put_lanes_b.new.tx.conn c.number_second.new.tx.conn c.keep_probe.new.tx.conn _ _ c.number_second.ensures.step
     c.in_err-keep_probe.ensures.step)))) in
-    record { same_reference = here.same_reference; inside = search rules; kept = here.kept; survives = here.survives }
+    step_too g.S.Store _ _ _ c.from_residual-in_err-keep_probe.result c.from_residual-in_err-keep_probe.ensures here
 
 pub returns-clause-step : goal.returns-clause-step
 returns-clause-step g c =

@@ -9,6 +9,7 @@ use Rattle.dnp_store.proofs.Filling.{length_fresh}
 use Rattle.dnp_store.proofs.Stepping.{step_then, step_none}
 use Rattle.dnp_store.specs.declared.store_kind.StoreKind.TheVariants.{Queue}
 use Rattle.dnp_store.proofs.Refusing.{refused_after}
+use Rattle.dnp_store.proofs.Running.{err_too, step_too}
 use Rattle.dnp_store.proofs.queue_second.put_lanes_b.Goals as goal
 
 pub loop-number-preserved : goal.loop-number-preserved
@@ -45,13 +46,13 @@ pub returns-in_err-put_lane_b-clause-refused : goal.returns-in_err-put_lane_b-cl
 returns-in_err-put_lane_b-clause-refused g c clean =
     let here = refused_after g.S.Store Queue c.args.tx.now.conn.now c.loop-number.tx.conn.now c.put_lane_b.new.tx.conn.now _ c.loop-number.invariant.step.survives
     (c.in_err-put_lane_b.ensures.refused clean) in
-    search (rules, here)
+    err_too _ c.from_residual.result _ c.from_residual.ensures here
 
 pub returns-in_err-put_lane_b-clause-step : goal.returns-in_err-put_lane_b-clause-step
 returns-in_err-put_lane_b-clause-step g c =
     let here = step_then g.S.Store c.args.tx.now.conn c.loop-number.tx.conn c.put_lane_b.new.tx.conn _ _ c.loop-number.invariant.step
     c.in_err-put_lane_b.ensures.step in
-    record { same_reference = here.same_reference; inside = search rules; kept = here.kept; survives = here.survives }
+    step_too g.S.Store _ _ _ c.from_residual.result c.from_residual.ensures here
 
 pub loop-number-init : goal.loop-number-init
 loop-number-init g c = record { step = step_none g.S.Store c.args.tx.now.conn c.requires.inside; made = λ clean f q l s has. has }

@@ -3,28 +3,29 @@ use Rattle.std.proofs.lemmas.Int.{to_z_pos}
 use mir.Syntax.{w64}
 use Rattle.sqlite.specs.declared.types.Value.TheVariants.{Int}
 use Rattle.sqlite.specs.Held.{state}
-use Rattle.sqlite.specs.State.{HasCleanDisk, Executes}
+use Rattle.sqlite.specs.State.{Executes}
 use Rattle.dnp_store.proofs.QueueSteps.{note_holds, update_bound}
 use Rattle.dnp_store.specs.declared.store_kind.StoreKind.TheVariants.{Queue}
 use Rattle.dnp_store.specs.Texts.{IsOwn}
-use Rattle.dnp_store.proofs.Refusing.{by_statement, own_update}
+use Rattle.dnp_store.proofs.Refusing.{own_update}
+use Rattle.dnp_store.proofs.Running.{statement_refused, ran_then}
 use Rattle.dnp_store.proofs.queue_statements.note.Goals as goal
 
+pub returns-clause-step : goal.returns-clause-step
+returns-clause-step g c = c.run.ensures.step
+
 pub returns-clause-noted : goal.returns-clause-noted
-returns-clause-noted g c clean others s figures nine holds =
+returns-clause-noted g c clean =
     let old = state g.S.Store c.args.tx.now.conn.now in
-    let new = state g.S.Store c.execute.new.self.conn.now in
-    let early : HasCleanDisk old = omega (arith, c.execute.ensures.survives.clean) in
-    let ran = c.in_ok-execute.ensures.runs clean (c.requires.inside early) in
+    let new = state g.S.Store c.run.new.tx.conn.now in
     let given = update_bound _ _ _ c.args.number c.args.lost c.args.raised c.params-to_sql.ensures
     (c.params-to_sql-2.ensures ∙ ap Int (to_z_pos w64 c.args.lost c.requires.lost)) c.params-to_sql-3.ensures in
-    note_holds c.args.side old new others s figures c.args.number c.args.lost c.in_ok-execute.field-0 c.args.raised nine c.requires.number
-    (subst₂ (λ sql ps. Executes sql ps old new (Ok c.in_ok-execute.field-0)) c.update_text.ensures given ran.0) holds
+    ran_then old new _ _ _ c.run.result (c.run.ensures.ran clean) (λ count ran others s figures nine holds.
+    note_holds c.args.side old new others s figures c.args.number c.args.lost count c.args.raised nine c.requires.number
+    (subst₂ (λ sql ps. Executes sql ps old new (Ok count)) c.update_text.ensures given ran) holds)
 
-pub returns-in_err-execute-clause-refused : goal.returns-in_err-execute-clause-refused
-returns-in_err-execute-clause-refused g c clean =
-    let early : HasCleanDisk (state g.S.Store c.args.tx.now.conn.now) = omega (arith, clean, c.execute.ensures.survives.clean) in
-    let here = by_statement g.S.Store Queue c.args.tx.now.conn.now c.execute.new.self.conn.now _ _ _
-    (subst (IsOwn Queue) (sym c.update_text.ensures) (own_update c.args.side)) (c.requires.inside early)
-    (c.in_err-execute.ensures.runs clean (c.requires.inside early)) in
-    search (rules, here)
+pub returns-clause-refused : goal.returns-clause-refused
+returns-clause-refused g c clean =
+    statement_refused g.S.Store Queue c.args.tx.now.conn.now c.run.new.tx.conn.now _ _ c.run.result
+    (subst (IsOwn Queue) (sym c.update_text.ensures) (own_update c.args.side))
+    (c.run.ensures.refused clean)

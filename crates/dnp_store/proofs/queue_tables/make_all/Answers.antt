@@ -1,9 +1,10 @@
-use Rattle.std.proofs.Common.{map, arith, sym, subst, rules}
+use Rattle.std.proofs.Common.{map, arith, sym, subst}
 use Rattle.sqlite.specs.State.{HasCleanDisk}
 use Rattle.sqlite.specs.Held.{state}
 use Rattle.dnp_store.specs.steps.Making.{HasLanes, fresh}
 use Rattle.dnp_store.specs.declared.store_kind.StoreKind.TheVariants.{Queue}
 use Rattle.dnp_store.proofs.Refusing.{refused_after}
+use Rattle.dnp_store.proofs.Running.{err_too, step_too}
 use Rattle.dnp_store.proofs.Stepping.{step_then}
 use Rattle.dnp_store.proofs.queue_tables.make_all.Goals as goal
 
@@ -23,7 +24,7 @@ returns-in_err-make_lanes-clause-refused g c clean =
     let here = refused_after g.S.Store Queue c.args.tx.now.conn.now c.make_tables.new.tx.conn.now c.make_lanes.new.tx.conn.now _
     c.make_tables.ensures.step.survives
     (c.in_err-make_lanes.ensures.refused clean) in
-    search (rules, here)
+    err_too _ c.from_residual-in_err-make_lanes.result _ c.from_residual-in_err-make_lanes.ensures here
 
 pub returns-in_err-put_lanes-clause-refused : goal.returns-in_err-put_lanes-clause-refused
 returns-in_err-put_lanes-clause-refused g c clean =
@@ -31,7 +32,7 @@ returns-in_err-put_lanes-clause-refused g c clean =
     c.make_tables.ensures.step.survives
     (refused_after g.S.Store Queue c.make_tables.new.tx.conn.now c.make_lanes.new.tx.conn.now c.put_lanes.new.tx.conn.now _ c.make_lanes.ensures.step.survives
     (c.in_err-put_lanes.ensures.refused clean)) in
-    search (rules, here)
+    err_too _ c.from_residual-in_err-put_lanes.result _ c.from_residual-in_err-put_lanes.ensures here
 
 pub returns-in_err-keep_probe-clause-refused : goal.returns-in_err-keep_probe-clause-refused
 returns-in_err-keep_probe-clause-refused g c clean =
@@ -40,20 +41,20 @@ returns-in_err-keep_probe-clause-refused g c clean =
     (refused_after g.S.Store Queue c.make_tables.new.tx.conn.now c.make_lanes.new.tx.conn.now c.keep_probe.new.tx.conn.now _ c.make_lanes.ensures.step.survives
     (refused_after g.S.Store Queue c.make_lanes.new.tx.conn.now c.put_lanes.new.tx.conn.now c.keep_probe.new.tx.conn.now _ c.put_lanes.ensures.step.survives
     (c.in_err-keep_probe.ensures.refused clean Queue))) in
-    search (rules, here)
+    err_too _ c.from_residual-in_err-keep_probe.result _ c.from_residual-in_err-keep_probe.ensures here
 
 pub returns-in_err-make_lanes-clause-step : goal.returns-in_err-make_lanes-clause-step
 returns-in_err-make_lanes-clause-step g c =
     let here = (step_then g.S.Store c.args.tx.now.conn c.make_tables.new.tx.conn c.make_lanes.new.tx.conn _ _ c.make_tables.ensures.step
     c.in_err-make_lanes.ensures.step) in
-    record { same_reference = here.same_reference; inside = search rules; kept = here.kept; survives = here.survives }
+    step_too g.S.Store c.args.tx.now.conn c.make_lanes.new.tx.conn _ c.from_residual-in_err-make_lanes.result c.from_residual-in_err-make_lanes.ensures here
 
 pub returns-in_err-put_lanes-clause-step : goal.returns-in_err-put_lanes-clause-step
 returns-in_err-put_lanes-clause-step g c =
     let here = (step_then g.S.Store c.args.tx.now.conn c.make_tables.new.tx.conn c.put_lanes.new.tx.conn _ _ c.make_tables.ensures.step
     (step_then g.S.Store c.make_tables.new.tx.conn c.make_lanes.new.tx.conn c.put_lanes.new.tx.conn _ _ c.make_lanes.ensures.step
     c.in_err-put_lanes.ensures.step)) in
-    record { same_reference = here.same_reference; inside = search rules; kept = here.kept; survives = here.survives }
+    step_too g.S.Store c.args.tx.now.conn c.put_lanes.new.tx.conn _ c.from_residual-in_err-put_lanes.result c.from_residual-in_err-put_lanes.ensures here
 
 pub returns-in_err-keep_probe-clause-step : goal.returns-in_err-keep_probe-clause-step
 returns-in_err-keep_probe-clause-step g c =
@@ -61,7 +62,7 @@ returns-in_err-keep_probe-clause-step g c =
     (step_then g.S.Store c.make_tables.new.tx.conn c.make_lanes.new.tx.conn c.keep_probe.new.tx.conn _ _ c.make_lanes.ensures.step
     (step_then g.S.Store c.make_lanes.new.tx.conn c.put_lanes.new.tx.conn c.keep_probe.new.tx.conn _ _ c.put_lanes.ensures.step
     c.in_err-keep_probe.ensures.step))) in
-    record { same_reference = here.same_reference; inside = search rules; kept = here.kept; survives = here.survives }
+    step_too g.S.Store c.args.tx.now.conn c.keep_probe.new.tx.conn _ c.from_residual-in_err-keep_probe.result c.from_residual-in_err-keep_probe.ensures here
 
 pub returns-clause-step : goal.returns-clause-step
 returns-clause-step g c =

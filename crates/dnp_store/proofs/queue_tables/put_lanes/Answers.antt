@@ -8,6 +8,7 @@ use Rattle.dnp_store.proofs.Filling.{length_fresh}
 use Rattle.dnp_store.proofs.Stepping.{step_then, step_none}
 use Rattle.dnp_store.specs.declared.store_kind.StoreKind.TheVariants.{Queue}
 use Rattle.dnp_store.proofs.Refusing.{refused_after}
+use Rattle.dnp_store.proofs.Running.{err_too, step_too}
 use Rattle.dnp_store.proofs.queue_tables.put_lanes.Goals as goal
 
 pub loop-number-preserved : goal.loop-number-preserved
@@ -34,13 +35,13 @@ pub returns-in_err-put_lane-clause-refused : goal.returns-in_err-put_lane-clause
 returns-in_err-put_lane-clause-refused g c clean =
     let here = refused_after g.S.Store Queue c.args.tx.now.conn.now c.loop-number.tx.conn.now c.put_lane.new.tx.conn.now _ c.loop-number.invariant.step.survives
     (c.in_err-put_lane.ensures.refused clean) in
-    search (rules, here)
+    err_too _ c.from_residual.result _ c.from_residual.ensures here
 
 pub returns-in_err-put_lane-clause-step : goal.returns-in_err-put_lane-clause-step
 returns-in_err-put_lane-clause-step g c =
     let here = step_then g.S.Store c.args.tx.now.conn c.loop-number.tx.conn c.put_lane.new.tx.conn _ _ c.loop-number.invariant.step
     c.in_err-put_lane.ensures.step in
-    record { same_reference = here.same_reference; inside = search rules; kept = here.kept; survives = here.survives }
+    step_too g.S.Store _ _ _ c.from_residual.result c.from_residual.ensures here
 
 pub loop-number-init : goal.loop-number-init
 loop-number-init g c = record { step = step_none g.S.Store c.args.tx.now.conn c.requires.inside; made = λ clean has. has }

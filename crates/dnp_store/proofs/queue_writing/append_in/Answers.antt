@@ -1,10 +1,11 @@
-use Rattle.std.proofs.Common.{arith, rules}
+use Rattle.std.proofs.Common.{arith}
 use Rattle.sqlite.specs.State.{HasCleanDisk}
 use Rattle.sqlite.specs.Held.{state}
 use Rattle.dnp_store.proofs.Trimming.{appended}
 use Rattle.dnp_store.specs.declared.store_kind.StoreKind.TheVariants.{Queue}
 use Rattle.dnp_store.proofs.Refusing.{refused_after}
 use Rattle.dnp_store.proofs.Stepping.{step_then}
+use Rattle.dnp_store.proofs.Running.{err_too, step_too}
 use Rattle.dnp_store.proofs.queue_writing.append_in.Goals as goal
 
 pub returns-clause-appended : goal.returns-clause-appended
@@ -20,13 +21,13 @@ pub returns-in_err-trim_all-clause-refused : goal.returns-in_err-trim_all-clause
 returns-in_err-trim_all-clause-refused g c clean =
     let here = refused_after g.S.Store Queue c.args.tx.now.conn.now c.insert_all.new.tx.conn.now c.trim_all.new.tx.conn.now _ c.insert_all.ensures.step.survives
     (c.in_err-trim_all.ensures.refused clean) in
-    search (rules, here)
+    err_too _ c.from_residual-in_err-trim_all.result _ c.from_residual-in_err-trim_all.ensures here
 
 pub returns-in_err-trim_all-clause-step : goal.returns-in_err-trim_all-clause-step
 returns-in_err-trim_all-clause-step g c =
     let here = (step_then g.S.Store c.args.tx.now.conn c.insert_all.new.tx.conn c.trim_all.new.tx.conn _ _ c.insert_all.ensures.step
     c.in_err-trim_all.ensures.step) in
-    record { same_reference = here.same_reference; inside = search rules; kept = here.kept; survives = here.survives }
+    step_too g.S.Store _ _ _ c.from_residual-in_err-trim_all.result c.from_residual-in_err-trim_all.ensures here
 
 pub returns-clause-step : goal.returns-clause-step
 returns-clause-step g c =

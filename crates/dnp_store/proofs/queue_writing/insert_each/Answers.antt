@@ -8,6 +8,7 @@ use Rattle.dnp_store.proofs.Appending.{added-push, nine_added}
 use Rattle.dnp_store.specs.declared.store_kind.StoreKind.TheVariants.{Queue}
 use Rattle.dnp_store.proofs.Refusing.{refused_after}
 use Rattle.dnp_store.proofs.Stepping.{step_then, step_none}
+use Rattle.dnp_store.proofs.Running.{err_too, step_too}
 use Rattle.dnp_store.proofs.queue_writing.insert_each.Goals as goal
 
 pub loop-x-preserved : goal.loop-x-preserved
@@ -29,13 +30,13 @@ pub returns-in_err-insert-clause-refused : goal.returns-in_err-insert-clause-ref
 returns-in_err-insert-clause-refused g c clean =
     let here = refused_after g.S.Store Queue c.args.tx.now.conn.now c.loop-x.tx.conn.now c.insert.new.tx.conn.now _ c.loop-x.invariant.step.survives
     (c.in_err-insert.ensures.refused clean) in
-    search (rules, here)
+    err_too _ c.from_residual.result _ c.from_residual.ensures here
 
 pub returns-in_err-insert-clause-step : goal.returns-in_err-insert-clause-step
 returns-in_err-insert-clause-step g c =
     let here = step_then g.S.Store c.args.tx.now.conn c.loop-x.tx.conn c.insert.new.tx.conn _ _ c.loop-x.invariant.step
     c.in_err-insert.ensures.step in
-    record { same_reference = here.same_reference; inside = search rules; kept = here.kept; survives = here.survives }
+    step_too g.S.Store _ _ _ c.from_residual.result c.from_residual.ensures here
 
 pub loop-x-init : goal.loop-x-init
 loop-x-init g c = record { step = step_none g.S.Store c.args.tx.now.conn c.requires.inside; added = λ clean others s figures nine held. held }

@@ -9,6 +9,7 @@ use Rattle.dnp_store.proofs.Trimming.{trimmed_none, trimmed_some, lost_low, id_l
 use Rattle.dnp_store.specs.declared.store_kind.StoreKind.TheVariants.{Queue}
 use Rattle.dnp_store.proofs.Refusing.{refused_after}
 use Rattle.dnp_store.proofs.Stepping.{step_as, step_none, step_then}
+use Rattle.dnp_store.proofs.Running.{err_too, step_too}
 use Rattle.dnp_store.proofs.queue_writing.trim.Goals as goal
 
 pub returns-then-over-eq0-clause-trimmed : goal.returns-then-over-eq0-clause-trimmed
@@ -62,12 +63,12 @@ pub returns-in_err-note-clause-refused : goal.returns-in_err-note-clause-refused
 returns-in_err-note-clause-refused g c clean =
     let here = refused_after g.S.Store Queue c.args.tx.now.conn.now c.take.new.tx.conn.now c.note.new.tx.conn.now _ c.take.ensures.step.survives
     (c.in_err-note.ensures.refused clean) in
-    search (rules, here)
+    err_too _ c.from_residual-in_err-note.result _ c.from_residual-in_err-note.ensures here
 
 pub returns-in_err-note-clause-step : goal.returns-in_err-note-clause-step
 returns-in_err-note-clause-step g c =
     let here = step_then g.S.Store c.args.tx.now.conn c.take.new.tx.conn c.note.new.tx.conn _ _ c.take.ensures.step c.in_err-note.ensures.step in
-    record { same_reference = here.same_reference; inside = search rules; kept = here.kept; survives = here.survives }
+    step_too g.S.Store _ _ _ c.from_residual-in_err-note.result c.from_residual-in_err-note.ensures here
 
 pub returns-clause-step : goal.returns-clause-step
 returns-clause-step g c =

@@ -1,107 +1,59 @@
-use Rattle.std.proofs.Common.{rules, ◌≡◌, not, IsTrue, arith, sym, ap, subst, ◌∙◌}
-use Rattle.std.specs.Prelude.{OnOk}
-use Rattle.sqlite.specs.State.{HasCleanDisk, Survives}
+use Rattle.std.proofs.Common.{rules, ◌≡◌, not, IsTrue, sym, ap, subst, ◌∙◌}
 use Rattle.sqlite.specs.Held.{state}
-use Rattle.sqlite.specs.Tree.{Trees}
 use Rattle.dnp_eventbuf.specs.Stock.{Stock, with_rows}
 use Rattle.dnp_store.specs.Kept.{Stands}
-use Rattle.dnp_store.specs.PairTables.{IsPair, HoldsPair}
-use Rattle.dnp_store.specs.steps.Pairs.{sides_of}
-use Rattle.dnp_store.proofs.PairSides.{for_of, pair_of}
-use Rattle.dnp_store.proofs.Statements.{finished, survives_commit}
-use Rattle.dnp_store.proofs.Standing.{stands_if}
+use Rattle.dnp_store.specs.PairTables.{HoldsPair, IsPair}
+use Rattle.dnp_store.specs.steps.Pairs.{IsFor, sides_of}
 use Rattle.dnp_store.specs.declared.store_kind.StoreKind.TheVariants.{Queue}
-use Rattle.dnp_store.proofs.Refusing.{refused_inside, by_commit}
-use Rattle.dnp_store.proofs.Ending.{survives_undone, kept_undone, kept_unless}
+use Rattle.dnp_store.proofs.Ending.{end_err, end_ok, end_refused, end_survives}
+use Rattle.dnp_store.proofs.PairSides.{for_of, pair_of}
+use Rattle.dnp_store.proofs.Standing.{stands_if}
+use Rattle.dnp_store.proofs.Stepping.{on_then}
 use Rattle.dnp_store.proofs.queue_writing.write_append.Goals as goal
 
--- the connection that the commit leaves is handed back
-committed : (g : _) (c : goal.After-conn-2-1 g) → c.commit.new.self.0 ≡ c.conn-2-1.given.0
-committed g c = search rules
+-- the connection that the end leaves is handed back
+ended : (g : _) (c : goal.After-conn-1 g) → c.end.new.tx.0 ≡ c.conn-1.given.0
+ended g c = search rules
 
--- the connection that was undone is handed back
-undone : (g : _) (c : goal.After-conn-1 g) → c.drop-tx.new.self.0 ≡ c.conn-1.given.0
-undone g c = search rules
+-- the transaction began with what was committed
+settled : (g : _) (c : goal.After-conn-1 g) → IsTrue (state g.S.Store c.args.conn.now).is_open
+    → (state g.S.Store c.transaction-tx.result.conn.now).now ≡ (state g.S.Store c.args.conn.now).committed
+settled g c is_open =
+    let idle : IsTrue c.is_autocommit.result = c.is_autocommit.ensures.value ∙ ap not c.requires.idle in
+    ap (λ h. (state g.S.Store h).now) c.transaction-tx.ensures.begun ∙ c.is_autocommit.ensures.settled idle is_open
 
 -- the lanes on the side, before and after
-done : (g : _) (c : goal.After-conn-2-1 g) → HasCleanDisk (state g.S.Store c.append_in.new.tx.conn.now) → (others : Stock)
+done : (g : _) (c : goal.After-conn-1 g) → ((others : Stock) → IsFor c.args.side others (state g.S.Store c.transaction-tx.result.conn.now).now c.args.lanes.now
+    → IsFor c.args.side others (state g.S.Store c.append_in-done.new.tx.conn.now).now (with_rows c.args.lanes.now c.args.rows.now)) → (others : Stock)
     → Stands (state g.S.Store c.args.conn.now) (sides_of c.args.side c.args.lanes.now others)
-    → IsPair (state g.S.Store c.append_in.new.tx.conn.now).now (sides_of c.args.side (with_rows c.args.lanes.now c.args.rows.now) others)
-done g c clean others stood =
-    let old = state g.S.Store c.args.conn.now in
+    → IsPair (state g.S.Store c.append_in-done.new.tx.conn.now).now (sides_of c.args.side (with_rows c.args.lanes.now c.args.rows.now) others)
+done g c went others stood =
     let begun = state g.S.Store c.transaction-tx.result.conn.now in
-    let new = state g.S.Store c.append_in.new.tx.conn.now in
+    let side = c.args.side in
     let s = c.args.lanes.now in
-    let idle : IsTrue c.is_autocommit.result = c.is_autocommit.ensures.value ∙ ap not c.requires.idle in
-    let same : begun.now ≡ old.committed = ap (λ h. (state g.S.Store h).now) c.transaction-tx.ensures.begun
-    ∙ c.is_autocommit.ensures.settled idle stood.is_open in
-    pair_of c.args.side others (with_rows s c.args.rows.now) new.now (c.in_ok-append_in.ensures.appended clean others
-    (for_of c.args.side others s begun.now (subst (λ d. IsPair d (sides_of c.args.side s others)) (sym same) stood.holds)))
+    pair_of side others (with_rows c.args.lanes.now c.args.rows.now) (state g.S.Store c.append_in-done.new.tx.conn.now).now
+    (went others (for_of side others s begun.now (subst (λ d. IsPair d (sides_of side s others)) (sym (settled g c stood.is_open)) stood.holds)))
 
 pub returns-clause-ok : goal.returns-clause-ok
 returns-clause-ok g c clean others stood =
-    let mid = state g.S.Store c.append_in.new.tx.conn.now in
-    let end = state g.S.Store c.commit.new.self.0 in
-    let b = sides_of c.args.side (with_rows c.args.lanes.now c.args.rows.now) others in
-    let same = committed g c in
-    let late : HasCleanDisk end = subst (λ h. HasCleanDisk (state g.S.Store h)) (sym same) clean in
-    let early : HasCleanDisk mid = omega (arith, late, c.commit.ensures.survives.clean) in
-    subst (λ h. OnOk c.commit.result (Stands (state g.S.Store h) b)) same
-    (stands_if end b c.commit.result (finished _ _ mid end (λ d. IsPair d b) c.commit.result (done g c early others stood) (c.commit.ensures.ok late)))
+    let next = sides_of c.args.side (with_rows c.args.lanes.now c.args.rows.now) others in
+    stands_if (state g.S.Store c.conn-1.given.0) next c.end.result
+    (end_ok g.S.Store c.args.conn.now c.conn-1.given.0 c.transaction-tx.result.conn c.append_in-done.new.tx.conn c.end.new.tx.0 c.append_in-done.result c.end.result
+    c.transaction-tx.ensures.begun (ended g c) c.append_in-done.ensures.step c.end.ensures (λ d. IsPair d next)
+    (λ early. on_then _ _ c.append_in-done.result (λ went. done g c went others stood) (c.append_in-done.ensures.appended early)) clean)
 
 pub returns-clause-survives : goal.returns-clause-survives
 returns-clause-survives g c =
-    let begun = state g.S.Store c.transaction-tx.result.conn.now in
-    let mid = state g.S.Store c.append_in.new.tx.conn.now in
-    let end = state g.S.Store c.commit.new.self.0 in
-    let side = c.args.side in
-    let s = c.args.lanes.now in
-    let old = c.args.conn.now in
-    let P = λ (db : Trees). (others : Stock) → Stands (state g.S.Store old) (sides_of side s others)
-    → HoldsPair db (sides_of side (with_rows s c.args.rows.now) others) in
-    let same = committed g c in
-    subst (λ h. Survives (state g.S.Store old) (state g.S.Store h) P) same
-    (survives_commit g.S.Store old c.transaction-tx.result.conn.now mid end P c.transaction-tx.ensures.begun
-    c.append_in.ensures.step.survives c.commit.ensures.survives
-    (λ clean others stood. (let early : HasCleanDisk mid = omega (arith, clean, c.commit.ensures.survives.clean) in (done g c early others stood).holds)))
-
-pub returns-in_err-append_in-clause-refused : goal.returns-in_err-append_in-clause-refused
-returns-in_err-append_in-clause-refused g c clean =
-    let same = undone g c in
-    let late : HasCleanDisk (state g.S.Store c.drop-tx.new.self.0) = subst (λ h. HasCleanDisk (state g.S.Store h)) (sym same) clean in
-    let early : HasCleanDisk (state g.S.Store c.append_in.new.tx.conn.now) = omega (arith, late, c.drop-tx.ensures.survives.clean) in
-    let here = refused_inside g.S.Store Queue c.args.conn.now c.transaction-tx.result.conn.now c.append_in.new.tx.conn.now c.drop-tx.new.self.0 _ _
-    c.transaction-tx.ensures.begun same (c.in_err-append_in.ensures.refused early) c.drop-tx.ensures.survives in
-    search (rules, here)
-
-pub returns-clause-refused : goal.returns-clause-refused
-returns-clause-refused g c clean =
-    let mid = c.append_in.new.tx.conn.now in
-    let end = c.commit.new.self.0 in
-    let same = committed g c in
-    let late : HasCleanDisk (state g.S.Store end) = subst (λ h. HasCleanDisk (state g.S.Store h)) (sym same) clean in
-    let early : HasCleanDisk (state g.S.Store mid) = omega (arith, late, c.commit.ensures.survives.clean) in
-    by_commit g.S.Store Queue c.args.conn.now c.transaction-tx.result.conn.now mid end _ c.commit.result c.transaction-tx.ensures.begun same
-    c.append_in.ensures.step.survives (c.in_ok-append_in.ensures.step.inside early) (c.commit.ensures.err late)
-
-pub returns-in_err-append_in-clause-survives : goal.returns-in_err-append_in-clause-survives
-returns-in_err-append_in-clause-survives g c =
-    let same = undone g c in
-    survives_undone g.S.Store c.args.conn.now c.transaction-tx.result.conn.now c.append_in.new.tx.conn.now c.drop-tx.new.self.0 _
-    c.transaction-tx.ensures.begun same _
-    c.append_in.ensures.step.survives c.drop-tx.ensures.survives
-
-pub returns-in_err-append_in-clause-err : goal.returns-in_err-append_in-clause-err
-returns-in_err-append_in-clause-err g c clean opened =
-    let same = undone g c in
-    let here = kept_undone g.S.Store c.args.conn.now c.transaction-tx.result.conn.now c.append_in.new.tx.conn.now c.drop-tx.new.self.0 _
-    c.transaction-tx.ensures.begun same _
-    c.append_in.ensures.step.kept c.drop-tx.ensures.undone c.drop-tx.ensures.survives clean opened in
-    search (rules, here)
+    end_survives g.S.Store c.args.conn.now c.conn-1.given.0 c.transaction-tx.result.conn c.append_in-done.new.tx.conn c.end.new.tx.0 c.append_in-done.result c.end.result
+    c.transaction-tx.ensures.begun (ended g c) c.append_in-done.ensures.step c.end.ensures
+    (λ db. (others : Stock) → Stands (state g.S.Store c.args.conn.now) (sides_of c.args.side c.args.lanes.now others)
+    → HoldsPair db (sides_of c.args.side (with_rows c.args.lanes.now c.args.rows.now) others))
+    (λ early. on_then _ _ c.append_in-done.result (λ went others stood. (done g c went others stood).holds) (c.append_in-done.ensures.appended early))
 
 pub returns-clause-err : goal.returns-clause-err
-returns-clause-err g c clean opened =
-    let same = committed g c in
-    kept_unless g.S.Store c.args.conn.now c.transaction-tx.result.conn.now c.append_in.new.tx.conn.now c.commit.new.self.0 _ c.transaction-tx.ensures.begun
-    same _ c.commit.result
-    c.append_in.ensures.step.kept c.commit.ensures.err c.commit.ensures.survives clean opened
+returns-clause-err g c = end_err g.S.Store c.args.conn.now c.conn-1.given.0 c.transaction-tx.result.conn c.append_in-done.new.tx.conn c.end.new.tx.0 c.append_in-done.result c.end.result
+    c.transaction-tx.ensures.begun (ended g c) c.append_in-done.ensures.step c.end.ensures
+
+pub returns-clause-refused : goal.returns-clause-refused
+returns-clause-refused g c = end_refused g.S.Store c.args.conn.now c.conn-1.given.0 c.transaction-tx.result.conn c.append_in-done.new.tx.conn c.end.new.tx.0 c.append_in-done.result c.end.result
+    c.transaction-tx.ensures.begun (ended g c) c.append_in-done.ensures.step c.end.ensures Queue c.append_in-done.ensures.refused

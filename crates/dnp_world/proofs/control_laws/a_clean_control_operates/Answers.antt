@@ -35,12 +35,12 @@ laws_of : goal.After-commands_are_undone → CleanLaws
 laws_of c = record {
   controls = controls_of c;
   decides = c.equality_is_decided.ensures.commands;
-  arriving = record {
+  lines = record {
+    quiet = c.what_is_sent_arrives.ensures.quiet;
     asked = c.what_is_sent_arrives.ensures.asked;
     down = c.what_is_sent_arrives.ensures.down;
     up = c.what_is_sent_arrives.ensures.up;
   };
-  quiet = c.what_is_sent_arrives.ensures.quiet;
   performs = performs_as (coming_of c);
   sound = c.ids_go_on.ensures.sound;
 }

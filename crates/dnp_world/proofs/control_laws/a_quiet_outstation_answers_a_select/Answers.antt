@@ -13,14 +13,10 @@ laws_of c = record {
 
 pub returns-clause-answers : goal.returns-clause-answers
 returns-clause-answers c = λ s o now seq command low widths can.
-    let facts =
-    select_answers (laws_of c) c.what_is_spelled_is_said.ensures.response
-    c.octets_say_their_control_and_function.ensures.control s o now seq command low widths can.is_open can.number can.other can.some can.check in
-    facts.answers
+    (select_answers (laws_of c) c.what_is_spelled_is_said.ensures.response c.octets_say_their_control_and_function.ensures.control s o now seq command low
+    widths can.is_open can.number can.other can.some can.check).answers
 
 pub returns-clause-performs : goal.returns-clause-performs
 returns-clause-performs c = λ s o now seq command low widths can.
-    let facts =
-    select_answers (laws_of c) c.what_is_spelled_is_said.ensures.response
-    c.octets_say_their_control_and_function.ensures.control s o now seq command low widths can.is_open can.number can.other can.some can.check in
-    facts.performs
+    (select_answers (laws_of c) c.what_is_spelled_is_said.ensures.response c.octets_say_their_control_and_function.ensures.control s o now seq command low
+    widths can.is_open can.number can.other can.some can.check).performs

@@ -17,4 +17,4 @@ returns c = λ s o now seq command low widths can.
     operate_answers (laws_of c) c.what_is_spelled_is_said.ensures.response
     c.octets_say_their_control_and_function.ensures.control s o now seq command low widths can.is_open can.number can.other can.some
     can.check in
-    (facts.code, facts.answers, facts.performs)
+    (facts.code, facts.out.answers, facts.out.performs)

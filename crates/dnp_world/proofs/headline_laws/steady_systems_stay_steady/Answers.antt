@@ -1,5 +1,5 @@
 -- Event by event.
-use Rattle.std.proofs.Common.{◌≡◌, ℕ, List, [], sym, ap, ◌∙◌, arith}
+use Rattle.std.proofs.Common.{◌≡◌, ℕ, List, [], arith}
 use Rattle.std.proofs.Math.Logic.{∥∥₁_elim}
 use Rattle.std.proofs.Props.{props}
 use Rattle.dnp_concentrator.specs.declared.plan.Plan.{Plan}
@@ -63,9 +63,7 @@ fresh c plan centre queue journal controls orders begins empty =
 -- nothing stands at a centre
 nothing_there : (performed : List Command) (entries : List Entry) → performed ≡ [] → entries ≡ []
     → (let x : Elsewhere = record { performed = performed; orders = entries } in alone ≡ x)
-nothing_there performed entries none empty =
-    ap (λ (cs : List Command). let x : Elsewhere = record { performed = cs; orders = [] } in x) (sym none)
-    ∙ ap (λ (es : List Entry). let x : Elsewhere = record { performed = performed; orders = es } in x) (sym empty)
+nothing_there performed entries none empty = rw (none, empty)
 
 pub returns-clause-at_first : goal.returns-clause-at_first
 returns-clause-at_first c = λ plan queues journals controls orders begins empty.

@@ -60,7 +60,7 @@ moves c (Below station) old new steady quiet round = record {
 }
   where
     passed : is_repeated_on old (Below station) ≡ true → PassedBelow station old new
-    passed = repeated_below (stations_of c) (lines_of c) (lanes_of c) (reports_of c) c.each_case_says_what_came.ensures station old new steady quiet round
+    passed = repeated_below (stations_of c) (lines_of c) (lanes_of c) station old new steady quiet round (reports_of c) c.each_case_says_what_came.ensures
 moves c (Above centre) old new steady quiet round = record {
   polled = polled_above (stations_of c) (lines_of c) (lanes_of c) centre old new steady quiet round;
   repeated = λ again. (passed again).moves;
@@ -68,7 +68,7 @@ moves c (Above centre) old new steady quiet round = record {
 }
   where
     passed : is_repeated_on old (Above centre) ≡ true → PassedAbove old new
-    passed = repeated_above (stations_of c) (lines_of c) (lanes_of c) (reports_of c) c.each_case_says_what_came.ensures centre old new steady quiet round
+    passed = repeated_above (stations_of c) (lines_of c) (lanes_of c) centre old new steady quiet round (reports_of c) c.each_case_says_what_came.ensures
 
 pub returns : goal.returns
 returns c = moves c

@@ -18,19 +18,18 @@ Passes found test = IsSomeAnd found (λ entry. IsTrue (test entry.state))
 abbrev Fails : Option Entry → (State → Bool) → Type 0
 Fails found test = (found ≡ None) ⊎ Passes found test
 
-apart : (found : Option Entry) (test other : State → Bool) → ((state : State) → other state ≡ not (test state)) → Passes found test → Fails found other → ⊥
-apart None test other opposite passes fails = passes
-apart (Some entry) test other opposite passes (inl missing) = absurd (cc)
-apart (Some entry) test other opposite passes (inr passed) =
-    both_ways (test entry.state) (not-true (test entry.state) (sym (opposite entry.state) ∙ passed)) passes
-
-one_of : (found : Option Entry) (test other : State → Bool) → ((state : State) → other state ≡ not (test state)) → (Fails found other → ⊥) → Passes found test
-one_of None test other opposite never = absurd (never (inl refl))
-one_of (Some entry) test other opposite never = by (test entry.state) refl
+once : (found : Option Entry) (test other : State → Bool) → ((state : State) → other state ≡ not (test state))
+    → (Passes found test → Fails found other → ⊥) × ((Fails found other → ⊥) → Passes found test)
+once None test other opposite = (λ passes fails. passes, λ never. absurd (never (inl refl)))
+once (Some entry) test other opposite = (apart, one_of (test entry.state) refl)
   where
-    by : (b : Bool) → test entry.state ≡ b → IsTrue (test entry.state)
-    by true is = is
-    by false is = absurd (never (inr (opposite entry.state ∙ ap not is)))
+    apart : Passes (Some entry) test → Fails (Some entry) other → ⊥
+    apart passes (inl missing) = absurd (cc)
+    apart passes (inr passed) = both_ways (test entry.state) (not-true (test entry.state) (sym (opposite entry.state) ∙ passed)) passes
+
+    one_of : (b : Bool) → test entry.state ≡ b → (Fails (Some entry) other → ⊥) → IsTrue (test entry.state)
+    one_of true is never = is
+    one_of false is never = absurd (never (inr (opposite entry.state ∙ ap not is)))
 
 twice : (state : State) → is_finished state ≡ not (not (is_finished state))
 twice state = sym (not-not (is_finished state))
@@ -38,16 +37,8 @@ twice state = sym (not-not (is_finished state))
 both : (entries : List Entry) (step : Step) → (IsGranted entries step → IsRefused entries step → ⊥) × ((IsRefused entries step → ⊥) → IsGranted entries step)
 both entries Waits = (λ granted refused. refused, λ never. tt)
 both entries (Selects id command) = (λ granted refused. refused, λ never. tt)
-both entries (Operates id command) =
-    let found : Option Entry = entry_of entries id in (
-      apart found is_pending (λ state. not (is_pending state)) (λ state. refl),
-      one_of found is_pending (λ state. not (is_pending state)) (λ state. refl),
-    )
-both entries (Finishes id status) =
-    let found : Option Entry = entry_of entries id in (
-      apart found (λ state. not (is_finished state)) is_finished twice,
-      one_of found (λ state. not (is_finished state)) is_finished twice,
-    )
+both entries (Operates id command) = once (entry_of entries id) is_pending (λ state. not (is_pending state)) (λ state. refl)
+both entries (Finishes id status) = once (entry_of entries id) (λ state. not (is_finished state)) is_finished twice
 
 pub returns : goal.returns
 returns c = both

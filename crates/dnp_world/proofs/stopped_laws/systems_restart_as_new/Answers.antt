@@ -18,20 +18,8 @@ returns-clause-at_first c = λ plan centre queue journal controls orders. record
 
 pub returns-clause-whole_at_first : goal.returns-clause-whole_at_first
 returns-clause-whole_at_first c = λ plan queues journals controls orders. for_both _
-    (record {
-      concentrator = c.a_restart_leaves_what_is_new.ensures.new plan;
-      indices = refl;
-      points = refl;
-      centre = c.a_restart_leaves_what_is_new.ensures.centre plan;
-      centre_indices = refl;
-    })
-    (record {
-      concentrator = c.a_restart_leaves_what_is_new.ensures.new plan;
-      indices = refl;
-      points = refl;
-      centre = c.a_restart_leaves_what_is_new.ensures.centre plan;
-      centre_indices = refl;
-    })
+    (returns-clause-at_first c plan 0 queues.first journals.first controls orders.first)
+    (returns-clause-at_first c plan 1 queues.second journals.second controls orders.second)
 
 one : goal.After-a_restart_leaves_what_is_new → (plan : Plan) (old new : System) → RestartAsNew plan old → WriteOne old new → RestartAsNew plan new
 one c plan old new h w = record {

@@ -36,18 +36,10 @@ in_another_order s r shows =
 same_others : (s : System) (r : Report) → Shows s r → length s.substations ≤ NUMBERS → lost_in s.concentrator.queue < 2 ^ 64
     → r ≡ record (report_of s) { queue = r.queue }
 same_others s r shows few counted =
-    let kept : Report = record (report_of s) { queue = r.queue } in
     let buffered : r.buffered ≡ listed_from lane_rows_of 0 s.substations =
     shows.buffered ∙ ap (λ (ys : List SubstationState). listed_from lane_rows_of 0 ys) (take_all NUMBERS s.substations few) in
     let least : min (lost_in s.concentrator.queue) (2 ^ 64 - 1) ≡ lost_in s.concentrator.queue = omega (arith, counted) in
     let lost : r.lost ≡ lost_in s.concentrator.queue = shows.lost ∙ least in
-    let journal = shows.journal in
-    let dropped = shows.dropped in
-    let confirmed = shows.confirmed in
-    let overwritten = shows.overwritten in
-    let gone = shows.gone in
-    let issued = shows.issued in
-    let operated = shows.operated in
     let itself : r ≡ record {
       journal = r.journal;
       queue = r.queue;
@@ -60,7 +52,7 @@ same_others s r shows few counted =
       operated = r.operated;
       lost = r.lost;
     } = refl in
-    cc
+    cc (shows.journal, shows.dropped, shows.confirmed, shows.overwritten, shows.gone, shows.issued, shows.operated)
 
 pub returns-clause-queue : goal.returns-clause-queue
 returns-clause-queue c = in_another_order

@@ -1,18 +1,21 @@
-use Rattle.std.proofs.Common.{rules, ◌≡◌, ◌⊎◌, ◌≤◌, ℕ, min, false, true, inr, IsTrue, arith, sym, subst, ◌∙◌}
+use Rattle.std.proofs.Common.{rules, ◌≡◌, ◌⊎◌, ◌≤◌, ℕ, min, false, true, inr, IsTrue, arith, ap, refl, sym, subst, ◌∙◌}
 use Rattle.sqlite.specs.State.{HasCleanDisk}
 use Rattle.sqlite.specs.Held.{state}
 use Rattle.dnp_eventbuf.specs.Archive.{IsSoundArchive, rows_over}
 use Rattle.dnp_store.specs.JournalKept.{Kept, IsHonest, archive_of, held_archive}
+use Rattle.dnp_store.proofs.JournalCalls.{call_done, call_lost, count_on, stands_on}
 use Rattle.dnp_store.proofs.JournalStanding.{journal_stopped, sound_kept, same_archive, sound_still, over_none, over_few, smaller}
 use Rattle.dnp_store.specs.Refusals.{LosesReading}
 use Rattle.dnp_store.proofs.Refusing.{lost_if}
 use Rattle.dnp_store.proofs.journal.JournalJournalStore.rows.Goals as goal
+use Rattle.dnp_store.proofs.journal.JournalJournalStore.rows.Goals.{After-drop-rows, In_default}
 
 pub returns-then-from-self-clause-call : goal.returns-then-from-self-clause-call
 returns-then-from-self-clause-call g c =
     let sound : IsHonest g.S.Store c.args.self.now → IsSoundArchive (held_archive g.S.Store c.args.self.now) =
     subst (λ (k : Kept _). IsHonest g.S.Store k → IsSoundArchive (held_archive g.S.Store k)) c.self.view_is (sound_kept g.S.Store _ c.self.invariant) in
-    search (rules, sound)
+    call_done g.S.Store _ _ _ c.args.self.now c.self.view_is c.if-self.false (λ h. subst (IsHonest g.S.Store) (sym c.self.view_is) h) sound _
+    (sym (ap (λ (k : Kept _). k.stopped) c.self.view_is))
 
 pub returns-then-from-self-clause-rows : goal.returns-then-from-self-clause-rows
 returns-then-from-self-clause-rows g c =
@@ -22,19 +25,38 @@ returns-then-from-self-clause-rows g c =
     (λ h. c.new.ensures.items ∙ sym (over_none (archive_of g.S.Store c.self.inside.conn c.self.inside.last_id) from most
     (sound_kept g.S.Store _ c.self.invariant h) (omega (arith, c.if-from-self.true))))
 
-pub returns-clause-call : goal.returns-clause-call
-returns-clause-call g c =
+-- what was read stands as it stood
+read : (g : _) (c : In_default g) → HasCleanDisk (state g.S.Store c.read_over.new.conn) → c.self.inside.stopped ≡ false → IsTrue c.self.inside.owned
+    → IsTrue (state g.S.Store c.read_over.new.conn).is_open
+    × ((state g.S.Store c.read_over.new.conn).committed ≡ (state g.S.Store c.self.inside.conn).committed)
+read g c clean serves own =
+    let a = archive_of g.S.Store c.self.inside.conn c.self.inside.last_id in
+    let stood = c.self.invariant.stands serves own (c.read_over.ensures.held clean) in
+    let opened = c.in_default.ensures.open clean a stood in
+    (opened, c.read_over.ensures.same clean a stood opened)
+
+pub invariant_of-self-in_default : goal.invariant_of-self-in_default
+invariant_of-self-in_default g c =
     let old = c.self.inside.conn in
     let new = c.read_over.new.conn in
     let last = c.self.inside.last_id in
-    let sound : HasCleanDisk (state g.S.Store new) → c.self.inside.stopped ≡ false → IsTrue c.self.inside.owned → IsSoundArchive (archive_of g.S.Store new last) =
-    λ clean serves own.
-    let early : HasCleanDisk (state g.S.Store old) = c.read_over.ensures.held clean in
-    let stands = c.self.invariant.stands serves own early in
-    let a = archive_of g.S.Store old last in
-    sound_still g.S.Store old new last (c.read_over.ensures.same clean a stands (c.in_default.ensures.open clean a stands))
-    (sound_kept g.S.Store _ c.self.invariant (early, serves, own)) in
-    search (rules, sound)
+    record {
+      idle = c.read_over.ensures.idle;
+      last_in_range = c.self.invariant.last_in_range;
+      count_in_range = c.self.invariant.count_in_range;
+      stands = λ serves own clean.
+          let did = read g c clean serves own in
+          stands_on g.S.Store old new last did.1 did.0 (c.self.invariant.stands serves own (c.read_over.ensures.held clean));
+      count_is = λ serves own clean.
+          count_on g.S.Store old new last (read g c clean serves own).1 c.self.inside.count
+          (c.self.invariant.count_is serves own (c.read_over.ensures.held clean));
+    }
+
+pub returns-clause-call : goal.returns-clause-call
+returns-clause-call g c =
+    call_done g.S.Store _ _ _ _ c.self.view_is c.if-self.false (λ h. (c.read_over.ensures.held h.0, h.1, h.2))
+    (λ h. sound_still g.S.Store c.self.inside.conn c.read_over.new.conn c.self.inside.last_id (read g c h.0 h.1 h.2).1
+    (sound_kept g.S.Store _ c.self.invariant (c.read_over.ensures.held h.0, h.1, h.2))) _ refl
 
 pub returns-clause-rows : goal.returns-clause-rows
 returns-clause-rows g c =
@@ -51,30 +73,41 @@ returns-clause-rows g c =
     ∙ over_few a from most few (subst (λ (n : ℕ). (few ≡ most) ⊎ ((few ≡ n) × (few ≤ most))) (c.self.invariant.count_is h.1 h.2 early)
     (smaller most c.self.inside.count few is)))
 
+-- where it was not read, and the journal is not lost, the last commit stays
+first : (g : _) (c : After-drop-rows g) → HasCleanDisk (state g.S.Store c.is_lost_unread-lost.new.conn) → HasCleanDisk (state g.S.Store c.self.inside.conn)
+first g c clean = c.read_over.ensures.held (c.is_lost_unread-lost.ensures.held clean)
+
+same : (g : _) (c : After-drop-rows g) → HasCleanDisk (state g.S.Store c.is_lost_unread-lost.new.conn) → c.is_lost_unread-lost.result ≡ false
+    → IsTrue c.self.inside.owned → (state g.S.Store c.is_lost_unread-lost.new.conn).committed ≡ (state g.S.Store c.self.inside.conn).committed
+same g c clean serves own =
+    let early = c.is_lost_unread-lost.ensures.held clean in
+    let late = c.is_lost_unread-lost.ensures.same clean (c.is_lost_unread-lost.ensures.serves clean serves) in
+    late.1 ∙ c.read_over.ensures.same early (archive_of g.S.Store c.self.inside.conn c.self.inside.last_id)
+    (c.self.invariant.stands c.if-self.false own (first g c clean)) late.0
+
+pub invariant_of-self : goal.invariant_of-self
+invariant_of-self g c =
+    let old = c.self.inside.conn in
+    let new = c.is_lost_unread-lost.new.conn in
+    let last = c.self.inside.last_id in
+    record {
+      idle = c.is_lost_unread-lost.ensures.idle;
+      last_in_range = c.self.invariant.last_in_range;
+      count_in_range = c.self.invariant.count_in_range;
+      stands = λ serves own clean. stands_on g.S.Store old new last (same g c clean serves own) (c.is_lost_unread-lost.ensures.serves clean serves)
+          (c.self.invariant.stands c.if-self.false own (first g c clean));
+      count_is = λ serves own clean. count_on g.S.Store old new last (same g c clean serves own) c.self.inside.count
+          (c.self.invariant.count_is c.if-self.false own (first g c clean));
+    }
+
 pub returns-in-Err-clause-call : goal.returns-in-Err-clause-call
 returns-in-Err-clause-call g c =
     let old = c.self.inside.conn in
-    let mid = c.read_over.new.conn in
     let new = c.is_lost_unread-lost.new.conn in
     let last = c.self.inside.last_id in
-    let a = archive_of g.S.Store old last in
-    let same : HasCleanDisk (state g.S.Store new) → c.is_lost_unread-lost.result ≡ false → IsTrue c.self.inside.owned
-    → (state g.S.Store new).committed ≡ (state g.S.Store old).committed =
-    λ clean serves own.
-    let clean_mid : HasCleanDisk (state g.S.Store mid) = c.is_lost_unread-lost.ensures.held clean in
-    let early : HasCleanDisk (state g.S.Store old) = c.read_over.ensures.held clean_mid in
-    let s = c.is_lost_unread-lost.ensures.same clean (c.is_lost_unread-lost.ensures.serves clean serves) in
-    s.1 ∙ c.read_over.ensures.same clean_mid a (c.self.invariant.stands c.if-self.false own early) s.0 in
-    let sound : HasCleanDisk (state g.S.Store new) → c.is_lost_unread-lost.result ≡ false → IsTrue c.self.inside.owned
-    → IsSoundArchive (archive_of g.S.Store new last) =
-    λ clean serves own.
-    let early : HasCleanDisk (state g.S.Store old) = c.read_over.ensures.held (c.is_lost_unread-lost.ensures.held clean) in
-    sound_still g.S.Store old new last (same clean serves own) (sound_kept g.S.Store _ c.self.invariant (early, c.if-self.false, own)) in
-    let kept : HasCleanDisk (state g.S.Store new) → c.is_lost_unread-lost.result ≡ false → IsTrue c.self.inside.owned
-    → archive_of g.S.Store new last ≡ held_archive g.S.Store c.args.self.now =
-    λ clean serves own. subst (λ (k : Kept _). archive_of g.S.Store new last ≡ held_archive g.S.Store k) c.self.view_is
-    (same_archive g.S.Store old new last (same clean serves own)) in
-    search (rules, sound, kept)
+    call_lost g.S.Store _ _ _ _ c.self.view_is c.if-self.false (λ h. (first g c h.0, c.if-self.false, h.2))
+    (λ h. sound_still g.S.Store old new last (same g c h.0 h.1 h.2) (sound_kept g.S.Store _ c.self.invariant (first g c h.0, c.if-self.false, h.2)))
+    c.fault.result c.fault.ensures (λ h. same_archive g.S.Store old new last (same g c h.0 h.1 h.2))
 
 pub returns-in-Err-clause-device : goal.returns-in-Err-clause-device
 returns-in-Err-clause-device g c clean told =

@@ -1,9 +1,12 @@
-use Rattle.std.proofs.Common.{◌≡◌, ◌+◌, false, IsTrue, length, arith, refl, sym, ap, subst, ◌∙◌, rules, ◌⊎◌, inr, true}
+use Rattle.std.proofs.Common.{◌≡◌, ◌+◌, false, IsTrue, length, arith, refl, sym, ap, subst, ◌∙◌, ◌⊎◌, inr, true}
+use Rattle.sqlite.specs.Effect.{Database}
 use Rattle.sqlite.specs.State.{HasCleanDisk}
 use Rattle.sqlite.specs.Held.{state}
 use Rattle.dnp_objects.specs.declared.store.StoreFault.TheVariants as fault
 use Rattle.dnp_eventbuf.specs.Archive.{Archive, with_events}
+use Rattle.dnp_store.specs.JournalTables.{archive_in}
 use Rattle.dnp_store.specs.JournalKept.{Kept, Stands, Leaves, LeavesEither, archive_of, held_archive}
+use Rattle.dnp_store.proofs.JournalCalls.{call_done, call_lost, count_on, stands_on}
 use Rattle.dnp_store.proofs.JournalHolding.{count_with}
 use Rattle.dnp_store.proofs.JournalStanding.{either_of, leaves_before, leaves_last, seen_stands, sink_refused, sink_stopped, told_is, told_stands}
 use Rattle.dnp_store.specs.declared.store_kind.StoreKind.TheVariants.{Journal}
@@ -24,6 +27,44 @@ returns-in-Err-clause-either g c clean =
     let first : HasCleanDisk old = omega (arith, early, c.write_events.ensures.survives.clean) in
     either_of old mid new a (λ b. with_events b events) clean early (g.met.S.Store.settled c.self.inside.conn.store)
     (c.self.invariant.stands serves own first) c.write_events.ensures.survives c.is_lost-lost.ensures.survives db may)
+
+-- where it was refused, and the journal is not lost, the last commit stays
+first : (g : _) (c : goal.After-fault g) → HasCleanDisk (state g.S.Store c.is_lost-lost.new.conn) → HasCleanDisk (state g.S.Store c.self.inside.conn)
+first g c clean =
+    let early : HasCleanDisk (state g.S.Store c.write_events.new.conn) = omega (arith, clean, c.is_lost-lost.ensures.survives.clean) in
+    omega (arith, early, c.write_events.ensures.survives.clean)
+
+same : (g : _) (c : goal.After-fault g) → HasCleanDisk (state g.S.Store c.is_lost-lost.new.conn) → c.is_lost-lost.result ≡ false
+    → (state g.S.Store c.is_lost-lost.new.conn).committed ≡ (state g.S.Store c.self.inside.conn).committed
+same g c clean serves =
+    let early : HasCleanDisk (state g.S.Store c.write_events.new.conn) = omega (arith, clean, c.is_lost-lost.ensures.survives.clean) in
+    let late = c.is_lost-lost.ensures.same clean (c.is_lost-lost.ensures.serves clean serves) in
+    late.1 ∙ (c.in-Err.ensures.err early late.0).1
+
+pub invariant_of-self : goal.invariant_of-self
+invariant_of-self g c =
+    let old = c.self.inside.conn in
+    let new = c.is_lost-lost.new.conn in
+    let last = c.self.inside.last_id in
+    record {
+      idle = c.is_lost-lost.ensures.idle;
+      last_in_range = c.self.invariant.last_in_range;
+      count_in_range = c.self.invariant.count_in_range;
+      stands = λ serves own clean. stands_on g.S.Store old new last (same g c clean serves) (c.is_lost-lost.ensures.serves clean serves)
+          (c.self.invariant.stands c.if-self.false own (first g c clean));
+      count_is = λ serves own clean. count_on g.S.Store old new last (same g c clean serves) c.self.inside.count
+          (c.self.invariant.count_is c.if-self.false own (first g c clean));
+    }
+
+pub returns-in-Err-clause-call : goal.returns-in-Err-clause-call
+returns-in-Err-clause-call g c =
+    call_lost g.S.Store _ _ _ _ c.self.view_is c.if-self.false (λ h. (first g c h.0, c.if-self.false, h.2)) (λ h. tt) c.fault.result c.fault.ensures
+    (λ h. ap (λ (d : Database). archive_in d.trees c.self.inside.last_id) (same g c h.0 h.1))
+
+pub returns-clause-call : goal.returns-clause-call
+returns-clause-call g c =
+    call_done g.S.Store _ _ _ _ c.self.view_is c.if-self.false
+    (λ h. (let early : HasCleanDisk (state g.S.Store c.self.inside.conn) = omega (arith, h.0, c.write_events.ensures.survives.clean) in (early, h.1, h.2))) (λ h. tt) _ refl
 
 -- what was written holds the events too
 stood : (g : _) (c : goal.After-new g) → HasCleanDisk (state g.S.Store c.write_events.new.conn) → c.self.inside.stopped ≡ false → IsTrue c.self.inside.owned

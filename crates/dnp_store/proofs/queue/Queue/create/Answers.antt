@@ -1,51 +1,55 @@
-use Rattle.std.proofs.Common.{rules, ◌≡◌, ◌∙◌, arith, sym, inr, true}
+use Rattle.std.proofs.Common.{rules, ◌≡◌, Err, refl, arith, ap, sym, subst}
 use Rattle.sqlite.specs.Held.{state}
-use Rattle.dnp_store.proofs.Statements.{survives_on}
-use Rattle.sqlite.specs.State.{HasCleanDisk}
-use Rattle.dnp_store.specs.declared.store_kind.StoreKind.TheVariants.{Queue}
-use Rattle.dnp_store.proofs.Refusing.{lost_open, taken_open}
-use Rattle.dnp_store.proofs.Standing.{survives_itself}
+use Rattle.dnp_store.specs.PairTables.{Sides}
+use Rattle.dnp_store.specs.Kept.{Stands}
+use Rattle.dnp_store.proofs.Beginning.{inside_not, inside_wrong}
 use Rattle.dnp_store.proofs.queue.Queue.create.Goals as goal
 
-pub returns-in-Err-clause-left : goal.returns-in-Err-clause-left
-returns-in-Err-clause-left g c =
-    survives_on (state g.S.Store c.args.conn) (state g.S.Store c.write_tables.new.conn) (state g.S.Store c.is_lost-lost.new.conn) _
-    c.write_tables.ensures.survives c.is_lost-lost.ensures.survives
+pub invariant_of-result : goal.invariant_of-result
+invariant_of-result g c = record {
+  idle = c.in-Ok.ensures.is.begins.idle;
+  first = search rules;
+  second = search rules;
+  stands = λ serves own clean.
+      subst (Stands (state g.S.Store c.make_lanes.new.conn)) (sym c.in-Ok.ensures.empty) (c.in-Ok.ensures.is.made clean (c.in-Ok.ensures.is.alone.0 own)).0;
+}
 
-pub returns-in-Err-clause-device : goal.returns-in-Err-clause-device
-returns-in-Err-clause-device g c clean told =
-    let early : HasCleanDisk (state g.S.Store c.write_tables.new.conn) = omega (arith, clean, c.is_lost-lost.ensures.survives.clean) in
-    let lost : c.is_lost-lost.result ≡ true = lost_open c.is_taken.result c.is_lost-lost.result c.open_fault.result c.open_fault.ensures told in
-    record {
-      between = c.write_tables.new.conn;
-      error = _;
-      refused = c.in-Err.ensures.refused early;
-      lost = c.is_lost-lost.ensures.lost clean lost;
-    }
+pub returns-in-Ok-clause-inside : goal.returns-in-Ok-clause-inside
+returns-in-Ok-clause-inside g c inside = inside_not g.S.Store _ c.args.conn c.make_lanes.new.conn _ c.in-Ok.ensures.is.begins inside
 
-pub returns-in-Err-clause-taken : goal.returns-in-Err-clause-taken
-returns-in-Err-clause-taken g c clean told =
-    let early : HasCleanDisk (state g.S.Store c.write_tables.new.conn) = omega (arith, clean, c.is_lost-lost.ensures.survives.clean) in
-    let taken : c.is_taken.result ≡ true = taken_open c.is_taken.result c.is_lost-lost.result c.open_fault.result c.open_fault.ensures told in
-    inr (record {
-      between = c.write_tables.new.conn;
-      error = _;
-      refused = c.in-Err.ensures.refused early;
-      taken = sym c.is_taken.ensures ∙ taken;
-      late = c.is_lost-lost.ensures.survives;
-    })
+pub returns-in-Err-clause-inside : goal.returns-in-Err-clause-inside
+returns-in-Err-clause-inside g c inside = inside_wrong g.S.Store _ c.args.conn c.make_lanes.new.conn c.in-Err.fault c.in-Err.ensures.is.begins inside
+
+pub returns-in-Ok-clause-held : goal.returns-in-Ok-clause-held
+returns-in-Ok-clause-held g c clean = omega (arith, clean, c.in-Ok.ensures.is.begins.survives.clean)
 
 pub returns-in-Err-clause-same : goal.returns-in-Err-clause-same
-returns-in-Err-clause-same g c clean opened =
-    let early : HasCleanDisk (state g.S.Store c.write_tables.new.conn) = omega (arith, clean, c.is_lost-lost.ensures.survives.clean) in
-    let back = c.is_lost-lost.ensures.same clean opened in
-    back.1 ∙ (c.in-Err.ensures.err early back.0).1
+returns-in-Err-clause-same g c = c.in-Err.ensures.is.begins.same
 
 pub returns-in-Err-clause-handed_back : goal.returns-in-Err-clause-handed_back
-returns-in-Err-clause-handed_back g c = (search rules, c.is_lost-lost.ensures.survives.limit ∙ c.write_tables.ensures.survives.limit)
+returns-in-Err-clause-handed_back g c = (c.in-Err.ensures.is.begins.kept, c.in-Err.ensures.is.begins.survives.limit)
 
-pub returns-then-not-is_autocommit-clause-left : goal.returns-then-not-is_autocommit-clause-left
-returns-then-not-is_autocommit-clause-left g c = survives_itself (state g.S.Store c.args.conn)
+pub returns-in-Ok-clause-owned : goal.returns-in-Ok-clause-owned
+returns-in-Ok-clause-owned g c = c.in-Ok.ensures.is.alone
 
-pub returns-in_default-clause-left : goal.returns-in_default-clause-left
-returns-in_default-clause-left g c = survives_itself (state g.S.Store c.args.conn)
+pub returns-in-Err-clause-device : goal.returns-in-Err-clause-device
+returns-in-Err-clause-device g c clean told = c.in-Err.ensures.is.device clean (ap Err told)
+
+pub returns-in-Err-clause-taken : goal.returns-in-Err-clause-taken
+returns-in-Err-clause-taken g c clean told = c.in-Err.ensures.is.taken clean (ap Err told)
+
+pub returns-in-Ok-clause-empty : goal.returns-in-Ok-clause-empty
+returns-in-Ok-clause-empty g c = (c.in-Ok.ensures.empty, refl)
+
+pub returns-in-Ok-clause-stands : goal.returns-in-Ok-clause-stands
+returns-in-Ok-clause-stands g c clean own =
+    subst (Stands (state g.S.Store c.make_lanes.new.conn)) (sym c.in-Ok.ensures.empty) (c.in-Ok.ensures.is.made clean (c.in-Ok.ensures.is.alone.0 own)).0
+
+pub returns-in-Ok-clause-schema : goal.returns-in-Ok-clause-schema
+returns-in-Ok-clause-schema g c clean own = (c.in-Ok.ensures.is.made clean (c.in-Ok.ensures.is.alone.0 own)).1
+
+pub returns-in-Ok-clause-made : goal.returns-in-Ok-clause-made
+returns-in-Ok-clause-made g c = c.in-Ok.ensures.is.begins.survives
+
+pub returns-in-Err-clause-left : goal.returns-in-Err-clause-left
+returns-in-Err-clause-left g c = c.in-Err.ensures.is.begins.survives

@@ -1,45 +1,36 @@
-use Rattle.std.proofs.Common.{IsTrue, subst, sym}
-use Rattle.sqlite.specs.Held.{state}
-use Rattle.dnp_store.specs.declared.queue_opening.Stored.TheVariants.{One, Pair}
-use Rattle.dnp_store.specs.PairTables.{IsPair}
-use Rattle.dnp_store.specs.steps.Stored.{IsStored}
-use Rattle.dnp_store.proofs.PairOpening.{owned_if}
-use Rattle.dnp_store.proofs.Standing.{survives_itself}
+use Rattle.std.proofs.Common.{Err, arith, ap}
+use Rattle.dnp_store.proofs.Beginning.{inside_not, inside_wrong}
 use Rattle.dnp_store.proofs.queue.Queue.open.Goals as goal
 
-pub returns-in-Ok-One-clause-old_form : goal.returns-in-Ok-One-clause-old_form
-returns-in-Ok-One-clause-old_form g c clean told f q l has =
-    let old = state g.S.Store c.args.conn in
-    let one = One c.in-Ok-One._lanes c.in-Ok-One.owned c.in-Ok-One.others in
-    let stored : IsStored old.committed one = subst (IsStored old.committed) c.in-Ok-One.field-0-is (c.in-Ok-One.ensures.read clean) in
-    let none : IsTrue c.in-Ok-One.others → ⊥ = λ other. stored.2 other f q l has in
-    (c.in-Ok-One._lanes, stored.0 (owned_if c.in-Ok-One.owned c.in-Ok-One.others c.old_fault.result c.old_fault.ensures told none))
+pub returns-in-Ok-clause-inside : goal.returns-in-Ok-clause-inside
+returns-in-Ok-clause-inside g c inside = inside_not g.S.Store _ c.args.conn c.open_lanes.new.conn _ c.in-Ok.ensures.begins inside
 
-pub returns-in-Ok-One-clause-not_old : goal.returns-in-Ok-One-clause-not_old
-returns-in-Ok-One-clause-not_old g c clean told sides pair =
-    let old = state g.S.Store c.args.conn in
-    let one = One c.in-Ok-One._lanes c.in-Ok-One.owned c.in-Ok-One.others in
-    let stored : IsStored old.committed one = subst (IsStored old.committed) c.in-Ok-One.field-0-is (c.in-Ok-One.ensures.read clean) in
-    stored.1 sides pair
+pub returns-in-Err-clause-inside : goal.returns-in-Err-clause-inside
+returns-in-Err-clause-inside g c inside = inside_wrong g.S.Store _ c.args.conn c.open_lanes.new.conn c.in-Err.fault c.in-Err.ensures.begins inside
 
-pub returns-then-not-is_autocommit-clause-left : goal.returns-then-not-is_autocommit-clause-left
-returns-then-not-is_autocommit-clause-left g c = survives_itself (state g.S.Store c.args.conn)
+pub returns-in-Ok-clause-held : goal.returns-in-Ok-clause-held
+returns-in-Ok-clause-held g c clean = omega (arith, clean, c.in-Ok.ensures.begins.survives.clean)
+
+pub returns-in-Ok-clause-stands : goal.returns-in-Ok-clause-stands
+returns-in-Ok-clause-stands g c = c.in-Ok.ensures.stands
 
 pub returns-in-Err-clause-same : goal.returns-in-Err-clause-same
-returns-in-Err-clause-same g c clean opened = (c.find_stored.ensures.same clean opened).1
+returns-in-Err-clause-same g c = c.in-Err.ensures.begins.same
 
-pub returns-in-Ok-One-clause-same : goal.returns-in-Ok-One-clause-same
-returns-in-Ok-One-clause-same g c clean opened = (c.find_stored.ensures.same clean opened).1
+pub returns-in-Err-clause-handed_back : goal.returns-in-Err-clause-handed_back
+returns-in-Err-clause-handed_back g c = (c.in-Err.ensures.begins.kept, c.in-Err.ensures.begins.survives.limit)
 
-pub returns-in-Ok-Pair-clause-stands : goal.returns-in-Ok-Pair-clause-stands
-returns-in-Ok-Pair-clause-stands g c clean own =
-    let old = state g.S.Store c.args.conn in
-    let first = c.in-Ok-Pair.first in
-    let second = c.in-Ok-Pair.second in
-    let stored : IsStored old.committed (Pair first second c.in-Ok-Pair.owned) =
-    subst (IsStored old.committed) c.in-Ok-Pair.field-0-is (c.in-Ok-Pair.ensures.read clean) in
-    let is_open = c.in-Ok-Pair.ensures.open clean in
-    record {
-      is_open = is_open;
-      holds = subst (λ d. IsPair d (record { first = first; second = second })) (sym (c.find_stored.ensures.same clean is_open).1) (stored own);
-    }
+pub returns-in-Err-clause-left : goal.returns-in-Err-clause-left
+returns-in-Err-clause-left g c = c.in-Err.ensures.begins.survives
+
+pub returns-in-Ok-clause-found : goal.returns-in-Ok-clause-found
+returns-in-Ok-clause-found g c = c.in-Ok.ensures.found
+
+pub returns-in-Ok-clause-unwritten : goal.returns-in-Ok-clause-unwritten
+returns-in-Ok-clause-unwritten g c = c.in-Ok.ensures.begins.survives
+
+pub returns-in-Err-clause-old_form : goal.returns-in-Err-clause-old_form
+returns-in-Err-clause-old_form g c clean told = c.in-Err.ensures.old_form clean (ap Err told)
+
+pub returns-in-Err-clause-not_old : goal.returns-in-Err-clause-not_old
+returns-in-Err-clause-not_old g c clean told = c.in-Err.ensures.not_old clean (ap Err told)

@@ -1,31 +1,14 @@
-use Rattle.std.proofs.Common.{Ok, Err, refl}
-use Rattle.dnp_streams.specs.streams.Living.{Opened}
-use Rattle.dnp_streams.proofs.streams.Hearing.{whole_or_part}
-use Rattle.dnp_streams.proofs.streams.Living.{brings_one, brings_then}
+use Rattle.std.proofs.Common.{Bool, if◌then◌else◌, ap}
+use Rattle.dnp_streams.specs.streams.Living.{Idle, Unopened}
+use Rattle.dnp_streams.proofs.streams.Alive.{begun_at}
 use Rattle.dnp_streams.proofs.stream.live_steps.begin.Goals as goal
-
-pub returns-in-Err-clause-begun : goal.returns-in-Err-clause-begun
-returns-in-Err-clause-begun g c honest =
-    let t = c.open.ensures.opened honest in
-    brings_one _ _ _ (Opened c.moment-course.result) _ _ _ _ _ _ _ _ _ t.output (c.moment-course.ensures, refl, refl) t.opening
-    (c.add.ensures t.output t.counted)
-    (whole_or_part (Err c.in-Err.fault) t.output.frames c.open.new.out.items c.deref.result.now _ _ t.spelled c.deref.ensures.0
-    c.in-Err.ensures.whole c.in-Err.ensures.part)
 
 pub returns-then-course-clause-begun : goal.returns-then-course-clause-begun
 returns-then-course-clause-begun g c honest =
-    let t = c.open.ensures.opened honest in
-    brings_one _ _ _ (Opened c.moment-course.result) _ _ _ _ _ _ _ _ _ t.output (c.moment-course.ensures, refl, refl) t.opening
-    (c.add.ensures t.output t.counted)
-    (whole_or_part (Ok tt) t.output.frames c.open.new.out.items c.deref.result.now _ _ t.spelled c.deref.ensures.0
-    c.in-Ok.ensures.whole c.in-Ok.ensures.part)
+    begun_at _ _ _ _ _ c.args.course.now.session _ _ _ _ _ _ Idle (ap (λ (b : Bool). if b then Idle else Unopened) c.if-course.true)
+    (c.make_due.ensures.made honest)
 
 pub returns-clause-begun : goal.returns-clause-begun
 returns-clause-begun g c honest =
-    let t = c.open.ensures.opened (c.make_due.ensures.held honest) in
-    brings_then _ _ _ _ _ _ _ _ _ _ _ _ _ _ _ _ _ _ _ _ _
-    (brings_one _ _ _ (Opened c.moment-course.result) _ _ _ _ _ _ _ _ _ t.output (c.moment-course.ensures, refl, refl) t.opening
-    (c.add.ensures t.output t.counted)
-    (whole_or_part (Ok tt) t.output.frames c.open.new.out.items c.deref.result.now _ _ t.spelled c.deref.ensures.0
-    c.in-Ok.ensures.whole c.in-Ok.ensures.part))
-    c.if-course.false (c.make_due.ensures.made honest)
+    begun_at _ _ _ _ _ c.args.course.now.session _ _ _ _ _ _ Unopened (ap (λ (b : Bool). if b then Idle else Unopened) c.if-course.false)
+    (c.start.ensures.begun honest)

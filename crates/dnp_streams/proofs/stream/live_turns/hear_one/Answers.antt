@@ -25,7 +25,7 @@ returns-then-course-clause-heard g c honest =
 pub returns-clause-heard : goal.returns-clause-heard
 returns-clause-heard g c honest =
     let t = c.hear.ensures.heard (c.settle.ensures.held honest) in
-    goes_one _ _ _ c.args.frame.now _ _ _ c.args.course.now.session (record { now = c.moment-course.result; changes = c.args.course.now.session.changes }) c.settle.new.course.session
+    goes_one _ _ _ c.args.frame.now _ _ _ c.args.course.now.session (record c.args.course.now.session { now = c.moment-course.result }) c.settle.new.course.session
     _ _ _ _ _ _ _ _
     (brings_one _ _ _ (Came c.moment-course.result c.args.frame.now) _ _ _ _ _ _ _ _ _ t.output
     (c.moment-course.ensures, record { idle = refl; none_due = c.requires.idle }, refl) t.hearing (c.add.ensures t.output t.counted)

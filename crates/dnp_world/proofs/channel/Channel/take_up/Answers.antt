@@ -1,14 +1,13 @@
 -- What was taken is listed and confirmed, and what the master refused for itself does nothing.
-use Rattle.std.proofs.Common.{◌≡◌, ◌≤◌, ◌++◌, ◌∙◌, ℕ, Err, List, length, ap, arith}
+use Rattle.std.proofs.Common.{◌≡◌, ◌++◌, ◌∙◌, ℕ, Err, List, length, ap, arith}
 use Rattle.std.specs.Prelude.{is_ok}
 use Rattle.std.proofs.lemmas.Result.{on_ok_weaker}
 use Rattle.dnp_objects.specs.declared.row.Row.{Row}
-use Rattle.dnp_line.specs.Lines.{HeldLine}
+use Rattle.dnp_line.specs.Lines.{LineState}
 use Rattle.dnp_master.specs.Calls.{receive_of}
 use Rattle.dnp_master.specs.declared.actions.MasterActions.{MasterActions}
 use Rattle.dnp_master.specs.declared.fault.MasterFault.TheVariants.{Device}
 use Rattle.dnp_world.specs.Channels.{state_of}
-use Rattle.dnp_world.specs.Octets.{rows_in}
 use Rattle.dnp_world.proofs.MasterTakes.{few_dropped, refused_up, taken_up}
 use Rattle.dnp_world.proofs.OneLinkLists.{all_listed}
 use Rattle.dnp_world.proofs.channel.Channel.take_up.Goals as goal
@@ -24,21 +23,21 @@ returns-in-Ok-clause-took g c = λ well.
     let few = few_dropped _ _ _ _ _ master fragment made _ _ c.take_in.result a (c.what_comes_is_taken_or_passed_over.ensures master c.args.now fragment)
     c.take_in.ensures.takes c.in-Ok.is well in
     let first : c.extend_from_slice.new.self.items ≡ was.first.items ++ a.0.dropped =
-    all_listed (is_ok c.extend_from_slice.result) was.first.items c.reserve.new.self.items c.as_slice.result.now a.0.dropped _ c.in_ok-reserve.ensures.items
+    all_listed (is_ok c.extend_from_slice.result) was.first.items c.reserve_for_events.new.dropped.first.items c.as_slice.result.now a.0.dropped _ c.reserve_for_events.ensures.first
     c.as_slice.ensures c.extend_from_slice.ensures.items
     (c.extend_from_slice.ensures.succeeds
-    (omega (arith, few.0, c.count_events-count.ensures, ap (λ (xs : List Row). length xs) c.as_slice.ensures, c.in_ok-reserve.ensures.ok))) in
+    (omega (arith, few.0, c.count_events.ensures, ap (λ (xs : List Row). length xs) c.as_slice.ensures, c.in_ok-reserve_for_events.ensures.to_first))) in
     let second : c.extend_from_slice-in-Ok.new.self.items ≡ was.second.items ++ a.1 =
-    all_listed (is_ok c.extend_from_slice-in-Ok.result) was.second.items c.reserve-2.new.self.items c.as_slice-in-Ok.result.now a.1 _
-    c.in_ok-reserve-2.ensures.items c.as_slice-in-Ok.ensures c.extend_from_slice-in-Ok.ensures.items
+    all_listed (is_ok c.extend_from_slice-in-Ok.result) was.second.items c.reserve_for_events.new.dropped.second.items c.as_slice-in-Ok.result.now a.1 _
+    c.reserve_for_events.ensures.second c.as_slice-in-Ok.ensures c.extend_from_slice-in-Ok.ensures.items
     (c.extend_from_slice-in-Ok.ensures.succeeds
-    (omega (arith, few.1, c.count_events-count.ensures, ap (λ (xs : List Row). length xs) c.as_slice-in-Ok.ensures, c.in_ok-reserve-2.ensures.ok))) in (
+    (omega (arith, few.1, c.count_events.ensures, ap (λ (xs : List Row). length xs) c.as_slice-in-Ok.ensures, c.in_ok-reserve_for_events.ensures.to_second))) in (
       fragment,
       c.fragment-fragment.ensures.shown,
       taken_up _ _ _ _ _ made _ _ c.take_in.result a old _ (state_of c.confirm.new.self)
           (record { first = was.first.items; second = was.second.items })
           (record { first = c.extend_from_slice.new.self.items; second = c.extend_from_slice-in-Ok.new.self.items }) c.take_in.ensures.takes c.in-Ok.is well
-          (ap (λ (line : HeldLine). record old { down = line.state }) c.in_ok-reserve-3.ensures.ok) c.confirm.ensures.down first second,
+          (ap (λ (line : LineState). record old { down = line }) c.reserve_for_events.ensures.line) c.confirm.ensures.down first second,
     )
 
 pub returns-in-Err-clause-took : goal.returns-in-Err-clause-took
@@ -51,9 +50,9 @@ returns-in-Err-clause-took g c = λ well. on_ok_weaker c.stops_for.result
       fragment,
       c.fragment-fragment.ensures.shown,
       refused_up _ _ _ _ _ made _ _ c.take_in.result c.in-Err.fault old _ (record { first = was.first.items; second = was.second.items })
-          (record { first = c.reserve.new.self.items; second = c.reserve-2.new.self.items }) c.take_in.ensures.takes c.in-Err.is none well
-          (ap (λ (line : HeldLine). record old { down = line.state }) c.in_ok-reserve-3.ensures.ok) c.in_ok-reserve.ensures.items
-          c.in_ok-reserve-2.ensures.items,
+          (record { first = c.reserve_for_events.new.dropped.first.items; second = c.reserve_for_events.new.dropped.second.items }) c.take_in.ensures.takes c.in-Err.is none well
+          (ap (λ (line : LineState). record old { down = line }) c.reserve_for_events.ensures.line) c.reserve_for_events.ensures.first
+          c.reserve_for_events.ensures.second,
     )) c.stops_for.ensures.passed
 
 pub returns-in-Err-clause-device : goal.returns-in-Err-clause-device

@@ -3,8 +3,9 @@ use Rattle.dnp_line.specs.Lines.{front_of}
 use Rattle.dnp_world.specs.Channels.{left_by, state_of}
 use Rattle.dnp_world.specs.OneLinkParts.{link_of}
 use Rattle.dnp_world.proofs.IdleLines.{not_there}
-use Rattle.dnp_world.proofs.OneLinkArrivals.{comes_up, on_err, on_ok, stops_up}
+use Rattle.dnp_world.proofs.OneLinkArrivals.{comes_up, on_err, stops_up}
 use Rattle.dnp_world.proofs.OneLinkIdle.{idle_up}
+use Rattle.dnp_world.proofs.SystemTasks.{on_ok}
 use Rattle.dnp_world.proofs.one_link.OneLink.come_up.Goals as goal
 
 -- nothing comes over an empty line

@@ -1,10 +1,8 @@
 -- The control goes, or a book can't be read before it does.
-use Rattle.std.proofs.Common.{◌≡◌, true, inl, refl, rules, sym, ◌∙◌, subst}
-use Rattle.std.specs.Prelude.{Option, ℕ}
+use Rattle.std.proofs.Common.{◌≡◌, true, inl, refl, rules, sym, ◌∙◌}
 use Rattle.std.proofs.lemmas.Result.{err_from_is_err_and}
-use Rattle.dnp_world.specs.Centres.{HappensToAll, may_stop}
-use Rattle.dnp_world.specs.Controls.{CanGo, ControlEnds, are_quiet_for, is_next_for, station_in}
-use Rattle.dnp_world.specs.Wholes.{Whole, seen_by}
+use Rattle.dnp_world.specs.Controls.{are_quiet_for, is_next_for, station_in}
+use Rattle.dnp_world.specs.Wholes.{seen_by}
 use Rattle.dnp_world.proofs.CentreReads.{quiet_own}
 use Rattle.dnp_world.proofs.SystemControls.{control_of, not_quiet, planned}
 use Rattle.dnp_world.proofs.parts.Parts.clean_control.Goals as goal
@@ -48,11 +46,5 @@ returns-clause-ends g c = λ well.
     let is : station ≡ station_in (see old) id = c.in_ok-station.ensures.value first in
     let quiet : are_quiet_for (see found) station ≡ true = sym c.are_quiet.ensures ∙ search rules in
     let next : is_next_for (see found) id station ≡ true = sym (c.in_ok-is_next.ensures.value before) ∙ search rules in
-    let can : CanGo id (see old) = (
-      subst (λ (s : Whole). are_quiet_for (see s) (station_in (see old) id) ≡ true) was (subst (λ (x : Option ℕ). are_quiet_for (see found) x ≡ true) is quiet),
-      subst (λ (s : Whole). is_next_for (see s) id (station_in (see old) id) ≡ true) was (subst
-          (λ (x : Option ℕ). is_next_for (see found) id x ≡ true) is next),
-    ) in
-    subst (λ (s : Whole). ControlEnds HappensToAll see may_stop centre id s c.relay_all.result new) same
-    (control_of see centre id station read new c.relay_all.result (subst (λ (s : Whole). CanGo id (see s)) (sym same) can)
-    (subst (λ (s : Whole). station ≡ station_in (see s) id) (sym same) is) (c.relay_all.ensures.done well) (c.relay_all.ensures.ended well))
+    control_of see centre id station old new c.relay_all.result (rw (is, was) at quiet, rw (is, was) at next) is (rw same at c.relay_all.ensures.done well)
+    (rw same at c.relay_all.ensures.ended well)

@@ -1,47 +1,46 @@
--- What a station or a book refuses changes nothing.
-use Rattle.std.proofs.Common.{refl}
-use Rattle.dnp_world.proofs.OneLinkRuns.{any_err}
-use Rattle.dnp_world.proofs.SystemRuns.{left_out}
+-- What names nothing in the plan does nothing.
+use Rattle.std.proofs.Common.{◌≡◌, Bool, true, false, ◌&&◌, Some, refl, sym, ◌∙◌}
+use Rattle.std.specs.Prelude.{nat_lt}
+use Rattle.dnp_eventbuf.specs.declared.pair.TheConstants.{CENTRES}
+use Rattle.dnp_world.specs.Centres.{ChangesAll, HappensToAll, centre_of, has_link, is_there, names_plan}
+use Rattle.dnp_world.specs.SystemRuns.{IfThere}
+use Rattle.dnp_world.specs.Systems as one_system
+use Rattle.dnp_world.specs.Systems.{System}
+use Rattle.dnp_world.specs.Wholes.{Whole}
+use Rattle.dnp_world.specs.declared.event.Event.{Event}
+use Rattle.dnp_world.specs.declared.event.Event.TheVariants as event
+use Rattle.dnp_world.specs.declared.event.Link.{Link}
+use Rattle.dnp_world.specs.declared.event.Link.TheVariants.{Below, Above}
+use Rattle.dnp_world.specs.declared.event.Place.TheVariants as place
+use Rattle.dnp_world.specs.declared.link_event.End.TheVariants as end
 use Rattle.dnp_world.proofs.parts.Parts.happen.Goals as goal
 
-pub returns-in_err-open-in-Open-clause-stopped : goal.returns-in_err-open-in-Open-clause-stopped
-returns-in_err-open-in-Open-clause-stopped g c = λ well.
-    any_err c.from_residual.result _
-    (left_out c.args.self.now.system c.open.new.self.system c.args.event.now _ c.in-Open.is (λ s. refl)
-    (c.in_err-open-in-Open.ensures.stopped well))
+none_there : (on : Link) (Change : System → System → Type 0) (w : Whole) → has_link w on ≡ false
+    → IfThere (is_there (centre_of on)) (ChangesAll (centre_of on) (λ s t. IfThere (one_system.has_link s on) Change s t)) w w
+none_there (Below station) Change w none = λ centre low. rw none refl
+none_there (Above n) Change w none = by (nat_lt n CENTRES) none
+  where
+    by : (b : Bool) → (b && true) ≡ false → IfThere b (ChangesAll (Some n) Change) w w
+    by true e = absurd (cc)
+    by false e = refl
 
-pub returns-in_err-ask-in-Ask-clause-stopped : goal.returns-in_err-ask-in-Ask-clause-stopped
-returns-in_err-ask-in-Ask-clause-stopped g c = λ well.
-    any_err c.from_residual-in_err-ask-in-Ask.result _
-    (left_out c.args.self.now.system c.ask.new.self.system c.args.event.now _ c.in-Ask.is (λ s. refl)
-    (c.in_err-ask-in-Ask.ensures.stopped well))
+unplanned : (w : Whole) (e : Event) → names_plan w e ≡ false → HappensToAll w e w
+unplanned w (event.Open on) none = none_there on _ w none
+unplanned w (event.HangUp on end) none = none_there on _ w none
+unplanned w (event.Deliver on way) none = none_there on _ w none
+unplanned w (event.Repeat on way) none = none_there on _ w none
+unplanned w (event.Lose on way) none = none_there on _ w none
+unplanned w (event.Damage on way octets) none = none_there on _ w none
+unplanned w (event.Change station kind index reading) none = none_there (Below station) _ w none
+unplanned w (event.Ask on task) none = none_there on _ w none
+unplanned w (event.Issue centre station command) none = none_there (Above centre) _ w none
+unplanned w (event.Relay on) none = none_there on _ w none
+unplanned w (event.Tick on end.Master) none = none_there on _ w none
+unplanned w (event.Tick on end.Outstation) none = none_there on _ w none
+unplanned w (event.Restart (place.Centre centre)) none = none_there (Above centre) _ w none
+unplanned w (event.Restart (place.Substation station)) none = none_there (Below station) _ w none
+unplanned w e none = absurd (cc)
 
-pub returns-in_err-relay-in-Relay-clause-stopped : goal.returns-in_err-relay-in-Relay-clause-stopped
-returns-in_err-relay-in-Relay-clause-stopped g c = λ well.
-    any_err c.from_residual-in_err-relay-in-Relay.result _
-    (left_out c.args.self.now.system c.relay.new.self.system c.args.event.now _ c.in-Relay.is (λ s. refl)
-    (c.in_err-relay-in-Relay.ensures.stopped well))
-
-pub returns-in_err-tick_outstation-in-Tick-default-Outstation-clause-stopped : goal.returns-in_err-tick_outstation-in-Tick-default-Outstation-clause-stopped
-returns-in_err-tick_outstation-in-Tick-default-Outstation-clause-stopped g c = λ well.
-    any_err c.from_residual-in_err-tick_outstation-in-Tick-default-Outstation.result _
-    (left_out c.args.self.now.system c.tick_outstation.new.self.system c.args.event.now _ c.in-Tick-default-Outstation.is (λ s. refl)
-    (c.in_err-tick_outstation-in-Tick-default-Outstation.ensures.stopped well))
-
-pub returns-in_err-change-in-Change-clause-stopped : goal.returns-in_err-change-in-Change-clause-stopped
-returns-in_err-change-in-Change-clause-stopped g c = λ well.
-    any_err c.from_residual-in_err-change-in-Change.result _
-    (left_out c.args.self.now.system c.change.new.self.system c.args.event.now _ c.in-Change.is (λ s. refl)
-    (c.in_err-change-in-Change.ensures.stopped well))
-
-pub returns-in_err-issue-in-Issue-clause-stopped : goal.returns-in_err-issue-in-Issue-clause-stopped
-returns-in_err-issue-in-Issue-clause-stopped g c = λ well.
-    any_err c.from_residual-in_err-issue-in-Issue.result _
-    (left_out c.args.self.now.system c.issue.new.self.system c.args.event.now _ c.in-Issue.is (λ s. refl)
-    (c.in_err-issue-in-Issue.ensures.stopped well))
-
-pub returns-in_err-restart_substation-in-Restart-Substation-clause-stopped : goal.returns-in_err-restart_substation-in-Restart-Substation-clause-stopped
-returns-in_err-restart_substation-in-Restart-Substation-clause-stopped g c = λ well.
-    any_err c.from_residual-in_err-restart_substation-in-Restart-Substation.result _
-    (left_out c.args.self.now.system c.restart_substation.new.self.system c.args.event.now _ c.in-Restart-Substation.is (λ s. refl)
-    (c.in_err-restart_substation-in-Restart-Substation.ensures.stopped well))
+pub returns-then-not-names_plan-clause-done : goal.returns-then-not-names_plan-clause-done
+returns-then-not-names_plan-clause-done g c = λ well.
+    unplanned c.args.self.now.system c.args.event.now (sym c.names_plan.ensures ∙ c.if-not-names_plan.true)

@@ -1,18 +1,12 @@
 -- Nothing is written.
 use Rattle.std.proofs.Common.{◌-◌, ◌^◌, ap, min, ◌∙◌}
-use Rattle.dnp_concentrator.specs.Concentrator.{with_queue}
 use Rattle.dnp_eventbuf.specs.Stock.{Stock, lost_in}
-use Rattle.dnp_world.specs.SystemParts.{shown_by}
 use Rattle.dnp_world.proofs.CentreReads.{queue_there}
 use Rattle.dnp_world.proofs.parts.Parts.lost_for.Goals as goal
 
 pub returns-clause-same : goal.returns-clause-same
 returns-clause-same g c =
-    let p = c.self.inside in
-    rw (← c.self.view_is)
-    (ap (λ q. shown_by g.Q.PairLanes.contents g.J.JournalStore.archive g.A.Book.contents g.B.Book.contents (record p {
-      concentrator = with_queue p.concentrator q;
-    })) (c.queue_lost.ensures.same ∙ c.queue-queue.ensures.value))
+    rw (← c.self.view_is) (cc (c.queue_lost.ensures.same, c.queue-queue.ensures.value))
 
 pub returns-clause-value : goal.returns-clause-value
 returns-clause-value g c = λ well.

@@ -12,8 +12,7 @@ pub returns-clause-held : goal.returns-clause-held
 returns-clause-held g c = λ well.
     let middle = c.self.inside.concentrator in
     rw (← c.self.view_is)
-    (well_before_queue g.Q.PairLanes.honest g.J.Sink.honest g.A.Book.honest g.A.Book.is_stopped g.B.Book.honest g.B.Book.is_stopped
-    c.queue-queue.result.now c.queue_rows.new.queue (queue_of middle) (book_of middle) c.self.inside.centres c.queue-queue.ensures.value
+    (well_before_queue c.queue-queue.result.now c.queue_rows.new.queue (queue_of middle) (book_of middle) c.self.inside.centres c.queue-queue.ensures.value
     c.queue_rows.ensures.held well)
 
 pub returns-clause-same : goal.returns-clause-same

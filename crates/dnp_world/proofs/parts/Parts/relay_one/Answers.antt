@@ -1,9 +1,6 @@
 -- A step stops at its event, or before the book is read.
-use Rattle.std.proofs.Common.{inl, inr, sym, subst}
+use Rattle.std.proofs.Common.{inl, inr}
 use Rattle.std.proofs.lemmas.Result.{err_from_is_err_and}
-use Rattle.dnp_world.specs.Centres.{HappensToAll}
-use Rattle.dnp_world.specs.Wholes.{Whole}
-use Rattle.dnp_world.specs.declared.event.Event.TheVariants.{Relay}
 use Rattle.dnp_world.proofs.parts.Parts.relay_one.Goals as goal
 
 pub returns-in_err-happen-clause-ended : goal.returns-in_err-happen-clause-ended
@@ -13,8 +10,5 @@ returns-in_err-happen-clause-ended g c = λ well.
 
 pub returns-in_err-status-clause-ended : goal.returns-in_err-status-clause-ended
 returns-in_err-status-clause-ended g c = λ well.
-    let old = c.args.self.now.system in
     let p = err_from_is_err_and c.from_residual-in_err-status.result c.from_residual-in_err-status.ensures.1 in
-    rw (p.1, p.2)
-    (inr (subst (λ (s : Whole). HappensToAll old (Relay c.args.on) s) (sym (c.status_on.ensures.same well))
-    (c.in_ok-happen.ensures.done (c.status_on.ensures.held well))))
+    rw (p.1, p.2, c.status_on.ensures.same well) (inr (c.in_ok-happen.ensures.done (c.status_on.ensures.held well)))

@@ -13,14 +13,14 @@ put_all-requires c =
     let old = substation_of c.args.self.now in
     let few = few_made _ (station_of old) c.args.now c.args.kind c.args.index c.args.reading
     (answer_of old.core.points c.args.kind c.args.index c.args.reading) c.change_into.result _ _ (actions_of c.change_into.new.actions)
-    (rw c.points.ensures.value at c.change_into.ensures.refused) c.in-Ok.is (rw c.points.ensures.value at (c.in-Ok.ensures.changed tt)) in
-    omega (arith, few, c.in_ok-reserve.ensures.room, ap (λ (rows : List Row). length rows) c.as_slice.ensures)
+    (rw c.points.ensures.value at c.change_into.ensures.refused) c.in_ok-change_into.was (rw c.points.ensures.value at (c.in_ok-change_into.ensures.changed tt)) in
+    omega (arith, few, c.in_ok-reserve_for_reading.ensures.places, ap (λ (rows : List Row). length rows) c.as_slice.ensures)
 
-pub returns-in-Ok-clause-listed : goal.returns-in-Ok-clause-listed
-returns-in-Ok-clause-listed c =
+pub returns-clause-listed : goal.returns-clause-listed
+returns-clause-listed c =
     let old = substation_of c.args.self.now in
     listed (station_of old) c.args.now c.args.kind c.args.index c.args.reading
     (answer_of old.core.points c.args.kind c.args.index c.args.reading) _ (actions_of c.change_into.new.actions) c.args.station
-    c.args.overwritten.now.items c.put_all.new.self.items (rw c.points.ensures.value at (c.in-Ok.ensures.changed tt))
-    (c.put_all.ensures ∙ ap (λ (xs : List (ℕ × Row)). xs ++ at_station c.args.station c.as_slice.result.now) c.reserve.ensures.same
+    c.args.overwritten.now.items c.put_all.new.self.items (rw c.points.ensures.value at (c.in_ok-change_into.ensures.changed tt))
+    (c.put_all.ensures ∙ ap (λ (xs : List (ℕ × Row)). xs ++ at_station c.args.station c.as_slice.result.now) c.reserve_for_reading.ensures.list
     ∙ ap (λ (rows : List Row). c.args.overwritten.now.items ++ at_station c.args.station rows) c.as_slice.ensures)

@@ -27,7 +27,7 @@ put_all-requires c =
       others = c.a_confirm_releases_what_its_fragment_reported.ensures.others;
     } in
     let few = few_came laws _ _ _ _ _ _ _ _ _ (c.in_ok-answered.ensures.came (tt, tt)) c.if-answered.true in
-    omega (arith, few, c.rows_waiting-waiting.ensures.count tt, c.in_ok-reserve.ensures.room, ap (λ (rows : List Row). length rows) c.as_slice.ensures)
+    omega (arith, few, c.rows_waiting-waiting.ensures.count tt, c.in_ok-reserve_for_unit.ensures.rows, ap (λ (rows : List Row). length rows) c.as_slice.ensures)
 
 pub put_all-requires-then-answered : goal.put_all-requires-then-answered
 put_all-requires-then-answered c =
@@ -35,7 +35,7 @@ put_all-requires-then-answered c =
     c.operated-before.ensures
     (c.operated-operated.ensures ∙ ap (λ (o : PlainState). o.performed) c.outputs-then-answered.ensures.value)
     (few_performed c.commands_are_performed_as_they_are_asked.ensures.performed _ _ _ _ _ _ _ _ _ (c.in_ok-answered.ensures.came (tt, tt)) c.if-answered.true)
-    c.in_ok-reserve-2.ensures.room
+    c.in_ok-reserve_for_unit.ensures.commands
 
 pub returns-then-answered-clause-done : goal.returns-then-answered-clause-done
 returns-then-answered-clause-done c =
@@ -66,13 +66,13 @@ returns-then-answered-clause-done c =
     (sym c.settle.ensures) came)) in
     let rows : List (ℕ × Row) = history.confirmed ++ at_station station released in
     let confirmed : c.put_all.new.self.items ≡ rows =
-    c.put_all.ensures ∙ ap (λ (xs : List (ℕ × Row)). xs ++ at_station station c.as_slice.result.now) c.reserve.ensures.same
+    c.put_all.ensures ∙ ap (λ (xs : List (ℕ × Row)). xs ++ at_station station c.as_slice.result.now) c.reserve_for_unit.ensures.confirmed
     ∙ ap (λ (xs : List Row). history.confirmed ++ at_station station xs)
     (c.as_slice.ensures ∙ ap (λ (b : Bool). released_by b does) (sym c.if-answered.true)) in
     let before : List Command = c.operated-before.result.now in
     let now : List Command = c.operated-operated.result.now in
     let operated =
-    c.put_all-then-answered.ensures ∙ ap (λ (xs : List (ℕ × Command)). xs ++ at_station station (take (length now - length before) (drop (length before) now))) c.reserve-2.ensures.same
+    c.put_all-then-answered.ensures ∙ ap (λ (xs : List (ℕ × Command)). xs ++ at_station station (take (length now - length before) (drop (length before) now))) c.reserve_for_unit.ensures.operated
     ∙ ap (λ (xs : List Command). history.operated ++ at_station station xs)
     (since_is before now (outputs_of self.outstation).performed last.performed
     (c.operated-before.ensures ∙ ap (λ (o : PlainState). o.performed) c.outputs.ensures.value) c.operated-operated.ensures) in (

@@ -1,8 +1,9 @@
 -- What the report shows holds, as the system is steady and the lists of dropped rows can be counted.
 use Rattle.std.proofs.Common.{◌<◌, ◌^◌, length, IfOk, Result, Ok, Err}
+use Rattle.std.proofs.lemmas.Result.{IfOk-weaker}
 use Rattle.dnp_eventbuf.specs.Sides.{ForEach}
 use Rattle.dnp_world.specs.BothSteady.{AreSteady}
-use Rattle.dnp_world.specs.ReportShown.{ListsAll, Shows, lists_of}
+use Rattle.dnp_world.specs.ReportShown.{Shows, lists_of}
 use Rattle.dnp_world.specs.Reports.{Holds}
 use Rattle.dnp_world.specs.Wholes.{Whole, seen_by}
 use Rattle.dnp_world.specs.declared.report.Report.{Report}
@@ -14,13 +15,6 @@ ShowsAll w report = ForEach (λ centre. Shows (seen_by centre w) (lists_of centr
 
 abbrev AreCounted : Report → Type 0
 AreCounted report = ForEach (λ centre. length (lists_of centre report).dropped < 2 ^ 64)
-
--- what a report that shows the system says is of all rows
-of_shown : {Fault : Type 0} (w : Whole)
-    → ((report : Report) → ShowsAll w report → ForEach (λ centre. ListsAll (seen_by centre w) (lists_of centre report))) → (r : Result Report Fault)
-    → IfOk r (ShowsAll w) → IfOk r (λ report. ForEach (λ centre. ListsAll (seen_by centre w) (lists_of centre report)))
-of_shown w law (Ok report) shows = law report shows
-of_shown w law (Err fault) shows = tt
 
 -- what a report says holds, where two things are said of it
 of_both : {Fault : Type 0} (w : Whole)
@@ -41,4 +35,4 @@ returns-clause-all g c = λ well.
     let old : Whole = c.self.inside.parts.system in
     let steady : ∥ AreSteady old ∥₁ = c.self.invariant (c.report.ensures.held well) in
     rw (← c.self.view_is)
-    (of_shown old (λ report shows. c.reports_show_what_holds.ensures.all old report shows steady) c.report.result (c.report.ensures.shows well))
+    (IfOk-weaker c.report.result _ _ (λ report shows. c.reports_show_what_holds.ensures.all old report shows steady) (c.report.ensures.shows well))

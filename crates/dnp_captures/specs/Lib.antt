@@ -1,0 +1,5 @@
+-- Definitions, by which contracts promise.
+pub mod Captures
+pub mod Hexadecimal
+pub mod Items
+pub mod steps

@@ -1,0 +1,2 @@
+-- Words of private steps.
+pub mod Reading

@@ -1,0 +1,123 @@
+//! Stations that ask, and live on a stream on which no answer comes.
+
+use crate::ends::{Shown, Silent, Taking};
+use crate::links::{ASKED, POLL_1};
+use crate::plans::SMALL;
+use dnp_concentrator::{Centre, Concentrator};
+use dnp_controls::PlainBook;
+use dnp_eventbuf::{PlainJournal, PlainPair};
+use dnp_line::Port;
+use dnp_plantext::read_plan;
+use dnp_streams::{Asker, Below, Limits, Living, Log, Session, ask_live, live_stream};
+use std::alloc::Global;
+use std::cell::Cell;
+
+/// How long a read waits, in milliseconds, and with which read a connection is closed on which nothing answers a request of
+/// the moment 0: that after which its response timer, of 10,000 milliseconds, has ended, if it is among the first three.
+const WAITS: [(u64, Option<u64>); 3] = [(3_333, None), (9_999, Some(2)), (10_000, Some(1))];
+
+/// With which read the station, which is opened and asked at the moment 0, closes a connection on which nothing comes, if it
+/// is among the first three.
+fn closes_with<S: Asker + Living>(alloc: Global, station: &mut S, wait_ms: u64) -> Option<u64> {
+    let _is_opened = station.opened(alloc, 0).is_ok();
+    let _is_asked = station.ask(0, POLL_1).is_ok();
+    let now = Cell::new(0);
+    let clock = Shown { now: &now };
+    let mut reader = Silent {
+        now: &now,
+        wait_ms: 0,
+    };
+    let mut writer = Taking::new(128);
+    let mut session = Session {
+        now: 0,
+        stands: true,
+        changes: &[],
+    };
+    let limits = Limits { turns: 3, wait_ms };
+    let mut log = Log::new();
+    let lived = live_stream(
+        alloc,
+        station,
+        &mut Port::new(1, 9, true),
+        &clock,
+        &mut session,
+        &mut reader,
+        &mut writer,
+        limits,
+        &mut log,
+    );
+    let has_closed = lived.result.is_ok() && lived.served.closed && writer.taken.is_empty();
+    has_closed.then_some(log.reads)
+}
+
+/// A centre that asked, and gets no answer, closes once its response timer has ended.
+#[test]
+fn a_centre_lives_on_a_stream(rt: HostRuntime) {
+    let alloc = rt.alloc();
+    let plan = read_plan(alloc, SMALL).expect(&rt, "a plan");
+    let mut centre = Centre::new(
+        alloc,
+        &plan,
+        PlainJournal::new(alloc),
+        PlainBook::new(alloc),
+    )
+    .expect(&rt, "a centre");
+    for (wait_ms, read) in WAITS {
+        assert_eq!(rt; closes_with(alloc, &mut centre, wait_ms), read);
+    }
+}
+
+/// So does a concentrator's link to a substation; one to a substation that the plan lacks does nothing.
+#[test]
+fn a_link_lives_on_a_stream(rt: HostRuntime) {
+    let alloc = rt.alloc();
+    let plan = read_plan(alloc, SMALL).expect(&rt, "a plan");
+    let queue = PlainPair::new(alloc, plan.queue, plan.queue2).expect(&rt, "a queue");
+    let mut concentrator = Concentrator::new(alloc, &plan, queue, PlainBook::new(alloc)).expect(
+        &rt,
+        "a concentrator",
+    );
+    for (wait_ms, read) in WAITS {
+        let mut link = Below::new(&mut concentrator, 0);
+        assert_eq!(rt; closes_with(alloc, &mut link, wait_ms), read);
+        let mut missing = Below::new(&mut concentrator, 1);
+        assert_eq!(rt; closes_with(alloc, &mut missing, wait_ms), None);
+    }
+}
+
+/// A substation that is asked on a stream and never answers is left once its response timer has ended, and not before.
+#[test]
+fn a_silent_substation_is_left(rt: HostRuntime) {
+    let alloc = rt.alloc();
+    let plan = read_plan(alloc, SMALL).expect(&rt, "a plan");
+    let queue = PlainPair::new(alloc, plan.queue, plan.queue2).expect(&rt, "a queue");
+    let mut concentrator = Concentrator::new(alloc, &plan, queue, PlainBook::new(alloc)).expect(
+        &rt,
+        "a concentrator",
+    );
+    for (wait_ms, read) in WAITS {
+        let now = Cell::new(0);
+        let mut reader = Silent {
+            now: &now,
+            wait_ms: 0,
+        };
+        let mut writer = Taking::new(128);
+        let mut moment = 0;
+        let mut log = Log::new();
+        let asked = ask_live(
+            alloc,
+            &mut Below::new(&mut concentrator, 0),
+            &mut Port::new(2, 10, true),
+            &Shown { now: &now },
+            &mut moment,
+            &[POLL_1],
+            &mut reader,
+            &mut writer,
+            Limits { turns: 3, wait_ms },
+            &mut log,
+        );
+        assert_eq!(rt; asked.is_ok().then_some(log.reads), read);
+        assert!(rt; writer.taken.as_slice() == &ASKED[..18]);
+        assert_eq!(rt; moment, now.get());
+    }
+}

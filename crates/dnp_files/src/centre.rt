@@ -1,0 +1,147 @@
+//! A centre over a journal and a book of controls in files, which asks the concentrator over TCP, once or by the clock.
+
+ghost use Rattle.dnp_concentrator.specs.Plan.{KeepsLimits};
+
+use crate::files;
+use crate::files::{Place, Stored};
+use crate::planned::{look_at_book, look_at_journal};
+use crate::polls::{PollPace, Polls};
+use dnp_concentrator::{Centre, MAX_TIMER_MS, Plan};
+use dnp_controls::Book;
+use dnp_eventbuf::JournalStore;
+use dnp_objects::Command;
+use dnp_store::{ControlBook, Journal};
+use dnp_tcp::exit;
+use sqlite::{Alter, Connection};
+use std::net::{Net, TcpListener, TcpStream};
+use std::process::ExitCode;
+use std::rt::{Clock, HostRuntime};
+
+/// Over which files a centre runs, and what it is to do.
+#[derive(Clone, Copy)]
+pub struct CentreWords<'a> {
+    /// The file of the journal.
+    pub journal: Place<'a>,
+    /// The file of the book of controls.
+    pub controls: Place<'a>,
+    /// The TCP port of the concentrator.
+    pub port: u16,
+    /// The centre's link address, which says which of the two it is.
+    pub own: u16,
+    /// The control to be issued, and the substation that it is for.
+    pub issue: Option<(u8, Command)>,
+    /// How many polls there are, and when they begin.
+    pub pace: PollPace,
+}
+
+/// Lets a centre of this plan wait for the concentrator as long as that may be waiting for each of the substations in turn, and
+/// once more, but for an hour at most.
+fn wait_for_each(plan: &mut Plan)
+    requires { KeepsLimits plan.old }
+    ensures limits { KeepsLimits plan.new }
+{
+    let waits = plan.substations.as_slice().len().saturating_add(1) as u64;
+    let ms = plan.times.response_ms.saturating_mul(waits);
+    plan.times.response_ms = ms.max(1).min(MAX_TIMER_MS);
+}
+
+/// Opens the files, or makes them, runs the centre over them, and closes them. Tells the exit status: that of a refused input
+/// where a file is no such store or holds what the plan has no point for, and that of a fault where something fails; why is said
+/// on standard error.
+pub fn run_centre(rt: &HostRuntime, words: &CentreWords<'_>, mut plan: Plan) -> ExitCode
+    requires { KeepsLimits plan }
+{
+    wait_for_each(&mut plan);
+    let journal = match journal_there(rt, &words.journal) {
+        Ok(journal) => journal,
+        Err(status) => return status,
+    };
+    let book = match files::book_there(rt, &words.controls) {
+        Ok(book) => book,
+        Err(status) => return status,
+    };
+    match carry_on(rt, words, &plan, journal, book) {
+        Ok((status, journal, book)) => {
+            files::close_both(rt, &words.journal, journal, &words.controls, book, status)
+        }
+        Err(status) => status,
+    }
+}
+
+/// The journal in its file.
+fn journal_there(rt: &HostRuntime, place: &Place<'_>) -> Result<Journal<Stored>, ExitCode> {
+    let conn = files::connection(rt, place)?;
+    files::journal(rt, place, conn)
+}
+
+/// Runs the centre over its stores, and gives their databases back, with the exit status. Where it can't begin, the exit
+/// status alone is told.
+fn carry_on<S: Alter + Drop, R>(
+    rt: &R,
+    words: &CentreWords<'_>,
+    plan: &Plan,
+    journal: Journal<S>,
+    book: ControlBook<S>,
+) -> Result<(ExitCode, Connection<S>, Connection<S>), ExitCode>
+where
+    R: AllocGlobal + Print + Eprint + Clock + Net<Listener = TcpListener, Stream = TcpStream>,
+    requires { KeepsLimits plan.now }
+{
+    match run_over(rt, words, plan, journal, book) {
+        Ok((status, journal, book)) => {
+            Ok((status, journal.into_connection(), book.into_connection()))
+        }
+        Err(status) => Err(status),
+    }
+}
+
+/// Runs a centre over these stores, and gives them back, with the exit status. Where it can't begin, why is said on
+/// standard error, and the exit status alone is told.
+fn run_over<J: JournalStore + Drop, B: Book + Drop, R>(
+    rt: &R,
+    words: &CentreWords<'_>,
+    plan: &Plan,
+    journal: J,
+    book: B,
+) -> Result<(ExitCode, J, B), ExitCode>
+where
+    R: AllocGlobal + Print + Eprint + Clock + Net<Listener = TcpListener, Stream = TcpStream>,
+    requires { KeepsLimits plan.now }
+{
+    match Centre::new(rt.alloc(), plan, journal, book) {
+        Ok(mut centre) => {
+            let status = match run_once(rt, &mut centre, words, plan) {
+                Ok(()) => ExitCode::from(exit::DONE),
+                Err(status) => status,
+            };
+            let (journal, book) = centre.into_stores();
+            Ok((status, journal, book))
+        }
+        Err(fault) => {
+            let _ = eprintln!(rt; "dnp: {fault}");
+            Err(ExitCode::from(exit::FAULT))
+        }
+    }
+}
+
+/// Looks whether what the stores hold is of the plan, issues the control, and asks the concentrator. Where something
+/// fails, the exit status is told.
+fn run_once<J: JournalStore, B: Book, R>(
+    rt: &R,
+    centre: &mut Centre<J, B>,
+    words: &CentreWords<'_>,
+    plan: &Plan,
+) -> Result<(), ExitCode>
+where
+    R: AllocGlobal + Print + Eprint + Clock + Net<Listener = TcpListener, Stream = TcpStream>,
+{
+    look_at_journal(rt, &words.journal, centre.journal(), plan)?;
+    look_at_book(rt, &words.controls, centre.book(), plan, true)?;
+    let polls = Polls {
+        plan,
+        port: words.port,
+        own: words.own,
+        pace: words.pace,
+    };
+    polls.run(rt, centre, words.issue.as_ref())
+}

@@ -1,0 +1,160 @@
+//! A concentrator over a queue and a book of controls in files, which polls substations and serves one or two centres over
+//! TCP, round after round.
+
+ghost use Rattle.dnp_concentrator.specs.Plan.{KeepsLimits};
+
+use crate::files::{Place, Stored};
+use crate::planned::{look_at_book, look_at_queue};
+use crate::rounds::{RoundPace, Rounds};
+use crate::{files, rounds};
+use dnp_concentrator::{Concentrator, Plan};
+use dnp_controls::Book;
+use dnp_eventbuf::{CENTRES, PairLanes};
+use dnp_store::{ControlBook, Queue};
+use dnp_tcp::exit;
+use sqlite::{Alter, Connection};
+use std::net::{IpAddr, Net, TcpListener, TcpStream};
+use std::process::ExitCode;
+use std::rt::{Clock, HostRuntime};
+
+/// Over which files a concentrator runs, and what it is to do.
+#[derive(Clone, Copy)]
+pub struct ConcentratorWords<'a> {
+    /// The file of the queue.
+    pub queue: Place<'a>,
+    /// The file of the book of controls.
+    pub controls: Place<'a>,
+    /// The address at which centres connect.
+    pub address: IpAddr,
+    /// The TCP port for the first centre.
+    pub port: u16,
+    /// The TCP port for the second centre, if it is served.
+    pub port2: Option<u16>,
+    /// The TCP port of substation 0; those of the others follow on it.
+    pub below: u16,
+    /// How many rounds there are, and when they begin.
+    pub pace: RoundPace,
+    /// Whether a queue for one centre is brought to the form for two.
+    pub migrates: bool,
+}
+
+impl<'a> ConcentratorWords<'a> {
+    /// The rounds over this plan.
+    fn rounds_of<'p>(&self, plan: &'p Plan) -> Rounds<'p> {
+        Rounds {
+            plan,
+            address: self.address,
+            port: self.port,
+            port2: self.port2,
+            below: self.below,
+            pace: self.pace,
+        }
+    }
+}
+
+/// Opens the files, or makes them, runs the concentrator over them, and closes them. Tells the exit status: that of a refused
+/// input where a file is no such store or holds what the plan has no point for, and that of a fault where something fails; why is
+/// said on standard error.
+pub fn run_concentrator(rt: &HostRuntime, words: &ConcentratorWords<'_>, plan: &Plan) -> ExitCode
+    requires { KeepsLimits plan.now }
+{
+    let queue = match queue_there(rt, words, plan) {
+        Ok(queue) => queue,
+        Err(status) => return status,
+    };
+    let book = match files::book_there(rt, &words.controls) {
+        Ok(book) => book,
+        Err(status) => return status,
+    };
+    match carry_on(rt, words, plan, queue, book) {
+        Ok((status, queue, book)) => {
+            files::close_both(rt, &words.queue, queue, &words.controls, book, status)
+        }
+        Err(status) => status,
+    }
+}
+
+/// The queue in its file.
+fn queue_there(
+    rt: &HostRuntime,
+    words: &ConcentratorWords<'_>,
+    plan: &Plan,
+) -> Result<Queue<Stored>, ExitCode>
+    requires { KeepsLimits plan.now }
+{
+    let conn = files::connection(rt, &words.queue)?;
+    files::queue(
+        rt,
+        &words.queue,
+        conn,
+        plan.queue,
+        plan.queue2,
+        words.migrates,
+    )
+}
+
+/// Runs the concentrator over its stores, and gives their databases back, with the exit status. Where it can't begin, the
+/// exit status alone is told.
+fn carry_on<S: Alter + Drop, R>(
+    rt: &R,
+    words: &ConcentratorWords<'_>,
+    plan: &Plan,
+    queue: Queue<S>,
+    book: ControlBook<S>,
+) -> Result<(ExitCode, Connection<S>, Connection<S>), ExitCode>
+where
+    R: AllocGlobal + Print + Eprint + Clock + Net<Listener = TcpListener, Stream = TcpStream>,
+    requires { KeepsLimits plan.now }
+{
+    match run_over(rt, words, plan, queue, book) {
+        Ok((status, queue, book)) => Ok((status, queue.into_connection(), book.into_connection())),
+        Err(status) => Err(status),
+    }
+}
+
+/// Runs a concentrator over these stores, and gives them back, with the exit status. Where it can't begin, why is said on
+/// standard error, and the exit status alone is told.
+fn run_over<Q: PairLanes + Drop, B: Book + Drop, R>(
+    rt: &R,
+    words: &ConcentratorWords<'_>,
+    plan: &Plan,
+    queue: Q,
+    book: B,
+) -> Result<(ExitCode, Q, B), ExitCode>
+where
+    R: AllocGlobal + Print + Eprint + Clock + Net<Listener = TcpListener, Stream = TcpStream>,
+    requires { KeepsLimits plan.now }
+{
+    match Concentrator::new(rt.alloc(), plan, queue, book) {
+        Ok(mut concentrator) => {
+            let status = match run_rounds(rt, &mut concentrator, words, plan) {
+                Ok(()) => ExitCode::from(exit::DONE),
+                Err(status) => status,
+            };
+            let (queue, book) = concentrator.into_stores();
+            Ok((status, queue, book))
+        }
+        Err(fault) => {
+            let _ = eprintln!(rt; "dnp: {fault}");
+            Err(ExitCode::from(exit::FAULT))
+        }
+    }
+}
+
+/// Looks whether what the stores hold is of the plan, listens, and does the rounds. Where that ends before the last, the
+/// exit status is told.
+fn run_rounds<Q: PairLanes, B: Book, R>(
+    rt: &R,
+    concentrator: &mut Concentrator<Q, B>,
+    words: &ConcentratorWords<'_>,
+    plan: &Plan,
+) -> Result<(), ExitCode>
+where
+    R: AllocGlobal + Print + Eprint + Clock + Net<Listener = TcpListener, Stream = TcpStream>,
+{
+    for centre in 0..CENTRES {
+        look_at_queue(rt, &words.queue, concentrator.queue(), centre, plan)?;
+    }
+    look_at_book(rt, &words.controls, concentrator.book(), plan, false)?;
+    rounds::run(rt, concentrator, &words.rounds_of(plan))
+}

@@ -1,0 +1,23 @@
+//! A concentrator and a centre over stores in files (SQL databases), from the opening of their two files to the closing: which
+//! file is taken, made or refused, what is looked at of what stands there, and what each does over TCP.
+#![tactic(auto)]
+
+mod centre;
+mod concentrator;
+mod files;
+mod gate;
+mod guest;
+mod pending;
+mod planned;
+mod polls;
+mod rounds;
+mod seat;
+mod seats;
+mod turn;
+
+pub use centre::{CentreWords, run_centre};
+pub use concentrator::{ConcentratorWords, run_concentrator};
+pub use files::Place;
+pub use planned::has_output;
+pub use polls::PollPace;
+pub use rounds::RoundPace;

@@ -1,0 +1,195 @@
+//! What a plan has, by what stores hold of it: events and commands that files kept from an earlier run.
+
+ghost use Rattle.std.specs.Prelude.{◌<◌};
+
+use crate::files::Place;
+use dnp_concentrator::{Plan, SubPlan};
+use dnp_controls::{Book, Entry};
+use dnp_eventbuf::{CENTRES, JournalStore, MAX_CAPACITY, PairLanes};
+use dnp_objects::{Command, Kind, LANES, Lane, Row};
+use dnp_tcp::exit;
+use std::process::ExitCode;
+
+/// How many rows or controls are looked at at once.
+const PAGE: usize = 1_000;
+
+/// The classes of a substation's points of a kind.
+fn classes_of(substation: &SubPlan, kind: Kind) -> &[u8] {
+    match kind {
+        Kind::Binary => substation.binary.as_slice(),
+        Kind::Counter => substation.counter.as_slice(),
+        Kind::Analog => substation.analog.as_slice(),
+    }
+}
+
+/// The class of the point that a row is of, whose index is one above; none where the plan has no such point.
+fn class_above(plan: &Plan, row: &Row) -> Option<u8> {
+    for substation in plan.substations.as_slice() {
+        let base = match row.kind {
+            Kind::Binary => substation.base[0],
+            Kind::Counter => substation.base[1],
+            Kind::Analog => substation.base[2],
+        };
+        if let Some(at) = row.index.checked_sub(base)
+            && let Some(class) = classes_of(substation, row.kind).get(usize::from(at))
+        {
+            return Some(*class);
+        }
+    }
+    None
+}
+
+/// How many outputs a substation has that such a command can be for, and the index above of the first.
+fn outputs_for(substation: &SubPlan, command: &Command) -> (u16, u16) {
+    match command {
+        Command::Block { .. } => (substation.outputs, substation.base[3]),
+        Command::Set16 { .. } | Command::Set32 { .. } => (substation.setpoints, substation.base[4]),
+    }
+}
+
+/// Whether a substation of the plan has the output or the setpoint of a command, whose index is the substation's own.
+pub fn has_output(plan: &Plan, substation: u8, command: &Command) -> bool {
+    match plan.substations.as_slice().get(usize::from(substation)) {
+        Some(substation) => command.index() < outputs_for(substation, command).0,
+        None => false,
+    }
+}
+
+/// Whether the plan has the output or the setpoint of a command, whose index is one above.
+fn has_output_above(plan: &Plan, command: &Command) -> bool {
+    for substation in plan.substations.as_slice() {
+        let (count, base) = outputs_for(substation, command);
+        if let Some(at) = command.index().checked_sub(base)
+            && at < count
+        {
+            return true;
+        }
+    }
+    false
+}
+
+/// Says on standard error that a file can't be read, and gives the exit status of a fault.
+fn unread<R: Eprint>(rt: &R, place: &Place<'_>) -> ExitCode {
+    place.say(
+        rt,
+        "its rows can't be read: out of memory, or its device failed",
+    );
+    ExitCode::from(exit::FAULT)
+}
+
+/// Says on standard error which row is of no point of the plan, and gives the exit status of a refused input.
+fn no_point<R: Eprint>(rt: &R, place: &Place<'_>, id: u64, row: &Row) -> ExitCode {
+    let _ = eprintln!(rt;
+        "dnp: {}: row {id}, {row}: the plan has no such point",
+        place.path
+    );
+    ExitCode::from(exit::REFUSED)
+}
+
+/// Says on standard error which row is of no point of the plan that has events, and gives the exit status of a refused
+/// input.
+fn no_event<R: Eprint>(rt: &R, place: &Place<'_>, id: u64, row: &Row) -> ExitCode {
+    let _ = eprintln!(rt;
+        "dnp: {}: row {id}, {row}: the plan has no such point with a class",
+        place.path
+    );
+    ExitCode::from(exit::REFUSED)
+}
+
+/// Looks whether each row of the queue for this centre is of a point of the plan that has events: the centre would confirm
+/// no other, and so nothing that stands behind it. Where one isn't, that is said, and the exit status is told.
+pub(crate) fn look_at_queue<Q: PairLanes, R: AllocGlobal + Eprint>(
+    rt: &R,
+    place: &Place<'_>,
+    queue: &mut Q,
+    centre: u8,
+    plan: &Plan,
+) -> Result<(), ExitCode>
+    requires { centre < CENTRES }
+{
+    for number in 0..LANES {
+        let Some(lane) = Lane::numbered(number) else {
+            return Ok(());
+        };
+        let Ok(rows) = queue.offer(rt.alloc(), centre, lane, 0, MAX_CAPACITY as usize) else {
+            return Err(unread(rt, place));
+        };
+        for numbered in rows.iter() {
+            if class_above(plan, &numbered.row).unwrap_or(0) == 0 {
+                return Err(no_event(rt, place, numbered.id, &numbered.row));
+            }
+        }
+    }
+    Ok(())
+}
+
+/// Looks whether each row of the journal is of a point of the plan, in pages. Where one isn't, that is said, and the exit
+/// status is told.
+pub(crate) fn look_at_journal<J: JournalStore, R: AllocGlobal + Eprint>(
+    rt: &R,
+    place: &Place<'_>,
+    journal: &mut J,
+    plan: &Plan,
+) -> Result<(), ExitCode> {
+    let mut from = 0;
+    for _ in 0..u64::MAX {
+        let Ok(rows) = journal.rows(rt.alloc(), from, PAGE) else {
+            return Err(unread(rt, place));
+        };
+        let Some(last) = rows.last() else {
+            return Ok(());
+        };
+        from = last.id;
+        for numbered in rows.iter() {
+            if class_above(plan, &numbered.row).is_none() {
+                return Err(no_point(rt, place, numbered.id, &numbered.row));
+            }
+        }
+    }
+    Ok(())
+}
+
+/// Looks whether each control of a book is for an output or a setpoint of the plan, in pages: of a substation by its own
+/// index, or `above` by the index there. Where one isn't, that is said, and the exit status is told.
+pub(crate) fn look_at_book<B: Book, R: AllocGlobal + Eprint>(
+    rt: &R,
+    place: &Place<'_>,
+    book: &mut B,
+    plan: &Plan,
+    above: bool,
+) -> Result<(), ExitCode> {
+    let mut from = 0;
+    for _ in 0..u64::MAX {
+        let Ok(entries) = book.rows(rt.alloc(), from, PAGE) else {
+            return Err(unread(rt, place));
+        };
+        let Some(last) = entries.last() else {
+            return Ok(());
+        };
+        from = last.id;
+        for entry in entries.iter() {
+            if !is_planned(plan, entry, above) {
+                return Err(no_output(rt, place, entry));
+            }
+        }
+    }
+    Ok(())
+}
+
+/// Whether a control is for an output or a setpoint of the plan.
+fn is_planned(plan: &Plan, entry: &Entry, above: bool) -> bool {
+    if above {
+        entry.target == 0 && has_output_above(plan, &entry.command)
+    } else {
+        has_output(plan, entry.target, &entry.command)
+    }
+}
+
+/// Says on standard error which control is for no output of the plan, and gives the exit status of a refused input.
+fn no_output<R: Eprint>(rt: &R, place: &Place<'_>, entry: &Entry) -> ExitCode {
+    let _ = eprintln!(rt;
+        "dnp: {}: control {}, {} {}: the plan has no such output",
+        place.path, entry.id, entry.target, entry.command
+    );
+    ExitCode::from(exit::REFUSED)
+}

@@ -1,0 +1,152 @@
+//! Where a centre of a concentrator that lives connects, and its place: the newest connection has it.
+
+ghost use Rattle.std.specs.Prelude.{◌<◌};
+
+use crate::guest::{Guest, News, Turned, tell};
+use crate::turn::{Span, prepare};
+use dnp_concentrator::Concentrator;
+use dnp_controls::Book;
+use dnp_decode::Moment;
+use dnp_eventbuf::{CENTRES, PairLanes};
+use dnp_tcp::{Caller, Door, Ending, exit, listen, no_port, utc};
+use std::io;
+use std::net::{Net, SocketAddr, TcpListener, TcpStream};
+use std::process::ExitCode;
+use std::rt::Clock;
+
+/// How long it is waited after no connection could be had, in milliseconds.
+const AFTER_MS: u64 = 1_000;
+
+/// The place of a centre.
+#[derive(Drop)]
+pub(crate) struct Seat {
+    /// The port.
+    port: u16,
+    /// How long a connection may stand in which nothing whole comes, in seconds.
+    idle: u64,
+    /// Where the centre connects.
+    door: Door,
+    /// The moment before which it is not looked whether it has, in milliseconds.
+    after: u64,
+    /// The centre, where it is connected.
+    guest: Option<Guest>,
+}
+
+impl Seat {
+    /// Listens at a place, for a centre that may stand so long in which nothing whole comes, in seconds. Where it can't be had,
+    /// that is said, and the exit status is told.
+    pub(crate) fn open<R>(rt: &R, place: SocketAddr, idle: u64) -> Result<Seat, ExitCode>
+    where
+        R: Eprint + Net<Listener = TcpListener, Stream = TcpStream>,
+    {
+        let port = place.port();
+        match listen(rt, place) {
+            Ok(listener) => Ok(Seat {
+                port,
+                idle,
+                door: Door::new(listener),
+                after: 0,
+                guest: None,
+            }),
+            Err(cause) => Err(no_port(rt, port, &cause)),
+        }
+    }
+
+    /// Whether the centre is connected.
+    pub(crate) fn is_taken(&self) -> bool {
+        self.guest.is_some()
+    }
+
+    /// The connection that has come by this moment, if one has. Why none can be had is said on standard error, once a second.
+    fn next_caller<R: Eprint + Clock>(&mut self, rt: &R, now: u64) -> Option<Caller> {
+        if now < self.after {
+            return None;
+        }
+        match self.door.next() {
+            Ok(caller) => Some(caller),
+            Err(cause) if cause.kind() == io::ErrorKind::WouldBlock => None,
+            Err(cause) => {
+                let moment = Moment(utc(rt));
+                let _ = eprintln!(rt; "{moment} port {}: {cause}", self.port);
+                self.after = now.saturating_add(AFTER_MS);
+                None
+            }
+        }
+    }
+
+    /// Ends the connection, if there is one, hangs the station up, and says how it ended.
+    pub(crate) fn hang_up<Q: PairLanes, B: Book, R: Eprint + Clock>(
+        &mut self,
+        rt: &R,
+        concentrator: &mut Concentrator<Q, B>,
+        centre: u8,
+        how: Ending<'_>,
+    )
+        requires { centre < CENTRES }
+    {
+        if let Some(guest) = self.guest.take() {
+            concentrator.hung_up_above(centre);
+            guest.tell_end(rt, centre, how);
+        }
+    }
+
+    /// Lets a connection that has come by this moment take the place.
+    fn look<Q: PairLanes, B: Book, R: AllocGlobal + Eprint + Clock>(
+        &mut self,
+        rt: &R,
+        concentrator: &mut Concentrator<Q, B>,
+        centre: u8,
+        now: u64,
+    )
+        requires { centre < CENTRES }
+    {
+        let Some(caller) = self.next_caller(rt, now) else {
+            return;
+        };
+        let peer = caller.peer;
+        self.hang_up(rt, concentrator, centre, Ending::Taken(peer));
+        tell(rt, peer, centre, News::Connected);
+        let prepared = prepare(&caller.stream);
+        let guest = Guest::new(rt.alloc(), caller, centre, now);
+        match prepared {
+            Ok(()) => self.guest = Some(guest),
+            Err(cause) => guest.tell_end(rt, centre, Ending::Unprepared(&cause)),
+        }
+    }
+
+    /// Serves the centre for a turn that begins at this moment, and tells whether a fragment came whole. Where a store or memory
+    /// fails, the exit status is told.
+    pub(crate) fn serve<Q: PairLanes, B: Book, R: AllocGlobal + Eprint + Clock>(
+        &mut self,
+        rt: &R,
+        concentrator: &mut Concentrator<Q, B>,
+        centre: u8,
+        now: u64,
+        span: Span,
+    ) -> Result<bool, ExitCode>
+        requires { centre < CENTRES }
+    {
+        self.look(rt, concentrator, centre, now);
+        let idle_ms = self.idle.saturating_mul(1_000);
+        let is_idle = match &self.guest {
+            Some(guest) => guest.is_idle(now, idle_ms),
+            None => return Ok(false),
+        };
+        if is_idle {
+            let how = Ending::Idle(self.idle);
+            self.hang_up(rt, concentrator, centre, how);
+        }
+        let turned = match &mut self.guest {
+            Some(guest) => guest.serve(rt, concentrator, centre, span),
+            None => return Ok(false),
+        };
+        match turned {
+            Turned::Stands(fragments) => Ok(fragments > 0),
+            Turned::Ended => {
+                self.guest = None;
+                Ok(false)
+            }
+            Turned::Lost => Err(ExitCode::from(exit::FAULT)),
+        }
+    }
+}

@@ -1,0 +1,28 @@
+use Rattle.sqlite.specs.Held.{state}
+use Rattle.dnp_store.specs.Kept.{Stands}
+use Rattle.dnp_store.specs.PairTables.{migrated}
+use Rattle.dnp_store.proofs.Beginning.{told_current, told_err, told_ok}
+use Rattle.dnp_store.proofs.Statements.{survives_on}
+use Rattle.dnp_store.proofs.queue_begin.second_made.Goals as goal
+
+pub returns-clause-idle : goal.returns-clause-idle
+returns-clause-idle g c = c.told.ensures.idle
+
+pub returns-clause-ok : goal.returns-clause-ok
+returns-clause-ok g c clean s opens =
+    told_ok g.S.Store c.args.conn.now c.write_second-done.new.conn c.told.new.conn c.write_second-done.result
+    (λ h. Stands (state g.S.Store h) (migrated s c.args.capacities.now)) c.told.result c.told.ensures (λ early. c.write_second-done.ensures.ok early s opens) clean
+
+pub returns-clause-current : goal.returns-clause-current
+returns-clause-current g c =
+    told_current g.S.Store c.args.conn.now c.write_second-done.new.conn c.told.new.conn c.write_second-done.result c.told.result c.told.ensures
+
+pub returns-clause-err : goal.returns-clause-err
+returns-clause-err g c clean opened =
+    told_err g.S.Store c.args.conn.now c.write_second-done.new.conn c.told.new.conn c.write_second-done.result c.told.result c.told.ensures
+    c.write_second-done.ensures.err clean opened
+
+pub returns-clause-survives : goal.returns-clause-survives
+returns-clause-survives g c =
+    survives_on (state g.S.Store c.args.conn.now) (state g.S.Store c.write_second-done.new.conn) (state g.S.Store c.told.new.conn) _
+    c.write_second-done.ensures.survives c.told.ensures.survives

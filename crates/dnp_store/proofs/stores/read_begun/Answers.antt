@@ -1,0 +1,26 @@
+use Rattle.std.proofs.Common.{rules, arith, sym, ap, subst, ◌∙◌}
+use Rattle.sqlite.specs.State.{HasCleanDisk}
+use Rattle.sqlite.specs.Held.{state}
+use Rattle.sqlite.specs.Effect.{Database, IsDatabase}
+use Rattle.dnp_store.specs.Tables.{IsCounted}
+use Rattle.dnp_store.proofs.Stepping.{step_then, step_as}
+use Rattle.dnp_store.proofs.stores.read_begun.Goals as goal
+
+pub returns-clause-read : goal.returns-clause-read
+returns-clause-read g c clean kind f r m sound has =
+    let mid = state g.S.Store c.read_form.new.tx.conn.now in
+    let early : HasCleanDisk mid = omega (arith, clean, c.read_counts.ensures.step.survives.clean) in
+    let one = c.in_ok-read_form.ensures.read early kind f r m sound has in
+    let two = c.in_ok-read_counts.ensures.read clean kind f r m (subst IsDatabase (sym one.0) sound) (ap (λ (d : Database). d.schema) one.0 ∙ has) in
+    (two.0 ∙ one.0, (one.1, λ table n shows. subst (λ (d : Database). IsCounted table (d.trees 2) n) one.0 (two.1 table n shows)))
+
+pub returns-in_err-read_counts-clause-step : goal.returns-in_err-read_counts-clause-step
+returns-in_err-read_counts-clause-step g c =
+    let here = step_then g.S.Store c.args.tx.now.conn c.read_form.new.tx.conn c.read_counts.new.tx.conn _ _ c.in_ok-read_form.ensures.step
+    c.in_err-read_counts.ensures.step in
+    record { same_reference = here.same_reference; inside = search rules; kept = here.kept; survives = here.survives }
+
+pub returns-clause-step : goal.returns-clause-step
+returns-clause-step g c =
+    step_as g.S.Store c.args.tx.now.conn c.read_counts.new.tx.conn _ _ (step_then g.S.Store c.args.tx.now.conn c.read_form.new.tx.conn
+    c.read_counts.new.tx.conn _ _ c.in_ok-read_form.ensures.step c.in_ok-read_counts.ensures.step)

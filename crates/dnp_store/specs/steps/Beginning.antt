@@ -1,0 +1,98 @@
+-- Words of private steps: how a store begins on a connection that it was lent.
+use Rattle.std.specs.Prelude.{◌≡◌, ◌≢◌, ◌⊎◌, ◌↔◌, Bool, false, Err, IfErr, IfOk, IsOk, IsTrue, OnErr, OnOk, List, ℕ, Result}
+use Rattle.sqlite_trees.specs.declared.store.Store.{Ghosts}
+use Rattle.sqlite.specs.Effect.{Database}
+use Rattle.sqlite.specs.Held.{Held, state}
+use Rattle.sqlite.specs.State.{State, HasCleanDisk, Survives}
+use Rattle.sqlite.specs.Term.{Term}
+use Rattle.sqlite.specs.Tree.{Trees}
+use Rattle.sqlite.specs.declared.error.Error.{Error}
+use Rattle.dnp_eventbuf.specs.Sound.{IsSound}
+use Rattle.dnp_eventbuf.specs.Stock.{Stock, empty_stock}
+use Rattle.dnp_store.specs.declared.open.OpenFault.{OpenFault}
+use Rattle.dnp_store.specs.declared.open.OpenFault.TheVariants.{Device, OldForm, WrongForm}
+use Rattle.dnp_store.specs.declared.store_kind.StoreKind.{StoreKind}
+use Rattle.dnp_store.specs.declared.store_kind.StoreKind.TheVariants.{Queue}
+use Rattle.dnp_store.specs.Faults.{RefusesNothing, is_memory, is_taken}
+use Rattle.dnp_store.specs.Kept.{AreSound, Stands}
+use Rattle.dnp_store.specs.PairTables.{HoldsMigrated, HoldsPair, IsPair, Sides, migrated}
+use Rattle.dnp_store.specs.QueueTables.{IsQueue, queue_schema}
+use Rattle.dnp_store.specs.Refusals.{IsLost, IsTaken}
+use Rattle.dnp_store.specs.Schemas.{made_pair}
+use Rattle.dnp_store.specs.Tables.{no_schema}
+
+-- ---- what answers where tables were to be made
+
+-- they were not, for this error, and the fault tells why
+pub record Tells {S : Type 0} (g : Ghosts S) (old new : Held S) (done : Result (Unit {0}) Error) (fault : OpenFault) : Type 0 where
+  pub error : Error
+  pub failed : done ≡ Err error
+  pub lost : HasCleanDisk (state g new) → fault ≡ Device → (is_memory error ≡ false) ⊎ RefusesNothing (state g old) (state g new)
+  pub taken : fault ≡ WrongForm → IsTrue (is_taken error)
+  pub current : fault ≢ OldForm
+
+-- where they were, nothing more happens; nothing is written in any case
+pub record IsTold {S : Type 0} (g : Ghosts S) (old new : Held S) (done : Result (Unit {0}) Error) (result : Result (Unit {0}) OpenFault) : Type 0 where
+  pub idle : new.in_transaction ≡ false
+  pub ok : OnOk result (IsOk done × (new ≡ old))
+  pub err : IfErr result (Tells g old new done)
+  pub same : HasCleanDisk (state g new) → IsTrue (state g new).is_open
+      → IsTrue (state g old).is_open × ((state g new).committed ≡ (state g old).committed)
+  pub survives : Survives (state g old) (state g new) (λ _. ⊥)
+
+-- ---- how a store begins
+
+-- Inside a transaction nothing is done, and the answer is WrongForm. After a refusal the last commit stands, and a crash
+-- leaves what it left before, or what the call makes.
+pub record Begins {S A : Type 0} (g : Ghosts S) (Makes : Trees → Type 0) (old new : Held S) (result : Result A OpenFault) : Type 0 where
+  pub inside : IsTrue old.in_transaction → (result ≡ Err WrongForm) × (new ≡ old)
+  pub kept : new.in_transaction ≡ old.in_transaction
+  pub idle : OnOk result (new.in_transaction ≡ false)
+  pub same : HasCleanDisk (state g new) → IsTrue (state g new).is_open → OnErr result ((state g new).committed ≡ (state g old).committed)
+  pub survives : Survives (state g old) (state g new) Makes
+
+-- its tables are made where there were no others, and the answer tells whether there were
+pub record IsMade {S A : Type 0} (g : Ghosts S) (kind : StoreKind) (Fresh : Trees → Type 0) (Made : State → Type 0) (owned : A → Bool) (old new : Held S)
+    (result : Result A OpenFault) : Type 0 where
+  pub begins : Begins g (λ db. (state g old).now.schema ≡ no_schema → Fresh db) old new result
+  pub alone : IfOk result (λ found. IsTrue (owned found) ↔ ((state g old).now.schema ≡ no_schema))
+  pub made : HasCleanDisk (state g new) → (state g old).now.schema ≡ no_schema → OnOk result (Made (state g new))
+  pub device : HasCleanDisk (state g new) → result ≡ Err Device → IsLost g kind old new
+  pub taken : HasCleanDisk (state g new) → result ≡ Err WrongForm → IsTrue old.in_transaction ⊎ IsTaken g kind old new
+
+-- ---- the lanes of a queue that begins, for the first centre and for the second, and whether the database is its own
+
+abbrev pub Found : Type 0
+Found = Stock × Stock × Bool
+
+abbrev pub sides_in : Found → Sides
+sides_in found = record { first = found.0; second = found.1 }
+
+abbrev pub empty_sides : List ℕ → List ℕ → Sides
+empty_sides first second = record { first = empty_stock first; second = empty_stock second }
+
+-- they were found
+pub record AreFound {S : Type 0} (g : Ghosts S) (old new : Held S) (result : Result Found OpenFault) : Type 0 where
+  pub begins : Begins g (λ _. ⊥) old new result
+  pub found : HasCleanDisk (state g new) → IfOk result (λ found. IsTrue found.2 → IsPair (state g old).committed (sides_in found))
+  pub stands : HasCleanDisk (state g new) → IfOk result (λ found. IsTrue found.2 → Stands (state g new) (sides_in found))
+  pub old_form : HasCleanDisk (state g new) → result ≡ Err OldForm → (f q l : List Term) → (state g old).committed.schema ≡ queue_schema f q l
+      → (stock : Stock) × IsQueue (state g old).committed stock
+  pub not_old : HasCleanDisk (state g new) → result ≡ Err OldForm → (sides : Sides) → IsPair (state g old).committed sides → ⊥
+
+-- they were found, or made of those for one centre
+pub record AreMigrated {S : Type 0} (g : Ghosts S) (capacities : List ℕ) (old new : Held S) (result : Result Found OpenFault) : Type 0 where
+  pub begins : Begins g (HoldsMigrated (state g old).committed capacities) old new result
+  pub unwritten : (sides : Sides) → IsPair (state g old).committed sides → Survives (state g old) (state g new) (λ _. ⊥)
+  pub current : IfErr result (λ fault. fault ≢ OldForm)
+  pub stands : HasCleanDisk (state g new) → IfOk result (λ found. IsTrue found.2 → Stands (state g new) (sides_in found))
+  pub made : HasCleanDisk (state g new) → IfOk result (λ found. IsTrue found.2 → (stock : Stock) → IsSound stock → IsQueue (state g old).committed stock
+      → sides_in found ≡ migrated stock capacities)
+  pub same : HasCleanDisk (state g new) → IfOk result (λ found. IsTrue found.2 → (sides : Sides) → AreSound sides → IsPair (state g old).committed sides
+      → sides_in found ≡ sides)
+
+-- they were made
+pub record AreMade {S : Type 0} (g : Ghosts S) (first second : List ℕ) (old new : Held S) (result : Result Found OpenFault) : Type 0 where
+  pub is : IsMade g Queue (λ db. HoldsPair db (empty_sides first second)) (λ s. Stands s (empty_sides first second) × (s.committed.schema ≡ made_pair)) (λ found. found.2)
+      old new result
+  pub empty : IfOk result (λ found. sides_in found ≡ empty_sides first second)

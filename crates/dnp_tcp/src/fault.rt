@@ -1,0 +1,81 @@
+//! What is said, and which exit status there is, where the program's own input or output fails.
+
+use crate::exit;
+use dnp_streams::Waiting;
+use std::io;
+use std::io::{Read, Write};
+use std::process::ExitCode;
+
+/// Says on standard error which stream failed and why, and gives the exit status of a fault.
+pub fn lost<R: Eprint>(rt: &R, stream: &str, cause: &io::Error) -> ExitCode {
+    let _ = eprintln!(rt; "dnp: {stream}: {cause}");
+    ExitCode::from(exit::FAULT)
+}
+
+/// Says on standard error why standard output was lost, and gives the exit status of a fault. Where its reader is gone, as in
+/// `dnp sim .. | head`, nothing is said.
+pub fn unwritten<R: Eprint>(rt: &R, cause: &io::Error) -> ExitCode {
+    if cause.kind() == io::ErrorKind::BrokenPipe {
+        return ExitCode::from(exit::FAULT);
+    }
+    lost(rt, "standard output", cause)
+}
+
+/// A reader or a writer that keeps the cause of its last failed call, for calls whose faults don't carry it.
+#[derive(Drop)]
+pub struct Noted<S> {
+    /// What is read from or written to.
+    inner: S,
+    /// Why its last failed call failed.
+    cause: Option<io::Error>,
+}
+
+impl<S> Noted<S> {
+    /// A reader or a writer over this one, which has not failed.
+    pub fn new(inner: S) -> Self {
+        Noted { inner, cause: None }
+    }
+
+    /// Why the last failed call failed, if one did.
+    pub fn cause(&self) -> Option<&io::Error> {
+        self.cause.as_ref()
+    }
+
+    /// Keeps why a call failed, and gives a fault of the same kind.
+    fn note(&mut self, error: io::Error) -> io::Error {
+        let kind = error.kind();
+        self.cause = Some(error);
+        kind.into()
+    }
+}
+
+impl<R: Read> Read for Noted<R> {
+    fn read(&mut self, buf: &mut [u8]) -> io::Result<usize> {
+        match self.inner.read(buf) {
+            Ok(count) => Ok(count),
+            Err(error) => Err(self.note(error)),
+        }
+    }
+}
+
+impl<R: Waiting> Waiting for Noted<R> {
+    fn wait_at_most(&mut self, ms: u64) -> io::Result<()> {
+        match self.inner.wait_at_most(ms) {
+            Ok(()) => Ok(()),
+            Err(error) => Err(self.note(error)),
+        }
+    }
+}
+
+impl<W: Write> Write for Noted<W> {
+    fn write(&mut self, buf: &[u8]) -> io::Result<usize> {
+        match self.inner.write(buf) {
+            Ok(count) => Ok(count),
+            Err(error) => Err(self.note(error)),
+        }
+    }
+
+    fn flush(&mut self) -> io::Result<()> {
+        self.inner.flush()
+    }
+}

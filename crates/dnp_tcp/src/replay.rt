@@ -1,0 +1,123 @@
+//! Changes of points that are made in order, once or again and again, by the clocks of the machine.
+
+use crate::logged::utc;
+use crate::visit::moment;
+use dnp_objects::MAX_TIME;
+use dnp_streams::Change;
+use std::alloc::{AllocError, Global};
+use std::rt::Clock;
+
+/// A moment by both clocks of the machine.
+#[derive(Clone, Copy)]
+pub struct Both {
+    /// The moment, in milliseconds, by the clock of the session.
+    pub moment: u64,
+    /// The time, in milliseconds since 1970-01-01 00:00 UTC.
+    pub time: u64,
+}
+
+impl Both {
+    ghost use Rattle.std.specs.Prelude.{◌<◌};
+
+    /// Now.
+    pub fn now<R: Clock>(rt: &R) -> Both {
+        Both {
+            moment: moment(rt, 0),
+            time: utc(rt),
+        }
+    }
+
+    /// The time of another moment, both in milliseconds: since 1970-01-01 00:00 UTC, and below `MAX_TIME`, at which it stops.
+    pub fn time_at(self, moment: u64) -> u64
+        ensures { result < MAX_TIME }
+    {
+        let since = moment.saturating_sub(self.moment);
+        let until = self.moment.saturating_sub(moment);
+        let time = self.time.saturating_sub(until).saturating_add(since);
+        time.min(MAX_TIME - 1)
+    }
+}
+
+/// Changes of points that are made in order, once or again and again.
+#[derive(Drop)]
+pub struct Replay {
+    /// The changes.
+    changes: Vec<Change>,
+    /// Of each, whether its time is that at which it is due.
+    is_dated: Vec<bool>,
+    /// How many of them are made.
+    made: usize,
+    /// After how long it begins again, in milliseconds, if it does.
+    again: Option<u64>,
+}
+
+impl Replay {
+    /// No changes.
+    pub fn new(alloc: Global) -> Replay {
+        Replay {
+            changes: Vec::new(alloc),
+            is_dated: Vec::new(alloc),
+            made: 0,
+            again: None,
+        }
+    }
+
+    /// The changes that are left, until it begins again.
+    pub(crate) fn left(&self) -> &[Change] {
+        self.changes.as_slice().get(self.made..).unwrap_or(&[])
+    }
+
+    /// Only so many are left.
+    pub(crate) fn keep(&mut self, left: usize) {
+        self.made = self.changes.len().saturating_sub(left);
+    }
+
+    /// The moment at which it begins again, if it does, in milliseconds.
+    pub(crate) fn ends(&self) -> Option<u64> {
+        match (self.again, self.changes.last()) {
+            (Some(_), Some(change)) => Some(change.at),
+            _ => None,
+        }
+    }
+
+    /// Begins again where all changes are made: each is due as long after the last one of before as it was after the start.
+    pub(crate) fn begin_again<R: Clock>(&mut self, rt: &R) {
+        let Some(length) = self.again else {
+            return;
+        };
+        if self.made < self.changes.len() {
+            return;
+        }
+        let both = Both::now(rt);
+        for (change, is_dated) in self.changes.iter_mut().zip(self.is_dated.iter()) {
+            change.at = change.at.saturating_add(length);
+            if *is_dated {
+                change.reading.time = Some(both.time_at(change.at));
+            }
+        }
+        self.made = 0;
+    }
+
+    /// The next change, where it is due at this moment: it counts as made.
+    pub(crate) fn next_due(&mut self, now: u64) -> Option<Change> {
+        let change = *self.left().first()?;
+        if change.at > now {
+            return None;
+        }
+        self.made = self.made.saturating_add(1);
+        Some(change)
+    }
+
+    /// Adds a change after the others, than which it is due no earlier, and whether its time is that at which it is due. An error
+    /// says that memory ran out.
+    pub fn add(&mut self, change: Change, is_dated: bool) -> Result<(), AllocError> {
+        self.changes.push(change)?;
+        self.is_dated.push(is_dated)?;
+        Ok(())
+    }
+
+    /// It begins again once all changes are made, each so much later, in milliseconds, than before; not where that is at once.
+    pub fn repeat(&mut self, length: u64) {
+        self.again = if length > 0 { Some(length) } else { None };
+    }
+}
