@@ -26,6 +26,11 @@ uint64_t dnp_bench_change(uint64_t count, bool is_unsolicited);
 uint64_t dnp_bench_read_lanes(uint8_t shape, bool is_read);
 uint64_t dnp_bench_operate(uint64_t count);
 
+// Over lanes that keep their rows in lists, where those above keep them in rings.
+uint64_t dnp_bench_poll_events_of_lists(uint64_t count, uint16_t events);
+uint64_t dnp_bench_change_of_lists(uint64_t count, bool is_unsolicited);
+uint64_t dnp_bench_read_lanes_of_lists(uint8_t shape, bool is_read);
+
 // The same in plain Rust: plain_rust/.
 uint64_t plain_feed(const uint8_t *stream, size_t size, size_t piece);
 uint64_t plain_walk(const uint8_t *fragment, size_t size);
@@ -248,8 +253,14 @@ static uint64_t built_empty(int way, uint64_t count) { return (way ? plain_build
 // A master asks, and takes the response.
 static uint64_t taken(int way, uint64_t count) { return (way ? plain_take : dnp_bench_take)(fragment, fragment_size, count); }
 
+// An outstation: the proved one over rings, the plain one, and the proved one over lists.
+enum { OUTSTATIONS = 3 };
+
 // Polls of an outstation: of events, and of values.
-static uint64_t polled(int way, uint64_t count, uint16_t events) { return (way ? plain_poll_events : dnp_bench_poll_events)(count, events); }
+static uint64_t polled(int way, uint64_t count, uint16_t events) {
+    static uint64_t (*const pollers[OUTSTATIONS])(uint64_t, uint16_t) = {dnp_bench_poll_events, plain_poll_events, dnp_bench_poll_events_of_lists};
+    return pollers[way](count, events);
+}
 
 static uint64_t polled_none(int way, uint64_t count) { return polled(way, count, 0); }
 
@@ -260,46 +271,61 @@ static uint64_t polled_156(int way, uint64_t count) { return polled(way, count, 
 static uint64_t polled_values(int way, uint64_t count) { return (way ? plain_poll_values : dnp_bench_poll_values)(count); }
 
 // Changes, into a full lane or each reported and confirmed; and controls.
-static uint64_t changed(int way, uint64_t count) { return (way ? plain_change : dnp_bench_change)(count, false); }
+static uint64_t changed(int way, uint64_t count) {
+    static uint64_t (*const changers[OUTSTATIONS])(uint64_t, bool) = {dnp_bench_change, plain_change, dnp_bench_change_of_lists};
+    return changers[way](count, false);
+}
 
 static uint64_t reported(int way, uint64_t count) { return (way ? plain_change : dnp_bench_change)(count, true); }
 
 static uint64_t operated(int way, uint64_t count) { return (way ? plain_operate : dnp_bench_operate)(count); }
 
+// Prints a row, of which one way took so many seconds for `count`; and, where there is a third way, the row of that beside
+// both others.
+static void tell_works(const char *what, const char *unit, double count, int ways, const double *took, const uint64_t *sums) {
+    for (int way = 0; way < ways; way += 2) {
+        TELL("%-33s %11.1f K%s/s %7.2f", way ? "  over lists" : what, count / took[way] / 1e3, unit, took[1] / took[way]);
+        if (way) TELL(" %7.2f", took[0] / took[way]);
+        TELL("%s\n", sums[way] == sums[1] ? "" : "  THE SUMS DIFFER");
+        if (sums[way] != sums[1]) failed = 1;
+    }
+    all_sums = all_sums * 31 + sums[0];
+}
+
 // Full lanes that are read to their end. To fill them takes as long as to read them and is no part of it: it is timed
 // alone too, and what is left of the best of both is the reading.
 static void lane_row(const char *what, uint8_t shape) {
-    static uint64_t (*const readers_of_lanes[2])(uint8_t, bool) = {dnp_bench_read_lanes, plain_read_lanes};
-    double *best = bests[row_number++], *filling = bests[row_number++];
-    uint64_t sums[2];
+    static uint64_t (*const readers_of_lanes[OUTSTATIONS])(uint8_t, bool) = {dnp_bench_read_lanes, plain_read_lanes, dnp_bench_read_lanes_of_lists};
+    double *best = bests[row_number++], *filling = bests[row_number++], took[OUTSTATIONS];
+    uint64_t sums[OUTSTATIONS];
     for (int round = 0; round < rounds; round++)
-        for (int way = 0; way < 2; way++) {
+        for (int way = 0; way < OUTSTATIONS; way++) {
             double start = seconds();
             readers_of_lanes[way](shape, false);
             double filled = seconds();
             sums[way] = readers_of_lanes[way](shape, true);
             keep_best(&filling[way], filled - start);
             keep_best(&best[way], seconds() - filled);
+            took[way] = best[way] - filling[way];
         }
-    double count = plain_lane_fragments(shape), proved = best[0] - filling[0], plain = best[1] - filling[1];
-    TELL("%-33s %11.1f K%s/s %7.2f%s\n", what, count / proved / 1e3, "fragment", plain / proved, sums[0] == sums[1] ? "" : "  THE SUMS DIFFER");
-    if (sums[0] != sums[1]) failed = 1;
-    all_sums = all_sums * 31 + sums[0];
+    tell_works(what, "fragment", plain_lane_fragments(shape), OUTSTATIONS, took, sums);
 }
 
-// A row of `count` works of a kind, as fragments or polls, a round.
-static void work_row(const char *what, const char *unit, uint64_t (*work)(int, uint64_t), uint64_t count) {
+// A row of `count` works of a kind, as fragments or polls, a round; proved and plain, or over lists too.
+static void ways_row(int ways, const char *what, const char *unit, uint64_t (*work)(int, uint64_t), uint64_t count) {
     double *best = bests[row_number++];
-    uint64_t sums[2];
+    uint64_t sums[OUTSTATIONS];
     for (int round = 0; round < rounds; round++)
-        for (int way = 0; way < 2; way++) {
+        for (int way = 0; way < ways; way++) {
             double start = seconds();
             sums[way] = work(way, count);
             keep_best(&best[way], seconds() - start);
         }
-    TELL("%-33s %11.1f K%s/s %7.2f%s\n", what, count / best[0] / 1e3, unit, best[1] / best[0], sums[0] == sums[1] ? "" : "  THE SUMS DIFFER");
-    if (sums[0] != sums[1]) failed = 1;
-    all_sums = all_sums * 31 + sums[0];
+    tell_works(what, unit, count, ways, best, sums);
+}
+
+static void work_row(const char *what, const char *unit, uint64_t (*work)(int, uint64_t), uint64_t count) {
+    ways_row(2, what, unit, work, count);
 }
 
 // A fragment that begins so, and then `count` times `size` random octets.
@@ -333,12 +359,12 @@ static void fragment_rows(void) {
 }
 
 static void poll_rows(void) {
-    TELL("\n%-33s %23s   beside plain Rust\n", "an outstation", "proved");
+    TELL("\n%-33s %23s   beside plain Rust; lists also beside rings\n", "an outstation", "proved");
     work_row("no events", "poll", polled_none, 20000);
     work_row("1 event, made and confirmed", "poll", polled_one, 20000);
-    work_row("156 events, made and confirmed", "poll", polled_156, 500);
+    ways_row(OUTSTATIONS, "156 events, made and confirmed", "poll", polled_156, 500);
     work_row("1,000 values, in two fragments", "poll", polled_values, 1000);
-    work_row("a change, into a full lane", "change", changed, 20000);
+    ways_row(OUTSTATIONS, "a change, into a full lane", "change", changed, 20000);
     work_row("a change, reported and confirmed", "change", reported, 20000);
     work_row("a SELECT and its OPERATE", "pair", operated, 10000);
 }
@@ -346,7 +372,7 @@ static void poll_rows(void) {
 // Each lane of 4,096 rows is full: all nine, or the three of a kind.
 static void lane_rows(void) {
     static const char *const shapes[] = {"rows of all kinds", "analogs", "binaries in groups", "binaries too far apart"};
-    TELL("\n%-33s %23s   beside plain Rust\n", "a READ of full lanes", "proved");
+    TELL("\n%-33s %23s   beside plain Rust; lists also beside rings\n", "a READ of full lanes", "proved");
     for (uint8_t shape = 0; shape < 4; shape++)
         lane_row(shapes[shape], shape);
 }

@@ -188,7 +188,7 @@ class Crate:
         if trait == "Drop":
             return lambda name: self.home(own, here) + [own, name]
         lent = "".join({"&": "Ref", "mut": "Mut"}.get(it.text, "") for it in head[cut + 1:cut + 3])
-        words = [lent, "" if own in parameters else own, trait, *(it for it in arguments if it not in parameters)]
+        words = [lent, "" if own in parameters else own, trait, *(it[:1].upper() + it[1:] for it in arguments if it not in parameters)]
         return lambda name: here + ["".join(words), name]
 
 

@@ -1,14 +1,12 @@
 //! The address to listen at, on the command line.
 
-use crate::options::{HINT, defaulted};
-use clap::{Arg, ArgMatches};
-use std::alloc::Global;
+use crate::options::{Choice, HINT, defaulted};
+use clap::ArgMatches;
 use std::net::IpAddr;
 
 /// The option that says at which address is listened: this machine alone reaches the one that it has otherwise.
-pub(crate) fn bind<'a>(alloc: Global) -> Arg<'a> {
+pub(crate) fn bind() -> Choice {
     defaulted(
-        alloc,
         "bind",
         "ADDRESS",
         "127.0.0.1",

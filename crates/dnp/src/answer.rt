@@ -1,6 +1,6 @@
 //! `dnp answer`: the outstation's answer to one link frame.
 
-use crate::options::{HINT, defaulted};
+use crate::options::{HINT, defaulted, subcommand};
 use clap::{ArgMatches, Command};
 use dnp_daemons::{AnswerFault, answer_line, read_address, read_text, text_fault};
 use dnp_tcp::{Noted, exit, lost, unwritten};
@@ -61,11 +61,11 @@ const PEER: &str = "The link address of its master, 0 to 65519";
 
 /// What `clap` has to know of `dnp answer`.
 pub(crate) fn command<'a>(alloc: Global) -> Result<Command<'a>, AllocError> {
-    Command::new(alloc, NAME)
-        .about(ABOUT)
-        .after_help(AFTER)
-        .arg(defaulted(alloc, "own", "ADDRESS", "10", OWN))?
-        .arg(defaulted(alloc, "peer", "ADDRESS", "1", PEER))
+    let choices = [
+        defaulted("own", "ADDRESS", "10", OWN),
+        defaulted("peer", "ADDRESS", "1", PEER),
+    ];
+    subcommand(alloc, NAME, ABOUT, AFTER, &choices)
 }
 
 /// Answers the line on standard input by the given words, and tells the exit status.

@@ -1,7 +1,7 @@
 //! `dnp centre`: one of the two centres of a plan over files, which polls the concentrator by TCP.
 
 use crate::numbers::{MAX_EVERY, number_given};
-use crate::options::{HINT, defaulted, flag, plan, required, valued};
+use crate::options::{HINT, defaulted, flag, plan, required, subcommand, valued};
 use crate::plan_file::plan_given;
 use clap::{ArgMatches, Command};
 use dnp_concentrator::MAX_SUBSTATIONS;
@@ -95,23 +95,19 @@ const NEW: &str = "Make the journal and the book of controls, which are not ther
 
 /// What `clap` has to know of `dnp centre`.
 pub(crate) fn command<'a>(alloc: Global) -> Result<Command<'a>, AllocError> {
-    Command::new(alloc, NAME)
-        .about(ABOUT)
-        .after_help(AFTER)
-        .arg(plan(alloc))?
-        .arg(required(alloc, "journal", "FILE", JOURNAL))?
-        .arg(required(alloc, "controls", "FILE", CONTROLS))?
-        .arg(required(alloc, "port", "P", PORT))?
-        .arg(defaulted(alloc, "number", "N", "1", NUMBER))?
-        .arg(valued(alloc, "issue", "TEXT", ISSUE))?
-        .arg(valued(alloc, "every", "MS", EVERY))?
-        .arg(defaulted(alloc, "polls", "N", "1", POLLS).requires_arg("every")?)?
-        .arg(
-            flag(alloc, "forever", FOREVER)
-                .conflicts_with("polls")?
-                .requires_arg("every")?,
-        )?
-        .arg(flag(alloc, "new", NEW))
+    let choices = [
+        plan(),
+        required("journal", "FILE", JOURNAL),
+        required("controls", "FILE", CONTROLS),
+        required("port", "P", PORT),
+        defaulted("number", "N", "1", NUMBER),
+        valued("issue", "TEXT", ISSUE),
+        valued("every", "MS", EVERY),
+        defaulted("polls", "N", "1", POLLS).needing("every"),
+        flag("forever", FOREVER).excluding("polls").needing("every"),
+        flag("new", NEW),
+    ];
+    subcommand(alloc, NAME, ABOUT, AFTER, &choices)
 }
 
 /// What the words of the command line say.

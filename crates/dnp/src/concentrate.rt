@@ -2,7 +2,7 @@
 
 use crate::addresses::{bind, bind_given};
 use crate::numbers::{MAX_EVERY, MAX_IDLE, number_given};
-use crate::options::{HINT, defaulted, flag, plan, required, valued};
+use crate::options::{HINT, defaulted, flag, plan, required, subcommand, valued};
 use crate::plan_file::plan_given;
 use clap::{ArgMatches, Command};
 use dnp_concentrator::Plan;
@@ -126,26 +126,24 @@ const MIGRATE: &str = "Bring a queue of an earlier release, for one centre, to t
 
 /// What `clap` has to know of `dnp concentrate`.
 pub(crate) fn command<'a>(alloc: Global) -> Result<Command<'a>, AllocError> {
-    Command::new(alloc, NAME)
-        .about(ABOUT)
-        .after_help(AFTER)
-        .arg(plan(alloc))?
-        .arg(required(alloc, "queue", "FILE", QUEUE))?
-        .arg(required(alloc, "controls", "FILE", CONTROLS))?
-        .arg(required(alloc, "port", "P", PORT))?
-        .arg(valued(alloc, "port2", "P", PORT2))?
-        .arg(bind(alloc))?
-        .arg(required(alloc, "below", "P", BELOW))?
-        .arg(defaulted(alloc, "rounds", "N", "1", ROUNDS))?
-        .arg(valued(alloc, "every", "MS", EVERY))?
-        .arg(
-            flag(alloc, "forever", FOREVER)
-                .conflicts_with("rounds")?
-                .requires_arg("every")?,
-        )?
-        .arg(defaulted(alloc, "idle", "SECONDS", "60", IDLE).requires_arg("every")?)?
-        .arg(flag(alloc, "new", NEW))?
-        .arg(flag(alloc, "migrate", MIGRATE).conflicts_with("new")?)
+    let choices = [
+        plan(),
+        required("queue", "FILE", QUEUE),
+        required("controls", "FILE", CONTROLS),
+        required("port", "P", PORT),
+        valued("port2", "P", PORT2),
+        bind(),
+        required("below", "P", BELOW),
+        defaulted("rounds", "N", "1", ROUNDS),
+        valued("every", "MS", EVERY),
+        flag("forever", FOREVER)
+            .excluding("rounds")
+            .needing("every"),
+        defaulted("idle", "SECONDS", "60", IDLE).needing("every"),
+        flag("new", NEW),
+        flag("migrate", MIGRATE).excluding("new"),
+    ];
+    subcommand(alloc, NAME, ABOUT, AFTER, &choices)
 }
 
 /// What the words of the command line say.

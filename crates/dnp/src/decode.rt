@@ -1,6 +1,6 @@
 //! `dnp decode`: octets as lines for people.
 
-use crate::options::{HINT, flag, valued};
+use crate::options::{HINT, flag, subcommand, valued};
 use clap::{ArgMatches, Command};
 use dnp_captures::{CaptureFault, Item, Printer, items_of_capture, items_of_text, place_octets};
 use dnp_tcp::{Noted, exit, lost, unwritten};
@@ -103,12 +103,12 @@ const JSON: &str = "Print each line as a JSON object";
 
 /// What `clap` has to know of `dnp decode`.
 pub(crate) fn command<'a>(alloc: Global) -> Result<Command<'a>, AllocError> {
-    Command::new(alloc, NAME)
-        .about(ABOUT)
-        .after_help(AFTER)
-        .arg(flag(alloc, "raw", RAW))?
-        .arg(valued(alloc, "pcap", "FILE", PCAP))?
-        .arg(flag(alloc, "json", JSON))
+    let choices = [
+        flag("raw", RAW),
+        valued("pcap", "FILE", PCAP),
+        flag("json", JSON),
+    ];
+    subcommand(alloc, NAME, ABOUT, AFTER, &choices)
 }
 
 /// Decodes the input by the given words, and tells the exit status.
@@ -125,26 +125,30 @@ pub(crate) fn run<R: AllocGlobal + Input + Print + Eprint + Files>(
             );
             Ok(ExitCode::from(exit::USAGE))
         }
-        Some(path) => {
-            let octets = match octets_of(rt, path, fs::open(rt, path)) {
-                Ok(octets) => octets,
-                Err(status) => return Ok(status),
-            };
-            decode_capture(rt, path, octets.as_slice(), json)
-        }
-        None => {
-            let octets = match octets_of(rt, "standard input", Ok(rt.reader())) {
-                Ok(octets) => octets,
-                Err(status) => return Ok(status),
-            };
-            let items = if raw {
-                place_octets(rt.alloc(), octets.as_slice())?
-            } else {
-                items_of_text(rt.alloc(), octets.as_slice())?
-            };
-            print_items(rt, items.as_slice(), json)
-        }
+        Some(path) => match octets_of(rt, path, fs::open(rt, path)) {
+            Ok(octets) => decode_capture(rt, path, octets.as_slice(), json),
+            Err(status) => Ok(status),
+        },
+        None => match octets_of(rt, "standard input", Ok(rt.reader())) {
+            Ok(octets) => decode_octets(rt, octets.as_slice(), raw, json),
+            Err(status) => Ok(status),
+        },
     }
+}
+
+/// Prints what raw octets carry, or hexadecimal lines, and tells the exit status.
+fn decode_octets<R: AllocGlobal + Print + Eprint>(
+    rt: &R,
+    octets: &[u8],
+    raw: bool,
+    json: bool,
+) -> anyhow::Result<ExitCode> {
+    let items = if raw {
+        place_octets(rt.alloc(), octets)?
+    } else {
+        items_of_text(rt.alloc(), octets)?
+    };
+    print_items(rt, items.as_slice(), json)
 }
 
 /// The octets of an input. Where it can't be read, why is said on standard error, and the exit status is told.
@@ -199,7 +203,17 @@ fn print_items<R: AllocGlobal + Print + Eprint>(
     json: bool,
 ) -> anyhow::Result<ExitCode> {
     let mut out = BufWriter::new(rt.alloc(), Noted::new(io::writer(rt)))?;
-    let printed = Printer::new(json).print_all(items, &mut out);
+    print_into(rt, items, json, &mut out)
+}
+
+/// Prints the items into this buffer, and tells the exit status.
+fn print_into<R: Eprint, W: Write + Drop>(
+    rt: &R,
+    items: &[Item],
+    json: bool,
+    out: &mut BufWriter<Noted<W>>,
+) -> anyhow::Result<ExitCode> {
+    let printed = Printer::new(json).print_all(items, &mut *out);
     let flushed = out.flush();
     if let Some(cause) = out.get_ref().cause() {
         return Ok(unwritten(rt, cause));

@@ -1,12 +1,15 @@
 //! What `dnp sim` writes to look at: a trace, a chart and a capture of a script's run.
 
+ghost use Rattle.dnp_concentrator.specs.Plan.{KeepsLimits};
+
 use crate::texts::Texts;
 use crate::watched::watch;
 use clap::ArgMatches;
+use dnp_concentrator::Plan;
 use dnp_daemons::{read_plan, read_script};
 use dnp_tcp::{lost, unwritten};
 use dnp_trace::{Log, capture_octets, chart_text, trace_text};
-use std::alloc::AllocError;
+use std::alloc::{AllocError, Global};
 use std::io::Write;
 use std::process::ExitCode;
 use std::rt::Files;
@@ -14,6 +17,10 @@ use std::{fs, io};
 
 /// What stands for standard output.
 const STANDARD: &str = "-";
+
+/// A text is no plan, or no script for it.
+#[derive(Clone, Copy)]
+struct Refused;
 
 /// Whether two of the options name one file.
 fn is_one(file: &str, other: &str) -> bool {
@@ -103,17 +110,28 @@ pub(crate) fn write_looks<R: AllocGlobal + Print + Eprint + Files>(
     if !(given.contains_id("trace") || given.contains_id("chart") || given.contains_id("capture")) {
         return Ok(None);
     }
-    let alloc = rt.alloc();
     // What is refused here, also where it is out of memory, is said by the run that is reported.
-    let Ok(plan) = read_plan(alloc, texts.plan.as_str()) else {
-        return Ok(None);
-    };
-    let text = texts.script.as_str();
-    let Ok(script) = read_script(alloc, text, &plan) else {
-        return Ok(None);
-    };
-    match watch(alloc, &plan, script.as_slice(), text) {
-        Some(log) => write_all(rt, &log, given),
-        None => Err(AllocError.into()),
+    match seen(rt.alloc(), texts) {
+        Ok(Some(log)) => write_all(rt, &log, given),
+        Ok(None) => Err(AllocError.into()),
+        Err(_) => Ok(None),
+    }
+}
+
+/// What units do in the script's run; none where memory ran out in it.
+fn seen(alloc: Global, texts: &Texts) -> Result<Option<Log>, Refused> {
+    match read_plan(alloc, texts.plan.as_str()) {
+        Ok(plan) => seen_on(alloc, &plan, texts.script.as_str()),
+        Err(_) => Err(Refused),
+    }
+}
+
+/// What units do in the run of a script on the plan; none where memory ran out in it.
+fn seen_on(alloc: Global, plan: &Plan, text: &str) -> Result<Option<Log>, Refused>
+    requires { KeepsLimits plan.now }
+{
+    match read_script(alloc, text, plan) {
+        Ok(script) => Ok(watch(alloc, plan, script.as_slice(), text)),
+        Err(_) => Err(Refused),
     }
 }

@@ -1,6 +1,6 @@
 //! `dnp loopback`: a whole system of a plan, run by a script, whose units go over TCP to the program itself.
 
-use crate::options::plan;
+use crate::options::{plan, subcommand};
 use crate::texts::{Texts, finish, limit, plain, stores_given, texts_given};
 use crate::wire::Wire;
 use clap::{ArgMatches, Command};
@@ -8,7 +8,7 @@ use dnp_daemons::{Stores, loop_text};
 use dnp_tcp::{Noted, lost};
 use std::alloc::{AllocError, Global};
 use std::io;
-use std::io::BufWriter;
+use std::io::{BufWriter, Write};
 use std::net::{Net, TcpListener, TcpStream};
 use std::process::ExitCode;
 use std::rt::Files;
@@ -49,12 +49,8 @@ EXIT STATUS
 
 /// What `clap` has to know of `dnp loopback`.
 pub(crate) fn command<'a>(alloc: Global) -> Result<Command<'a>, AllocError> {
-    Command::new(alloc, NAME)
-        .about(ABOUT)
-        .after_help(AFTER)
-        .arg(plan(alloc))?
-        .arg(limit(alloc))?
-        .arg(plain(alloc))
+    let choices = [plan(), limit(), plain()];
+    subcommand(alloc, NAME, ABOUT, AFTER, &choices)
 }
 
 /// Runs the script on standard input by the given words, and tells the exit status.
@@ -63,12 +59,20 @@ where
     R: AllocGlobal + Input + Print + Eprint + Files,
     R: Net<Listener = TcpListener, Stream = TcpStream>,
 {
-    let texts = match texts_given(rt, given)? {
-        Ok(texts) => texts,
-        Err(status) => return Ok(status),
-    };
+    match texts_given(rt, given)? {
+        Ok(texts) => connect(rt, &texts, stores_given(given)),
+        Err(status) => Ok(status),
+    }
+}
+
+/// Connects the program to itself, runs the script, and tells the exit status.
+fn connect<R>(rt: &R, texts: &Texts, stores: Stores) -> anyhow::Result<ExitCode>
+where
+    R: AllocGlobal + Print + Eprint,
+    R: Net<Listener = TcpListener, Stream = TcpStream>,
+{
     match Wire::new(rt) {
-        Ok(mut wire) => carry(rt, &texts, stores_given(given), &mut wire),
+        Ok(mut wire) => carry(rt, texts, stores, &mut wire),
         Err(cause) => Ok(lost(rt, WIRE, &cause)),
     }
 }
@@ -81,16 +85,27 @@ fn carry<R: AllocGlobal + Print + Eprint>(
     wire: &mut Wire,
 ) -> anyhow::Result<ExitCode> {
     let mut out = BufWriter::new(rt.alloc(), Noted::new(io::writer(rt)))?;
+    carry_into(rt, texts, stores, wire, &mut out)
+}
+
+/// Runs the script over the wire, prints into this buffer, and tells the exit status.
+fn carry_into<R: AllocGlobal + Eprint, W: Write + Drop>(
+    rt: &R,
+    texts: &Texts,
+    stores: Stores,
+    wire: &mut Wire,
+    out: &mut BufWriter<Noted<W>>,
+) -> anyhow::Result<ExitCode> {
     let ended = loop_text(
         rt.alloc(),
         texts.plan.as_str(),
         texts.script.as_str(),
         stores,
         &mut *wire,
-        &mut out,
+        &mut *out,
     );
     if let Some(cause) = wire.cause() {
         lost(rt, WIRE, cause);
     }
-    finish(rt, texts, Some(wire), &mut out, ended)
+    finish(rt, texts, Some(wire), out, ended)
 }

@@ -43,6 +43,9 @@ as when it is out of memory. The others are each subcommand's own.";
 /// What `dnp --version` prints after the program's name.
 const VERSION: &str = "0.1.0";
 
+/// How many subcommands there are.
+const SUBCOMMANDS: u8 = 9;
+
 /// Runs the command line, and says what failed.
 fn main(rt: HostRuntime) -> ExitCode {
     match run(&rt) {
@@ -65,8 +68,12 @@ fn run(rt: &HostRuntime) -> anyhow::Result<ExitCode> {
         Err(fault) => return Err(fault.into()),
     };
     let words: Vec<String> = words.collect(rt.alloc())?;
-    let dnp = command(rt.alloc())?;
-    match dnp.try_get_matches_from(words.as_slice()) {
+    judge(rt, words.as_slice())
+}
+
+/// Lets `clap` judge the words of the command line, and does what they ask.
+fn judge(rt: &HostRuntime, words: &[String]) -> anyhow::Result<ExitCode> {
+    match command(rt.alloc())?.try_get_matches_from(words) {
         Ok(matches) => dispatch(rt, &matches),
         Err(error) => refuse(rt, &error),
     }
@@ -74,21 +81,43 @@ fn run(rt: &HostRuntime) -> anyhow::Result<ExitCode> {
 
 /// What `clap` has to know of the program.
 fn command<'a>(alloc: Global) -> Result<Command<'a>, AllocError> {
-    Command::new(alloc, "dnp")
+    let mut dnp = Command::new(alloc, "dnp")
         .about(ABOUT)
         .after_help(AFTER)
         .version(VERSION)
         .subcommand_required(true)
-        .arg_required_else_help(true)
-        .subcommand(answer::command(alloc)?)?
-        .subcommand(centre::command(alloc)?)?
-        .subcommand(concentrate::command(alloc)?)?
-        .subcommand(decode::command(alloc)?)?
-        .subcommand(loopback::command(alloc)?)?
-        .subcommand(outstation::command(alloc)?)?
-        .subcommand(poll::command(alloc)?)?
-        .subcommand(rows::command(alloc)?)?
-        .subcommand(sim::command(alloc)?)
+        .arg_required_else_help(true);
+    for number in 0..SUBCOMMANDS {
+        dnp = with_subcommand(alloc, dnp, number)?;
+    }
+    Ok(dnp)
+}
+
+/// A command with one subcommand more.
+fn with_subcommand<'a>(
+    alloc: Global,
+    dnp: Command<'a>,
+    number: u8,
+) -> Result<Command<'a>, AllocError> {
+    match subcommand(alloc, number) {
+        Ok(made) => dnp.subcommand(made),
+        Err(fault) => Err(fault),
+    }
+}
+
+/// What `clap` has to know of a subcommand, by its number from 0.
+fn subcommand<'a>(alloc: Global, number: u8) -> Result<Command<'a>, AllocError> {
+    match number {
+        0 => answer::command(alloc),
+        1 => centre::command(alloc),
+        2 => concentrate::command(alloc),
+        3 => decode::command(alloc),
+        4 => loopback::command(alloc),
+        5 => outstation::command(alloc),
+        6 => poll::command(alloc),
+        7 => rows::command(alloc),
+        _ => sim::command(alloc),
+    }
 }
 
 /// Does what the subcommand asks.

@@ -1,44 +1,157 @@
-//! The options of the subcommands.
+//! The options of the subcommands, and what `clap` has to know of them. A [`Command`] is owned by few functions with few ways
+//! out, since letting one go is dear to prove: a subcommand is a list of its options, which own nothing.
 
-use clap::{Arg, ArgAction};
-use std::alloc::Global;
+use clap::{Arg, ArgAction, Command};
+use std::alloc::{AllocError, Global};
 
 /// How a message ends that says what is wrong with the command line, as `clap`'s own do.
 pub(crate) const HINT: &str = "\n\nFor more information, try '--help'.";
 
+/// What comes with an option.
+#[derive(Clone, Copy)]
+enum Takes {
+    /// Nothing.
+    Nothing,
+    /// A value, which this stands for in the help text.
+    Value(&'static str),
+    /// A value that has to be given.
+    Needed(&'static str),
+    /// A value that is the second text where none is given.
+    Defaulted(&'static str, &'static str),
+    /// A value that has to be given, without the option's name before it.
+    Bare(&'static str),
+}
+
+/// An option of a subcommand.
+#[derive(Clone, Copy)]
+pub(crate) struct Choice {
+    /// Its name.
+    name: &'static str,
+    /// What comes with it.
+    takes: Takes,
+    /// What its help text says.
+    help: &'static str,
+    /// An option that can't be given with it.
+    excluded: Option<&'static str>,
+    /// An option that has to be given with it.
+    needed: Option<&'static str>,
+}
+
+impl Choice {
+    /// The option, where another can't be given with it.
+    pub(crate) fn excluding(self, other: &'static str) -> Choice {
+        Choice {
+            excluded: Some(other),
+            ..self
+        }
+    }
+
+    /// The option, where another has to be given with it.
+    pub(crate) fn needing(self, other: &'static str) -> Choice {
+        Choice {
+            needed: Some(other),
+            ..self
+        }
+    }
+}
+
+/// An option that takes this.
+fn taking(name: &'static str, takes: Takes, help: &'static str) -> Choice {
+    Choice {
+        name,
+        takes,
+        help,
+        excluded: None,
+        needed: None,
+    }
+}
+
 /// An option with a value, which `value` stands for in the help text.
-pub(crate) fn valued<'a>(alloc: Global, name: &'a str, value: &'a str, help: &'a str) -> Arg<'a> {
-    Arg::new(alloc, name)
-        .long(name)
-        .value_name(value)
-        .help(help)
+pub(crate) fn valued(name: &'static str, value: &'static str, help: &'static str) -> Choice {
+    taking(name, Takes::Value(value), help)
 }
 
 /// An option with a value that has to be given.
-pub(crate) fn required<'a>(alloc: Global, name: &'a str, value: &'a str, help: &'a str) -> Arg<'a> {
-    valued(alloc, name, value, help).required(true)
+pub(crate) fn required(name: &'static str, value: &'static str, help: &'static str) -> Choice {
+    taking(name, Takes::Needed(value), help)
 }
 
 /// An option with a value that is `default` where none is given.
-pub(crate) fn defaulted<'a>(
-    alloc: Global,
-    name: &'a str,
-    value: &'a str,
-    default: &'a str,
-    help: &'a str,
-) -> Arg<'a> {
-    valued(alloc, name, value, help).default_value(default)
+pub(crate) fn defaulted(
+    name: &'static str,
+    value: &'static str,
+    default: &'static str,
+    help: &'static str,
+) -> Choice {
+    taking(name, Takes::Defaulted(value, default), help)
 }
 
 /// An option without a value.
-pub(crate) fn flag<'a>(alloc: Global, name: &'a str, help: &'a str) -> Arg<'a> {
-    Arg::new(alloc, name)
-        .long(name)
-        .action(ArgAction::SetTrue)
-        .help(help)
+pub(crate) fn flag(name: &'static str, help: &'static str) -> Choice {
+    taking(name, Takes::Nothing, help)
+}
+
+/// A value that has to be given, without a name before it.
+pub(crate) fn bare(name: &'static str, value: &'static str, help: &'static str) -> Choice {
+    taking(name, Takes::Bare(value), help)
 }
 
 /// The option that names the plan's file.
-pub(crate) fn plan<'a>(alloc: Global) -> Arg<'a> {
-    required(alloc, "plan", "FILE", "The plan of the system, as TOML")
+pub(crate) fn plan() -> Choice {
+    required("plan", "FILE", "The plan of the system, as TOML")
+}
+
+/// What `clap` has to know of an option by itself.
+fn alone<'a>(alloc: Global, choice: &Choice) -> Arg<'a> {
+    let arg = Arg::new(alloc, choice.name).help(choice.help);
+    match choice.takes {
+        Takes::Nothing => arg.long(choice.name).action(ArgAction::SetTrue),
+        Takes::Value(value) => arg.long(choice.name).value_name(value),
+        Takes::Needed(value) => arg.long(choice.name).value_name(value).required(true),
+        Takes::Defaulted(value, default) => arg
+            .long(choice.name)
+            .value_name(value)
+            .default_value(default),
+        Takes::Bare(value) => arg.value_name(value).required(true),
+    }
+}
+
+/// What `clap` has to know of an option.
+fn arg_of<'a>(alloc: Global, choice: &Choice) -> Result<Arg<'a>, AllocError> {
+    let arg = match choice.excluded {
+        Some(other) => alone(alloc, choice).conflicts_with(other)?,
+        None => alone(alloc, choice),
+    };
+    match choice.needed {
+        Some(other) => arg.requires_arg(other),
+        None => Ok(arg),
+    }
+}
+
+/// A command with one option more.
+fn with_choice<'a>(
+    alloc: Global,
+    command: Command<'a>,
+    choice: &Choice,
+) -> Result<Command<'a>, AllocError> {
+    match arg_of(alloc, choice) {
+        Ok(arg) => command.arg(arg),
+        Err(fault) => Err(fault),
+    }
+}
+
+/// What `clap` has to know of a subcommand with this name, what it does in a line, what its help text says after the
+/// options, and the options.
+pub(crate) fn subcommand<'a>(
+    alloc: Global,
+    name: &'static str,
+    about: &'static str,
+    after: &'static str,
+    choices: &[Choice],
+) -> Result<Command<'a>, AllocError> {
+    let mut command = Command::new(alloc, name).about(about).after_help(after);
+    for choice in choices {
+        command = with_choice(alloc, command, choice)?;
+    }
+    Ok(command)
 }

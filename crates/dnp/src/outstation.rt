@@ -2,7 +2,7 @@
 
 use crate::addresses::{bind, bind_given};
 use crate::numbers::{MAX_IDLE, number_given};
-use crate::options::{HINT, defaulted, flag, plan, required, valued};
+use crate::options::{HINT, defaulted, flag, plan, required, subcommand, valued};
 use crate::plan_file::{plan_text, refused};
 use crate::replay::replay_given;
 use clap::{ArgMatches, Command};
@@ -107,19 +107,19 @@ const VERBOSE: &str = "Say each request on standard error";
 
 /// What `clap` has to know of `dnp outstation`.
 pub(crate) fn command<'a>(alloc: Global) -> Result<Command<'a>, AllocError> {
-    Command::new(alloc, NAME)
-        .about(ABOUT)
-        .after_help(AFTER)
-        .arg(plan(alloc))?
-        .arg(required(alloc, "station", "S", STATION))?
-        .arg(required(alloc, "port", "P", PORT))?
-        .arg(bind(alloc))?
-        .arg(defaulted(alloc, "connections", "N", "1", CONNECTIONS))?
-        .arg(flag(alloc, "forever", FOREVER).conflicts_with("connections")?)?
-        .arg(defaulted(alloc, "idle", "SECONDS", "60", IDLE))?
-        .arg(valued(alloc, "replay", "FILE", REPLAY))?
-        .arg(flag(alloc, "repeat", REPEAT).requires_arg("replay")?)?
-        .arg(flag(alloc, "verbose", VERBOSE))
+    let choices = [
+        plan(),
+        required("station", "S", STATION),
+        required("port", "P", PORT),
+        bind(),
+        defaulted("connections", "N", "1", CONNECTIONS),
+        flag("forever", FOREVER).excluding("connections"),
+        defaulted("idle", "SECONDS", "60", IDLE),
+        valued("replay", "FILE", REPLAY),
+        flag("repeat", REPEAT).needing("replay"),
+        flag("verbose", VERBOSE),
+    ];
+    subcommand(alloc, NAME, ABOUT, AFTER, &choices)
 }
 
 /// What the words of the command line say.
@@ -175,16 +175,28 @@ where
     let Some(words) = words_given(rt, given) else {
         return Ok(ExitCode::from(exit::USAGE));
     };
-    let text = match plan_text(rt, words.plan) {
-        Ok(text) => text,
-        Err(status) => return Ok(status),
-    };
-    let Ok(text) = str::from_utf8(text.as_slice()) else {
+    match plan_text(rt, words.plan) {
+        Ok(text) => run_plan(rt, given, &words, text.as_slice()),
+        Err(status) => Ok(status),
+    }
+}
+
+/// Serves the outstation of a plan with this text, and tells the exit status.
+fn run_plan<R>(
+    rt: &R,
+    given: &ArgMatches<'_>,
+    words: &Words<'_>,
+    text: &[u8],
+) -> anyhow::Result<ExitCode>
+where
+    R: AllocGlobal + Print + Eprint + Files + Clock,
+    R: Net<Listener = TcpListener, Stream = TcpStream>,
+{
+    let Ok(text) = str::from_utf8(text) else {
         return Ok(refused(rt, words.plan, None, PlanTextFault::Syntax));
     };
-    let found = planned_outstation(rt.alloc(), text, words.number);
-    match found {
-        Ok(Some(mut station)) => serve(rt, &words, &mut station),
+    match planned_outstation(rt.alloc(), text, words.number) {
+        Ok(Some(mut station)) => serve(rt, words, &mut station),
         Ok(None) => Ok(no_station(rt, given.get_str("station").unwrap_or(""))),
         Err(fault) => Ok(refused(rt, words.plan, Some(text), fault)),
     }

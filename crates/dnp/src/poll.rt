@@ -2,9 +2,10 @@
 
 mod words;
 
-use crate::options::{defaulted, flag, valued};
+use crate::options::{bare, defaulted, flag, subcommand, valued};
 use crate::poll::words::{tasks_of, words_given};
-use clap::{Arg, ArgMatches, Command};
+use clap::{ArgMatches, Command};
+use dnp_master::Task;
 use dnp_tcp::{RoundSettings, Rounds, exit, lost};
 use std::alloc::{AllocError, Global};
 use std::io;
@@ -93,26 +94,21 @@ const JSON: &str = "Print each line as a JSON object";
 
 /// What `clap` has to know of `dnp poll`.
 pub(crate) fn command<'a>(alloc: Global) -> Result<Command<'a>, AllocError> {
-    Command::new(alloc, NAME)
-        .about(ABOUT)
-        .after_help(AFTER)
-        .arg(
-            Arg::new(alloc, "outstation")
-                .value_name("HOST:PORT")
-                .help(OUTSTATION)
-                .required(true),
-        )?
-        .arg(defaulted(alloc, "own", "ADDRESS", "2", OWN))?
-        .arg(defaulted(alloc, "peer", "ADDRESS", "10", PEER))?
-        .arg(valued(alloc, "classes", "DIGITS", CLASSES))?
-        .arg(flag(alloc, "clear-restart", CLEAR))?
-        .arg(valued(alloc, "time", "MS", TIME))?
-        .arg(valued(alloc, "operate", "COMMAND", OPERATE))?
-        .arg(valued(alloc, "repeat", "TIME", REPEAT))?
-        .arg(valued(alloc, "count", "N", COUNT))?
-        .arg(defaulted(alloc, "confirm", "WORD", "yes", CONFIRM))?
-        .arg(defaulted(alloc, "timeout", "MS", "5000", TIMEOUT))?
-        .arg(flag(alloc, "json", JSON))
+    let choices = [
+        bare("outstation", "HOST:PORT", OUTSTATION),
+        defaulted("own", "ADDRESS", "2", OWN),
+        defaulted("peer", "ADDRESS", "10", PEER),
+        valued("classes", "DIGITS", CLASSES),
+        flag("clear-restart", CLEAR),
+        valued("time", "MS", TIME),
+        valued("operate", "COMMAND", OPERATE),
+        valued("repeat", "TIME", REPEAT),
+        valued("count", "N", COUNT),
+        defaulted("confirm", "WORD", "yes", CONFIRM),
+        defaulted("timeout", "MS", "5000", TIMEOUT),
+        flag("json", JSON),
+    ];
+    subcommand(alloc, NAME, ABOUT, AFTER, &choices)
 }
 
 /// Asks the outstation that the given words name, and tells the exit status.
@@ -125,15 +121,37 @@ where
         return Ok(ExitCode::from(exit::USAGE));
     };
     let tasks = tasks_of(rt.alloc(), &words)?;
-    let stream = match connect(rt, &words.rounds) {
-        Ok(stream) => stream,
-        Err(cause) => return Ok(lost(rt, words.rounds.place, &cause)),
-    };
-    Ok(Rounds {
-        words: &words.rounds,
-        stream: &stream,
+    Ok(ask(rt, &words.rounds, tasks.as_slice()))
+}
+
+/// Connects to the outstation, asks it the tasks in rounds, and tells the exit status.
+fn ask<R>(rt: &R, words: &RoundSettings<'_>, tasks: &[Task]) -> ExitCode
+where
+    R: AllocGlobal + Print + Eprint + Clock,
+    R: Net<Listener = TcpListener, Stream = TcpStream>,
+{
+    match connect(rt, words) {
+        Ok(stream) => Rounds {
+            words,
+            stream: &stream,
+        }
+        .ask_all(rt, tasks),
+        Err(cause) => lost(rt, words.place, &cause),
     }
-    .ask_all(rt, tasks.as_slice()))
+}
+
+/// The connection, which sends what is written at once, and waits so long for it to be taken.
+fn prepared(stream: TcpStream, wait: Duration) -> io::Result<TcpStream> {
+    match prepare(&stream, wait) {
+        Ok(()) => Ok(stream),
+        Err(cause) => Err(cause),
+    }
+}
+
+/// Has a connection send what is written at once, and wait so long for it to be taken.
+fn prepare(stream: &TcpStream, wait: Duration) -> io::Result<()> {
+    stream.set_nodelay(true)?;
+    stream.set_write_timeout(Some(wait))
 }
 
 /// Connects to the outstation, at the first of the host's addresses that answers.
@@ -145,11 +163,7 @@ where
     let mut failed = io::ErrorKind::AddrNotAvailable.into();
     for place in words.place.to_socket_addrs(rt)? {
         match TcpStream::connect_timeout(rt, &place, wait) {
-            Ok(stream) => {
-                stream.set_nodelay(true)?;
-                stream.set_write_timeout(Some(wait))?;
-                return Ok(stream);
-            }
+            Ok(stream) => return prepared(stream, wait),
             Err(cause) => failed = cause,
         }
     }

@@ -3,7 +3,7 @@
 mod files;
 mod words;
 
-use crate::options::{defaulted, flag, valued};
+use crate::options::{defaulted, flag, subcommand, valued};
 use crate::rows::files::Opened;
 use crate::rows::words::{Words, words_given};
 use clap::{ArgMatches, Command};
@@ -91,18 +91,18 @@ const JSON: &str = "Print each row as a JSON object";
 
 /// What `clap` has to know of `dnp rows`.
 pub(crate) fn command<'a>(alloc: Global) -> Result<Command<'a>, AllocError> {
-    Command::new(alloc, NAME)
-        .about(ABOUT)
-        .after_help(AFTER)
-        .arg(valued(alloc, "journal", "FILE", JOURNAL))?
-        .arg(valued(alloc, "queue", "FILE", QUEUE))?
-        .arg(valued(alloc, "controls", "FILE", CONTROLS))?
-        .arg(defaulted(alloc, "centre", "N", "1", CENTRE))?
-        .arg(defaulted(alloc, "after", "ID", "0", AFTER_ID))?
-        .arg(flag(alloc, "follow", FOLLOW))?
-        .arg(defaulted(alloc, "every", "MS", "1000", EVERY))?
-        .arg(flag(alloc, "csv", CSV))?
-        .arg(flag(alloc, "json", JSON))
+    let choices = [
+        valued("journal", "FILE", JOURNAL),
+        valued("queue", "FILE", QUEUE),
+        valued("controls", "FILE", CONTROLS),
+        defaulted("centre", "N", "1", CENTRE),
+        defaulted("after", "ID", "0", AFTER_ID),
+        flag("follow", FOLLOW),
+        defaulted("every", "MS", "1000", EVERY),
+        flag("csv", CSV),
+        flag("json", JSON),
+    ];
+    subcommand(alloc, NAME, ABOUT, AFTER, &choices)
 }
 
 /// Prints the rows that the given words name, and tells the exit status.
@@ -117,12 +117,12 @@ where
         Ok(opened) => opened,
         Err(cause) => return Ok(lost(rt, words.path, &cause)),
     };
-    let stored = Stored::new(opened, words.store, words.centre);
-    Ok(ExitCode::from(print_all(rt, &words, stored)))
+    let mut stored = Stored::new(opened, words.store, words.centre);
+    Ok(ExitCode::from(print_all(rt, &words, &mut stored)))
 }
 
 /// Prints the rows that stand there, and those that come later, where they are followed; tells the exit status.
-fn print_all<R>(rt: &R, words: &Words<'_>, mut stored: Stored<Opened<R::File>>) -> u8
+fn print_all<R>(rt: &R, words: &Words<'_>, stored: &mut Stored<Opened<R::File>>) -> u8
 where
     R: AllocGlobal + Print + Eprint + Clock + Files,
 {
@@ -134,7 +134,7 @@ where
     }
     let mut last = words.after;
     for _ in 0..u64::MAX {
-        match print_over(&mut stored, rt.alloc(), words.form, last, &mut out) {
+        match print_over(stored, rt.alloc(), words.form, last, &mut out) {
             Ok(id) => last = id,
             Err(fault) => return unprinted(rt, words, fault),
         }
@@ -142,15 +142,28 @@ where
             break;
         }
         thread::sleep(rt, Duration::from_millis(words.every_ms));
-        match Opened::at(rt, words.path) {
-            Ok(opened) => *stored.beside_mut() = opened,
-            Err(cause) => {
-                let _status = lost(rt, words.path, &cause);
-                return exit::FAULT;
-            }
+        if !is_opened_again(rt, words, stored) {
+            return exit::FAULT;
         }
     }
     exit::DONE
+}
+
+/// Whether the files could be opened again, to be read as they stand then. Where they couldn't, that is said.
+fn is_opened_again<R>(rt: &R, words: &Words<'_>, stored: &mut Stored<Opened<R::File>>) -> bool
+where
+    R: AllocGlobal + Eprint + Files,
+{
+    match Opened::at(rt, words.path) {
+        Ok(opened) => {
+            *stored.beside_mut() = opened;
+            true
+        }
+        Err(cause) => {
+            let _status = lost(rt, words.path, &cause);
+            false
+        }
+    }
 }
 
 /// What a file with the rows of a store is called.

@@ -1,7 +1,7 @@
 //! `dnp sim`: a whole system of a plan, run by a script.
 
 use crate::looks::{misuse, write_looks};
-use crate::options::{HINT, flag, plan, valued};
+use crate::options::{HINT, flag, plan, subcommand, valued};
 use crate::texts::{Texts, finish, limit, plain, stores_given, texts_given};
 use clap::{ArgMatches, Command};
 use dnp_daemons::{Stores, sim_text};
@@ -139,16 +139,16 @@ EXIT STATUS
 
 /// What `clap` has to know of `dnp sim`.
 pub(crate) fn command<'a>(alloc: Global) -> Result<Command<'a>, AllocError> {
-    Command::new(alloc, NAME)
-        .about(ABOUT)
-        .after_help(AFTER)
-        .arg(plan(alloc))?
-        .arg(limit(alloc))?
-        .arg(valued(alloc, "trace", "FILE", TRACE))?
-        .arg(valued(alloc, "chart", "FILE", CHART))?
-        .arg(valued(alloc, "capture", "FILE", CAPTURE))?
-        .arg(flag(alloc, "json", JSON))?
-        .arg(plain(alloc))
+    let choices = [
+        plan(),
+        limit(),
+        valued("trace", "FILE", TRACE),
+        valued("chart", "FILE", CHART),
+        valued("capture", "FILE", CAPTURE),
+        flag("json", JSON),
+        plain(),
+    ];
+    subcommand(alloc, NAME, ABOUT, AFTER, &choices)
 }
 
 /// Runs the script on standard input by the given words, and tells the exit status.
@@ -164,21 +164,40 @@ pub(crate) fn run<R: AllocGlobal + Input + Print + Eprint + Files>(
         Ok(texts) => texts,
         Err(status) => return Ok(status),
     };
-    if let Some(status) = write_looks(rt, &texts, given)? {
+    run_texts(rt, &texts, given)
+}
+
+/// Runs the script of these texts by the given words, and tells the exit status.
+fn run_texts<R: AllocGlobal + Print + Eprint + Files>(
+    rt: &R,
+    texts: &Texts,
+    given: &ArgMatches<'_>,
+) -> anyhow::Result<ExitCode> {
+    if let Some(status) = write_looks(rt, texts, given)? {
         return Ok(status);
     }
     if given.get_flag("json") {
-        return run_json(rt, &texts, stores_given(given));
+        return run_json(rt, texts, stores_given(given));
     }
     let mut out = BufWriter::new(rt.alloc(), Noted::new(io::writer(rt)))?;
+    run_into(rt, texts, stores_given(given), &mut out)
+}
+
+/// Runs the script of these texts, prints into this buffer, and tells the exit status.
+fn run_into<R: AllocGlobal + Eprint, W: Write + Drop>(
+    rt: &R,
+    texts: &Texts,
+    stores: Stores,
+    out: &mut BufWriter<Noted<W>>,
+) -> anyhow::Result<ExitCode> {
     let ended = sim_text(
         rt.alloc(),
         texts.plan.as_str(),
         texts.script.as_str(),
-        stores_given(given),
-        &mut out,
+        stores,
+        &mut *out,
     );
-    finish(rt, &texts, None, &mut out, ended)
+    finish(rt, texts, None, out, ended)
 }
 
 /// Runs the script as without '--json', and prints what came of it as JSON, if it ran to its report.

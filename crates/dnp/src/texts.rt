@@ -3,15 +3,16 @@
 ghost use Rattle.dnp_concentrator.specs.Plan.{KeepsLimits};
 
 use crate::numbers::number_given;
-use crate::options::{defaulted, flag};
+use crate::options::{Choice, defaulted, flag};
 use crate::plan_file::{plan_text, refused};
 use crate::wire::Wire;
-use clap::{Arg, ArgMatches};
+use clap::ArgMatches;
 use dnp_concentrator::Plan;
 use dnp_daemons::{PlanTextFault, ScriptStop, Stores, idle_lines, read_plan, script_fault};
 use dnp_tcp::{Noted, exit, lost, unwritten};
 use dnp_world::Cause;
 use std::alloc::{AllocError, Global};
+use std::io;
 use std::io::{BufWriter, Read, Write};
 use std::process::ExitCode;
 use std::rt::Files;
@@ -38,8 +39,8 @@ const LIMIT: &str = "The most octets of the script, 1 to 1099511627776";
 const PLAIN: &str = "Run over lists, and not over SQL databases in memory";
 
 /// The option that says over which stores a script runs.
-pub(crate) fn plain<'a>(alloc: Global) -> Arg<'a> {
-    flag(alloc, "plain", PLAIN)
+pub(crate) fn plain() -> Choice {
+    flag("plain", PLAIN)
 }
 
 /// Over which stores the script runs by the given words.
@@ -52,8 +53,8 @@ pub(crate) fn stores_given(given: &ArgMatches<'_>) -> Stores {
 }
 
 /// The option that says how many octets of a script are read.
-pub(crate) fn limit<'a>(alloc: Global) -> Arg<'a> {
-    defaulted(alloc, "limit", "OCTETS", "67108864", LIMIT)
+pub(crate) fn limit() -> Choice {
+    defaulted("limit", "OCTETS", "67108864", LIMIT)
 }
 
 /// The texts that the given words name. Where one of them is wrong or can't be read, or the plan is refused, that is said,
@@ -75,34 +76,80 @@ fn read_texts<R: AllocGlobal + Input + Print + Eprint + Files>(
     path: &str,
     limit: u64,
 ) -> anyhow::Result<Result<Texts, ExitCode>> {
-    let octets = match plan_text(rt, path) {
-        Ok(octets) => octets,
+    // Judged before the script is read, so that nobody writes one for a plan that is refused.
+    let plan = match judged_plan(rt, path) {
+        Ok(plan) => plan,
         Err(status) => return Ok(Err(status)),
     };
-    let Ok(plan) = String::from_utf8(octets) else {
-        return Ok(Err(refused(rt, path, None, PlanTextFault::Syntax)));
-    };
-    // Judged before the script is read, so that nobody writes one for a plan that is refused.
-    if let Err(fault) = read_plan(rt.alloc(), plan.as_str()) {
-        return Ok(Err(refused(rt, path, Some(plan.as_str()), fault)));
+    match script_text(rt, limit) {
+        Ok(Ok(script)) => Ok(Ok(Texts { plan, script })),
+        Ok(Err(status)) => Ok(Err(status)),
+        Err(fault) => Err(fault.into()),
     }
+}
+
+/// The text of the plan in its file. Where it can't be read, or is refused, that is said, and the exit status is told.
+fn judged_plan<R: AllocGlobal + Print + Eprint + Files>(
+    rt: &R,
+    path: &str,
+) -> Result<String, ExitCode> {
+    let Ok(plan) = String::from_utf8(plan_text(rt, path)?) else {
+        return Err(refused(rt, path, None, PlanTextFault::Syntax));
+    };
+    match plan_status(rt, path, plan.as_str()) {
+        Some(status) => Err(status),
+        None => Ok(plan),
+    }
+}
+
+/// The exit status of a plan that is refused, which is said; none of one that isn't.
+fn plan_status<R: AllocGlobal + Print + Eprint>(
+    rt: &R,
+    path: &str,
+    text: &str,
+) -> Option<ExitCode> {
+    match read_plan(rt.alloc(), text) {
+        Ok(_) => None,
+        Err(fault) => Some(refused(rt, path, Some(text), fault)),
+    }
+}
+
+/// Reads the script on standard input. Where it can't be read, that is said, and the exit status is told.
+fn script_text<R: AllocGlobal + Input + Eprint>(
+    rt: &R,
+    limit: u64,
+) -> Result<Result<String, ExitCode>, AllocError> {
     let mut script = Vec::new(rt.alloc());
-    match rt
+    let read = rt
         .reader()
         .take(limit.saturating_add(1))
-        .read_to_end(&mut script)
-    {
-        Err(cause) => return Ok(Err(lost(rt, "standard input", &cause))),
-        Ok(_) if script.len() as u64 > limit => {
+        .read_to_end(&mut script);
+    if let Some(status) = unread_status(rt, read, script.len() as u64, limit) {
+        return Ok(Err(status));
+    }
+    match as_text(rt.alloc(), script) {
+        Ok(script) => Ok(Ok(script)),
+        Err(fault) => Err(fault),
+    }
+}
+
+/// The exit status of a script of so many octets that wasn't read as a whole, which is said; none of one that was.
+fn unread_status<R: Eprint>(
+    rt: &R,
+    read: io::Result<usize>,
+    octets: u64,
+    limit: u64,
+) -> Option<ExitCode> {
+    match read {
+        Err(cause) => Some(lost(rt, "standard input", &cause)),
+        Ok(_) if octets > limit => {
             let _ = eprintln!(rt;
                 "dnp: standard input: over the {limit} octets that '--limit' allows"
             );
-            return Ok(Err(ExitCode::from(exit::FAULT)));
+            Some(ExitCode::from(exit::FAULT))
         }
-        Ok(_) => {}
+        Ok(_) => None,
     }
-    let script = as_text(rt.alloc(), script)?;
-    Ok(Ok(Texts { plan, script }))
 }
 
 /// The octets as a text, in their own place. Where they stop being UTF-8, the text ends in a character that fits nowhere:

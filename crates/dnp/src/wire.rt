@@ -32,24 +32,36 @@ impl Wire {
         let home = SocketAddr::new(IpAddr::V4(Ipv4Addr::LOCALHOST), 0);
         let listener = TcpListener::bind(rt, home)?;
         let master = TcpStream::connect(rt, listener.local_addr()?)?;
+        Wire::from_end(master, &listener)
+    }
+
+    /// The wire of the end that connected, and of the one that is taken here.
+    fn from_end(master: TcpStream, listener: &TcpListener) -> io::Result<Wire> {
         let (outstation, peer) = listener.accept()?;
-        if peer != master.local_addr()? {
-            // Somebody else was first at the port.
-            return Err(io::ErrorKind::ConnectionRefused.into());
+        match prepare_both(&master, &outstation, peer) {
+            Ok(()) => Ok(Wire {
+                master,
+                outstation,
+                cause: None,
+            }),
+            Err(cause) => Err(cause),
         }
-        prepare(&master)?;
-        prepare(&outstation)?;
-        Ok(Wire {
-            master,
-            outstation,
-            cause: None,
-        })
     }
 
     /// Why the last unit that wasn't carried wasn't, if there was one.
     pub(crate) fn cause(&self) -> Option<&io::Error> {
         self.cause.as_ref()
     }
+}
+
+/// Prepares both ends, of which the second was connected by this peer: where that isn't the first, it is a fault.
+fn prepare_both(master: &TcpStream, outstation: &TcpStream, peer: SocketAddr) -> io::Result<()> {
+    if peer != master.local_addr()? {
+        // Somebody else was first at the port.
+        return Err(io::ErrorKind::ConnectionRefused.into());
+    }
+    prepare(master)?;
+    prepare(outstation)
 }
 
 /// Sends what is written at once, and ends reads that stand still.

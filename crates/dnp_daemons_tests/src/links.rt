@@ -13,6 +13,7 @@ use dnp_objects::Kind;
 use dnp_plantext::read_plan;
 use dnp_streams::{Above, Asked, Below, ServeFault, Served, Station, ask_stream, serve_stream};
 use std::alloc::Global;
+use std::process::Abort;
 
 /// The addresses of a frame from outstation 10 to master 2, and the check word of its header.
 const BELOW: [u8; 6] = [0x02, 0x00, 0x0A, 0x00, 0x59, 0x71];
@@ -57,6 +58,28 @@ pub(crate) const ASKED: [u8; 33] = [
 
 /// A task that polls class 1.
 pub(crate) const POLL_1: Task = Task::Poll(Classes([false, true, false, false]));
+
+/// A concentrator of the small plan, over stores in memory.
+pub(crate) fn concentrator(alloc: Global) -> Option<Concentrator<PlainPair, PlainBook>> {
+    let Ok(plan) = read_plan(alloc, SMALL) else {
+        return None;
+    };
+    match PlainPair::new(alloc, plan.queue, plan.queue2) {
+        Ok(queue) => Concentrator::new(alloc, &plan, queue, PlainBook::new(alloc)).ok(),
+        Err(_) => None,
+    }
+}
+
+/// A centre of the small plan, over stores in memory.
+pub(crate) fn centre(alloc: Global) -> Option<Centre<PlainJournal, PlainBook>> {
+    match read_plan(alloc, SMALL) {
+        Ok(plan) => {
+            let journal = PlainJournal::new(alloc);
+            Centre::new(alloc, &plan, journal, PlainBook::new(alloc)).ok()
+        }
+        Err(_) => None,
+    }
+}
 
 /// The frame of an event, binary input `index` has become 1, with a time: these addresses and their check word, this
 /// beginning of its fragment, and `check`, the check word of its first block.
@@ -122,12 +145,7 @@ fn reads_it(
 #[test]
 fn a_concentrator_on_streams(rt: HostRuntime) {
     let alloc = rt.alloc();
-    let plan = read_plan(alloc, SMALL).expect(&rt, "a plan");
-    let queue = PlainPair::new(alloc, plan.queue, plan.queue2).expect(&rt, "a queue");
-    let mut concentrator = Concentrator::new(alloc, &plan, queue, PlainBook::new(alloc)).expect(
-        &rt,
-        "a concentrator",
-    );
+    let mut concentrator = concentrator(alloc).expect(&rt, "a concentrator");
     let event = event_frame(BELOW, REPORTS, 0, [0xDA, 0xDC]);
     let strange = event_frame(BELOW, REPORTS, 1, [0x3D, 0x69]);
     let below = [(0, &strange, 0, 1), (1, &event, 0, 0), (0, &event, 15, 0)];
@@ -155,14 +173,7 @@ fn a_concentrator_on_streams(rt: HostRuntime) {
 #[test]
 fn a_centre_on_a_stream(rt: HostRuntime) {
     let alloc = rt.alloc();
-    let plan = read_plan(alloc, SMALL).expect(&rt, "a plan");
-    let mut centre = Centre::new(
-        alloc,
-        &plan,
-        PlainJournal::new(alloc),
-        PlainBook::new(alloc),
-    )
-    .expect(&rt, "a centre");
+    let mut centre = centre(alloc).expect(&rt, "a centre");
     let report = event_frame(ABOVE, REPORTS, 100, [0x4B, 0xCE]);
     assert!(rt;
         sends(
@@ -210,46 +221,72 @@ fn is_idle(concentrator: &Concentrator<PlainPair, PlainBook>) -> bool {
     0 < concentrator.substations() && concentrator.idle_below(0)
 }
 
-/// A poll is asked, answered and confirmed, and its event is queued above; a task that is refused is passed over.
-#[test]
-fn a_poll_on_a_stream(rt: HostRuntime) {
-    let alloc = rt.alloc();
-    let plan = read_plan(alloc, SMALL).expect(&rt, "a plan");
-    let queue = PlainPair::new(alloc, plan.queue, plan.queue2).expect(&rt, "a queue");
-    let mut concentrator = Concentrator::new(alloc, &plan, queue, PlainBook::new(alloc)).expect(
-        &rt,
-        "a concentrator",
-    );
+/// A poll is asked, answered and confirmed.
+fn polls(rt: &(impl Abort + AllocGlobal), concentrator: &mut Concentrator<PlainPair, PlainBook>) {
     let mut writer = Taking::new(128);
-    let asked = asks(alloc, &mut concentrator, &[POLL_1], 100, &mut writer).expect(&rt, "asked");
+    let asked = asks(rt.alloc(), concentrator, &[POLL_1], 100, &mut writer).expect(rt, "asked");
     assert_eq!(rt; asked.rows, 1);
     assert_eq!(rt; asked.outcomes.len(), 1);
     assert!(rt; matches!(&asked.outcomes[0], Outcome::Done(_)));
     assert_eq!(rt; asked.faults, 0);
     assert!(rt; writer.taken.as_slice() == ASKED.as_slice());
-    let lane = Lane::new(1, Kind::Binary).expect(&rt, "a lane");
-    for centre in 0..CENTRES {
-        let queued = concentrator
-            .queue()
-            .offer(alloc, centre, lane, 0, 9)
-            .expect(&rt, "rows");
-        assert_eq!(rt; queued.len(), 1);
-        assert_eq!(rt; queued[0].row.index, 100);
-    }
+}
+
+/// Its event is queued above for this centre.
+fn queues_for(
+    rt: &(impl Abort + AllocGlobal),
+    concentrator: &mut Concentrator<PlainPair, PlainBook>,
+    centre: u8,
+)
+    requires { centre < CENTRES }
+{
+    let lane = Lane::new(1, Kind::Binary).expect(rt, "a lane");
+    let queued = concentrator
+        .queue()
+        .offer(rt.alloc(), centre, lane, 0, 9)
+        .expect(rt, "rows");
+    assert_eq!(rt; queued.len(), 1);
+    assert_eq!(rt; queued[0].row.index, 100);
+}
+
+/// A task that is refused is passed over.
+fn passes_over(
+    rt: &(impl Abort + AllocGlobal),
+    concentrator: &mut Concentrator<PlainPair, PlainBook>,
+) {
     let none = Task::Poll(Classes([false, false, false, false]));
     let mut writer = Taking::new(128);
-    let asked = asks(alloc, &mut concentrator, &[none, POLL_1], 100, &mut writer).expect(
-        &rt, "asked",
+    let asked = asks(rt.alloc(), concentrator, &[none, POLL_1], 100, &mut writer).expect(
+        rt, "asked",
     );
     assert!(rt;
         asked.faults == 1 && asked.rows == 1 && writer.taken.as_slice() == ASKED.as_slice()
     );
+}
+
+/// Where the writer has no room for the requests, or the turns are spent, that is the fault, and the station is hung up.
+fn ends_early(
+    rt: &(impl Abort + AllocGlobal),
+    concentrator: &mut Concentrator<PlainPair, PlainBook>,
+) {
     let mut writer = Taking::new(20);
-    let cut = asks(alloc, &mut concentrator, &[POLL_1], 100, &mut writer);
+    let cut = asks(rt.alloc(), concentrator, &[POLL_1], 100, &mut writer);
     assert!(rt; matches!(&cut, Err(ServeFault::WriteFailed)));
-    assert!(rt; writer.taken.as_slice() == &ASKED[..20] && !is_idle(&concentrator));
+    assert!(rt; writer.taken.as_slice() == &ASKED[..20] && !is_idle(concentrator));
     let mut writer = Taking::new(128);
-    let spent = asks(alloc, &mut concentrator, &[POLL_1], 3, &mut writer);
+    let spent = asks(rt.alloc(), concentrator, &[POLL_1], 3, &mut writer);
     assert!(rt; matches!(&spent, Err(ServeFault::TurnsSpent)));
-    assert!(rt; !is_idle(&concentrator));
+    assert!(rt; !is_idle(concentrator));
+}
+
+/// A poll on the link to the substation, and what becomes of it above and of polls that end early.
+#[test]
+fn a_poll_on_a_stream(rt: HostRuntime) {
+    let mut concentrator = concentrator(rt.alloc()).expect(&rt, "a concentrator");
+    polls(&rt, &mut concentrator);
+    for centre in 0..CENTRES {
+        queues_for(&rt, &mut concentrator, centre);
+    }
+    passes_over(&rt, &mut concentrator);
+    ends_early(&rt, &mut concentrator);
 }

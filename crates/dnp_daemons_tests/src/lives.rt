@@ -1,13 +1,9 @@
 //! Stations that ask, and live on a stream on which no answer comes.
 
 use crate::ends::{Shown, Silent, Taking};
-use crate::links::{ASKED, POLL_1};
-use crate::plans::SMALL;
-use dnp_concentrator::{Centre, Concentrator};
-use dnp_controls::PlainBook;
-use dnp_eventbuf::{PlainJournal, PlainPair};
+use crate::links::{ASKED, POLL_1, centre, concentrator};
 use dnp_line::Port;
-use dnp_plantext::read_plan;
+use dnp_master::Fragment;
 use dnp_streams::{Asker, Below, Limits, Living, Log, Session, ask_live, live_stream};
 use std::alloc::Global;
 use std::cell::Cell;
@@ -20,7 +16,7 @@ const WAITS: [(u64, Option<u64>); 3] = [(3_333, None), (9_999, Some(2)), (10_000
 /// is among the first three.
 fn closes_with<S: Asker + Living>(alloc: Global, station: &mut S, wait_ms: u64) -> Option<u64> {
     let _is_opened = station.opened(alloc, 0).is_ok();
-    let _is_asked = station.ask(0, POLL_1).is_ok();
+    let _is_asked = station.ask_into(&mut Fragment::new(), 0, POLL_1).is_ok();
     let now = Cell::new(0);
     let clock = Shown { now: &now };
     let mut reader = Silent {
@@ -54,14 +50,7 @@ fn closes_with<S: Asker + Living>(alloc: Global, station: &mut S, wait_ms: u64) 
 #[test]
 fn a_centre_lives_on_a_stream(rt: HostRuntime) {
     let alloc = rt.alloc();
-    let plan = read_plan(alloc, SMALL).expect(&rt, "a plan");
-    let mut centre = Centre::new(
-        alloc,
-        &plan,
-        PlainJournal::new(alloc),
-        PlainBook::new(alloc),
-    )
-    .expect(&rt, "a centre");
+    let mut centre = centre(alloc).expect(&rt, "a centre");
     for (wait_ms, read) in WAITS {
         assert_eq!(rt; closes_with(alloc, &mut centre, wait_ms), read);
     }
@@ -71,12 +60,7 @@ fn a_centre_lives_on_a_stream(rt: HostRuntime) {
 #[test]
 fn a_link_lives_on_a_stream(rt: HostRuntime) {
     let alloc = rt.alloc();
-    let plan = read_plan(alloc, SMALL).expect(&rt, "a plan");
-    let queue = PlainPair::new(alloc, plan.queue, plan.queue2).expect(&rt, "a queue");
-    let mut concentrator = Concentrator::new(alloc, &plan, queue, PlainBook::new(alloc)).expect(
-        &rt,
-        "a concentrator",
-    );
+    let mut concentrator = concentrator(alloc).expect(&rt, "a concentrator");
     for (wait_ms, read) in WAITS {
         let mut link = Below::new(&mut concentrator, 0);
         assert_eq!(rt; closes_with(alloc, &mut link, wait_ms), read);
@@ -89,12 +73,7 @@ fn a_link_lives_on_a_stream(rt: HostRuntime) {
 #[test]
 fn a_silent_substation_is_left(rt: HostRuntime) {
     let alloc = rt.alloc();
-    let plan = read_plan(alloc, SMALL).expect(&rt, "a plan");
-    let queue = PlainPair::new(alloc, plan.queue, plan.queue2).expect(&rt, "a queue");
-    let mut concentrator = Concentrator::new(alloc, &plan, queue, PlainBook::new(alloc)).expect(
-        &rt,
-        "a concentrator",
-    );
+    let mut concentrator = concentrator(alloc).expect(&rt, "a concentrator");
     for (wait_ms, read) in WAITS {
         let now = Cell::new(0);
         let mut reader = Silent {

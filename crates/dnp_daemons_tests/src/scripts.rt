@@ -171,18 +171,3 @@ fn lines_that_do_not_fit(rt: HostRuntime) -> Result<(), Fail> {
     assert_eq!(rt; fault, Some(ScriptFault::Line(3)));
     Ok(())
 }
-
-#[test]
-fn damage_has_as_many_octets_as_a_unit(rt: HostRuntime) -> Result<(), Fail> {
-    let plan = read_plan(rt.alloc(), SMALL)?;
-    // Two digits for each octet: 292 octets fit, and 293 don't.
-    for (octets, fits) in [(292usize, true), (293, false)] {
-        let mut line = String::from_str(rt.alloc(), "damage 0 up ")?;
-        for _ in 0..octets {
-            line.push_str("0A")?;
-        }
-        let read = read_script(rt.alloc(), line.as_str(), &plan);
-        assert_eq!(rt; read.is_ok(), fits);
-    }
-    Ok(())
-}

@@ -3,7 +3,7 @@
 ghost use Rattle.dnp_concentrator.specs.Plan.{KeepsLimits};
 
 use crate::files;
-use crate::files::{Place, Stored};
+use crate::files::{Opens, Place};
 use crate::planned::{look_at_book, look_at_journal};
 use crate::polls::{PollPace, Polls};
 use dnp_concentrator::{Centre, MAX_TIMER_MS, Plan};
@@ -12,10 +12,10 @@ use dnp_eventbuf::JournalStore;
 use dnp_objects::Command;
 use dnp_store::{ControlBook, Journal};
 use dnp_tcp::exit;
-use sqlite::{Alter, Connection};
+use sqlite::{Alter, Connection, File, FileStore};
 use std::net::{Net, TcpListener, TcpStream};
 use std::process::ExitCode;
-use std::rt::{Clock, HostRuntime};
+use std::rt::{Clock, Files, HostRuntime};
 
 /// Over which files a centre runs, and what it is to do.
 #[derive(Clone, Copy)]
@@ -52,6 +52,16 @@ pub fn run_centre(rt: &HostRuntime, words: &CentreWords<'_>, mut plan: Plan) -> 
     requires { KeepsLimits plan }
 {
     wait_for_each(&mut plan);
+    run_in::<FileStore<File>, HostRuntime>(rt, words, &plan)
+}
+
+/// The same over rows that are kept in any way, by a plan that lets the centre wait as long as it has to.
+fn run_in<S: Alter + Drop, R>(rt: &R, words: &CentreWords<'_>, plan: &Plan) -> ExitCode
+where
+    R: AllocGlobal + Print + Eprint + Files + Opens<Connection<S>>,
+    R: Clock + Net<Listener = TcpListener, Stream = TcpStream>,
+    requires { KeepsLimits plan.now }
+{
     let journal = match journal_there(rt, &words.journal) {
         Ok(journal) => journal,
         Err(status) => return status,
@@ -60,7 +70,7 @@ pub fn run_centre(rt: &HostRuntime, words: &CentreWords<'_>, mut plan: Plan) -> 
         Ok(book) => book,
         Err(status) => return status,
     };
-    match carry_on(rt, words, &plan, journal, book) {
+    match carry_on(rt, words, plan, journal, book) {
         Ok((status, journal, book)) => {
             files::close_both(rt, &words.journal, journal, &words.controls, book, status)
         }
@@ -69,7 +79,10 @@ pub fn run_centre(rt: &HostRuntime, words: &CentreWords<'_>, mut plan: Plan) -> 
 }
 
 /// The journal in its file.
-fn journal_there(rt: &HostRuntime, place: &Place<'_>) -> Result<Journal<Stored>, ExitCode> {
+fn journal_there<S: Alter + Drop, R: AllocGlobal + Eprint + Files + Opens<Connection<S>>>(
+    rt: &R,
+    place: &Place<'_>,
+) -> Result<Journal<S>, ExitCode> {
     let conn = files::connection(rt, place)?;
     files::journal(rt, place, conn)
 }

@@ -3,7 +3,7 @@
 
 ghost use Rattle.dnp_concentrator.specs.Plan.{KeepsLimits};
 
-use crate::files::{Place, Stored};
+use crate::files::{Opens, Place};
 use crate::planned::{look_at_book, look_at_queue};
 use crate::rounds::{RoundPace, Rounds};
 use crate::{files, rounds};
@@ -12,10 +12,10 @@ use dnp_controls::Book;
 use dnp_eventbuf::{CENTRES, PairLanes};
 use dnp_store::{ControlBook, Queue};
 use dnp_tcp::exit;
-use sqlite::{Alter, Connection};
+use sqlite::{Alter, Connection, File, FileStore};
 use std::net::{IpAddr, Net, TcpListener, TcpStream};
 use std::process::ExitCode;
-use std::rt::{Clock, HostRuntime};
+use std::rt::{Clock, Files, HostRuntime};
 
 /// Over which files a concentrator runs, and what it is to do.
 #[derive(Clone, Copy)]
@@ -58,6 +58,16 @@ impl<'a> ConcentratorWords<'a> {
 pub fn run_concentrator(rt: &HostRuntime, words: &ConcentratorWords<'_>, plan: &Plan) -> ExitCode
     requires { KeepsLimits plan.now }
 {
+    run_in::<FileStore<File>, HostRuntime>(rt, words, plan)
+}
+
+/// The same over rows that are kept in any way.
+fn run_in<S: Alter + Drop, R>(rt: &R, words: &ConcentratorWords<'_>, plan: &Plan) -> ExitCode
+where
+    R: AllocGlobal + Print + Eprint + Files + Opens<Connection<S>>,
+    R: Clock + Net<Listener = TcpListener, Stream = TcpStream>,
+    requires { KeepsLimits plan.now }
+{
     let queue = match queue_there(rt, words, plan) {
         Ok(queue) => queue,
         Err(status) => return status,
@@ -75,11 +85,11 @@ pub fn run_concentrator(rt: &HostRuntime, words: &ConcentratorWords<'_>, plan: &
 }
 
 /// The queue in its file.
-fn queue_there(
-    rt: &HostRuntime,
+fn queue_there<S: Alter + Drop, R: AllocGlobal + Eprint + Files + Opens<Connection<S>>>(
+    rt: &R,
     words: &ConcentratorWords<'_>,
     plan: &Plan,
-) -> Result<Queue<Stored>, ExitCode>
+) -> Result<Queue<S>, ExitCode>
     requires { KeepsLimits plan.now }
 {
     let conn = files::connection(rt, &words.queue)?;

@@ -7,13 +7,29 @@ use dnp_objects::LANES;
 use dnp_store::{ControlBook, Journal, OpenFault, Queue};
 use dnp_tcp::{exit, lost};
 use sqlite::{Alter, Connection, Error, ErrorCode, File, FileStore};
-use sqlite_disk::Disk;
 use std::fs;
 use std::process::ExitCode;
 use std::rt::{Files, HostRuntime};
 
-/// Where a store in a file keeps its rows.
-pub(crate) type Stored = FileStore<File>;
+/// What opens databases by connections of this type, and closes them. What uses it is proved for rows that are kept in any way: so only
+/// the two functions that name files prove that what keeps rows there fits, and how its parts are let go.
+pub(crate) trait Opens<C> {
+    /// Opens the database in a file, or makes it there.
+    fn open_database(&self, path: &str) -> Result<C, Error>;
+
+    /// Closes a database in good order.
+    fn close_database(&self, conn: C) -> Result<(), Error>;
+}
+
+impl Opens<Connection<FileStore<File>>> for HostRuntime {
+    fn open_database(&self, path: &str) -> Result<Connection<FileStore<File>>, Error> {
+        Connection::open(self, path)
+    }
+
+    fn close_database(&self, conn: Connection<FileStore<File>>) -> Result<(), Error> {
+        conn.close()
+    }
+}
 
 /// A file that a word of the command line names for a store, and what is to be done with it.
 #[derive(Clone, Copy)]
@@ -35,14 +51,14 @@ impl<'a> Place<'a> {
 
 /// Opens the database, and makes its file only where a store is to be made. Where it can't be had, why is said on standard
 /// error, and the exit status is told.
-pub(crate) fn connection(
-    rt: &HostRuntime,
+pub(crate) fn connection<S: Alter, R: Eprint + Files + Opens<Connection<S>>>(
+    rt: &R,
     place: &Place<'_>,
-) -> Result<Connection<Stored>, ExitCode> {
+) -> Result<Connection<S>, ExitCode> {
     if !place.new {
         is_there(rt, place)?;
     }
-    match Connection::open(rt, place.path) {
+    match rt.open_database(place.path) {
         Ok(conn) => Ok(conn),
         Err(error) => Err(no_database(rt, place, &error)),
     }
@@ -213,21 +229,21 @@ pub(crate) fn book<S: Alter + Drop, R: AllocGlobal + Eprint>(
 }
 
 /// The book of controls in its file, made or opened. Where there is none, that is said, and the exit status is told.
-pub(crate) fn book_there(
-    rt: &HostRuntime,
+pub(crate) fn book_there<S: Alter + Drop, R: AllocGlobal + Eprint + Files + Opens<Connection<S>>>(
+    rt: &R,
     place: &Place<'_>,
-) -> Result<ControlBook<Stored>, ExitCode> {
+) -> Result<ControlBook<S>, ExitCode> {
     let conn = connection(rt, place)?;
     book(rt, place, conn)
 }
 
 /// Closes a database in good order, and tells whether it could; where it couldn't, that is said on standard error.
-pub(crate) fn close<D: Disk + Drop, R: Eprint>(
+fn close<S: Alter, R: Eprint + Opens<Connection<S>>>(
     rt: &R,
     place: &Place<'_>,
-    conn: Connection<FileStore<D>>,
+    conn: Connection<S>,
 ) -> bool {
-    match conn.close() {
+    match rt.close_database(conn) {
         Ok(()) => true,
         Err(error) => {
             let _ = eprintln!(rt; "dnp: {}: {error}", place.path);
@@ -238,12 +254,12 @@ pub(crate) fn close<D: Disk + Drop, R: Eprint>(
 
 /// Closes the databases of two stores in good order, and gives this exit status; that of a fault where one couldn't be
 /// closed, which is said on standard error.
-pub(crate) fn close_both<D: Disk + Drop, R: Eprint>(
+pub(crate) fn close_both<S: Alter, R: Eprint + Opens<Connection<S>>>(
     rt: &R,
     first: &Place<'_>,
-    one: Connection<FileStore<D>>,
+    one: Connection<S>,
     second: &Place<'_>,
-    other: Connection<FileStore<D>>,
+    other: Connection<S>,
     status: ExitCode,
 ) -> ExitCode {
     let closed = close(rt, first, one);

@@ -1,6 +1,10 @@
 //! What a plan has, by what stores hold of it: events and commands that files kept from an earlier run.
 
-ghost use Rattle.std.specs.Prelude.{◌<◌};
+ghost use Rattle.std.specs.Prelude.{◌≡◌, ◌<◌, is_some};
+ghost use Rattle.dnp_concentrator.specs.IndexKinds.{kind_of_command};
+ghost use Rattle.dnp_concentrator.specs.IndexMap.{span_of};
+ghost use Rattle.dnp_concentrator.specs.Mapped.{command_above};
+ghost use Rattle.dnp_concentrator.specs.Plan.{map_of, spans_of};
 
 use crate::files::Place;
 use dnp_concentrator::{Plan, SubPlan};
@@ -40,15 +44,21 @@ fn class_above(plan: &Plan, row: &Row) -> Option<u8> {
 }
 
 /// How many outputs a substation has that such a command can be for, and the index above of the first.
-fn outputs_for(substation: &SubPlan, command: &Command) -> (u16, u16) {
+fn outputs_for(substation: &SubPlan, command: &Command) -> (u16, u16)
+    ensures count { result.0 ≡ (span_of (spans_of substation.now) (kind_of_command command.now)).count }
+    ensures base { result.1 ≡ (span_of (spans_of substation.now) (kind_of_command command.now)).base }
+{
     match command {
         Command::Block { .. } => (substation.outputs, substation.base[3]),
         Command::Set16 { .. } | Command::Set32 { .. } => (substation.setpoints, substation.base[4]),
     }
 }
 
-/// Whether a substation of the plan has the output or the setpoint of a command, whose index is the substation's own.
-pub fn has_output(plan: &Plan, substation: u8, command: &Command) -> bool {
+/// Whether a substation of the plan has the output or the setpoint of a command, whose index is the substation's own: a centre with
+/// this plan then finds it.
+pub fn has_output(plan: &Plan, substation: u8, command: &Command) -> bool
+    ensures { result ≡ is_some (command_above (map_of plan.now) substation command.now) }
+{
     match plan.substations.as_slice().get(usize::from(substation)) {
         Some(substation) => command.index() < outputs_for(substation, command).0,
         None => false,

@@ -1,6 +1,8 @@
 //! A centre and a concentrator: an event that comes from a substation, by direct calls or on a stream, and goes up to both
 //! centres, and a control that goes towards the substation.
 
+ghost use Rattle.dnp_concentrator.specs.Plan.{KeepsLimits};
+
 use crate::controls::count;
 use crate::lanes::{Counts, counted};
 use crate::outstations::with_digits;
@@ -63,21 +65,41 @@ pub(crate) fn plan(alloc: Global) -> Option<Plan> {
     })
 }
 
+/// The concentrator of the plan, over stores in memory.
+fn concentrator(alloc: Global, plan: &Plan) -> Option<Concentrator<PlainPair, PlainBook>>
+    requires { KeepsLimits plan.now }
+{
+    match PlainPair::new(alloc, [2; 9], [2; 9]) {
+        Ok(queue) => Concentrator::new(alloc, plan, queue, PlainBook::new(alloc)).ok(),
+        Err(_) => None,
+    }
+}
+
 /// Both, over stores in memory.
 fn begin(alloc: Global) -> Option<Pair> {
     let plan = plan(alloc)?;
-    if !plan.keeps_limits() {
-        return None;
+    if plan.keeps_limits() {
+        begin_of(alloc, &plan)
+    } else {
+        None
     }
-    let queue = PlainPair::new(alloc, [2; 9], [2; 9]).ok()?;
+}
+
+/// Both, of this plan.
+fn begin_of(alloc: Global, plan: &Plan) -> Option<Pair>
+    requires { KeepsLimits plan.now }
+{
+    let concentrator = concentrator(alloc, plan)?;
     let journal = PlainJournal::new(alloc);
     let orders = PlainBook::new(alloc);
-    let controls = PlainBook::new(alloc);
-    Some(Pair {
-        concentrator: Concentrator::new(alloc, &plan, queue, controls).ok()?,
-        centre: Centre::new(alloc, &plan, journal, orders).ok()?,
-        actions: Actions::none(alloc),
-    })
+    match Centre::new(alloc, plan, journal, orders) {
+        Ok(centre) => Some(Pair {
+            concentrator,
+            centre,
+            actions: Actions::none(alloc),
+        }),
+        Err(_) => None,
+    }
 }
 
 /// What can be seen of a concentrator.

@@ -106,8 +106,43 @@ fn station(alloc: Global, is_unsolicited: bool) -> Option<Station> {
     Some(Outstation::new(points, lanes, outputs, times))
 }
 
+/// What is told of what a call did. So who makes many calls owns nothing at any way out.
+#[derive(Clone, Copy)]
+pub(crate) struct Came {
+    /// How long the fragment is that is sent.
+    length: Option<u64>,
+    /// Its last octet: of an answer to a command its status.
+    last: Option<u64>,
+    /// How many rows were overwritten.
+    overwritten: u64,
+    /// How many rows were confirmed.
+    discarded: u64,
+}
+
+/// What is told of these actions.
+fn told(actions: &Actions) -> Came {
+    let (length, last) = match &actions.send[0] {
+        Some(fragment) => (Some(fragment.len() as u64), fragment.last().copied()),
+        None => (None, None),
+    };
+    Came {
+        length,
+        last: last.map(u64::from),
+        overwritten: actions.overwritten.as_slice().len() as u64,
+        discarded: actions.discarded.as_slice().len() as u64,
+    }
+}
+
+/// What is told of a call that was made once more.
+fn told_again(answer: Result<Actions, Fault>) -> Option<Came> {
+    match answer {
+        Ok(actions) => Some(told(&actions)),
+        Err(_) => None,
+    }
+}
+
 /// The binary changes.
-pub(crate) fn change(alloc: Global, station: &mut Station, value: i64) -> Option<Actions> {
+pub(crate) fn change(alloc: Global, station: &mut Station, value: i64) -> Option<Came> {
     let reading = Reading {
         value,
         flags: 1,
@@ -115,9 +150,9 @@ pub(crate) fn change(alloc: Global, station: &mut Station, value: i64) -> Option
     };
     let before = seen(station);
     match station.change(alloc, 0, Kind::Binary, 0, reading) {
-        Ok(actions) => Some(actions),
+        Ok(actions) => Some(told(&actions)),
         Err(Fault::Memory) if seen(station) == before => {
-            station.change(alloc, 0, Kind::Binary, 0, reading).ok()
+            told_again(station.change(alloc, 0, Kind::Binary, 0, reading))
         }
         Err(_) => None,
     }
@@ -149,17 +184,19 @@ fn append(alloc: Global, lanes: &mut PlainLanes, kind: Kind) -> Option<()> {
 }
 
 /// Octets come at a moment.
-fn receive_at(alloc: Global, station: &mut Station, now: u64, octets: &[u8]) -> Option<Actions> {
+fn receive_at(alloc: Global, station: &mut Station, now: u64, octets: &[u8]) -> Option<Came> {
     let before = seen(station);
     match station.receive(alloc, now, octets) {
-        Ok(actions) => Some(actions),
-        Err(Fault::Memory) if seen(station) == before => station.receive(alloc, now, octets).ok(),
+        Ok(actions) => Some(told(&actions)),
+        Err(Fault::Memory) if seen(station) == before => {
+            told_again(station.receive(alloc, now, octets))
+        }
         Err(_) => None,
     }
 }
 
 /// Octets come.
-fn receive(alloc: Global, station: &mut Station, octets: &[u8]) -> Option<Actions> {
+fn receive(alloc: Global, station: &mut Station, octets: &[u8]) -> Option<Came> {
     receive_at(alloc, station, 0, octets)
 }
 
@@ -179,24 +216,6 @@ pub(crate) fn with_digits(number: u64, digits: u64) -> u64 {
     number.wrapping_mul(100).wrapping_add(digits)
 }
 
-/// How long the fragment is that is sent.
-fn length(actions: &Actions) -> Option<u64> {
-    match &actions.send[0] {
-        Some(fragment) => Some(fragment.len() as u64),
-        None => None,
-    }
-}
-
-/// How many rows were overwritten.
-fn overwritten(actions: &Actions) -> u64 {
-    actions.overwritten.as_slice().len() as u64
-}
-
-/// How many rows were confirmed.
-fn discarded(actions: &Actions) -> u64 {
-    actions.discarded.as_slice().len() as u64
-}
-
 /// Changes a binary three times, reads class 1, confirms, changes it once more and restarts. The
 /// number has two digits for each: how many rows each change overwrites, how long the response is,
 /// how many rows are confirmed, and how many the restart takes.
@@ -204,12 +223,12 @@ fn poll(alloc: Global, station: &mut Station) -> Option<u64> {
     let mut number = 0u64;
     for value in [1, 0, 1] {
         let changed = change(alloc, station, value)?;
-        number = with_digits(number, overwritten(&changed));
+        number = with_digits(number, changed.overwritten);
     }
     let response = receive(alloc, station, &[0xC1, 0x01, 0x3C, 0x02, 0x06])?;
-    number = with_digits(number, length(&response)?);
+    number = with_digits(number, response.length?);
     let confirmed = receive(alloc, station, &[0xC1, 0x00])?;
-    number = with_digits(number, discarded(&confirmed));
+    number = with_digits(number, confirmed.discarded);
     change(alloc, station, 0)?;
     Some(with_digits(number, restart(alloc, station)?))
 }
@@ -220,7 +239,7 @@ fn operate(alloc: Global, station: &mut Station, number: u64) -> Option<u64> {
     let mut number = number;
     for front in [[0xC3, 0x03], [0xC4, 0x04], [0xC5, 0x05]] {
         let answer = receive(alloc, station, &one_command(front))?;
-        number = with_digits(number, length(&answer)?);
+        number = with_digits(number, answer.length?);
     }
     Some(with_digits(number, station.outputs().operated().len() as u64))
 }
@@ -234,9 +253,9 @@ fn report(alloc: Global, station: &mut Station) -> Option<u64> {
     append(alloc, station.lanes(), Kind::Binary)?;
     append(alloc, station.lanes(), Kind::Binary)?;
     let changed = change(alloc, station, 1)?;
-    let mut number = with_digits(overwritten(&changed), length(&changed)?);
+    let mut number = with_digits(changed.overwritten, changed.length?);
     let confirmed = receive(alloc, station, &[0xD1, 0x00])?;
-    number = with_digits(number, discarded(&confirmed));
+    number = with_digits(number, confirmed.discarded);
     operate(alloc, station, number)
 }
 
@@ -249,19 +268,11 @@ fn read_long(alloc: Global, station: &mut Station) -> Option<u64> {
     let first = receive(alloc, station, &[0xC0, 0x01, 0x3C, 0x02, 0x06])?;
     let second = receive(alloc, station, &[0xC0, 0x00])?;
     let confirmed = receive(alloc, station, &[0xC1, 0x00])?;
-    let mut number = with_digits(length(&first)?, length(&second)?);
-    for released in [discarded(&second), discarded(&confirmed)] {
+    let mut number = with_digits(first.length?, second.length?);
+    for released in [second.discarded, confirmed.discarded] {
         number = number.wrapping_mul(1_000).wrapping_add(released);
     }
     Some(number)
-}
-
-/// The last octet of the fragment that is sent: of an answer to a command its status.
-fn last_octet(actions: &Actions) -> Option<u64> {
-    match &actions.send[0] {
-        Some(fragment) => Some(u64::from(*fragment.last()?)),
-        None => None,
-    }
 }
 
 /// Selects nine outputs, operates one without an answer, and selects one and operates it too late. The number has three
@@ -269,13 +280,13 @@ fn last_octet(actions: &Actions) -> Option<u64> {
 /// last.
 fn command(alloc: Global, station: &mut Station) -> Option<u64> {
     let answer = receive(alloc, station, &NINE)?;
-    let mut number = length(&answer)?;
+    let mut number = answer.length?;
     receive(alloc, station, &one_command([0xC6, 0x06]))?;
     number = with_digits(number, station.outputs().operated().len() as u64);
     receive(alloc, station, &one_command([0xC7, 0x03]))?;
     let late = receive_at(alloc, station, TIMES.select_ms, &one_command([0xC8, 0x04]))?;
     number = with_digits(number, station.outputs().operated().len() as u64);
-    Some(with_digits(number, last_octet(&late)?))
+    Some(with_digits(number, late.last?))
 }
 
 /// Opens the outstation.

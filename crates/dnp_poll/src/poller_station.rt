@@ -5,7 +5,7 @@ ghost use Rattle.std.specs.Prelude.{◌≡◌};
 use crate::fault::PollFault;
 use crate::poller::{Poller, closing, nothing};
 use crate::show::Show;
-use dnp_concentrator::Relayed;
+use dnp_concentrator::RelayedStep;
 use dnp_controls::BookFault;
 use dnp_master::{AskFault, Fragment, Task};
 use dnp_streams::{Answer, Asker, Change, Living, Station, StationFault};
@@ -58,14 +58,19 @@ impl<S: Show> Station for Poller<S> {
 }
 
 impl<S: Show> Asker for Poller<S> {
-    fn ask(&mut self, now: u64, task: Task) -> Result<Fragment, AskFault> {
-        let request = self.master.ask(now, task)?;
+    fn ask_into(&mut self, request: &mut Fragment, now: u64, task: Task) -> Result<(), AskFault> {
+        self.master.ask_into(request, now, task)?;
         self.tasks.task = Some(task);
-        Ok(request)
+        Ok(())
     }
 
-    fn relay(&mut self, _alloc: Global, _now: u64) -> Result<Relayed, BookFault> {
-        Ok(Relayed::Nothing)
+    fn relay_into(
+        &mut self,
+        _request: &mut Fragment,
+        _alloc: Global,
+        _now: u64,
+    ) -> Result<RelayedStep, BookFault> {
+        Ok(RelayedStep::Nothing)
     }
 
     fn idle(&self) -> bool {

@@ -3,3 +3,4 @@ pub mod Dates
 pub mod Lines
 pub mod Cells
 pub mod Pages
+pub mod Stores

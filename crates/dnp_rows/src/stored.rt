@@ -1,5 +1,10 @@
 //! The rows of a store in the files of a database.
 
+ghost use Rattle.std.specs.Borrow.{Lends, sem};
+ghost use Rattle.std.specs.Prelude.{◌≡◌};
+ghost use Rattle.dnp_rows.specs.Stores.{stored_seen, with_files};
+ghost use Rattle.dnp_rows.specs.contracts.stored.Stored.{the_row};
+
 use crate::beside::Beside;
 use crate::cells::item_of;
 use crate::fault::ReadFault;
@@ -116,7 +121,11 @@ fn last_given<B: Beside>(
 
 impl<B: Beside> Stored<B> {
     /// The rows of a store in these files; of a queue those for this centre, 1 or 2.
-    pub fn new(beside: B, store: Store, centre: u8) -> Self {
+    pub fn new(beside: B, store: Store, centre: u8) -> Self
+        ensures files { (stored_seen result).files ≡ beside }
+        ensures store { (stored_seen result).store ≡ store }
+        ensures centre { (stored_seen result).centre ≡ centre }
+    {
         Stored {
             beside,
             store,
@@ -125,8 +134,11 @@ impl<B: Beside> Stored<B> {
         }
     }
 
-    /// The files.
-    pub fn beside_mut(&mut self) -> &mut B {
+    /// The files, in whose place the caller may put others: the same database, opened again.
+    pub fn beside_mut(&mut self) -> &mut B
+        ensures* writes_back { sem 𝓛 (Lends (the_row B.row) B.row self.entry result (with_files self.old)) }
+        ensures value { result.now ≡ (stored_seen self.old).files }
+    {
         &mut self.beside
     }
 

@@ -6,6 +6,7 @@ use Rattle.sqlite_resolve.specs.declared.compiled.Compiled.{Compiled}
 use Rattle.sqlite_resolve.specs.declared.error.CompileError.{CompileError}
 use Rattle.sqlite.specs.Command.TheVariants.{CreateTable}
 use Rattle.sqlite.specs.Schema.{Schema}
+use Rattle.sqlite.specs.Table.{Table}
 use Rattle.sqlite.specs.Term.{Term}
 use Rattle.sqlite.specs.Effect.{Database}
 use Rattle.sqlite.specs.Does.{Tally, Does, MakesTable, MakesSequence, lacks_sequence, sequence_text}
@@ -15,7 +16,7 @@ use Rattle.sqlite.specs.Listing.{understood}
 use Rattle.sqlite.specs.Given.{IsPlain}
 use Rattle.sqlite.proofs.Callers.{command_of, statement_of, runs_as}
 use Rattle.dnp_store.specs.Tables.{form_with, schema_of, no_schema}
-use Rattle.dnp_store.specs.QueueTables.{queue_with, queue_schema}
+use Rattle.dnp_store.specs.QueueTables.{lanes_with, queue_with, queue_schema}
 use Rattle.dnp_store.specs.declared.store_kind.StoreKind.{StoreKind}
 use Rattle.dnp_store.specs.declared.store_kind.StoreKind.TheVariants.{Queue, Journal, Book}
 use Rattle.dnp_store.specs.Schemas.{form_text, lanes_text, rows_text, table_of_text, checks_of_form, checks_of_rows, checks_of_lanes}
@@ -25,22 +26,44 @@ use Rattle.dnp_store.proofs.Statements.{went, same_value, picked, otherwise}
 
 -- ---- what the texts define
 
-form_made : table_of_text (table_defined_by form_text) ≡ form_with (table_of_text (table_defined_by form_text)).checks
+abbrev pub treeless : Table → Table
+treeless t = record t { tree = 0 }
+
+-- it defines this table, with the CHECKs that it has, before it has a tree (read off one reading of the text)
+abbrev pub IsMade : (List Term → Table) → Result Table CompileError → Type 0
+IsMade like (Ok t) = t ≡ treeless (like t.checks)
+IsMade like (Err e) = ⊥
+
+pub made_of : (like : List Term → Table) (r : Result Table CompileError) → IsMade like r → table_of_text r ≡ treeless (like (table_of_text r).checks)
+made_of like (Ok t) h = h
+made_of like (Err e) h = absurd h
+
+form_made : IsMade form_with (table_defined_by form_text)
 unfolding everything
 form_made = refl
+
+rows_made : (kind : StoreKind) → IsMade (rows_with kind) (table_defined_by (rows_text kind))
+unfolding everything
+rows_made Queue = refl
+rows_made Journal = refl
+rows_made Book = refl
+
+lanes_made : IsMade lanes_with (table_defined_by lanes_text)
+unfolding everything
+lanes_made = refl
 
 -- ---- what the texts are
 
 -- it makes a table and does no more (each part is read off one reading of the text)
-abbrev IsTable : List ℕ → Result Compiled CompileError → Type 0
+abbrev pub IsTable : List ℕ → Result Compiled CompileError → Type 0
 IsTable sql (Ok c) = (c.command ≡ CreateTable) × (text_of sql c ≡ sql) × (c.returning ≡ None) × (c.formats ≡ [])
 IsTable sql (Err e) = ⊥
 
-is_of : (sql : List ℕ) (u : Result Compiled CompileError) → IsTable sql u → (command_of u ≡ CreateTable) × (statement_of sql u ≡ sql)
+pub is_of : (sql : List ℕ) (u : Result Compiled CompileError) → IsTable sql u → (command_of u ≡ CreateTable) × (statement_of sql u ≡ sql)
 is_of sql (Ok c) h = (h.0, h.1)
 is_of sql (Err e) h = absurd h
 
-plain_of : (sql : List ℕ) (u : Result Compiled CompileError) → IsTable sql u → IsPlain u
+pub plain_of : (sql : List ℕ) (u : Result Compiled CompileError) → IsTable sql u → IsPlain u
 plain_of sql (Ok c) h = (h.2, h.3)
 plain_of sql (Err e) h = absurd h
 
@@ -83,7 +106,7 @@ created_form old new count has h =
     (plain_of form_text (understood no_schema form_text) form_is) h in
     let made = run.1 in
     let f = (table_of_text (table_defined_by form_text)).checks in
-    let table : made.table ≡ form_with f = sym (ap table_of_text made.defined) ∙ form_made in
+    let table : made.table ≡ form_with f = sym (ap table_of_text made.defined) ∙ made_of form_with (table_defined_by form_text) form_made in
     let mid : run.0.schema ≡ form_schema f = made.is ∙ ap (created no_schema) table in
     let same : new.now ≡ run.0 = same_value (otherwise _ (lacks_sequence run.0.schema) (ap lacks_sequence mid) run.2) in
     record { form = f; form_by = refl; schema = ap (λ (d : Database). d.schema) same ∙ mid; empty = ap (λ (d : Database). d.trees 0) same ∙ made.empty }
@@ -95,12 +118,16 @@ two_schema kind f r = record { tables = form_with f ∷ rows_with kind r ∷ [];
 abbrev checks_of : StoreKind → List Term
 checks_of kind = (table_of_text (table_defined_by (rows_text kind))).checks
 
+rows_put : (kind : StoreKind) (f r : List Term) → created (form_schema f) (treeless (rows_with kind r)) ≡ two_schema kind f r
+unfolding everything
+rows_put Queue f r = refl
+rows_put Journal f r = refl
+rows_put Book f r = refl
+
 rows_joined : (kind : StoreKind) (f : List Term) → created (form_schema f) (table_of_text (table_defined_by (rows_text kind)))
     ≡ two_schema kind f (checks_of kind)
-unfolding everything
-rows_joined Queue f = refl
-rows_joined Journal f = refl
-rows_joined Book f = refl
+rows_joined kind f =
+    ap (created (form_schema f)) (made_of (rows_with kind) (table_defined_by (rows_text kind)) (rows_made kind)) ∙ rows_put kind f (checks_of kind)
 
 sequence_joined : (kind : StoreKind) (f r : List Term) → created (two_schema kind f r) (table_of_text (table_defined_by sequence_text))
     ≡ schema_of f (rows_with kind r) []
@@ -135,9 +162,13 @@ created_rows kind old new count has h =
 abbrev l_checks : List Term
 l_checks = (table_of_text (table_defined_by lanes_text)).checks
 
-lanes_joined : (f q : List Term) → created (schema_of f (queue_with q) []) (table_of_text (table_defined_by lanes_text)) ≡ queue_schema f q l_checks
+lanes_put : (f q l : List Term) → created (schema_of f (queue_with q) []) (treeless (lanes_with l)) ≡ queue_schema f q l
 unfolding everything
-lanes_joined f q = refl
+lanes_put f q l = refl
+
+lanes_joined : (f q : List Term) → created (schema_of f (queue_with q) []) (table_of_text (table_defined_by lanes_text)) ≡ queue_schema f q l_checks
+lanes_joined f q =
+    ap (created (schema_of f (queue_with q) [])) (made_of lanes_with (table_defined_by lanes_text) lanes_made) ∙ lanes_put f q l_checks
 
 lacks_no_more : (f q l : List Term) → lacks_sequence (queue_schema f q l) ≡ false
 unfolding everything

@@ -19,7 +19,7 @@ use Rattle.sqlite.specs.State.{State, Executes, mode_of}
 use Rattle.sqlite.proofs.Callers.{command_of, statement_of, runs_as, one_step}
 use Rattle.dnp_store.specs.Texts.{lanes_insert}
 use Rattle.dnp_store.specs.QueueTables.{queue_schema, lanes_with, Figures, figures_cells, figures_rows, no_figures, is_raised, HoldsLanes, HoldsStock}
-use Rattle.dnp_store.proofs.Statements.{went, written, same_value}
+use Rattle.dnp_store.proofs.Statements.{IsRead, command_read, plain_read, went, written, same_value}
 use Rattle.dnp_store.proofs.Counting.{cast_int, cast_null}
 use Rattle.dnp_store.proofs.IdRows.{is_less}
 use Rattle.sqlite_trees.proofs.ListLemmas.{IsPermutation-same}
@@ -37,13 +37,15 @@ lane_text = lanes_insert
 abbrev lane_terms : List Term
 lane_terms = col 0 0 ∷ lit Null ∷ col 0 1 ∷ lit (Int (pos 0)) ∷ lit (Int (pos 0)) ∷ []
 
-lane_is : (f q l : List Term) → command_of (understood (queue_schema f q l) lane_text) ≡ Insert 3 (Values lane_terms 5)
+lane_read : (f q l : List Term) → IsRead (Insert 3 (Values lane_terms 5)) (understood (queue_schema f q l) lane_text)
 unfolding understood everything
-lane_is f q l = refl
+lane_read f q l = (refl, refl, refl)
+
+lane_is : (f q l : List Term) → command_of (understood (queue_schema f q l) lane_text) ≡ Insert 3 (Values lane_terms 5)
+lane_is f q l = command_read _ (understood (queue_schema f q l) lane_text) (lane_read f q l)
 
 lane_plain : (f q l : List Term) → IsPlain (understood (queue_schema f q l) lane_text)
-unfolding understood everything
-lane_plain f q l = (refl, refl)
+lane_plain f q l = plain_read _ (understood (queue_schema f q l) lane_text) (lane_read f q l)
 
 abbrev lane_task : List Term → List Term → List Term → Option ℕ → Row → Task
 lane_task f q l limit params = record { limit = limit; keys = Enforced; schema = queue_schema f q l; table = lanes_with l; params = params }

@@ -29,7 +29,7 @@ use Rattle.dnp_store.specs.declared.store_kind.StoreKind.{StoreKind}
 use Rattle.dnp_store.specs.declared.store_kind.StoreKind.TheVariants.{Journal, Book}
 use Rattle.dnp_store.specs.Schemas.{checks_of_form, checks_of_rows}
 use Rattle.dnp_store.specs.steps.Stores.{rows_with, number_row, HasTables, IsFresh, HasNumber}
-use Rattle.dnp_store.proofs.Statements.{went, written, same_value}
+use Rattle.dnp_store.proofs.Statements.{IsRead, command_read, plain_read, went, written, same_value}
 use Rattle.dnp_store.proofs.Counting.{cast_int, cast_null}
 
 abbrev pub number_text : List ℕ
@@ -41,13 +41,15 @@ number_terms = lit Null ∷ lit (Int (pos 1)) ∷ []
 abbrev schema : StoreKind → List Term → List Term → Schema
 schema kind f r = schema_of f (rows_with kind r) []
 
-number_is : (kind : StoreKind) (f r : List Term) → command_of (understood (schema kind f r) number_text) ≡ Insert 0 (Values number_terms 2)
+number_read : (kind : StoreKind) (f r : List Term) → IsRead (Insert 0 (Values number_terms 2)) (understood (schema kind f r) number_text)
 unfolding understood everything
-number_is kind f r = refl
+number_read kind f r = (refl, refl, refl)
+
+number_is : (kind : StoreKind) (f r : List Term) → command_of (understood (schema kind f r) number_text) ≡ Insert 0 (Values number_terms 2)
+number_is kind f r = command_read _ (understood (schema kind f r) number_text) (number_read kind f r)
 
 number_plain : (kind : StoreKind) (f r : List Term) → IsPlain (understood (schema kind f r) number_text)
-unfolding understood everything
-number_plain kind f r = (refl, refl)
+number_plain kind f r = plain_read _ (understood (schema kind f r) number_text) (number_read kind f r)
 
 -- no table refers to another
 quiet : (kind : StoreKind) (f r : List Term) (db : Trees) (e : Edit) → works (schema kind f r) Enforced 0 e.table.tree (taken_by db e) e.news ≡ []

@@ -35,7 +35,7 @@ use Rattle.sqlite_rules.specs.Calls.{ids_of}
 use Rattle.sqlite_schema.specs.declared.schema.Keys.TheVariants.{Enforced}
 use Rattle.dnp_store.specs.QueueTables.{queue_columns, Queued, queued_row}
 use Rattle.dnp_store.specs.PairTables.{Checks, pair_schema, rows_name, rows_tree}
-use Rattle.dnp_store.proofs.Statements.{at_table, went, written, same_value}
+use Rattle.dnp_store.proofs.Statements.{IsRead, command_read, plain_read, at_table, went, written, same_value}
 use Rattle.dnp_store.proofs.Without.{HasInt, deleted}
 use Rattle.dnp_store.proofs.Counting as counting
 use Rattle.dnp_store.specs.declared.queue_side.QueueSide.{QueueSide}
@@ -61,16 +61,18 @@ query tree = record {
   offset = lit (Int (pos 0));
 }
 
+delete_read : (side : QueueSide) (c : Checks)
+    → IsRead (Delete (rows_tree side) (record { lets = []; body = query (rows_tree side) })) (understood (pair_schema c) (delete_text side))
+unfolding understood everything
+delete_read First c = (refl, refl, refl)
+delete_read Second c = (refl, refl, refl)
+
 delete_is : (side : QueueSide) (c : Checks)
     → command_of (understood (pair_schema c) (delete_text side)) ≡ Delete (rows_tree side) (record { lets = []; body = query (rows_tree side) })
-unfolding understood everything
-delete_is First c = refl
-delete_is Second c = refl
+delete_is side c = command_read _ (understood (pair_schema c) (delete_text side)) (delete_read side c)
 
 delete_plain : (side : QueueSide) (c : Checks) → IsPlain (understood (pair_schema c) (delete_text side))
-unfolding understood everything
-delete_plain First c = (refl, refl)
-delete_plain Second c = (refl, refl)
+delete_plain side c = plain_read _ (understood (pair_schema c) (delete_text side)) (delete_read side c)
 
 abbrev pub delete_params : ℕ → ℕ → Row
 delete_params number upto = Int (pos number) ∷ Int (pos upto) ∷ []

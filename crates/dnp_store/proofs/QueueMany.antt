@@ -29,19 +29,21 @@ use Rattle.dnp_store.proofs.Sixteen.{terms_16, params_of, rests_of}
 use Rattle.dnp_store.proofs.QueueStatements.{whole_cells, insert_casts}
 use Rattle.dnp_store.proofs.Holding.{HoldsUnder, lane_low, queued_for, put}
 use Rattle.dnp_store.proofs.Appending.{nine_added}
+use Rattle.dnp_store.proofs.Statements.{IsRead, command_read, plain_read}
 
 abbrev pub insert_text_16 : QueueSide → List ℕ
 insert_text_16 = rows_insert_16
 
-insert_is_16 : (side : QueueSide) (c : Checks) → command_of (understood (pair_schema c) (insert_text_16 side)) ≡ Insert (rows_tree side) (Values terms_16 7)
+insert_read_16 : (side : QueueSide) (c : Checks) → IsRead (Insert (rows_tree side) (Values terms_16 7)) (understood (pair_schema c) (insert_text_16 side))
 unfolding understood everything
-insert_is_16 First c = refl
-insert_is_16 Second c = refl
+insert_read_16 First c = (refl, refl, refl)
+insert_read_16 Second c = (refl, refl, refl)
+
+insert_is_16 : (side : QueueSide) (c : Checks) → command_of (understood (pair_schema c) (insert_text_16 side)) ≡ Insert (rows_tree side) (Values terms_16 7)
+insert_is_16 side c = command_read _ (understood (pair_schema c) (insert_text_16 side)) (insert_read_16 side c)
 
 insert_plain_16 : (side : QueueSide) (c : Checks) → IsPlain (understood (pair_schema c) (insert_text_16 side))
-unfolding understood everything
-insert_plain_16 First c = (refl, refl)
-insert_plain_16 Second c = (refl, refl)
+insert_plain_16 side c = plain_read _ (understood (pair_schema c) (insert_text_16 side)) (insert_read_16 side c)
 
 -- the rows, as they are given and as they are put in
 abbrev pub queued_all : List LaneRow → List Queued

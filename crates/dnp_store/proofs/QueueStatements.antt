@@ -22,6 +22,7 @@ use Rattle.dnp_store.specs.declared.queue_side.QueueSide.TheVariants.{First, Sec
 use Rattle.dnp_store.proofs.Inserting.{inserts_in}
 use Rattle.dnp_store.proofs.PairSchema.{listed_pair, quiet_pair, rows_with, rows_checks, rows_there, rows_apart}
 use Rattle.dnp_store.proofs.Counting.{cast_int, cast_null, PutsIn}
+use Rattle.dnp_store.proofs.Statements.{IsRead, command_read, plain_read}
 
 pub cast_time : (t : Option ℕ) → Rattle.sqlite.specs.Cast.cast Rattle.sqlite.specs.Kind.TheVariants.Integer (or_null t) ≡ or_null t
 cast_time None = cast_null
@@ -35,15 +36,16 @@ insert_text = rows_insert
 abbrev insert_terms : List Term
 insert_terms = lit Null ∷ lit Null ∷ col 0 0 ∷ col 0 1 ∷ col 0 2 ∷ col 0 3 ∷ col 0 4 ∷ []
 
-insert_is : (side : QueueSide) (c : Checks) → command_of (understood (pair_schema c) (insert_text side)) ≡ Insert (rows_tree side) (Values insert_terms 7)
+insert_read : (side : QueueSide) (c : Checks) → IsRead (Insert (rows_tree side) (Values insert_terms 7)) (understood (pair_schema c) (insert_text side))
 unfolding understood everything
-insert_is First c = refl
-insert_is Second c = refl
+insert_read First c = (refl, refl, refl)
+insert_read Second c = (refl, refl, refl)
+
+insert_is : (side : QueueSide) (c : Checks) → command_of (understood (pair_schema c) (insert_text side)) ≡ Insert (rows_tree side) (Values insert_terms 7)
+insert_is side c = command_read _ (understood (pair_schema c) (insert_text side)) (insert_read side c)
 
 insert_plain : (side : QueueSide) (c : Checks) → IsPlain (understood (pair_schema c) (insert_text side))
-unfolding understood everything
-insert_plain First c = (refl, refl)
-insert_plain Second c = (refl, refl)
+insert_plain side c = plain_read _ (understood (pair_schema c) (insert_text side)) (insert_read side c)
 
 -- the cells of a row that ends with its time
 abbrev pub whole_cells : Queued → Row

@@ -38,7 +38,7 @@ use Rattle.sqlite_schema.specs.declared.schema.Keys.TheVariants.{Enforced}
 use Rattle.dnp_store.specs.Texts.{lanes_update}
 use Rattle.dnp_store.specs.QueueTables.{Figures, no_figures, figures_cells, figures_rows}
 use Rattle.dnp_store.specs.PairTables.{Checks, lanes_tree, pair_schema}
-use Rattle.dnp_store.proofs.Statements.{at_table, went, written, same_value}
+use Rattle.dnp_store.proofs.Statements.{IsRead, command_read, plain_read, at_table, went, written, same_value}
 use Rattle.dnp_store.proofs.Counting.{cast_int, cast_null}
 use Rattle.dnp_store.proofs.Recounting.{others_left}
 use Rattle.dnp_store.proofs.IdRows.{is_less, put_apart}
@@ -64,16 +64,18 @@ query tree = record {
   offset = lit (Int (pos 0));
 }
 
+update_read : (side : QueueSide) (c : Checks)
+    → IsRead (Update (lanes_tree side) (record { lets = []; body = query (lanes_tree side) })) (understood (pair_schema c) (update_text side))
+unfolding understood everything
+update_read First c = (refl, refl, refl)
+update_read Second c = (refl, refl, refl)
+
 update_is : (side : QueueSide) (c : Checks)
     → command_of (understood (pair_schema c) (update_text side)) ≡ Update (lanes_tree side) (record { lets = []; body = query (lanes_tree side) })
-unfolding understood everything
-update_is First c = refl
-update_is Second c = refl
+update_is side c = command_read _ (understood (pair_schema c) (update_text side)) (update_read side c)
 
 update_plain : (side : QueueSide) (c : Checks) → IsPlain (understood (pair_schema c) (update_text side))
-unfolding understood everything
-update_plain First c = (refl, refl)
-update_plain Second c = (refl, refl)
+update_plain side c = plain_read _ (understood (pair_schema c) (update_text side)) (update_read side c)
 
 -- ---- the lanes by their numbers
 

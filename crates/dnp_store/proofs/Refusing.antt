@@ -152,6 +152,12 @@ pub any_kind : {S : Type 0} (g : Ghosts S) (kind : StoreKind) (old mid new : Hel
 any_kind g kind old mid new (Ok _) one two = tt
 any_kind g kind old mid new (Err e) one two = refused_after g kind old mid new e one (two kind)
 
+-- what the last step answers, after others that went well
+pub refused_last : {S : Type 0} (g : Ghosts S) (kind : StoreKind) (old mid new : Held S) (r : Result (Unit {0}) Error)
+    → Survives (state g old) (state g mid) (λ _. ⊥) → IfErr r (IsRefused g kind mid new) → IfErr r (IsRefused g kind old new)
+refused_last g kind old mid new (Ok _) one two = tt
+refused_last g kind old mid new (Err e) one two = refused_after g kind old mid new e one two
+
 pub lost_open : (wrong lost : Bool) (f : OpenFault) → f ≡ cond wrong opening.WrongForm (cond lost opening.Device opening.Memory) → f ≡ opening.Device
     → lost ≡ true
 lost_open true lost f is told = absurd cc

@@ -5,7 +5,7 @@ use Rattle.sqlite_tied.specs.Compute.{everything}
 use Rattle.sqlite_resolve.specs.Compile.{table_defined_by}
 use Rattle.sqlite_schema.specs.declared.schema.Keys.TheVariants.{Enforced}
 use Rattle.sqlite.specs.declared.types.Value.TheVariants.{Null, Int}
-use Rattle.sqlite.specs.Command.TheVariants.{CreateTable, Insert, Update}
+use Rattle.sqlite.specs.Command.TheVariants.{Insert, Update}
 use Rattle.sqlite.specs.Source.TheVariants.{Values}
 use Rattle.sqlite.specs.Schema.{Schema}
 use Rattle.sqlite.specs.Query.{Query, inner, end, IsAnswer, output, Output}
@@ -32,15 +32,15 @@ use Rattle.dnp_eventbuf.specs.Stock.{Stock, empty_stock}
 use Rattle.dnp_store.specs.Texts.{form_update, lanes_b_insert}
 use Rattle.dnp_store.specs.Tables.{HaveOwnIds, IsCounted, count_row, counts_of, form_with, schema_of}
 use Rattle.dnp_store.specs.QueueTables.{Figures, HoldsIn, HoldsLanes, HoldsStock, IsForm1, figures_cells, figures_rows, lanes_with, queue_schema, queue_with}
-use Rattle.dnp_store.specs.PairTables.{migrated, pair_schema, queue_b_with, rows_name}
+use Rattle.dnp_store.specs.PairTables.{lanes_b_with, migrated, pair_schema, queue_b_with, rows_name}
 use Rattle.dnp_store.specs.Schemas.{checks_of_lanes_b, checks_of_queue_b, lanes_b_text, queue_b_text, table_of_text}
 use Rattle.dnp_store.specs.declared.queue_side.QueueSide.TheVariants.{First, Second}
 use Rattle.dnp_store.specs.steps.Making.{fresh}
 use Rattle.dnp_store.specs.steps.Seconds.{HasQueueB, HasSecond, IsSecond, with_second}
-use Rattle.dnp_store.proofs.Creating.{makes}
+use Rattle.dnp_store.proofs.Creating.{IsMade, IsTable, is_of, made_of, makes, plain_of, treeless}
 use Rattle.dnp_store.proofs.Filling.{empty_lanes, none_raised, put_end}
 use Rattle.dnp_store.proofs.Numbering.{PutsIn}
-use Rattle.dnp_store.proofs.Statements.{went, same_value, otherwise, written}
+use Rattle.dnp_store.proofs.Statements.{IsRead, command_read, plain_read, went, same_value, otherwise, written}
 use Rattle.dnp_store.proofs.Counting.{cast_int, cast_null}
 use Rattle.dnp_store.proofs.Recounting.{named_alone, same_id}
 use Rattle.dnp_store.proofs.PairSchema.{lanes_of, names_apart, quiet_pair}
@@ -64,14 +64,13 @@ kept_stock db now s form rows counts lanes h = record {
 
 -- ---- CREATE TABLE
 
-queue_b_is : (f q l : List Term) → (command_of (understood (queue_schema f q l) queue_b_text) ≡ CreateTable)
-    × (statement_of queue_b_text (understood (queue_schema f q l) queue_b_text) ≡ queue_b_text)
+queue_b_is : (f q l : List Term) → IsTable queue_b_text (understood (queue_schema f q l) queue_b_text)
 unfolding understood everything
-queue_b_is f q l = (refl, refl)
+queue_b_is f q l = (refl, refl, refl, refl)
 
-queue_b_plain : (f q l : List Term) → IsPlain (understood (queue_schema f q l) queue_b_text)
-unfolding understood everything
-queue_b_plain f q l = (refl, refl)
+queue_b_made : IsMade queue_b_with (table_defined_by queue_b_text)
+unfolding everything
+queue_b_made = refl
 
 abbrev b_checks : List Term
 b_checks = (table_of_text (table_defined_by queue_b_text)).checks
@@ -79,9 +78,13 @@ b_checks = (table_of_text (table_defined_by queue_b_text)).checks
 abbrev four_schema : List Term → List Term → List Term → List Term → Schema
 four_schema f q l b = schema_of f (queue_with q) (lanes_with l ∷ queue_b_with b ∷ [])
 
-queue_b_joined : (f q l : List Term) → created (queue_schema f q l) (table_of_text (table_defined_by queue_b_text)) ≡ four_schema f q l b_checks
+queue_b_put : (f q l b : List Term) → created (queue_schema f q l) (treeless (queue_b_with b)) ≡ four_schema f q l b
 unfolding everything
-queue_b_joined f q l = refl
+queue_b_put f q l b = refl
+
+queue_b_joined : (f q l : List Term) → created (queue_schema f q l) (table_of_text (table_defined_by queue_b_text)) ≡ four_schema f q l b_checks
+queue_b_joined f q l =
+    ap (created (queue_schema f q l)) (made_of queue_b_with (table_defined_by queue_b_text) queue_b_made) ∙ queue_b_put f q l b_checks
 
 four_lacks : (f q l b : List Term) → lacks_sequence (four_schema f q l b) ≡ false
 unfolding everything
@@ -91,7 +94,9 @@ pub created_queue_b : (old new : State) (count : ℕ) (f q l : List Term) (s : S
     → Executes queue_b_text [] old new (Ok count) → HasQueueB f q l s new.now
 unfolding checks_of_queue_b
 created_queue_b old new count f q l s has holds h =
-    let run = makes old new queue_b_text (queue_schema f q l) count has (queue_b_is f q l) (queue_b_plain f q l) h in
+    let read = understood (queue_schema f q l) queue_b_text in
+    let is = queue_b_is f q l in
+    let run = makes old new queue_b_text (queue_schema f q l) count has (is_of queue_b_text read is) (plain_of queue_b_text read is) h in
     let made = run.1 in
     let mid : run.0.schema ≡ four_schema f q l b_checks = made.is ∙ ap (created (queue_schema f q l)) (sym (ap table_of_text made.defined))
     ∙ queue_b_joined f q l in
@@ -104,14 +109,13 @@ created_queue_b old new count f q l s has holds h =
       empty = at 4 ∙ made.empty;
     }
 
-lanes_b_is : (f q l b : List Term) → (command_of (understood (four_schema f q l b) lanes_b_text) ≡ CreateTable)
-    × (statement_of lanes_b_text (understood (four_schema f q l b) lanes_b_text) ≡ lanes_b_text)
+lanes_b_is : (f q l b : List Term) → IsTable lanes_b_text (understood (four_schema f q l b) lanes_b_text)
 unfolding understood everything
-lanes_b_is f q l b = (refl, refl)
+lanes_b_is f q l b = (refl, refl, refl, refl)
 
-lanes_b_plain : (f q l b : List Term) → IsPlain (understood (four_schema f q l b) lanes_b_text)
-unfolding understood everything
-lanes_b_plain f q l b = (refl, refl)
+lanes_b_made : IsMade lanes_b_with (table_defined_by lanes_b_text)
+unfolding everything
+lanes_b_made = refl
 
 abbrev lb_checks : List Term
 lb_checks = (table_of_text (table_defined_by lanes_b_text)).checks
@@ -119,9 +123,13 @@ lb_checks = (table_of_text (table_defined_by lanes_b_text)).checks
 abbrev five_schema : List Term → List Term → List Term → List Term → List Term → Schema
 five_schema f q l b lb = pair_schema (record { form = f; queue = q; lanes = l; queue_b = b; lanes_b = lb })
 
-lanes_b_joined : (f q l b : List Term) → created (four_schema f q l b) (table_of_text (table_defined_by lanes_b_text)) ≡ five_schema f q l b lb_checks
+lanes_b_put : (f q l b lb : List Term) → created (four_schema f q l b) (treeless (lanes_b_with lb)) ≡ five_schema f q l b lb
 unfolding everything
-lanes_b_joined f q l b = refl
+lanes_b_put f q l b lb = refl
+
+lanes_b_joined : (f q l b : List Term) → created (four_schema f q l b) (table_of_text (table_defined_by lanes_b_text)) ≡ five_schema f q l b lb_checks
+lanes_b_joined f q l b =
+    ap (created (four_schema f q l b)) (made_of lanes_b_with (table_defined_by lanes_b_text) lanes_b_made) ∙ lanes_b_put f q l b lb_checks
 
 five_lacks : (f q l b lb : List Term) → lacks_sequence (five_schema f q l b lb) ≡ false
 unfolding everything
@@ -132,7 +140,9 @@ pub created_lanes_b : (old new : State) (count : ℕ) (f q l : List Term) (s : S
 unfolding checks_of_lanes_b
 created_lanes_b old new count f q l s has h =
     let b = checks_of_queue_b in
-    let run = makes old new lanes_b_text (four_schema f q l b) count has.schema (lanes_b_is f q l b) (lanes_b_plain f q l b) h in
+    let read = understood (four_schema f q l b) lanes_b_text in
+    let is = lanes_b_is f q l b in
+    let run = makes old new lanes_b_text (four_schema f q l b) count has.schema (is_of lanes_b_text read is) (plain_of lanes_b_text read is) h in
     let made = run.1 in
     let mid : run.0.schema ≡ five_schema f q l b lb_checks = made.is ∙ ap (created (four_schema f q l b)) (sym (ap table_of_text made.defined))
     ∙ lanes_b_joined f q l b in
@@ -154,13 +164,15 @@ lane_params number capacity = Int (pos number) ∷ Int (pos capacity) ∷ []
 abbrev lane_terms : List Term
 lane_terms = col 0 0 ∷ lit Null ∷ col 0 1 ∷ lit (Int (pos 0)) ∷ lit (Int (pos 0)) ∷ []
 
-lane_is : (f q l : List Term) → command_of (understood (pair_schema (with_second f q l)) lanes_b_insert) ≡ Insert 5 (Values lane_terms 5)
+lane_read : (f q l : List Term) → IsRead (Insert 5 (Values lane_terms 5)) (understood (pair_schema (with_second f q l)) lanes_b_insert)
 unfolding understood everything
-lane_is f q l = refl
+lane_read f q l = (refl, refl, refl)
+
+lane_is : (f q l : List Term) → command_of (understood (pair_schema (with_second f q l)) lanes_b_insert) ≡ Insert 5 (Values lane_terms 5)
+lane_is f q l = command_read _ (understood (pair_schema (with_second f q l)) lanes_b_insert) (lane_read f q l)
 
 lane_plain : (f q l : List Term) → IsPlain (understood (pair_schema (with_second f q l)) lanes_b_insert)
-unfolding understood everything
-lane_plain f q l = (refl, refl)
+lane_plain f q l = plain_read _ (understood (pair_schema (with_second f q l)) lanes_b_insert) (lane_read f q l)
 
 abbrev lane_task : List Term → List Term → List Term → Option ℕ → Row → Task
 lane_task f q l limit params =
@@ -227,13 +239,15 @@ query = record {
   offset = lit (Int (pos 0));
 }
 
-number_is : (f q l : List Term) → command_of (understood (pair_schema (with_second f q l)) form_update) ≡ Update 0 (record { lets = []; body = query })
+number_read : (f q l : List Term) → IsRead (Update 0 (record { lets = []; body = query })) (understood (pair_schema (with_second f q l)) form_update)
 unfolding understood everything
-number_is f q l = refl
+number_read f q l = (refl, refl, refl)
+
+number_is : (f q l : List Term) → command_of (understood (pair_schema (with_second f q l)) form_update) ≡ Update 0 (record { lets = []; body = query })
+number_is f q l = command_read _ (understood (pair_schema (with_second f q l)) form_update) (number_read f q l)
 
 number_plain : (f q l : List Term) → IsPlain (understood (pair_schema (with_second f q l)) form_update)
-unfolding understood everything
-number_plain f q l = (refl, refl)
+number_plain f q l = plain_read _ (understood (pair_schema (with_second f q l)) form_update) (number_read f q l)
 
 abbrev number_task : List Term → List Term → List Term → Option ℕ → Task
 number_task f q l limit = record { limit = limit; keys = Enforced; schema = pair_schema (with_second f q l); table = form_with f; params = [] }

@@ -1,6 +1,8 @@
 -- What a statement on the rows of a table makes of a database.
-use Rattle.std.proofs.Common.{◌≡◌, ◌⊎◌, inl, inr, ℕ, List, Some, Bool, true, false, IsTrue, None, Ok, Err, Result, sym, ap, subst}
+use Rattle.std.proofs.Common.{◌≡◌, ◌⊎◌, inl, inr, ℕ, List, [], Some, Bool, true, false, IsTrue, None, Ok, Err, Result, sym, ap, subst}
 use Rattle.std.specs.Prelude.{MatchBool, slice_get}
+use Rattle.sqlite_resolve.specs.declared.compiled.Compiled.{Compiled}
+use Rattle.sqlite_resolve.specs.declared.error.CompileError.{CompileError}
 use Rattle.sqlite.specs.declared.run.Mode.{Mode}
 use Rattle.sqlite.specs.Command.{Command}
 use Rattle.sqlite.specs.Tree.{Trees}
@@ -11,7 +13,22 @@ use Rattle.sqlite.specs.Does.{Tally, WritesRows, OnRows, AtPlace}
 use Rattle.sqlite.specs.declared.error.Error.{Error}
 use Rattle.std.specs.Prelude.{OnOk}
 use Rattle.sqlite.specs.State.{State, HasCleanDisk, Survives}
+use Rattle.sqlite.specs.Given.{IsPlain}
+use Rattle.sqlite.proofs.Callers.{command_of}
 use Rattle.sqlite.proofs.StateLemmas.{survives_then}
+
+-- a text is this command and no more (each part is read off one reading of the text)
+abbrev pub IsRead : Command → Result Compiled CompileError → Type 0
+IsRead command (Ok c) = (c.command ≡ command) × (c.returning ≡ None) × (c.formats ≡ [])
+IsRead command (Err e) = ⊥
+
+pub command_read : (command : Command) (u : Result Compiled CompileError) → IsRead command u → command_of u ≡ command
+command_read command (Ok c) h = h.0
+command_read command (Err e) h = absurd h
+
+pub plain_read : (command : Command) (u : Result Compiled CompileError) → IsRead command u → IsPlain u
+plain_read command (Ok c) h = (h.1, h.2)
+plain_read command (Err e) h = absurd h
 
 -- a part that gave a value did not stop on the way
 pub went : {B E R : Type 0} {b : B} {Stops : E → Type 0} → ((stop : E) × Stops stop × (Ok b ≡ Err stop)) ⊎ R → R

@@ -302,8 +302,13 @@ impl<S: Alter> PairLanes for Queue<S> {
         ensures untouched { IsTrue self.old.stopped → self.new.conn ≡ self.old.conn }
         ensures device { HasCleanDisk (state S.Store self.new.conn) → result ≡ Err StoreFault.Device → IsTrue self.old.stopped ⊎ IsLost S.Store StoreKind.Queue self.old.conn self.new.conn }
     {
-        *taken = Rows::of(PairLanes::release(self, alloc, centre, upto)?);
-        Ok(())
+        match PairLanes::release(self, alloc, centre, upto) {
+            Ok(rows) => {
+                *taken = Rows::of(rows);
+                Ok(())
+            }
+            Err(fault) => Err(fault),
+        }
     }
 
     /// What a crash leaves at any exit holds the lanes before or after, and after Ok those after.

@@ -38,7 +38,9 @@ fn room_for(lanes: &PlainLanes, alloc: Global, rows: &[LaneRow]) -> Result<Vec<R
     ensures exhausted_always { IsTrue (exhausts lanes.now rows.now) → result ≡ Err StoreFault.Exhausted }
     ensures named { IfErr result (λ e. e ≢ StoreFault.Device) }
 {
-    let count = lanes.drops(rows).ok_or(StoreFault::Exhausted)?;
+    let Some(count) = lanes.drops(rows) else {
+        return Err(StoreFault::Exhausted);
+    };
     Vec::with_capacity(alloc, count).map_err(memory)
 }
 
@@ -67,8 +69,9 @@ fn rooms_for(
     ensures exhausted_always { IsTrue (exhausts first.now rows.now || exhausts second.now rows.now) → result ≡ Err StoreFault.Exhausted }
     ensures named { IfErr result (λ e. e ≢ StoreFault.Device) }
 {
-    let count = first.drops(rows).ok_or(StoreFault::Exhausted)?;
-    let others = second.drops(rows).ok_or(StoreFault::Exhausted)?;
+    let (Some(count), Some(others)) = (first.drops(rows), second.drops(rows)) else {
+        return Err(StoreFault::Exhausted);
+    };
     two_rooms(alloc, count, others).map_err(memory)
 }
 
@@ -177,7 +180,9 @@ pub(crate) fn release_from<S: Alter>(
     ensures after { HasCleanDisk (state S.Store conn.new) → (others : Stock) → Stands (state S.Store conn.old) (sides_of side lanes.old others) → OnOk result (Leaves (state S.Store conn.new) (sides_of side lanes.new others)) }
     ensures device { HasCleanDisk (state S.Store conn.new) → result ≡ Err StoreFault.Device → IsLost S.Store StoreKind.Queue conn.old conn.new }
 {
-    let taken = lanes.rows_up_to(alloc, upto).map_err(memory)?;
+    let Ok(taken) = lanes.rows_up_to(alloc, upto) else {
+        return Err(StoreFault::Memory);
+    };
     let lower = lowers(lanes, upto);
     if let Err(error) = write_release(conn, side, lanes, upto, lower) {
         let lost = is_lost(conn, &error);
@@ -211,7 +216,9 @@ pub(crate) fn empty_of<S: Alter>(
 {
     // (a law, for the proof: it does nothing)
     a_release_is_lane_by_lane();
-    let taken = lanes.all_rows(alloc).map_err(memory)?;
+    let Ok(taken) = lanes.all_rows(alloc) else {
+        return Err(StoreFault::Memory);
+    };
     let lower = lanes.has_overflow();
     if let Err(error) = write_release(conn, side, lanes, &[MAX_ID; LANES], lower) {
         let lost = is_lost(conn, &error);

@@ -54,9 +54,10 @@ fn take_some<S: Alter>(
         → HoldsFor side others (state S.Store tx.new.conn.now).now (cut s number (min (slice_index_or upto.now number 0) limits.MAX_ID)) figures) }
 {
     if has_up_to(lanes, number, upto[number].min(MAX_ID)) {
-        take(tx, side, number, upto[number].min(MAX_ID))?;
+        take(tx, side, number, upto[number].min(MAX_ID))
+    } else {
+        Ok(())
     }
-    Ok(())
 }
 
 /// Takes the rows of each lane with ids up to its number out of the table.
@@ -120,9 +121,10 @@ fn release_in<S: Alter>(
     if lower {
         // (a law, for the proof: it does nothing)
         a_release_is_lane_by_lane();
-        lower_all(tx, side, lanes)?;
+        lower_all(tx, side, lanes)
+    } else {
+        Ok(())
     }
-    Ok(())
 }
 
 /// Whether a release ends the overflow.

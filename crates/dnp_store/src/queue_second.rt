@@ -113,6 +113,5 @@ pub(crate) fn make_second<S: Alter>(
     make_lanes_b(tx)?;
     put_lanes_b(tx, capacities)?;
     number_second(tx, capacities)?;
-    keep_probe(tx)?;
-    Ok(())
+    keep_probe(tx)
 }

@@ -66,8 +66,7 @@ pub(crate) fn insert_many<S: Alter>(
         let x = &rows[number];
         given[number] = cells(x.lane.number(), &x.row);
     }
-    tx.execute(insert_16_text(side), given.as_flattened())?;
-    Ok(())
+    run(tx, insert_16_text(side), given.as_flattened())
 }
 
 /// Takes the rows of a lane with ids up to this one out of the table of a side.

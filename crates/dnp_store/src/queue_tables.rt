@@ -73,8 +73,7 @@ fn make_all<S: Alter>(tx: &mut Transaction<'_, S>, capacities: &[u32; LANES]) ->
     make_tables(tx, StoreKind::Queue)?;
     make_lanes(tx)?;
     put_lanes(tx, capacities)?;
-    keep_probe(tx)?;
-    Ok(())
+    keep_probe(tx)
 }
 
 /// Makes the tables for one centre and those for the second beside them, with empty lanes.
@@ -90,8 +89,7 @@ fn make_pair<S: Alter>(
         → IsSecond checks_of_form (checks_of_rows StoreKind.Queue) checks_of_lanes (migrated (empty_stock first.now) second.now) (state S.Store tx.new.conn.now).now) }
 {
     make_all(tx, first)?;
-    make_second(tx, second)?;
-    Ok(())
+    make_second(tx, second)
 }
 
 /// Makes the tables of empty lanes for two centres, in one transaction.

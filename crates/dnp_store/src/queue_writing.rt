@@ -107,13 +107,12 @@ fn trim<S: Alter>(
     if over == 0 {
         return Ok(());
     }
-    let upto = lanes
-        .id_at(number, rows, over - 1)
-        .ok_or(Error::InvalidQuery)?;
+    let Some(upto) = lanes.id_at(number, rows, over - 1) else {
+        return Err(Error::InvalidQuery);
+    };
     let lost = lanes.lost_in(number) + over as u64;
     take(tx, side, number, upto)?;
-    note(tx, side, number, lost, true)?;
-    Ok(())
+    note(tx, side, number, lost, true)
 }
 
 /// Has each lane drop what it has to for these rows.
@@ -158,8 +157,7 @@ fn append_in<S: Alter>(
     // (a law, for the proof: it does nothing)
     a_lane_keeps_its_latest_rows();
     insert_all(tx, side, rows)?;
-    trim_all(tx, side, lanes, rows)?;
-    Ok(())
+    trim_all(tx, side, lanes, rows)
 }
 
 /// Puts rows into the tables of both sides.
@@ -183,8 +181,7 @@ fn append_in_both<S: Alter>(
         → IsPair (state S.Store tx.new.conn.now).now (record { first = with_rows first.now rows.now; second = with_rows second.now rows.now })) }
 {
     append_in(tx, QueueSide::First, first, rows)?;
-    append_in(tx, QueueSide::Second, second, rows)?;
-    Ok(())
+    append_in(tx, QueueSide::Second, second, rows)
 }
 
 /// Writes what an append on one side changes.

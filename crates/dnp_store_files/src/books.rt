@@ -4,7 +4,7 @@ ghost use Rattle.std.specs.Prelude.{◌<◌};
 ghost use Rattle.dnp_controls.specs.declared.limits.TheConstants.{TARGETS};
 
 use crate::Fault;
-use crate::stored::Stored;
+use crate::stored::{Job, Stored};
 use dnp_controls::{Book, BookFault, Entry, State, TARGETS};
 use dnp_objects::{Command, Status};
 use dnp_store::{ControlBook, OpenFault};
@@ -118,6 +118,50 @@ fn steps<B: Book>(
     )
 }
 
+/// Takes an empty book through its calls.
+fn walk<B: Book>(book: &mut B, alloc: Global) -> bool {
+    matches!(steps(book, alloc, 0, &LATCH_ON, [1, 2, 3]), Ok(true))
+        && matches!(steps(book, alloc, 1, &LOW, [4, 5, 6]), Ok(true))
+        && matches!(steps(book, alloc, 15, &WIDE, [7, 8, 9]), Ok(true))
+}
+
+/// Whether the first control of each of the three targets is finished, and no other.
+fn is_walked<B: Book>(book: &mut B, alloc: Global) -> bool {
+    let Ok(entries) = listed(book, alloc, 0) else {
+        return false;
+    };
+    let are_walked = entries.iter().all(|entry| {
+        (entry.state == State::Finished(Status::SUCCESS)) == (entry.id % 3 == 1)
+    });
+    entries.len() == 9 && are_walked
+}
+
+/// Puts a control into a book and prints all.
+fn show<B: Book>(rt: &HostRuntime, book: &mut B) -> Result<(), Fault> {
+    let alloc = rt.alloc();
+    book.add(alloc, 3, &LATCH_ON)?;
+    for entry in &book.rows(alloc, 0, 99)? {
+        let id = entry.id;
+        let target = entry.target;
+        let command = entry.command;
+        let state = entry.state;
+        println!(rt; "control {id}: target {target} {command:?} {state:?}")?;
+    }
+    Ok(())
+}
+
+/// Does a job with a book.
+fn does<B: Book>(rt: &HostRuntime, book: &mut B, job: Job) -> Result<bool, Fault> {
+    match job {
+        Job::Walk => Ok(walk(book, rt.alloc())),
+        Job::Check => Ok(is_walked(book, rt.alloc())),
+        Job::Show => {
+            show(rt, book)?;
+            Ok(true)
+        }
+    }
+}
+
 impl<S: Alter> Stored<Connection<S>> for ControlBook<S> {
     fn create(
         alloc: Global,
@@ -137,33 +181,8 @@ impl<S: Alter> Stored<Connection<S>> for ControlBook<S> {
         self.into_connection()
     }
 
-    fn walk(&mut self, alloc: Global) -> bool {
-        matches!(steps(self, alloc, 0, &LATCH_ON, [1, 2, 3]), Ok(true))
-            && matches!(steps(self, alloc, 1, &LOW, [4, 5, 6]), Ok(true))
-            && matches!(steps(self, alloc, 15, &WIDE, [7, 8, 9]), Ok(true))
-    }
-
-    /// The first control of each of the three targets is finished, and no other.
-    fn is_walked(&mut self, alloc: Global) -> bool {
-        let Ok(entries) = listed(self, alloc, 0) else {
-            return false;
-        };
-        let are_walked = entries.iter().all(|entry| {
-            (entry.state == State::Finished(Status::SUCCESS)) == (entry.id % 3 == 1)
-        });
-        entries.len() == 9 && are_walked && self.serves() && self.owns_database()
-    }
-
-    fn show(&mut self, rt: &HostRuntime) -> Result<(), Fault> {
-        let alloc = rt.alloc();
-        self.add(alloc, 3, &LATCH_ON)?;
-        for entry in &self.rows(alloc, 0, 99)? {
-            let id = entry.id;
-            let target = entry.target;
-            let command = entry.command;
-            let state = entry.state;
-            println!(rt; "control {id}: target {target} {command:?} {state:?}")?;
-        }
-        Ok(())
+    fn does(&mut self, rt: &HostRuntime, job: Job) -> Result<bool, Fault> {
+        let is_done = does(rt, self, job)?;
+        Ok(is_done && (job != Job::Check || (self.serves() && self.owns_database())))
     }
 }

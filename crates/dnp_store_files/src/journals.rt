@@ -4,7 +4,7 @@ ghost use Rattle.std.specs.Prelude.{◌≡◌, true, All};
 ghost use Rattle.dnp_objects.specs.Events.{IsEvent};
 
 use crate::Fault;
-use crate::stored::Stored;
+use crate::stored::{Job, Stored};
 use dnp_eventbuf::{JournalStore, Numbered, Sink, StoreFault};
 use dnp_objects::{Kind, Row, is_event};
 use dnp_store::{Journal, OpenFault};
@@ -80,6 +80,56 @@ fn steps<J: JournalStore>(
     )
 }
 
+/// Takes an empty journal through its calls.
+fn walk<J: JournalStore>(journal: &mut J, alloc: Global) -> bool {
+    matches!(steps(journal, alloc, Kind::Binary, 0), Ok(true))
+        && matches!(steps(journal, alloc, Kind::Counter, 3), Ok(true))
+        && matches!(steps(journal, alloc, Kind::Analog, 6), Ok(true))
+}
+
+/// Whether the rows are those of the walk.
+fn is_walked<J: JournalStore>(journal: &mut J, alloc: Global) -> bool {
+    let Ok(rows) = listed(journal, alloc, 0) else {
+        return false;
+    };
+    let are_walked = rows.iter().all(|x| {
+        x.row.index as u64 + 3 * x.row.kind.number() as u64 + 1 == x.id
+    });
+    rows.len() == 9 && are_walked && journal.count() == 9
+}
+
+/// Puts an event into a journal and prints all rows.
+fn show<J: JournalStore>(rt: &HostRuntime, journal: &mut J) -> Result<(), Fault> {
+    append(journal, rt.alloc(), &[event(Kind::Counter, 9)])?;
+    for x in &journal.rows(rt.alloc(), 0, 99)? {
+        let Row {
+            kind,
+            index,
+            flags,
+            value,
+            time,
+        } = x.row;
+        let id = x.id;
+        let kind = kind.number();
+        println!(rt;
+            "journal {id}: kind {kind} point {index} flags {flags} value {value} time {time:?}"
+        )?;
+    }
+    Ok(())
+}
+
+/// Does a job with a journal.
+fn does<J: JournalStore>(rt: &HostRuntime, journal: &mut J, job: Job) -> Result<bool, Fault> {
+    match job {
+        Job::Walk => Ok(walk(journal, rt.alloc())),
+        Job::Check => Ok(is_walked(journal, rt.alloc())),
+        Job::Show => {
+            show(rt, journal)?;
+            Ok(true)
+        }
+    }
+}
+
 impl<S: Alter> Stored<Connection<S>> for Journal<S> {
     fn create(
         _alloc: Global,
@@ -96,39 +146,8 @@ impl<S: Alter> Stored<Connection<S>> for Journal<S> {
         self.into_connection()
     }
 
-    fn walk(&mut self, alloc: Global) -> bool {
-        matches!(steps(self, alloc, Kind::Binary, 0), Ok(true))
-            && matches!(steps(self, alloc, Kind::Counter, 3), Ok(true))
-            && matches!(steps(self, alloc, Kind::Analog, 6), Ok(true))
-    }
-
-    /// The rows are those of the walk.
-    fn is_walked(&mut self, alloc: Global) -> bool {
-        let Ok(rows) = listed(self, alloc, 0) else {
-            return false;
-        };
-        let are_walked = rows.iter().all(|x| {
-            x.row.index as u64 + 3 * x.row.kind.number() as u64 + 1 == x.id
-        });
-        rows.len() == 9 && are_walked && self.count() == 9 && self.owns_database()
-    }
-
-    fn show(&mut self, rt: &HostRuntime) -> Result<(), Fault> {
-        append(self, rt.alloc(), &[event(Kind::Counter, 9)])?;
-        for x in &self.rows(rt.alloc(), 0, 99)? {
-            let Row {
-                kind,
-                index,
-                flags,
-                value,
-                time,
-            } = x.row;
-            let id = x.id;
-            let kind = kind.number();
-            println!(rt;
-                "journal {id}: kind {kind} point {index} flags {flags} value {value} time {time:?}"
-            )?;
-        }
-        Ok(())
+    fn does(&mut self, rt: &HostRuntime, job: Job) -> Result<bool, Fault> {
+        let is_done = does(rt, self, job)?;
+        Ok(is_done && (job != Job::Check || self.owns_database()))
     }
 }

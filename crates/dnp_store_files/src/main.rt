@@ -187,16 +187,25 @@ fn with_all<S: Alter, P: Place<Connection<S>>>(
     match task {
         Task::Time(path, rows, turns) => timing::time(rt, place, path, rows, turns),
         Task::Fill => fill(rt, place),
-        Task::Migrate => with_one::<S, P, Migrating<S>>(rt, place, Task::Show, &OLD_QUEUE),
+        Task::Migrate => with_old(rt, place, Task::Show),
         Task::Try | Task::Walk | Task::Show => {
             with_one::<S, P, Queue<S>>(rt, place, task, &QUEUE)?;
             if !matches!(task, Task::Show) {
-                with_one::<S, P, Migrating<S>>(rt, place, task, &OLD_QUEUE)?;
+                with_old(rt, place, task)?;
             }
             with_one::<S, P, Journal<S>>(rt, place, task, &JOURNAL)?;
             with_one::<S, P, ControlBook<S>>(rt, place, task, &BOOK)
         }
     }
+}
+
+/// Does a task with a queue for one centre.
+fn with_old<S: Alter, P: Place<Connection<S>>>(
+    rt: &HostRuntime,
+    place: &P,
+    task: Task,
+) -> Result<(), Fault> {
+    with_one::<S, P, Migrating<S>>(rt, place, task, &OLD_QUEUE)
 }
 
 /// Does a task with one store.
@@ -269,7 +278,7 @@ fn walk<C, P: Place<C>, T: Stored<C>>(
         Ok(conn) => conn,
         Err(_) => place.open(rt, subject.path)?,
     };
-    let (is_good, conn) = stored::walk::<C, T>(rt.alloc(), conn);
+    let (is_good, conn) = stored::walk::<C, T>(rt, conn);
     place.close(conn)?;
     say(rt, subject.name, place.name(), verdict(is_good))?;
     Ok(())

@@ -5,7 +5,7 @@ ghost use Rattle.dnp_eventbuf.specs.Carried.{IsCarried};
 
 use crate::Fault;
 use crate::queues::{are_carried, event, show_all};
-use crate::stored::Stored;
+use crate::stored::{Job, Stored};
 use dnp_eventbuf::{Lane, LaneRow, Lanes, Numbered, PairLanes, Side, StoreFault};
 use dnp_objects::Row;
 use dnp_store::{OpenFault, Queue};
@@ -96,6 +96,11 @@ fn goes_on<P: PairLanes>(pair: &mut P, alloc: Global) -> Option<bool> {
     Some(is_dropped && pair.last(0, lane) == 3 && pair.last(1, lane) == 1)
 }
 
+/// Whether a queue stands as its migration left it, and goes on.
+fn is_migrated<P: PairLanes>(pair: &mut P, alloc: Global) -> bool {
+    holds_its_rows(pair, alloc) == Some(true) && goes_on(pair, alloc) == Some(true)
+}
+
 /// Why the tables were not made.
 fn fault_of(error: &Error) -> OpenFault {
     match error {
@@ -158,26 +163,22 @@ impl<S: Alter> Stored<Connection<S>> for Migrating<S> {
         }
     }
 
-    fn walk(&mut self, _alloc: Global) -> bool {
-        true
-    }
-
-    fn is_walked(&mut self, alloc: Global) -> bool {
-        match self {
-            Migrating::Old(_) => false,
-            Migrating::Now(queue, was_old) => {
-                *was_old
-                    && queue.owns_database()
-                    && holds_its_rows(queue, alloc) == Some(true)
-                    && goes_on(queue, alloc) == Some(true)
-            }
-        }
-    }
-
-    fn show(&mut self, rt: &HostRuntime) -> Result<(), Fault> {
-        match self {
-            Migrating::Old(_) => Err(Fault::Store),
-            Migrating::Now(queue, _) => show_all(rt, queue),
+    fn does(&mut self, rt: &HostRuntime, job: Job) -> Result<bool, Fault> {
+        match job {
+            Job::Walk => Ok(true),
+            Job::Check => match self {
+                Migrating::Old(_) => Ok(false),
+                Migrating::Now(queue, was_old) => {
+                    Ok(*was_old && queue.owns_database() && is_migrated(queue, rt.alloc()))
+                }
+            },
+            Job::Show => match self {
+                Migrating::Old(_) => Err(Fault::Store),
+                Migrating::Now(queue, _) => {
+                    show_all(rt, queue)?;
+                    Ok(true)
+                }
+            },
         }
     }
 }

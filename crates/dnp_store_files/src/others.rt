@@ -55,14 +55,16 @@ fn has_its_row<L: Lanes>(lanes: &mut L, alloc: Global) -> Option<bool> {
     Some(rows.len() == 1 && rows[0].id == 4611686018427387904 && rows[0].row.index == 7)
 }
 
+/// Whether lanes have no id for an event, and have the row of the tables still.
+fn are_lanes_full<L: Lanes>(lanes: &mut L, alloc: Global) -> bool {
+    matches!(put(lanes, alloc), Some(StoreFault::Exhausted))
+        && has_its_row(lanes, alloc) == Some(true)
+}
+
 /// Whether a queue owns its database where it should, before and after it has no id for an event, and has its row still.
 fn is_queue_full<S: Alter>(queue: &mut Queue<S>, alloc: Global, is_owned: bool) -> bool {
     let was_owned = queue.owns_database();
-    let fault = put(queue, alloc);
-    matches!(fault, Some(StoreFault::Exhausted))
-        && has_its_row(queue, alloc) == Some(true)
-        && was_owned == is_owned
-        && queue.owns_database() == is_owned
+    are_lanes_full(queue, alloc) && was_owned == is_owned && queue.owns_database() == is_owned
 }
 
 /// Whether a journal owns its database where it should, before and after it has no id for an event.

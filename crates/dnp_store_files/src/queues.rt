@@ -4,7 +4,7 @@ ghost use Rattle.std.specs.Prelude.{◌≡◌, true, All};
 ghost use Rattle.dnp_eventbuf.specs.Carried.{IsCarried};
 
 use crate::Fault;
-use crate::stored::Stored;
+use crate::stored::{Job, Stored};
 use dnp_eventbuf::{Lane, LaneRow, Lanes, Numbered, StoreFault, is_carried};
 use dnp_objects::{LANES, Row};
 use dnp_store::{OpenFault, Queue};
@@ -144,6 +144,41 @@ pub(crate) fn show_all<L: Lanes>(rt: &HostRuntime, lanes: &mut L) -> Result<(), 
     Ok(())
 }
 
+/// Takes empty lanes through their calls.
+fn walk<L: Lanes>(lanes: &mut L, alloc: Global) -> bool {
+    for number in 0..9usize {
+        let Some(lane) = Lane::numbered(number) else {
+            return false;
+        };
+        let first = 3 * number as u64 + 1;
+        let ids = [first, first + 1, first + 2];
+        if !matches!(steps(lanes, alloc, lane, ids), Ok(true)) {
+            return false;
+        }
+    }
+    true
+}
+
+/// Whether the ids go on, though every row had left: a row of the last lane has the id 28.
+fn is_walked<L: Lanes>(lanes: &mut L, alloc: Global) -> bool {
+    let Some(lane) = Lane::numbered(8) else {
+        return false;
+    };
+    append_one(lanes, alloc, event(lane, 7)).is_ok() && lanes.last(lane) == 28
+}
+
+/// Does a job with lanes.
+fn does<L: Lanes>(rt: &HostRuntime, lanes: &mut L, job: Job) -> Result<bool, Fault> {
+    match job {
+        Job::Walk => Ok(walk(lanes, rt.alloc())),
+        Job::Check => Ok(is_walked(lanes, rt.alloc())),
+        Job::Show => {
+            show_all(rt, lanes)?;
+            Ok(true)
+        }
+    }
+}
+
 impl<S: Alter> Stored<Connection<S>> for Queue<S> {
     fn create(alloc: Global, conn: Connection<S>) -> Result<Queue<S>, (OpenFault, Connection<S>)> {
         Queue::create(alloc, conn, [4; 9], [4; 9])
@@ -157,31 +192,8 @@ impl<S: Alter> Stored<Connection<S>> for Queue<S> {
         self.into_connection()
     }
 
-    fn walk(&mut self, alloc: Global) -> bool {
-        for number in 0..9usize {
-            let Some(lane) = Lane::numbered(number) else {
-                return false;
-            };
-            let first = 3 * number as u64 + 1;
-            let ids = [first, first + 1, first + 2];
-            if !matches!(steps(self, alloc, lane, ids), Ok(true)) {
-                return false;
-            }
-        }
-        true
-    }
-
-    /// The ids go on, though every row had left: a row of the last lane has the id 28.
-    fn is_walked(&mut self, alloc: Global) -> bool {
-        let Some(lane) = Lane::numbered(8) else {
-            return false;
-        };
-        append_one(self, alloc, event(lane, 7)).is_ok()
-            && self.last(lane) == 28
-            && self.owns_database()
-    }
-
-    fn show(&mut self, rt: &HostRuntime) -> Result<(), Fault> {
-        show_all(rt, self)
+    fn does(&mut self, rt: &HostRuntime, job: Job) -> Result<bool, Fault> {
+        let is_done = does(rt, self, job)?;
+        Ok(is_done && (job != Job::Check || self.owns_database()))
     }
 }

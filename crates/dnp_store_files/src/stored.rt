@@ -4,6 +4,17 @@ use crate::Fault;
 use dnp_store::OpenFault;
 use std::alloc::Global;
 
+/// What is done with a store.
+#[derive(Clone, Copy, PartialEq, Eq)]
+pub(crate) enum Job {
+    /// An empty one is taken through its calls: whether each did what it has to.
+    Walk,
+    /// Whether it stands as the walk left it, and its database is its own.
+    Check,
+    /// A row is put into it, and all rows are printed.
+    Show,
+}
+
 /// A store in a database, over connections of this type.
 pub(crate) trait Stored<C>: Sized {
     /// Makes an empty one.
@@ -15,14 +26,9 @@ pub(crate) trait Stored<C>: Sized {
     /// The connection to its database.
     fn into_connection(self) -> C;
 
-    /// Takes an empty store through its calls: whether each did what it has to.
-    fn walk(&mut self, alloc: Global) -> bool;
-
-    /// Whether it stands as the walk left it, and its database is its own.
-    fn is_walked(&mut self, alloc: Global) -> bool;
-
-    /// Puts a row into it and prints all rows.
-    fn show(&mut self, rt: &HostRuntime) -> Result<(), Fault>;
+    /// Does a job with it. That a store in a database keeps what stores promise is proved where a call asks for it: so all jobs
+    /// are done by one call.
+    fn does(&mut self, rt: &HostRuntime, job: Job) -> Result<bool, Fault>;
 }
 
 /// Makes an empty store, once more where that ran out of memory.
@@ -49,22 +55,15 @@ fn refused<C, T: Stored<C>>(begun: Result<T, (OpenFault, C)>) -> (bool, C) {
     }
 }
 
-/// Takes a store through its calls, if it began.
-fn walked<C, T: Stored<C>>(alloc: Global, begun: Result<T, (OpenFault, C)>) -> (bool, C) {
+/// Whether a store began, and did a job well.
+fn done<C, T: Stored<C>>(
+    rt: &HostRuntime,
+    begun: Result<T, (OpenFault, C)>,
+    job: Job,
+) -> (bool, C) {
     match begun {
         Ok(mut store) => {
-            let is_good = store.walk(alloc);
-            (is_good, store.into_connection())
-        }
-        Err((_, conn)) => (false, conn),
-    }
-}
-
-/// Whether a store opened as the walk left it.
-fn stands<C, T: Stored<C>>(alloc: Global, begun: Result<T, (OpenFault, C)>) -> (bool, C) {
-    match begun {
-        Ok(mut store) => {
-            let is_good = store.is_walked(alloc);
+            let is_good = matches!(store.does(rt, job), Ok(true));
             (is_good, store.into_connection())
         }
         Err((_, conn)) => (false, conn),
@@ -72,11 +71,12 @@ fn stands<C, T: Stored<C>>(alloc: Global, begun: Result<T, (OpenFault, C)>) -> (
 }
 
 /// Finds no store in a database without tables, makes one there, walks it, makes none over it, and opens it again.
-pub(crate) fn walk<C, T: Stored<C>>(alloc: Global, conn: C) -> (bool, C) {
+pub(crate) fn walk<C, T: Stored<C>>(rt: &HostRuntime, conn: C) -> (bool, C) {
+    let alloc = rt.alloc();
     let (is_missing, conn) = refused::<C, T>(opened(alloc, conn));
-    let (is_walked, conn) = walked::<C, T>(alloc, created(alloc, conn));
+    let (is_walked, conn) = done::<C, T>(rt, created(alloc, conn), Job::Walk);
     let (is_taken, conn) = refused::<C, T>(created(alloc, conn));
-    let (is_standing, conn) = stands::<C, T>(alloc, opened(alloc, conn));
+    let (is_standing, conn) = done::<C, T>(rt, opened(alloc, conn), Job::Check);
     (is_missing && is_walked && is_taken && is_standing, conn)
 }
 
@@ -84,7 +84,10 @@ pub(crate) fn walk<C, T: Stored<C>>(alloc: Global, conn: C) -> (bool, C) {
 pub(crate) fn show<C, T: Stored<C>>(rt: &HostRuntime, conn: C) -> (Result<(), Fault>, C) {
     match T::open(rt.alloc(), conn) {
         Ok(mut store) => {
-            let shown = store.show(rt);
+            let shown = match store.does(rt, Job::Show) {
+                Ok(_) => Ok(()),
+                Err(fault) => Err(fault),
+            };
             (shown, store.into_connection())
         }
         Err((_, conn)) => (Err(Fault::Store), conn),

@@ -1,9 +1,13 @@
 //! An outstation that lives on connections over TCP: its timers run and its points change while nothing comes. The newest
 //! master is served, and one from which nothing whole comes is hung up.
 
+ghost use Rattle.std.specs.Prelude.{◌≡◌, ◌⊎◌, IfErr};
+ghost use Rattle.std.specs.Process.{exit_status};
+ghost use Rattle.dnp_tcp.specs.Causes.{attended_station, kept_attended};
+
 use crate::attended::Attended;
 use crate::door::{Caller, Door, listen};
-use crate::exit;
+use crate::exit::{DONE, FAULT};
 use crate::fault::{Noted, unwritten};
 use crate::logged::{End, Ending, note, utc};
 use crate::replay::Replay;
@@ -60,7 +64,10 @@ struct Course {
 }
 
 /// Makes the changes that are due, while no master is there.
-fn make_due<S: Living, R: AllocGlobal + Clock>(rt: &R, station: &mut S, course: &mut Course) {
+fn make_due<S: Living, R: AllocGlobal + Clock>(rt: &R, station: &mut S, course: &mut Course)
+    ensures kept { S.kept station.new ≡ S.kept station.old }
+    ensures held { S.honest station.new → S.honest station.old }
+{
     course.now = moment(rt, course.now);
     for _ in 0..u64::MAX {
         course.replay.begin_again(rt);
@@ -78,7 +85,10 @@ fn next_caller<S: Living, R: AllocGlobal + Clock>(
     station: &mut S,
     door: &Door,
     course: &mut Course,
-) -> io::Result<Caller> {
+) -> io::Result<Caller>
+    ensures kept { S.kept station.new ≡ S.kept station.old }
+    ensures held { S.honest station.new → S.honest station.old }
+{
     for _ in 0..u64::MAX {
         make_due(rt, station, course);
         if course.replay.left().is_empty() {
@@ -105,6 +115,9 @@ pub fn live_on_connections<S, R>(
 where
     S: Living,
     R: AllocGlobal + Print + Eprint + Clock + Net<Listener = TcpListener, Stream = TcpStream>,
+    ensures kept { S.kept station.new ≡ S.kept station.old }
+    ensures held { S.honest station.new → S.honest station.old }
+    ensures status { (exit_status result ≡ DONE) ⊎ (exit_status result ≡ FAULT) }
 {
     let listener = match listen(rt, SocketAddr::new(listening.address, listening.port)) {
         Ok(listener) => listener,
@@ -125,7 +138,7 @@ where
             Err(status) => return status,
         }
     }
-    ExitCode::from(exit::DONE)
+    ExitCode::from(DONE)
 }
 
 /// Waits for the next master, serves it, and prints how many fragments came whole. Where the program can't go on, the exit
@@ -140,6 +153,9 @@ fn serve_next<S, R>(
 where
     S: Living,
     R: AllocGlobal + Print + Eprint + Clock,
+    ensures kept { S.kept station.new ≡ S.kept station.old }
+    ensures held { S.honest station.new → S.honest station.old }
+    ensures status { IfErr result (λ status. exit_status status ≡ FAULT) }
 {
     let caller = match next_caller(rt, station, door, course) {
         Ok(caller) => caller,
@@ -153,7 +169,7 @@ where
     };
     let served = live_on_connection(rt, station, listening, door, &caller, course);
     let Some(fragments) = served else {
-        return Err(ExitCode::from(exit::FAULT));
+        return Err(ExitCode::from(FAULT));
     };
     match println!(rt; "served {fragments}") {
         Ok(()) => Ok(()),
@@ -191,6 +207,8 @@ fn live_on_connection<'v, S, R>(
 where
     S: Living,
     R: AllocGlobal + Eprint + Clock,
+    ensures kept { S.kept station.new ≡ S.kept station.old }
+    ensures held { S.honest station.new → S.honest station.old }
 {
     let peer = caller.peer;
     note(rt, peer, &"connected");
@@ -234,6 +252,8 @@ fn live_on<S, R>(
 where
     S: Living,
     R: AllocGlobal + Eprint + Clock,
+    ensures kept { kept_attended S.kept station.new ≡ kept_attended S.kept station.old }
+    ensures held { S.honest (attended_station station.new).now → S.honest (attended_station station.old).now }
 {
     let mut port = Port::new(own, MASTER_BELOW, false);
     course.stands = false;
@@ -265,6 +285,8 @@ fn live_once<S, R>(
 where
     S: Living,
     R: AllocGlobal + Eprint + Clock,
+    ensures kept { kept_attended S.kept station.new ≡ kept_attended S.kept station.old }
+    ensures held { S.honest (attended_station station.new).now → S.honest (attended_station station.old).now }
 {
     course.replay.begin_again(rt);
     visit.begin(course.replay.ends());

@@ -1,5 +1,7 @@
 //! Stations that ask others over TCP.
 
+ghost use Rattle.std.specs.Prelude.{◌≡◌};
+
 use crate::fault::Noted;
 use crate::minded::Minded;
 use crate::pace::{LIMITS, Line};
@@ -56,7 +58,7 @@ pub enum Ended {
 }
 
 impl Call {
-    /// Connects. Where that can't be done, why is said on standard error.
+    /// Connects. Where that can't be done, why is said on standard error. It has no clause: none says whether a peer is there.
     pub fn connect<R>(&self, rt: &R) -> Option<TcpStream>
     where
         R: Eprint + Net<Listener = TcpListener, Stream = TcpStream>,
@@ -79,7 +81,10 @@ impl Call {
         station: &mut S,
         tasks: &[Task],
         stream: &TcpStream,
-    ) -> Ended {
+    ) -> Ended
+        ensures kept { S.kept station.new ≡ S.kept station.old }
+        ensures held { S.honest station.new → S.honest station.old }
+    {
         if let Err(cause) = self.prepare(stream) {
             let _ = eprintln!(rt; "dnp: {}: {cause}", self.peer);
             return Ended::Failed;

@@ -1,5 +1,8 @@
 //! A station on a connection, each request of whose master may be said in the log.
 
+ghost use Rattle.std.specs.Prelude.{◌≡◌};
+ghost use Rattle.dnp_tcp.specs.Causes.{attended_station};
+
 use crate::logged::note;
 use dnp_appfragment::read_request;
 use dnp_decode::Line;
@@ -41,7 +44,7 @@ impl<'a> Display for Asked<'a> {
 
 /// A station that is lent to a connection. Where it is to, it says each fragment that came in the log.
 #[derive(Drop)]
-pub struct Attended<'s, 'r, S, R> {
+pub(crate) struct Attended<'s, 'r, S, R> {
     /// The station.
     station: &'s mut S,
     /// What is written to, and what tells the time.
@@ -54,7 +57,10 @@ pub struct Attended<'s, 'r, S, R> {
 
 impl<'s, 'r, S, R: Eprint + Clock> Attended<'s, 'r, S, R> {
     /// A station on a new connection of the master at this address, each of whose fragments is said, if it is to be.
-    pub fn new(station: &'s mut S, rt: &'r R, peer: SocketAddr, is_said: bool) -> Self {
+    pub(crate) fn new(station: &'s mut S, rt: &'r R, peer: SocketAddr, is_said: bool) -> Self
+        ensures lent { (attended_station result).now ≡ station.old }
+        ensures same_reference { (attended_station result).ghost_name ≡ station.entry.ghost_name }
+    {
         Attended {
             station,
             rt,
@@ -82,13 +88,15 @@ fn count_of(fragment: &Option<Fragment>) -> usize {
 }
 
 impl<'s, 'r, S: Station, R: Eprint + Clock> Station for Attended<'s, 'r, S, R> {
+    ghost use Rattle.dnp_tcp.specs.Causes.{KeptLent, kept_attended};
+
     ghost State = { S.State };
 
     ghost state = { λ s. S.state s.station.now };
 
-    ghost Kept = { S.Kept };
+    ghost Kept = { KeptLent S.Kept };
 
-    ghost kept = { λ s. S.kept s.station.now };
+    ghost kept = { λ s. kept_attended S.kept s };
 
     ghost honest = { λ s. S.honest s.station.now };
 

@@ -1,5 +1,8 @@
 //! Where masters connect: the newest of them takes the place of the one that is served.
 
+ghost use Rattle.std.specs.Prelude.{◌≡◌};
+ghost use Rattle.dnp_tcp.specs.Doors.{listener_of};
+
 use std::cell::Cell;
 use std::io;
 use std::net::{Net, SocketAddr, TcpListener, TcpStream};
@@ -50,7 +53,8 @@ impl Drop for Door {
     }
 }
 
-/// Listens at this address. Nobody who asks whether a master has come waits for one. An error says why the address can't be had.
+/// Listens at this address. Nobody who asks whether a master has come waits for one. An error says why the address can't be had. It has
+/// no clause: none says what the machine's ports are.
 pub fn listen<R>(rt: &R, address: SocketAddr) -> io::Result<TcpListener>
 where
     R: Net<Listener = TcpListener, Stream = TcpStream>,
@@ -62,7 +66,9 @@ where
 
 impl Door {
     /// Where masters connect to this, and nobody has yet.
-    pub fn new(listener: TcpListener) -> Door {
+    pub fn new(listener: TcpListener) -> Door
+        ensures { listener_of result ≡ listener }
+    {
         Door {
             listener,
             is_open: Cell::new(false),
@@ -92,7 +98,8 @@ impl Door {
         knock
     }
 
-    /// The master that waits for its place or has connected by now. WouldBlock where there is none.
+    /// The master that waits for its place or has connected by now. WouldBlock where there is none. It has no clause: none says who
+    /// connects, or what a cell holds.
     pub fn next(&self) -> io::Result<Caller> {
         self.knock.set(None);
         if let Some(caller) = self.caller.take() {

@@ -1,22 +1,30 @@
 //! What is said, and which exit status there is, where the program's own input or output fails.
 
-use crate::exit;
+ghost use Rattle.std.specs.Prelude.{◌≡◌, None, option_copied};
+ghost use Rattle.std.specs.Process.{exit_status};
+ghost use Rattle.dnp_tcp.specs.Causes.{noted_cause, noted_stream};
+
+use crate::exit::FAULT;
 use dnp_streams::Waiting;
 use std::io;
 use std::io::{Read, Write};
 use std::process::ExitCode;
 
 /// Says on standard error which stream failed and why, and gives the exit status of a fault.
-pub fn lost<R: Eprint>(rt: &R, stream: &str, cause: &io::Error) -> ExitCode {
+pub fn lost<R: Eprint>(rt: &R, stream: &str, cause: &io::Error) -> ExitCode
+    ensures { exit_status result ≡ FAULT }
+{
     let _ = eprintln!(rt; "dnp: {stream}: {cause}");
-    ExitCode::from(exit::FAULT)
+    ExitCode::from(FAULT)
 }
 
 /// Says on standard error why standard output was lost, and gives the exit status of a fault. Where its reader is gone, as in
 /// `dnp sim .. | head`, nothing is said.
-pub fn unwritten<R: Eprint>(rt: &R, cause: &io::Error) -> ExitCode {
+pub fn unwritten<R: Eprint>(rt: &R, cause: &io::Error) -> ExitCode
+    ensures { exit_status result ≡ FAULT }
+{
     if cause.kind() == io::ErrorKind::BrokenPipe {
-        return ExitCode::from(exit::FAULT);
+        return ExitCode::from(FAULT);
     }
     lost(rt, "standard output", cause)
 }
@@ -32,12 +40,17 @@ pub struct Noted<S> {
 
 impl<S> Noted<S> {
     /// A reader or a writer over this one, which has not failed.
-    pub fn new(inner: S) -> Self {
+    pub fn new(inner: S) -> Self
+        ensures stream { noted_stream result ≡ inner }
+        ensures cause { noted_cause result ≡ None }
+    {
         Noted { inner, cause: None }
     }
 
     /// Why the last failed call failed, if one did.
-    pub fn cause(&self) -> Option<&io::Error> {
+    pub fn cause(&self) -> Option<&io::Error>
+        ensures { option_copied result ≡ noted_cause self.now }
+    {
         self.cause.as_ref()
     }
 

@@ -20,7 +20,6 @@ mod visit;
 
 pub use alive::{Listening, live_on_connections};
 pub use asking::{Call, Ended, Peer};
-pub use attended::Attended;
 pub use door::{Caller, Door, listen};
 pub use fault::{Noted, lost, unwritten};
 pub use logged::{End, Ending, note, utc};

@@ -8,7 +8,8 @@ use std::net::SocketAddr;
 use std::rt::Clock;
 use std::{fmt, io};
 
-/// The time of the machine, in milliseconds since 1970-01-01 00:00 UTC; 0 where it has none.
+/// The time of the machine, in milliseconds since 1970-01-01 00:00 UTC; 0 where it has none. It has no clause: a clock promises
+/// nothing.
 pub fn utc<C: Clock>(clock: &C) -> u64 {
     match clock.since_1970() {
         Ok(time) => u64::try_from(time.as_millis()).unwrap_or(u64::MAX),
@@ -16,7 +17,8 @@ pub fn utc<C: Clock>(clock: &C) -> u64 {
     }
 }
 
-/// Says on standard error what happened to the connection of a master at this address.
+/// Says on standard error what happened to the connection of a master at this address. It has no clause: none says what standard error
+/// takes.
 pub fn note<R: Eprint + Clock, T: Display>(rt: &R, peer: SocketAddr, what: &T) {
     let moment = Moment(utc(rt));
     let _ = eprintln!(rt; "{moment} {peer} {what}");

@@ -1,8 +1,9 @@
 //! A station whose stores and memory are looked after while it is on a stream.
 
-ghost use Rattle.std.specs.Prelude.{◌≡◌};
+ghost use Rattle.std.specs.Prelude.{◌≡◌, None, false};
+ghost use Rattle.dnp_tcp.specs.Causes.{minded_cause, minded_is_late, minded_station};
 
-use dnp_concentrator::{Cause, Relayed};
+use dnp_concentrator::{Cause, RelayedStep};
 use dnp_controls::BookFault;
 use dnp_master::{AskFault, Fragment, Task};
 use dnp_streams::{Answer, Asker, Change, KeptAnswer, Living, Station, StationFault};
@@ -22,7 +23,12 @@ pub struct Minded<'s, S> {
 
 impl<'s, S> Minded<'s, S> {
     /// A station of which nothing was asked yet.
-    pub fn new(station: &'s mut S) -> Self {
+    pub fn new(station: &'s mut S) -> Self
+        ensures lent { (minded_station result).now ≡ station.old }
+        ensures same_reference { (minded_station result).ghost_name ≡ station.entry.ghost_name }
+        ensures cause { minded_cause result ≡ None }
+        ensures in_time { minded_is_late result ≡ false }
+    {
         Minded {
             station,
             cause: None,
@@ -31,12 +37,16 @@ impl<'s, S> Minded<'s, S> {
     }
 
     /// Whether it closed the connection since time had passed: the answer that it awaited didn't come in time.
-    pub fn is_late(&self) -> bool {
+    pub fn is_late(&self) -> bool
+        ensures { result ≡ minded_is_late self.entry.now }
+    {
         self.is_late
     }
 
     /// Why its stores or its memory first refused a call, if they did.
-    pub fn cause(&self) -> Option<Cause> {
+    pub fn cause(&self) -> Option<Cause>
+        ensures { result ≡ minded_cause self.entry.now }
+    {
         self.cause
     }
 
@@ -61,13 +71,15 @@ impl<'s, S> Minded<'s, S> {
 }
 
 impl<'s, S: Station> Station for Minded<'s, S> {
+    ghost use Rattle.dnp_tcp.specs.Causes.{KeptLent, kept_minded};
+
     ghost State = { S.State };
 
     ghost state = { λ s. S.state s.station.now };
 
-    ghost Kept = { S.Kept };
+    ghost Kept = { KeptLent S.Kept };
 
-    ghost kept = { λ s. S.kept s.station.now };
+    ghost kept = { λ s. kept_minded S.kept s };
 
     ghost honest = { λ s. S.honest s.station.now };
 
@@ -117,12 +129,17 @@ impl<'s, S: Station> Station for Minded<'s, S> {
 }
 
 impl<'s, S: Asker> Asker for Minded<'s, S> {
-    fn ask(&mut self, now: u64, task: Task) -> Result<Fragment, AskFault> {
-        self.station.ask(now, task)
+    fn ask_into(&mut self, request: &mut Fragment, now: u64, task: Task) -> Result<(), AskFault> {
+        self.station.ask_into(request, now, task)
     }
 
-    fn relay(&mut self, alloc: Global, now: u64) -> Result<Relayed, BookFault> {
-        let relayed = self.station.relay(alloc, now);
+    fn relay_into(
+        &mut self,
+        request: &mut Fragment,
+        alloc: Global,
+        now: u64,
+    ) -> Result<RelayedStep, BookFault> {
+        let relayed = self.station.relay_into(request, alloc, now);
         match &relayed {
             Ok(_) | Err(BookFault::NoControl | BookFault::NotPending) => {}
             Err(fault) => self.note(Cause::from(*fault)),

@@ -1,5 +1,8 @@
 //! Changes of points that are made in order, once or again and again, by the clocks of the machine.
 
+ghost use Rattle.std.specs.Prelude.{◌≡◌, OnErr, OnOk};
+ghost use Rattle.dnp_tcp.specs.Replays.{no_changes, repeated_after, replay_seen, with_change};
+
 use crate::logged::utc;
 use crate::visit::moment;
 use dnp_objects::MAX_TIME;
@@ -19,7 +22,7 @@ pub struct Both {
 impl Both {
     ghost use Rattle.std.specs.Prelude.{◌<◌};
 
-    /// Now.
+    /// Now. It has no clause: a clock promises nothing.
     pub fn now<R: Clock>(rt: &R) -> Both {
         Both {
             moment: moment(rt, 0),
@@ -53,7 +56,9 @@ pub struct Replay {
 
 impl Replay {
     /// No changes.
-    pub fn new(alloc: Global) -> Replay {
+    pub fn new(alloc: Global) -> Replay
+        ensures { replay_seen result ≡ no_changes }
+    {
         Replay {
             changes: Vec::new(alloc),
             is_dated: Vec::new(alloc),
@@ -109,15 +114,21 @@ impl Replay {
     }
 
     /// Adds a change after the others, than which it is due no earlier, and whether its time is that at which it is due. An error
-    /// says that memory ran out.
-    pub fn add(&mut self, change: Change, is_dated: bool) -> Result<(), AllocError> {
+    /// says that memory ran out, and changes nothing.
+    pub fn add(&mut self, change: Change, is_dated: bool) -> Result<(), AllocError>
+        ensures added { OnOk result (replay_seen self.new ≡ with_change change is_dated (replay_seen self.old)) }
+        ensures unchanged { OnErr result (replay_seen self.new ≡ replay_seen self.old) }
+    {
+        self.is_dated.try_reserve(1)?;
         self.changes.push(change)?;
-        self.is_dated.push(is_dated)?;
+        let _added = self.is_dated.push(is_dated);
         Ok(())
     }
 
     /// It begins again once all changes are made, each so much later, in milliseconds, than before; not where that is at once.
-    pub fn repeat(&mut self, length: u64) {
+    pub fn repeat(&mut self, length: u64)
+        ensures { replay_seen self.new ≡ repeated_after length (replay_seen self.old) }
+    {
         self.again = if length > 0 { Some(length) } else { None };
     }
 }

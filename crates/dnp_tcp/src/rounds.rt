@@ -1,6 +1,11 @@
 //! Rounds of tasks on a connection, asked by a master without a plan, which shows the rows on standard output.
 
-use crate::exit;
+ghost use Rattle.std.specs.Prelude.{◌≡◌, ◌⊎◌};
+ghost use Rattle.std.specs.Process.{exit_status};
+ghost use Rattle.dnp_tcp.specs.steps.Rounds.{StopsBy};
+ghost use Rattle.dnp_tcp.specs.declared.rounds.Ended.TheVariants.{Stopped};
+
+use crate::exit::{DONE, FAULT, REFUSED};
 use crate::fault::{Noted, unwritten};
 use crate::pace::{LIMITS, Line, Pace};
 use crate::screen::{Screen, print_ends};
@@ -101,20 +106,21 @@ impl<'w, 's> Rounds<'w, 's> {
     pub fn ask_all<R>(&self, rt: &R, tasks: &[Task]) -> ExitCode
     where
         R: AllocGlobal + Print + Eprint + Clock,
+        ensures { (exit_status result ≡ DONE) ⊎ (exit_status result ≡ REFUSED) ⊎ (exit_status result ≡ FAULT) }
     {
         let pace = Pace::new(rt);
         let screen = Screen::new(rt, self.words.json, &pace);
         let (confirms, wait) = (self.words.confirms, self.words.timeout_ms);
         let mut poller = Poller::new(rt.alloc(), confirms, wait, screen);
         let mut port = Port::new(self.words.own, self.words.peer, true);
-        let mut status = exit::DONE;
+        let mut status = DONE;
         for round in 0..self.words.count {
             if round > 0 {
                 thread::sleep(rt, Duration::from_millis(self.words.repeat_ms));
             }
             match self.ask(rt, &mut poller, &mut port, &pace, tasks) {
                 Ended::Answered(true) => {}
-                Ended::Answered(false) => status = exit::REFUSED,
+                Ended::Answered(false) => status = REFUSED,
                 Ended::Stopped(stopped) => return ExitCode::from(stopped),
             }
         }
@@ -132,6 +138,7 @@ impl<'w, 's> Rounds<'w, 's> {
     ) -> Ended
     where
         R: AllocGlobal + Print + Eprint + Clock,
+        ensures { StopsBy result }
     {
         poller.forget_ends();
         let mut reader = Noted::new(Line::new(self.stream));
@@ -151,7 +158,7 @@ impl<'w, 's> Rounds<'w, 's> {
         );
         if let Err(cause) = print_ends(rt, self.words.json, poller.ends()) {
             let _status = unwritten(rt, &cause);
-            return Ended::Stopped(exit::FAULT);
+            return Ended::Stopped(FAULT);
         }
         match (poller.fault(), asked) {
             (Some(fault), _) => self.stop(rt, poller, fault),
@@ -172,38 +179,41 @@ impl<'w, 's> Rounds<'w, 's> {
     ) -> Ended
     where
         R: AllocGlobal + Print + Eprint + Clock,
+        ensures { StopsBy result }
     {
         let place = self.words.place;
         match fault {
             PollFault::Answer(..) => {
                 let _ = eprintln!(rt; "dnp: {place}: {fault}");
-                Ended::Stopped(exit::REFUSED)
+                Ended::Stopped(REFUSED)
             }
             PollFault::Silent => {
                 let (ms, open) = (self.words.timeout_ms, Open::of(poller));
                 let _ = eprintln!(rt; "dnp: {place}: no response in {ms} ms{open}");
-                Ended::Stopped(exit::FAULT)
+                Ended::Stopped(FAULT)
             }
             PollFault::NotShown => {
                 if let Some(cause) = poller.sink().cause() {
                     let _status = unwritten(rt, cause);
                 }
-                Ended::Stopped(exit::FAULT)
+                Ended::Stopped(FAULT)
             }
             PollFault::Memory => {
                 let _ = eprintln!(rt; "dnp: {fault}");
-                Ended::Stopped(exit::FAULT)
+                Ended::Stopped(FAULT)
             }
         }
     }
 
     /// How a round ended in which nothing failed: where an answer is still awaited, the outstation has ended the connection.
-    fn end<S: Show, R: Eprint>(&self, rt: &R, poller: &Poller<S>) -> Ended {
+    fn end<S: Show, R: Eprint>(&self, rt: &R, poller: &Poller<S>) -> Ended
+        ensures { StopsBy result }
+    {
         if poller.is_awaiting() {
             let place = self.words.place;
             let open = Open::of(poller);
             let _ = eprintln!(rt; "dnp: {place}: the connection ended before the answer{open}");
-            return Ended::Stopped(exit::FAULT);
+            return Ended::Stopped(FAULT);
         }
         Ended::Answered(are_done(poller.ends()))
     }
@@ -215,7 +225,9 @@ impl<'w, 's> Rounds<'w, 's> {
         poller: &Poller<S>,
         fault: ServeFault,
         cause: Option<&io::Error>,
-    ) -> Ended {
+    ) -> Ended
+        ensures { result ≡ Stopped FAULT }
+    {
         let place = self.words.place;
         let open = Open::of(poller);
         let _ = match cause {
@@ -226,6 +238,6 @@ impl<'w, 's> Rounds<'w, 's> {
             Some(cause) => eprintln!(rt; "dnp: {place}: {fault}: {cause}{open}"),
             None => eprintln!(rt; "dnp: {place}: {fault}{open}"),
         };
-        Ended::Stopped(exit::FAULT)
+        Ended::Stopped(FAULT)
     }
 }

@@ -1,8 +1,9 @@
 //! A station that serves connections of centres over TCP.
 
-ghost use Rattle.std.specs.Prelude.{◌<◌};
+ghost use Rattle.std.specs.Prelude.{◌≡◌, ◌<◌};
+ghost use Rattle.std.specs.Process.{exit_status};
 
-use crate::exit;
+use crate::exit::FAULT;
 use crate::fault::Noted;
 use dnp_concentrator::addresses::{CONCENTRATOR_ABOVE, centre_address};
 use dnp_eventbuf::CENTRES;
@@ -18,12 +19,14 @@ use std::time::Duration;
 const SILENCE: u64 = 300;
 
 /// Says on standard error why no connection can be had on the port, and gives the exit status of a fault.
-pub fn no_port<R: Eprint>(rt: &R, port: u16, cause: &io::Error) -> ExitCode {
+pub fn no_port<R: Eprint>(rt: &R, port: u16, cause: &io::Error) -> ExitCode
+    ensures { exit_status result ≡ FAULT }
+{
     let _ = eprintln!(rt; "dnp: port {port}: {cause}");
-    ExitCode::from(exit::FAULT)
+    ExitCode::from(FAULT)
 }
 
-/// Serves a connection of this centre to its end, or until it has stood still for `SILENCE_MS`, hangs the station up, and tells
+/// Serves a connection of this centre to its end, or until it has stood still for `SILENCE`, hangs the station up, and tells
 /// how many fragments came whole; nothing where memory ran out. What goes wrong is said on standard error.
 pub fn serve_connection<S, R>(
     rt: &R,
@@ -35,6 +38,8 @@ where
     S: Station,
     R: AllocGlobal + Eprint + Clock,
     requires { centre < CENTRES }
+    ensures kept { S.kept station.new ≡ S.kept station.old }
+    ensures held { S.honest station.new → S.honest station.old }
 {
     if let Err(cause) = prepare(stream) {
         let _ = eprintln!(rt; "dnp: centre {}: {cause}", centre + 1);

@@ -1,5 +1,9 @@
 //! A connection on which a station lives: its two ends, and what ends it though neither end has closed it.
 
+ghost use Rattle.std.specs.Prelude.{◌≡◌, ◌≤◌};
+ghost use Rattle.std.specs.IoError.{error_kind};
+ghost use Rattle.dnp_tcp.specs.Causes.{is_waited_out};
+
 use crate::door::Door;
 use dnp_concentrator::addresses::MASTER_BELOW;
 use dnp_linkframe::{Frame, FrameReader};
@@ -32,7 +36,9 @@ pub(crate) enum Leave {
 }
 
 /// The moment that the clock shows, in milliseconds, or the one before, where it fails or goes back.
-pub fn moment<C: Clock>(clock: &C, before: u64) -> u64 {
+pub fn moment<C: Clock>(clock: &C, before: u64) -> u64
+    ensures { before ≤ result }
+{
     match clock.monotonic() {
         Ok(time) => before.max(u64::try_from(time.as_millis()).unwrap_or(u64::MAX)),
         Err(_) => before,
@@ -258,6 +264,8 @@ impl<'e, 'v, C: Clock> Write for Mouth<'e, 'v, C> {
 }
 
 /// Whether a read or a write has waited for as long as it may, or was stopped on its way, as by a signal.
-pub fn is_pause(error: &io::Error) -> bool {
+pub fn is_pause(error: &io::Error) -> bool
+    ensures { result ≡ is_waited_out (error_kind error.now) }
+{
     matches!(error.kind(), ErrorKind::WouldBlock | ErrorKind::Interrupted)
 }

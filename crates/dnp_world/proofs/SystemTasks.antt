@@ -4,11 +4,13 @@ use Rattle.std.proofs.lemmas.Bool.{both_ways}
 use Rattle.std.proofs.lemmas.Result.{on_err_weaker}
 use Rattle.std.specs.Option.{IsSomeAnd}
 use Rattle.std.specs.Result.{IfErr, IfOk, IsErr, IsOk, OnErr, OnOk}
-use Rattle.dnp_concentrator.specs.Relayed.{IsPast, Tells, asks_book, asks_progress, asks_stage, moves_of}
+use Rattle.arrayvec.specs.ArrayVec.{ArrayVec}
+use Rattle.dnp_concentrator.specs.Relayed.{IsPast, Tells, asks_book, asks_progress, asks_stage, moves_of, with_request}
 use Rattle.dnp_concentrator.specs.Relaying.{Step, Waits, Selects, Operates, Finishes}
 use Rattle.dnp_concentrator.specs.declared.cause.Cause.{Cause}
 use Rattle.dnp_concentrator.specs.declared.relayed.Relayed.{Relayed}
 use Rattle.dnp_concentrator.specs.declared.relayed.Relayed.TheVariants as relayed
+use Rattle.dnp_concentrator.specs.declared.relayed.RelayedStep.{RelayedStep}
 use Rattle.dnp_controls.specs.Book.{Ledger, Has, is_finished, is_pending}
 use Rattle.dnp_controls.specs.Moves.{AreGranted}
 use Rattle.dnp_controls.specs.declared.book.BookFault.{BookFault}
@@ -91,8 +93,8 @@ refused_step r entries target fault asked which missing past =
     ]
 
 -- the book refused, and it was no reason to stop
-pub refused_by : (answer : Result Relayed BookFault) (result : Result (Unit {0}) Cause) (r : Relaying) (entries : List Entry) (target : ℕ) (X : Type 0)
-    → OnOk result (IfErr answer (λ fault. (fault ≡ NoControl) ⊎ (fault ≡ NotPending))) → (asks_book r ≡ false → X × IsOk answer)
+pub refused_by : {A : Type 0} (answer : Result A BookFault) (result : Result (Unit {0}) Cause) (r : Relaying) (entries : List Entry) (target : ℕ)
+    (X : Type 0) → OnOk result (IfErr answer (λ fault. (fault ≡ NoControl) ⊎ (fault ≡ NotPending))) → (asks_book r ≡ false → X × IsOk answer)
     → (answer ≡ Err NoControl → IsSomeAnd r.progress (λ p. IsMissing entries p.id)) → (answer ≡ Err NotPending → IsPast entries (step_of r entries target))
     → OnOk result (OnErr answer (IsRefused entries (step_of r entries target)))
 refused_by answer (Err cause) r entries target X passed unasked missing past = tt
@@ -104,16 +106,19 @@ refused_by (Err fault) (Ok done) r entries target X passed unasked missing past 
 -- ---- what was answered
 
 -- the book granted the step
-pub granted_by : (answer : Result Relayed BookFault) (step : Step) (seq : ℕ) (book : Ledger) → IfOk answer (λ told. Tells seq step told)
-    → IfOk answer (λ told. AreGranted book (moves_of told)) → OnOk answer (IsGranted book.entries step)
-granted_by (Ok told) step seq book tells moves = granted step seq told book tells moves
-granted_by (Err fault) step seq book tells moves = tt
+pub granted_by : (answer : Result RelayedStep BookFault) (request : ArrayVec ℕ) (step : Step) (seq : ℕ) (book : Ledger)
+    → IfOk answer (λ told. Tells seq step (with_request told request)) → IfOk answer (λ told. AreGranted book (moves_of (with_request told request)))
+    → OnOk answer (IsGranted book.entries step)
+granted_by (Ok told) request step seq book tells moves = granted step seq (with_request told request) book tells moves
+granted_by (Err fault) request step seq book tells moves = tt
 
 -- the step's request went down
-pub down_by : (answer : Result Relayed BookFault) (step : Step) (seq : ℕ) (old mid new : ChannelState) → mid ≡ old → IfOk answer (λ told. Tells seq step told)
-    → IfOk answer (λ told. (s : Step) (n : ℕ) → Tells n s told → GoDown (requests_of s n) mid new) → OnOk answer (GoDown (requests_of step seq) old new)
-down_by (Ok told) step seq old mid new same tells sent = down_from (requests_of step seq) old mid new same (sent step seq tells)
-down_by (Err fault) step seq old mid new same tells sent = tt
+pub down_by : (answer : Result RelayedStep BookFault) (request : ArrayVec ℕ) (step : Step) (seq : ℕ) (old mid new : ChannelState) → mid ≡ old
+    → IfOk answer (λ told. Tells seq step (with_request told request))
+    → IfOk answer (λ told. (s : Step) (n : ℕ) → Tells n s (with_request told request) → GoDown (requests_of s n) mid new)
+    → OnOk answer (GoDown (requests_of step seq) old new)
+down_by (Ok told) request step seq old mid new same tells sent = down_from (requests_of step seq) old mid new same (sent step seq tells)
+down_by (Err fault) request step seq old mid new same tells sent = tt
 
 -- what a step of relaying sends
 abbrev pub Sends : Link → System → System → Type 0
@@ -122,7 +127,7 @@ Sends on old new =
     (told old on (step_on old on)) new
 
 -- a step of relaying, by what was answered
-pub relays_by : (on : Link) (old new : System) (answer : Result Relayed BookFault) (result : Result (Unit {0}) Cause)
+pub relays_by : {A : Type 0} (on : Link) (old new : System) (answer : Result A BookFault) (result : Result (Unit {0}) Cause)
     → OnOk answer (IsGranted (entries_on old on) (step_on old on)) → OnOk answer (Sends on old new)
     → OnErr answer (new ≡ old) → OnOk result (OnErr answer (IsRefused (entries_on old on) (step_on old on))) → OnOk result (RelaysOn on old new)
 relays_by on old new answer (Err cause) granted sends unmoved refused = tt
@@ -130,7 +135,7 @@ relays_by on old new (Ok told) (Ok done) granted sends unmoved refused = Steps g
 relays_by on old new (Err fault) (Ok done) granted sends unmoved refused = Refuses refused unmoved
 
 -- what stopped it changed nothing
-pub stops_by : (answer : Result Relayed BookFault) (result : Result (Unit {0}) Cause) (X : Type 0) → OnErr result (IsErr answer) → OnErr answer X
+pub stops_by : {A : Type 0} (answer : Result A BookFault) (result : Result (Unit {0}) Cause) (X : Type 0) → OnErr result (IsErr answer) → OnErr answer X
     → OnErr result X
 stops_by answer (Ok done) X failed unmoved = tt
 stops_by (Ok told) (Err cause) X failed unmoved = absurd (both_ways false refl failed)
@@ -156,8 +161,8 @@ abbrev pub below : {Q A : Type 0} → (Q → ℕ → Stock) → (A → Ledger) �
 below stock ledger rest k xs = record rest { concentrator = concentrator_of stock ledger k; substations = map substation_of xs }
 
 -- what a step of relaying to a substation makes of the system, by what went down, as a centre sees it
-pub sends_below : {Q A : Type 0} (stock : Q → ℕ → Stock) (ledger : A → Ledger) (rest : Whole) (k d : Concentrator Q A) (station i : ℕ)
-    (xs : List Substation) (was : Substation) (lines : Channel) (answer : Result Relayed BookFault) (number : ℕ) → i ≡ station
+pub sends_below : {Q A R : Type 0} (stock : Q → ℕ → Stock) (ledger : A → Ledger) (rest : Whole) (k d : Concentrator Q A) (station i : ℕ)
+    (xs : List Substation) (was : Substation) (lines : Channel) (answer : Result R BookFault) (number : ℕ) → i ≡ station
     → has_link (below stock ledger rest k xs) (Below station) ≡ true → was ≡ get_or xs i was
     → OnOk answer (SetsLink k station (relaying_after (link_at k station) rest.now (step_of (link_at k station) (ledger (book_of k)).entries station)) d)
     → OnOk answer (ledger (book_of d) ≡ ledger_after (ledger (book_of k)) (step_of (link_at k station) (ledger (book_of k)).entries station))
@@ -178,8 +183,8 @@ sends_below stock ledger rest k d station i xs was lines (Ok answer) number same
     (rw same (is_there old xs station refl has)) at down
 
 -- nothing was relayed, and nothing went down
-pub unmoved_below : {Q A : Type 0} (stock : Q → ℕ → Stock) (ledger : A → Ledger) (rest : Whole) (k d : Concentrator Q A) (station i : ℕ)
-    (xs : List Substation) (was : Substation) (lines : Channel) (answer : Result Relayed BookFault) → i ≡ station
+pub unmoved_below : {Q A R : Type 0} (stock : Q → ℕ → Stock) (ledger : A → Ledger) (rest : Whole) (k d : Concentrator Q A) (station i : ℕ)
+    (xs : List Substation) (was : Substation) (lines : Channel) (answer : Result R BookFault) → i ≡ station
     → has_link (below stock ledger rest k xs) (Below station) ≡ true → was ≡ get_or xs i was → OnErr answer (links_of d ≡ links_of k)
     → OnErr answer (ledger (book_of d) ≡ ledger (book_of k)) → ForEach (λ centre. core_of centre d ≡ core_of centre k) → queue_of d ≡ queue_of k
     → indices_of d ≡ indices_of k → plan_above d ≡ plan_above k → OnErr answer (state_of lines ≡ state_of was.channel)
@@ -193,7 +198,7 @@ unmoved_below stock ledger rest k d station i xs was lines (Err fault) same has 
     (ap (λ (c : ChannelState). record (substation_of was) { channel = c }) lines_same)
 
 -- a step of relaying to a substation, as all see it, by what was answered
-pub relays_below : (station : ℕ) (old new : Whole) (answer : Result Relayed BookFault) (result : Result (Unit {0}) Cause)
+pub relays_below : {A : Type 0} (station : ℕ) (old new : Whole) (answer : Result A BookFault) (result : Result (Unit {0}) Cause)
     → OnOk answer (IsGranted (entries_on (seen_by 0 old) (Below station)) (step_on (seen_by 0 old) (Below station)))
     → ((number : ℕ) → OnOk answer (Sends (Below station) (seen_by number old) (seen_by number new))) → OnErr answer (new ≡ old)
     → OnOk result (OnErr answer (IsRefused (entries_on (seen_by 0 old) (Below station)) (step_on (seen_by 0 old) (Below station))))
@@ -209,8 +214,8 @@ on_ok (Ok done) X Y f x = f x
 on_ok (Err fault) X Y f x = tt
 
 -- what a step of relaying to the concentrator makes of the system
-pub sends_above : {J B : Type 0} (archive : J → Archive) (ledger : B → Ledger) (number : ℕ) (rest : System) (k d : Centre J B) (lines : ChannelState)
-    (answer : Result Relayed BookFault)
+pub sends_above : {J B R : Type 0} (archive : J → Archive) (ledger : B → Ledger) (number : ℕ) (rest : System) (k d : Centre J B) (lines : ChannelState)
+    (answer : Result R BookFault)
     → OnOk answer (centre.link_of d ≡ relaying_after (centre.link_of k) rest.now (step_of (centre.link_of k) (ledger (centre.book_of k)).entries 0))
     → OnOk answer (ledger (centre.book_of d) ≡ ledger_after (ledger (centre.book_of k)) (step_of (centre.link_of k) (ledger (centre.book_of k)).entries 0))
     → centre.journal_of d ≡ centre.journal_of k → centre.indices_of d ≡ centre.indices_of k
@@ -224,8 +229,8 @@ sends_above archive ledger number rest k d lines (Ok answer) link book journal i
           (centre_with archive ledger k d (relaying_after (centre.link_of k) rest.now step) (ledger_after (ledger (centre.book_of k)) step) link book journal indices),
     )
 
-pub unmoved_above : {J B : Type 0} (archive : J → Archive) (ledger : B → Ledger) (rest : System) (k d : Centre J B) (lines : ChannelState)
-    (answer : Result Relayed BookFault) → OnErr answer (centre.link_of d ≡ centre.link_of k)
+pub unmoved_above : {J B R : Type 0} (archive : J → Archive) (ledger : B → Ledger) (rest : System) (k d : Centre J B) (lines : ChannelState)
+    (answer : Result R BookFault) → OnErr answer (centre.link_of d ≡ centre.link_of k)
     → OnErr answer (ledger (centre.book_of d) ≡ ledger (centre.book_of k)) → centre.journal_of d ≡ centre.journal_of k
     → centre.indices_of d ≡ centre.indices_of k → OnErr answer (lines ≡ rest.above)
     → OnErr answer (record rest { centre = centre_of archive ledger d; above = lines } ≡ record rest { centre = centre_of archive ledger k })

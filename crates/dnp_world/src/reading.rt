@@ -32,6 +32,27 @@ fn lane_rows<L: Lanes>(alloc: Global, lanes: &mut L, lane: Lane) -> Result<Vec<N
     Ok(rows)
 }
 
+/// Puts all rows of a lane after the list, in order.
+fn put_lane_rows<L: Lanes>(
+    alloc: Global,
+    lanes: &mut L,
+    lane: Lane,
+    list: &mut Vec<Numbered>,
+) -> Result<(), Cause>
+    ensures place { L.place lanes.new ≡ L.place lanes.old }
+    ensures held { L.honest lanes.new → L.honest lanes.old }
+    ensures beside { L.honest lanes.new → L.beside lanes.new ≡ L.beside lanes.old }
+    ensures same { L.honest lanes.new → L.contents lanes.new ≡ L.contents lanes.old }
+    ensures sound { L.honest lanes.new → IsSound (L.contents lanes.new) }
+    ensures rows { L.honest lanes.new → OnOk result (list.new.items ≡ list.old.items ++ (lane_at (L.contents lanes.new) (lane_number lane)).rows) }
+    ensures device { TellsDevice (L.is_stopped lanes.old) (L.is_stopped lanes.new) (result ≡ Err Cause.Device) }
+    ensures named { result ≢ Err Cause.Exhausted }
+{
+    let rows = lane_rows(alloc, lanes, lane)?;
+    list.extend_from_slice(rows.as_slice())?;
+    Ok(())
+}
+
 /// The rows of all lanes, lane by lane.
 pub(crate) fn all_rows<L: Lanes>(alloc: Global, lanes: &mut L) -> Result<Vec<Numbered>, Cause>
     ensures place { L.place lanes.new ≡ L.place lanes.old }
@@ -45,8 +66,7 @@ pub(crate) fn all_rows<L: Lanes>(alloc: Global, lanes: &mut L) -> Result<Vec<Num
     let mut rows = Vec::new(alloc);
     for number in 0..LANES {
         let lane = Lane::numbered(number).unwrap();
-        let found = lane_rows(alloc, lanes, lane)?;
-        rows.extend_from_slice(found.as_slice())?;
+        put_lane_rows(alloc, lanes, lane, &mut rows)?;
     }
     Ok(rows)
 }

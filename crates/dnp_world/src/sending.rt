@@ -80,14 +80,13 @@ impl Channel {
         Ok(())
     }
 
-    /// Sends a fragment down, where there is room for it. An empty one is not sent.
-    pub fn send_down(&mut self, fragment: &[u8])
-        requires fits { length fragment.now ≤ MAX_FRAGMENT }
-        requires room { FRAGMENT_UNITS ≤ room_of self.old.down }
-        ensures { 0 < length fragment.now → GoDown (fragment.now ∷ []) (state_of self.old) (state_of self.new) }
+    /// Sends the request down that stands in its place, where there is room for it. An empty one is not sent.
+    pub fn send_request(&mut self)
+        requires { FRAGMENT_UNITS ≤ room_of self.old.down }
+        ensures { 0 < length self.old.request.items → GoDown (self.old.request.items ∷ []) (state_of self.old) (state_of self.new) }
     {
-        if !fragment.is_empty() {
-            send(&mut self.down, &mut self.master_port, fragment);
+        if !self.request.is_empty() {
+            send(&mut self.down, &mut self.master_port, &self.request);
         }
     }
 

@@ -132,7 +132,9 @@ impl Substation {
             outstation_port,
             ..
         } = &mut self.channel;
-        reserve_for_reading(up, overwritten)?;
+        let Ok(()) = reserve_for_reading(up, overwritten) else {
+            return Err(Cause::Memory);
+        };
         self.outstation
             .change_into(actions, alloc, now, kind, index, reading)?;
         send_all(up, outstation_port, &actions.send);

@@ -70,14 +70,6 @@ has_more opens receives asking life reads old mid new from between now left left
           (standing Settled now) result held held' held'' i.turns turns refl refl;
     }
 
--- the first turns, after which nothing was read
-pub has_none : {S : Type 0} (opens : Opening S) (receives : Receiving S) (asking : Asking S) (life : Life S) (old new : Dialogue S) (from now : ℕ)
-    (left held held' : Option (List ℕ)) (result : Result Bool ServeFault)
-    → LiveTurns opens receives asking life [] 0 old (standing Settled from) result held held' new (standing Settled now) → Gives [] [] []
-    → HasTalked opens receives asking life 0 old from left left held held' [] result new now
-has_none opens receives asking life old new from now left held held' result turns gives =
-    record { octets = []; read = Consumes-nil left; frames = []; gives = gives; turns = turns }
-
 -- ---- how it ends
 
 -- all was over

@@ -10,9 +10,10 @@ use Rattle.dnp_eventbuf.specs.Stock.{Stock}
 use Rattle.dnp_outstation.specs.State.{Core}
 use Rattle.dnp_pointdb.specs.Plan as points
 use Rattle.dnp_concentrator.specs.Below.{link_in}
-use Rattle.dnp_concentrator.specs.Relayed.{IfSent, IsSpentBy, Tells}
+use Rattle.arrayvec.specs.ArrayVec.{ArrayVec}
+use Rattle.dnp_concentrator.specs.Relayed.{IfSent, IsSpentBy, Tells, with_request}
 use Rattle.dnp_concentrator.specs.Relaying.{Relaying, ledger_after, relaying_after, step_of}
-use Rattle.dnp_concentrator.specs.declared.relayed.Relayed.{Relayed}
+use Rattle.dnp_concentrator.specs.declared.relayed.RelayedStep.{RelayedStep}
 use Rattle.dnp_concentrator.specs.declared.span.Spans.{Spans}
 use Rattle.dnp_streams.specs.streams.Asking.{RelaysBelow, Stepped}
 use Rattle.dnp_streams.specs.streams.Concentrators.{BelowSeen}
@@ -58,21 +59,22 @@ seen at links links' core core' other other' indices indices' plan plan' queue q
     ∙ ap (λ (q : Stock). below at links' core' other' indices' plan' queue' q book) more_is
     ∙ ap (λ (b : Ledger). below at links' core' other' indices' plan' queue' more' b) book_is
 
--- a step of relaying below is seen as its parts are
-pub relayed_below : (result : Result Relayed BookFault) (now at : ℕ) (links links' : List Relaying) (core core' other other' : Core)
+-- a step of relaying below, whose request stands in this fragment, is seen as its parts are
+pub relayed_below : (result : Result RelayedStep BookFault) (request : ArrayVec ℕ) (now at : ℕ) (links links' : List Relaying) (core core' other other' : Core)
     (indices indices' : List Spans) (plan plan' : points.Plan) (queue queue' more more' : Stock) (book book' : Ledger)
-    → at < length links → IfOk result (λ relayed. Tells (link_in links at).master.seq (step_of (link_in links at) book.entries at) relayed)
+    → at < length links
+    → IfOk result (λ relayed. Tells (link_in links at).master.seq (step_of (link_in links at) book.entries at) (with_request relayed request))
     → OnOk result (links' ≡ slice_set links at (relaying_after (link_in links at) now (step_of (link_in links at) book.entries at)))
     → OnOk result (book' ≡ ledger_after book (step_of (link_in links at) book.entries at))
-    → IfOk result (λ relayed. IfSent relayed (IsSpentBy book book')) → core' ≡ core → other' ≡ other → indices' ≡ indices → plan' ≡ plan
+    → IfOk result (λ relayed. IfSent (with_request relayed request) (IsSpentBy book book')) → core' ≡ core → other' ≡ other → indices' ≡ indices → plan' ≡ plan
     → queue' ≡ queue → more' ≡ more
     → IfOk result (λ relayed. RelaysBelow (below at links core other indices plan queue more book)
-    now relayed (below at links' core' other' indices' plan' queue' more' book'))
-relayed_below (Ok relayed) now at links links' core core' other other' indices indices' plan plan' queue queue' more more' book book' there told set moved
-    spent core_is other_is indices_are plans queues mores =
+    now (with_request relayed request) (below at links' core' other' indices' plan' queue' more' book'))
+relayed_below (Ok relayed) request now at links links' core core' other other' indices indices' plan plan' queue queue' more more' book book' there
+    told set moved spent core_is other_is indices_are plans queues mores =
     Stepped there told
     (seen at links' _ core' core other' other indices' indices plan' plan queue' queue more' more book' _ set core_is other_is indices_are plans queues mores
     moved) spent
-relayed_below (Err fault) now at links links' core core' other other' indices indices' plan plan' queue queue' more more' book book' there told set moved
-    spent core_is other_is indices_are plans queues mores =
+relayed_below (Err fault) request now at links links' core core' other other' indices indices' plan plan' queue queue' more more' book book' there
+    told set moved spent core_is other_is indices_are plans queues mores =
     told

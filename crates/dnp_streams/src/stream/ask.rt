@@ -14,7 +14,6 @@ use crate::stream::asker::Asker;
 use crate::stream::asking::{go_to, hear_to, open_to};
 use crate::stream::kept::Kept;
 use crate::stream::log::{Log, read_noted, write_noted};
-use crate::stream::outgoing::Outgoing;
 use crate::stream::progress::Progress;
 use crate::stream::serve::ServeFault;
 use dnp_line::Port;
@@ -30,7 +29,7 @@ pub(super) fn go_on<S: Asker, W: Write>(
     station: &mut S,
     port: &mut Port,
     now: u64,
-    octets: &mut Outgoing,
+    kept: &mut Kept,
     out: &mut W,
     progress: &mut Progress<'_>,
     log: &mut Log,
@@ -51,8 +50,8 @@ pub(super) fn go_on<S: Asker, W: Write>(
         if !station.idle() {
             return Ok(false);
         }
-        go_to(alloc, station, port, now, octets, progress);
-        match write_noted(octets, out, log) {
+        go_to(alloc, station, port, now, kept, progress);
+        match write_noted(&kept.octets, out, log) {
             Ok(()) => {}
             Err(_) => return Err(ServeFault::WriteFailed),
         }
@@ -86,16 +85,7 @@ fn finish<S: Asker, W: Write>(
         Ok(()) => {}
         Err(_) => return Err(ServeFault::WriteFailed),
     }
-    go_on(
-        alloc,
-        station,
-        port,
-        now,
-        &mut kept.octets,
-        out,
-        progress,
-        log,
-    )
+    go_on(alloc, station, port, now, kept, out, progress, log)
 }
 
 /// Opens the station, writes what that sends, and goes on. Whether the dialogue stops.

@@ -9,7 +9,7 @@ use crate::stream::kept::Kept;
 use crate::stream::outgoing::{Outgoing, put_fragments, put_reply, put_request};
 use crate::stream::progress::Progress;
 use crate::stream::station::Station;
-use dnp_concentrator::Relayed;
+use dnp_concentrator::RelayedStep;
 use dnp_line::Port;
 use dnp_linkframe::Frame;
 use std::alloc::Global;
@@ -78,28 +78,28 @@ pub(super) fn hear_to<S: Station>(
     }
 }
 
-/// Relays a control, where no task is left. The octets to be sent take the place of what was there.
+/// Relays a control, where no task is left. The octets to be sent take the place of those that were kept.
 fn relay_to<S: Asker>(
     alloc: Global,
     station: &mut S,
     port: &mut Port,
     now: u64,
-    out: &mut Outgoing,
+    kept: &mut Kept,
     progress: &mut Progress<'_>,
 )
     requires { progress.old.left.now ≡ [] }
     ensures kept { S.kept station.new ≡ S.kept station.old }
     ensures held { S.honest station.new → S.honest station.old }
     ensures goes { S.honest station.new → progress.old.is_over ≡ false → Puts (λ sent. Goes S.asking now (dialogue_of (S.state station.old) port.old progress.old) sent
-        (dialogue_of (S.state station.new) port.new progress.new)) out.new.items }
+        (dialogue_of (S.state station.new) port.new progress.new)) kept.new.octets.items }
     ensures begun { progress.new.is_begun ≡ progress.old.is_begun }
 {
-    out.clear();
-    match station.relay(alloc, now) {
-        Ok(Relayed::Nothing) => progress.is_over = true,
-        Ok(Relayed::Selecting(_, request)) => put_request(port, &request, out),
-        Ok(Relayed::Sent(_, request)) => put_request(port, &request, out),
-        Ok(Relayed::Finished(_, _)) => {}
+    kept.octets.clear();
+    match station.relay_into(&mut kept.request, alloc, now) {
+        Ok(RelayedStep::Nothing) => progress.is_over = true,
+        Ok(RelayedStep::Selecting(_)) => put_request(port, &kept.request, &mut kept.octets),
+        Ok(RelayedStep::Sent(_)) => put_request(port, &kept.request, &mut kept.octets),
+        Ok(RelayedStep::Finished(_, _)) => {}
         Err(_) => {
             progress.asked.refuse();
             progress.is_over = true;
@@ -108,32 +108,32 @@ fn relay_to<S: Asker>(
 }
 
 /// Asks the first of the tasks that are left, or relays a control where there is none. The octets to be sent take the
-/// place of what was there.
+/// place of those that were kept.
 pub(super) fn go_to<S: Asker>(
     alloc: Global,
     station: &mut S,
     port: &mut Port,
     now: u64,
-    out: &mut Outgoing,
+    kept: &mut Kept,
     progress: &mut Progress<'_>,
 )
     ensures kept { S.kept station.new ≡ S.kept station.old }
     ensures held { S.honest station.new → S.honest station.old }
     ensures goes { S.honest station.new → progress.old.is_over ≡ false → Puts (λ sent. Goes S.asking now (dialogue_of (S.state station.old) port.old progress.old) sent
-        (dialogue_of (S.state station.new) port.new progress.new)) out.new.items }
+        (dialogue_of (S.state station.new) port.new progress.new)) kept.new.octets.items }
     ensures begun { progress.new.is_begun ≡ progress.old.is_begun }
 {
     match progress.left.split_first() {
         Some((task, left)) => {
             progress.left = left;
-            match station.ask(now, *task) {
-                Ok(request) => put_request(port, &request, out),
+            match station.ask_into(&mut kept.request, now, *task) {
+                Ok(()) => put_request(port, &kept.request, &mut kept.octets),
                 Err(_) => {
-                    out.clear();
+                    kept.octets.clear();
                     progress.asked.refuse();
                 }
             }
         }
-        None => relay_to(alloc, station, port, now, out, progress),
+        None => relay_to(alloc, station, port, now, kept, progress),
     }
 }

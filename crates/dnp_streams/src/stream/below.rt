@@ -14,7 +14,7 @@ use crate::stream::asker::Asker;
 use crate::stream::kept::KeptAnswer;
 use crate::stream::master::{fault_of, nothing};
 use crate::stream::station::{Answer, Station, StationFault};
-use dnp_concentrator::{Concentrator, Relayed};
+use dnp_concentrator::{Concentrator, RelayedStep};
 use dnp_controls::{Book, BookFault};
 use dnp_eventbuf::PairLanes;
 use dnp_master::{AskFault, Fragment, Task};
@@ -180,18 +180,25 @@ impl<'a, Q: PairLanes, B: Book> Station for Below<'a, Q, B> {
 }
 
 impl<'a, Q: PairLanes, B: Book> Asker for Below<'a, Q, B> {
-    fn ask(&mut self, now: u64, task: Task) -> Result<Fragment, AskFault> {
+    fn ask_into(&mut self, request: &mut Fragment, now: u64, task: Task) -> Result<(), AskFault> {
         if !self.is_there() {
             return Err(AskFault::Closed);
         }
-        self.concentrator.ask_below(self.substation, now, task)
+        self.concentrator
+            .ask_below_into(request, self.substation, now, task)
     }
 
-    fn relay(&mut self, alloc: Global, now: u64) -> Result<Relayed, BookFault> {
+    fn relay_into(
+        &mut self,
+        request: &mut Fragment,
+        alloc: Global,
+        now: u64,
+    ) -> Result<RelayedStep, BookFault> {
         if !self.is_there() {
-            return Ok(Relayed::Nothing);
+            return Ok(RelayedStep::Nothing);
         }
-        self.concentrator.relay(alloc, self.substation, now)
+        self.concentrator
+            .relay_into(request, alloc, self.substation, now)
     }
 
     fn idle(&self) -> bool {

@@ -14,7 +14,7 @@ use crate::stream::asker::Asker;
 use crate::stream::kept::KeptAnswer;
 use crate::stream::master::{fault_of, nothing};
 use crate::stream::station::{Answer, Station, StationFault};
-use dnp_concentrator::{Centre, Relayed};
+use dnp_concentrator::{Centre, RelayedStep};
 use dnp_controls::{Book, BookFault};
 use dnp_eventbuf::JournalStore;
 use dnp_master::{AskFault, Fragment, Task};
@@ -114,12 +114,17 @@ impl<J: JournalStore, B: Book> Station for Centre<J, B> {
 }
 
 impl<J: JournalStore, B: Book> Asker for Centre<J, B> {
-    fn ask(&mut self, now: u64, task: Task) -> Result<Fragment, AskFault> {
-        self.ask(now, task)
+    fn ask_into(&mut self, request: &mut Fragment, now: u64, task: Task) -> Result<(), AskFault> {
+        self.ask_into(request, now, task)
     }
 
-    fn relay(&mut self, alloc: Global, now: u64) -> Result<Relayed, BookFault> {
-        self.relay(alloc, now)
+    fn relay_into(
+        &mut self,
+        request: &mut Fragment,
+        alloc: Global,
+        now: u64,
+    ) -> Result<RelayedStep, BookFault> {
+        self.relay_into(request, alloc, now)
     }
 
     fn idle(&self) -> bool {

@@ -148,6 +148,8 @@ pub(super) struct Kept {
     pub answer: KeptAnswer,
     /// What it answers to changes: nothing, or report after report. So it stands apart too.
     pub changed: KeptAnswer,
+    /// The request that was asked last: none by a station that never asks.
+    pub request: Fragment,
     /// The octets that are sent.
     pub octets: Outgoing,
 }
@@ -159,6 +161,7 @@ impl Drop for Kept {
             confirmed: _,
             answer: _,
             changed: _,
+            request: _,
             octets: _,
         } = self;
     }
@@ -170,12 +173,14 @@ impl Kept {
         ensures confirmed { answer_in result.confirmed ≡ nothing_answered }
         ensures answer { answer_in result.answer ≡ nothing_answered }
         ensures changed { answer_in result.changed ≡ nothing_answered }
+        ensures request { result.request.items ≡ [] }
         ensures octets { result.octets.items ≡ [] }
     {
         Kept {
             confirmed: KeptAnswer::new(alloc),
             answer: KeptAnswer::new(alloc),
             changed: KeptAnswer::new(alloc),
+            request: Fragment::new(),
             octets: Outgoing::new(),
         }
     }

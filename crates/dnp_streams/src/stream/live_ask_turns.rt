@@ -80,16 +80,7 @@ fn pass_time<S: Asker + Living, W: Write>(
         Ok(()) => {}
         Err(_) => return Err(ServeFault::WriteFailed),
     }
-    go_on(
-        alloc,
-        station,
-        port,
-        now,
-        &mut kept.octets,
-        out,
-        progress,
-        log,
-    )
+    go_on(alloc, station, port, now, kept, out, progress, log)
 }
 
 /// Hears frames, one after the other, each at the moment that the clock shows then. Whether the dialogue stops.

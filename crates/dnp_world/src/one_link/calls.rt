@@ -240,8 +240,9 @@ impl<L: Lanes, S: Sink> OneLink<L, S> {
             return Ok(());
         }
         self.channel.reserve_down()?;
-        if let Ok(request) = self.receiver.master.ask(self.moment, task) {
-            self.channel.send_down(request.as_slice());
+        let request = &mut self.channel.request;
+        if let Ok(()) = self.receiver.master.ask_into(request, self.moment, task) {
+            self.channel.send_request();
         }
         Ok(())
     }

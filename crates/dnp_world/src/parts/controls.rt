@@ -330,6 +330,31 @@ impl<Q: PairLanes, J: JournalStore, A: Book, B: Book> Parts<Q, J, A, B> {
         self.relay_through(alloc, Link::Below(station), queued, carrier)
     }
 
+    /// The control of this id, which is for this substation, goes as `clean_control` says. The link to the centre was asked
+    /// already.
+    fn relay_next<C: Carrier>(
+        &mut self,
+        alloc: Global,
+        centre: u8,
+        id: u64,
+        station: Option<u8>,
+        carrier: &mut C,
+    ) -> Result<(), ControlFault>
+        requires { centre < CENTRES }
+        ensures held { ⟦<Self as Stored>⟧.well self.new → ⟦<Self as Stored>⟧.well self.old }
+        ensures ends { ⟦<Self as Stored>⟧.well self.new → station ≡ station_in (seen_by centre self.old.system) id
+            → ControlEnds HappensToAll (seen_by centre) may_stop centre id self.old.system result self.new.system }
+        ensures device { TellsDeviceOver C.refuses (⟦<Self as Stored>⟧.is_stopped self.old) (⟦<Self as Stored>⟧.is_stopped self.new) (result ≡ Err (ControlFault.Fault Cause.Device)) }
+    {
+        if !self.are_quiet(centre, station) {
+            return Err(ControlFault::NotQuiet);
+        }
+        if !self.is_next(alloc, centre, id, station)? {
+            return Err(ControlFault::NotNext);
+        }
+        self.relay_all(alloc, centre, id, station, carrier)
+    }
+
     /// The control of this id goes from the centre to its substation, over quiet links. Refused, with nothing changed, is
     /// first of all a link on its way that isn't quiet, and then a control that isn't the centre's next one, or one that
     /// another is before. Each unit is carried.
@@ -350,12 +375,6 @@ impl<Q: PairLanes, J: JournalStore, A: Book, B: Book> Parts<Q, J, A, B> {
             return Err(ControlFault::NotQuiet);
         }
         let station = self.station_of(alloc, centre, id)?;
-        if !self.are_quiet(centre, station) {
-            return Err(ControlFault::NotQuiet);
-        }
-        if !self.is_next(alloc, centre, id, station)? {
-            return Err(ControlFault::NotNext);
-        }
-        self.relay_all(alloc, centre, id, station, carrier)
+        self.relay_next(alloc, centre, id, station, carrier)
     }
 }

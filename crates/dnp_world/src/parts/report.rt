@@ -37,14 +37,35 @@ fn copied<T: Copy>(alloc: Global, list: &[(u8, T)]) -> Result<Listed<(u8, T)>, A
     Ok(Listed::new(Vec::from_slice(alloc, list)?))
 }
 
-/// Copies of the lists of what became of rows and commands of substations.
+/// What a report reads of stores and lanes.
 #[derive(Drop)]
-struct Copies {
+struct Stocks {
+    journal: BothRows,
+    queue: BothRows,
+    buffered: Listed<(u8, Row)>,
+}
+
+/// Copies of the lists of what became of rows of substations.
+#[derive(Drop)]
+struct RowCopies {
     confirmed: Listed<(u8, Row)>,
     overwritten: Listed<(u8, Row)>,
     gone: Listed<(u8, Row)>,
+}
+
+/// Copies of the lists of what became of commands to substations.
+#[derive(Drop)]
+struct CommandCopies {
     issued: Listed<(u8, Command)>,
     operated: Listed<(u8, Command)>,
+}
+
+/// What a report reads of what became of rows and commands.
+#[derive(Drop)]
+struct Copies {
+    dropped: BothRows,
+    rows: RowCopies,
+    commands: CommandCopies,
 }
 
 /// Puts the rows in the lanes of the substation of this number after the list, lane by lane.
@@ -198,20 +219,67 @@ impl<Q: PairLanes, J: JournalStore, A: Book, B: Book> Parts<Q, J, A, B> {
         Ok(Listed::new(rows))
     }
 
-    /// Copies of the lists of what became of rows and commands of substations.
-    fn copies(&self, alloc: Global) -> Result<Copies, AllocError>
-        ensures confirmed { IfOk result (λ copies. copies.confirmed ≡ self.now.system.history.confirmed) }
-        ensures overwritten { IfOk result (λ copies. copies.overwritten ≡ self.now.system.history.overwritten) }
-        ensures gone { IfOk result (λ copies. copies.gone ≡ self.now.system.history.gone) }
-        ensures issued { IfOk result (λ copies. copies.issued ≡ self.now.system.history.issued) }
-        ensures operated { IfOk result (λ copies. copies.operated ≡ self.now.system.history.operated) }
+    /// The rows of the journals and of the queue for each centre, and those in the lanes of substations.
+    fn stocks_below(&mut self, alloc: Global) -> Result<Stocks, Cause>
+        ensures held { ⟦<Self as Stored>⟧.well self.new → ⟦<Self as Stored>⟧.well self.old }
+        ensures same { ⟦<Self as Stored>⟧.well self.new → self.new.system ≡ self.old.system }
+        ensures journal { ⟦<Self as Stored>⟧.well self.new → IfOk result (λ stocks. ForEach (λ centre. IsJournalOf (seen_by centre self.old.system) (at centre stocks.journal.0 stocks.journal.1))) }
+        ensures queue { ⟦<Self as Stored>⟧.well self.new → IfOk result (λ stocks. ForEach (λ centre. IsQueueOf (seen_by centre self.old.system) (at centre stocks.queue.0 stocks.queue.1))) }
+        ensures buffered { IfOk result (λ stocks. stocks.buffered ≡ listed_from lane_rows_of 0 (take NUMBERS self.old.system.substations)) }
+        ensures device { TellsDevice (⟦<Self as Stored>⟧.is_stopped self.old) (⟦<Self as Stored>⟧.is_stopped self.new) (result ≡ Err Cause.Device) }
+        ensures named { result ≢ Err Cause.Exhausted }
     {
-        Ok(Copies {
+        let buffered = self.buffered(alloc)?;
+        let journal = self.journals_below(alloc)?;
+        let queue = self.queues_below(alloc)?;
+        Ok(Stocks {
+            journal,
+            queue,
+            buffered,
+        })
+    }
+
+    /// Copies of the lists of what became of rows of substations.
+    fn row_copies(&self, alloc: Global) -> Result<RowCopies, AllocError>
+        ensures confirmed { IfOk result (λ rows. rows.confirmed ≡ self.now.system.history.confirmed) }
+        ensures overwritten { IfOk result (λ rows. rows.overwritten ≡ self.now.system.history.overwritten) }
+        ensures gone { IfOk result (λ rows. rows.gone ≡ self.now.system.history.gone) }
+    {
+        Ok(RowCopies {
             confirmed: copied(alloc, self.history.confirmed.as_slice())?,
             overwritten: copied(alloc, self.history.overwritten.as_slice())?,
             gone: copied(alloc, self.history.gone.as_slice())?,
+        })
+    }
+
+    /// Copies of the lists of what became of commands to substations.
+    fn command_copies(&self, alloc: Global) -> Result<CommandCopies, AllocError>
+        ensures issued { IfOk result (λ commands. commands.issued ≡ self.now.system.history.issued) }
+        ensures operated { IfOk result (λ commands. commands.operated ≡ self.now.system.history.operated) }
+    {
+        Ok(CommandCopies {
             issued: copied(alloc, self.history.issued.as_slice())?,
             operated: copied(alloc, self.history.operated.as_slice())?,
+        })
+    }
+
+    /// The rows that full lanes of the queue dropped, and copies of the lists of what became of rows and commands.
+    fn copies(&self, alloc: Global) -> Result<Copies, AllocError>
+        ensures dropped { IfOk result (λ copies. ForEach (λ centre. IsDroppedOf (seen_by centre self.now.system) (at centre copies.dropped.0 copies.dropped.1))) }
+        ensures counted { IfOk result (λ copies. ForEach (λ centre. length (at centre copies.dropped.0 copies.dropped.1) < 2 ^ 64)) }
+        ensures confirmed { IfOk result (λ copies. copies.rows.confirmed ≡ self.now.system.history.confirmed) }
+        ensures overwritten { IfOk result (λ copies. copies.rows.overwritten ≡ self.now.system.history.overwritten) }
+        ensures gone { IfOk result (λ copies. copies.rows.gone ≡ self.now.system.history.gone) }
+        ensures issued { IfOk result (λ copies. copies.commands.issued ≡ self.now.system.history.issued) }
+        ensures operated { IfOk result (λ copies. copies.commands.operated ≡ self.now.system.history.operated) }
+    {
+        let dropped = self.dropped_below(alloc)?;
+        let rows = self.row_copies(alloc)?;
+        let commands = self.command_copies(alloc)?;
+        Ok(Copies {
+            dropped,
+            rows,
+            commands,
         })
     }
 
@@ -224,19 +292,25 @@ impl<Q: PairLanes, J: JournalStore, A: Book, B: Book> Parts<Q, J, A, B> {
         ensures device { TellsDevice (⟦<Self as Stored>⟧.is_stopped self.old) (⟦<Self as Stored>⟧.is_stopped self.new) (result ≡ Err Cause.Device) }
         ensures named { result ≢ Err Cause.Exhausted }
     {
-        let journal = self.journals_below(alloc)?;
-        let queue = self.queues_below(alloc)?;
-        let buffered = self.buffered(alloc)?;
-        let dropped = self.dropped_below(alloc)?;
+        let stocks = self.stocks_below(alloc)?;
         let copies = self.copies(alloc)?;
         let lost = self.lost_for_both();
+        let Stocks {
+            journal,
+            queue,
+            buffered,
+        } = stocks;
         let Copies {
+            dropped,
+            rows,
+            commands,
+        } = copies;
+        let RowCopies {
             confirmed,
             overwritten,
             gone,
-            issued,
-            operated,
-        } = copies;
+        } = rows;
+        let CommandCopies { issued, operated } = commands;
         Ok(Report {
             journal,
             queue,

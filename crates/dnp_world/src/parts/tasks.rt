@@ -4,7 +4,7 @@ ghost use Rattle.std.specs.Prelude.{◌≡◌, ◌⊎◌, ◌≤◌, ◌<◌, �
 ghost use Rattle.dnp_appfragment.specs.Fragments.{Asked, IsRequest};
 ghost use Rattle.dnp_concentrator.specs.Mapped.{command_above};
 ghost use Rattle.dnp_eventbuf.specs.Sides.{at};
-ghost use Rattle.dnp_concentrator.specs.Relayed.{Tells, asks_book};
+ghost use Rattle.dnp_concentrator.specs.Relayed.{Tells, asks_book, with_request};
 ghost use Rattle.dnp_concentrator.specs.Relaying.{Step};
 ghost use Rattle.dnp_line.specs.Lines.{room_of};
 ghost use Rattle.dnp_objects.specs.declared.command.Command.TheVariants.{Block, Set16, Set32};
@@ -25,9 +25,9 @@ ghost use Rattle.dnp_world.specs.declared.event.Link.TheVariants as link;
 use super::Parts;
 use crate::channel::Channel;
 use crate::event::Link;
-use crate::sending::{FRAGMENT_UNITS, send};
+use crate::sending::FRAGMENT_UNITS;
 use crate::stored::Stored;
-use dnp_concentrator::{Cause, IssueFault, Relayed};
+use dnp_concentrator::{Cause, IssueFault, RelayedStep};
 use dnp_controls::{Book, BookFault};
 use dnp_eventbuf::{CENTRES, JournalStore, PairLanes};
 use dnp_master::{AskFault, Task};
@@ -86,18 +86,6 @@ fn is_own(task: &Task) -> bool
     !matches!(task, Task::Select(_) | Task::Operate(_))
 }
 
-impl Channel {
-    /// Sends the request down that stands in its place, where there is room for it. An empty one is not sent.
-    fn send_request(&mut self)
-        requires { FRAGMENT_UNITS ≤ room_of self.old.down }
-        ensures { 0 < length self.old.request.items → GoDown (self.old.request.items ∷ []) (state_of self.old) (state_of self.new) }
-    {
-        if !self.request.is_empty() {
-            send(&mut self.down, &mut self.master_port, &self.request);
-        }
-    }
-}
-
 /// What a master asks, which stands in the channel's place of a request, goes down the channel. What it refused does nothing.
 fn send_asked(channel: &mut Channel, asked: &Result<(), AskFault>)
     requires { FRAGMENT_UNITS ≤ room_of channel.old.down }
@@ -112,23 +100,29 @@ fn send_asked(channel: &mut Channel, asked: &Result<(), AskFault>)
     }
 }
 
-/// What is told of a step of relaying goes down the channel: its request, if it has one.
-fn send_told(channel: &mut Channel, told: &Relayed)
+/// What is told of a step of relaying goes down the channel: its request, if it has one, which stands in the channel's place of
+/// one.
+fn send_told(channel: &mut Channel, told: &RelayedStep)
     requires { FRAGMENT_UNITS ≤ room_of channel.old.down }
-    ensures { (step : Step) (seq : ℕ) → Tells seq step told.now → GoDown (requests_of step seq) (state_of channel.old) (state_of channel.new) }
+    ensures { (step : Step) (seq : ℕ) → Tells seq step (with_request told.now channel.old.request)
+        → GoDown (requests_of step seq) (state_of channel.old) (state_of channel.new) }
 {
     match told {
-        Relayed::Selecting(_, request) => channel.send_down(request.as_slice()),
-        Relayed::Sent(_, request) => channel.send_down(request.as_slice()),
-        Relayed::Nothing => {}
-        Relayed::Finished(_, _) => {}
+        RelayedStep::Selecting(_) => channel.send_request(),
+        RelayedStep::Sent(_) => channel.send_request(),
+        RelayedStep::Nothing => {}
+        RelayedStep::Finished(_, _) => {}
     }
 }
 
-/// What a step of relaying asks goes down the channel. What the book refused of one entry does nothing.
-fn send_relayed(channel: &mut Channel, relayed: &Result<Relayed, BookFault>) -> Result<(), Cause>
+/// What a step of relaying asks, which stands in the channel's place of a request, goes down the channel. What the book refused of
+/// one entry does nothing.
+fn send_relayed(
+    channel: &mut Channel,
+    relayed: &Result<RelayedStep, BookFault>,
+) -> Result<(), Cause>
     requires { FRAGMENT_UNITS ≤ room_of channel.old.down }
-    ensures sent { IfOk relayed.now (λ told. (step : Step) (seq : ℕ) → Tells seq step told
+    ensures sent { IfOk relayed.now (λ told. (step : Step) (seq : ℕ) → Tells seq step (with_request told channel.old.request)
         → GoDown (requests_of step seq) (state_of channel.old) (state_of channel.new)) }
     ensures same { OnErr relayed.now (state_of channel.new ≡ state_of channel.old) }
     ensures passed { OnOk result (IfErr relayed.now (λ fault. (fault ≡ BookFault.NoControl) ⊎ (fault ≡ BookFault.NotPending))) }
@@ -158,7 +152,9 @@ impl<Q: PairLanes, J: JournalStore, A: Book, B: Book> Parts<Q, J, A, B> {
         ensures device { TellsDevice (⟦<Self as Stored>⟧.is_stopped self.old) (⟦<Self as Stored>⟧.is_stopped self.new) (result ≡ Err Cause.Device) }
     {
         let channel = &mut self.substations[usize::from(station)].channel;
-        channel.reserve_down()?;
+        let Ok(()) = channel.reserve_down() else {
+            return Err(Cause::Memory);
+        };
         let request = &mut channel.request;
         let asked = self
             .concentrator
@@ -176,7 +172,9 @@ impl<Q: PairLanes, J: JournalStore, A: Book, B: Book> Parts<Q, J, A, B> {
         ensures device { TellsDevice (⟦<Self as Stored>⟧.is_stopped self.old) (⟦<Self as Stored>⟧.is_stopped self.new) (result ≡ Err Cause.Device) }
     {
         let channel = self.above.at_mut(centre);
-        channel.reserve_down()?;
+        let Ok(()) = channel.reserve_down() else {
+            return Err(Cause::Memory);
+        };
         let request = &mut channel.request;
         let asked = self
             .centres
@@ -237,8 +235,13 @@ impl<Q: PairLanes, J: JournalStore, A: Book, B: Book> Parts<Q, J, A, B> {
         ensures dead { asks_book (link_at (seen_by 0 self.old.system).concentrator station) ≡ true → IsTrue (A.is_stopped self.old.stores.controls) → IsErr result }
     {
         let channel = &mut self.substations[usize::from(station)].channel;
-        channel.reserve_down()?;
-        let relayed = self.concentrator.relay(alloc, station, self.moment);
+        let Ok(()) = channel.reserve_down() else {
+            return Err(Cause::Memory);
+        };
+        let request = &mut channel.request;
+        let relayed = self
+            .concentrator
+            .relay_into(request, alloc, station, self.moment);
         send_relayed(channel, &relayed)
     }
 
@@ -253,8 +256,14 @@ impl<Q: PairLanes, J: JournalStore, A: Book, B: Book> Parts<Q, J, A, B> {
         ensures dead { asks_book (seen_by centre self.old.system).centre.link ≡ true → IsTrue (B.is_stopped (at centre self.old.stores.orders.0 self.old.stores.orders.1)) → IsErr result }
     {
         let channel = self.above.at_mut(centre);
-        channel.reserve_down()?;
-        let relayed = self.centres.at_mut(centre).relay(alloc, self.moment);
+        let Ok(()) = channel.reserve_down() else {
+            return Err(Cause::Memory);
+        };
+        let request = &mut channel.request;
+        let relayed = self
+            .centres
+            .at_mut(centre)
+            .relay_into(request, alloc, self.moment);
         send_relayed(channel, &relayed)
     }
 

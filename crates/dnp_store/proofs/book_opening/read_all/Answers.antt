@@ -1,4 +1,4 @@
-use Rattle.std.proofs.Common.{rules, ◌≡◌, List, [], codes, arith, sym, ap, subst, ◌∙◌}
+use Rattle.std.proofs.Common.{◌≡◌, List, [], codes, arith, sym, ap, subst, ◌∙◌}
 use Rattle.sqlite.specs.State.{HasCleanDisk}
 use Rattle.sqlite.specs.Held.{state}
 use Rattle.sqlite.specs.Effect.{Database, IsDatabase}
@@ -9,6 +9,7 @@ use Rattle.dnp_store.specs.declared.store_kind.StoreKind.TheVariants.{Book}
 use Rattle.dnp_store.proofs.BookOpening.{opened, sound_of_rise}
 use Rattle.dnp_store.proofs.Stepping.{if_ok, step_then, step_as}
 use Rattle.dnp_store.proofs.Outcomes.{if_both_on, on_any}
+use Rattle.dnp_store.proofs.Running.{step_too}
 use Rattle.dnp_store.proofs.book_opening.read_all.Goals as goal
 
 pub returns-clause-read : goal.returns-clause-read
@@ -35,7 +36,7 @@ pub returns-in_err-rows-clause-step : goal.returns-in_err-rows-clause-step
 returns-in_err-rows-clause-step g c =
     let here = step_then g.S.Store c.args.tx.now.conn c.read_begun.new.tx.conn c.read_controls.new.tx.conn _ _ c.in_ok-counts.ensures.step
     c.in_err-rows.ensures.step in
-    record { same_reference = here.same_reference; inside = search rules; kept = here.kept; survives = here.survives }
+    step_too g.S.Store _ _ _ c.from_residual-in_err-rows.result c.from_residual-in_err-rows.ensures here
 
 pub returns-clause-step : goal.returns-clause-step
 returns-clause-step g c =

@@ -1,4 +1,4 @@
-use Rattle.std.proofs.Common.{◌≡◌, rules, ℕ, List, [], codes, arith, sym, ap, subst, ◌∙◌}
+use Rattle.std.proofs.Common.{◌≡◌, ℕ, List, [], codes, arith, sym, ap, subst, ◌∙◌}
 use Rattle.sqlite.specs.State.{HasCleanDisk}
 use Rattle.sqlite.specs.Held.{state}
 use Rattle.sqlite.specs.Effect.{Database, IsDatabase}
@@ -9,6 +9,7 @@ use Rattle.dnp_store.specs.declared.store_kind.StoreKind.TheVariants.{Journal}
 use Rattle.dnp_store.proofs.JournalOpening.{opened}
 use Rattle.dnp_store.proofs.Stepping.{step_then, step_as}
 use Rattle.dnp_store.proofs.Outcomes.{if_both, on_any}
+use Rattle.dnp_store.proofs.Running.{step_too}
 use Rattle.dnp_store.proofs.journal_opening.read_all.Goals as goal
 
 pub returns-clause-read : goal.returns-clause-read
@@ -32,7 +33,7 @@ pub returns-in_err-logged-clause-step : goal.returns-in_err-logged-clause-step
 returns-in_err-logged-clause-step g c =
     let here = step_then g.S.Store c.args.tx.now.conn c.read_begun.new.tx.conn c.read_logged.new.tx.conn _ _ c.in_ok-counts.ensures.step
     c.in_err-logged.ensures.step in
-    record { same_reference = here.same_reference; inside = search rules; kept = here.kept; survives = here.survives }
+    step_too g.S.Store _ _ _ c.from_residual-in_err-logged.result c.from_residual-in_err-logged.ensures here
 
 pub returns-clause-step : goal.returns-clause-step
 returns-clause-step g c =

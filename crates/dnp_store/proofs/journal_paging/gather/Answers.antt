@@ -1,10 +1,11 @@
-use Rattle.std.proofs.Common.{rules, Ok, arith, refl, sym, ap, subst, ◌∙◌}
+use Rattle.std.proofs.Common.{Ok, arith, refl, sym, ap, subst, ◌∙◌}
 use Rattle.sqlite.specs.State.{HasCleanDisk}
 use Rattle.sqlite.specs.Held.{state}
 use Rattle.sqlite.specs.Effect.{Database, IsDatabase}
 use Rattle.dnp_store.specs.steps.JournalShown.{Gathers}
 use Rattle.dnp_store.proofs.Stepping.{step_none, step_then, step_as}
 use Rattle.dnp_store.proofs.JournalPaging.{none_yet}
+use Rattle.dnp_store.proofs.Running.{step_too}
 use Rattle.dnp_store.proofs.journal_paging.gather.Goals as goal
 
 pub loop-init : goal.loop-init
@@ -45,7 +46,7 @@ returns-then-more-so_far-clause-read g c clean f j m sound has =
 pub returns-in_err-more-clause-step : goal.returns-in_err-more-clause-step
 returns-in_err-more-clause-step g c =
     let here = step_then g.S.Store c.args.tx.now.conn c.loop.tx.conn c.read_more.new.tx.conn _ _ c.loop.invariant.step c.in_err-more.ensures.step in
-    record { same_reference = here.same_reference; inside = search rules; kept = here.kept; survives = here.survives }
+    step_too g.S.Store _ _ _ c.from_residual.result c.from_residual.ensures here
 
 pub returns-then-more-so_far-clause-step : goal.returns-then-more-so_far-clause-step
 returns-then-more-so_far-clause-step g c =

@@ -1,4 +1,4 @@
-use Rattle.std.proofs.Common.{rules, ◌≡◌, ◌≤◌, List, [], get_or, pos, length, arith, sym, ap, subst, ◌∙◌}
+use Rattle.std.proofs.Common.{◌≡◌, ◌≤◌, List, [], get_or, pos, length, arith, sym, ap, subst, ◌∙◌}
 use Rattle.sqlite.specs.declared.types.Value.TheVariants.{Int}
 use Rattle.sqlite.specs.Order.{Row, column}
 use Rattle.sqlite.specs.State.{HasCleanDisk}
@@ -10,6 +10,7 @@ use Rattle.dnp_store.specs.declared.journal_paging.Gathered.{Gathered}
 use Rattle.dnp_store.proofs.JournalPaging.{logs_all}
 use Rattle.dnp_store.proofs.Outcomes.{if_both_on, on_any}
 use Rattle.dnp_store.proofs.Stepping.{if_ok, step_then, step_as}
+use Rattle.dnp_store.proofs.Running.{step_too}
 use Rattle.dnp_store.proofs.journal_paging.read_logged.Goals as goal
 
 pub returns-clause-read : goal.returns-clause-read
@@ -47,7 +48,7 @@ pub returns-in_err-counted-clause-step : goal.returns-in_err-counted-clause-step
 returns-in_err-counted-clause-step g c =
     let here = step_then g.S.Store c.args.tx.now.conn c.gather.new.tx.conn c.read_count.new.tx.conn _ _ c.in_ok-found.ensures.step
     c.in_err-counted.ensures.step in
-    record { same_reference = here.same_reference; inside = search rules; kept = here.kept; survives = here.survives }
+    step_too g.S.Store _ _ _ c.from_residual-in_err-counted.result c.from_residual-in_err-counted.ensures here
 
 pub returns-clause-step : goal.returns-clause-step
 returns-clause-step g c =

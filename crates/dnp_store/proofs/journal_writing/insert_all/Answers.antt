@@ -1,4 +1,4 @@
-use Rattle.std.proofs.Common.{rules, ◌≡◌, ◌++◌, List, [], arith, sym, ap, subst, ◌∙◌, append_assoc}
+use Rattle.std.proofs.Common.{◌≡◌, ◌++◌, List, [], arith, sym, ap, subst, ◌∙◌, append_assoc}
 use Rattle.std.specs.List.{AllByRecursion}
 use Rattle.std.proofs.lemmas.List.Elements.{All-from_recursion, recursion_from_All}
 use Rattle.sqlite.specs.State.{HasCleanDisk}
@@ -12,6 +12,7 @@ use Rattle.dnp_store.proofs.Blocks.{parted, all_done}
 use Rattle.dnp_store.proofs.Stepping.{step_none, step_then}
 use Rattle.dnp_store.specs.declared.store_kind.StoreKind.TheVariants.{Journal}
 use Rattle.dnp_store.proofs.Refusing.{refused_after}
+use Rattle.dnp_store.proofs.Running.{err_too, step_too}
 use Rattle.dnp_store.proofs.journal_writing.insert_all.Goals as goal
 
 pub loop-block-init : goal.loop-block-init
@@ -67,10 +68,13 @@ returns-in_err-insert_block-clause-refused g c clean =
     let here = refused_after g.S.Store Journal c.args.tx.now.conn.now c.loop-block.tx.conn.now c.insert_block.new.tx.conn.now _
     c.loop-block.invariant.step.survives
     (c.in_err-insert_block.ensures.refused clean) in
-    search (rules, here)
+    err_too _ c.from_residual.result _ c.from_residual.ensures here
 
 pub returns-in_err-insert_block-clause-step : goal.returns-in_err-insert_block-clause-step
 returns-in_err-insert_block-clause-step g c =
     let here = step_then g.S.Store c.args.tx.now.conn c.loop-block.tx.conn c.insert_block.new.tx.conn _ _ c.loop-block.invariant.step
     c.in_err-insert_block.ensures.step in
-    record { same_reference = here.same_reference; inside = search rules; kept = here.kept; survives = here.survives }
+    step_too g.S.Store _ _ _ c.from_residual.result c.from_residual.ensures here
+
+pub returns-clause-step : goal.returns-clause-step
+returns-clause-step g c = c.loop-block.invariant.step

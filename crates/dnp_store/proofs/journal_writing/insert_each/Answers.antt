@@ -1,4 +1,4 @@
-use Rattle.std.proofs.Common.{take, arith, sym, ap, subst, ◌∙◌, rules}
+use Rattle.std.proofs.Common.{take, arith, sym, ap, subst, ◌∙◌}
 use Rattle.std.proofs.lemmas.List.{take_all, take_more}
 use Rattle.sqlite.specs.State.{HasCleanDisk}
 use Rattle.sqlite.specs.Held.{state}
@@ -8,6 +8,7 @@ use Rattle.dnp_store.proofs.JournalHolding.{with-append, with-none}
 use Rattle.dnp_store.proofs.Stepping.{step_then, step_none}
 use Rattle.dnp_store.specs.declared.store_kind.StoreKind.TheVariants.{Journal}
 use Rattle.dnp_store.proofs.Refusing.{refused_after}
+use Rattle.dnp_store.proofs.Running.{err_too, step_too}
 use Rattle.dnp_store.proofs.journal_writing.insert_each.Goals as goal
 
 pub loop-row-preserved : goal.loop-row-preserved
@@ -29,13 +30,13 @@ pub returns-in_err-insert-clause-refused : goal.returns-in_err-insert-clause-ref
 returns-in_err-insert-clause-refused g c clean =
     let here = refused_after g.S.Store Journal c.args.tx.now.conn.now c.loop-row.tx.conn.now c.insert.new.tx.conn.now _ c.loop-row.invariant.step.survives
     (c.in_err-insert.ensures.refused clean) in
-    search (rules, here)
+    err_too _ c.from_residual.result _ c.from_residual.ensures here
 
 pub returns-in_err-insert-clause-step : goal.returns-in_err-insert-clause-step
 returns-in_err-insert-clause-step g c =
     let here = step_then g.S.Store c.args.tx.now.conn c.loop-row.tx.conn c.insert.new.tx.conn _ _ c.loop-row.invariant.step
     c.in_err-insert.ensures.step in
-    record { same_reference = here.same_reference; inside = search rules; kept = here.kept; survives = here.survives }
+    step_too g.S.Store _ _ _ c.from_residual.result c.from_residual.ensures here
 
 pub loop-row-init : goal.loop-row-init
 loop-row-init g c =

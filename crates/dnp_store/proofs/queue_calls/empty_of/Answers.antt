@@ -20,7 +20,7 @@ written g c clean others stood =
     let new = state g.S.Store c.write_release.new.conn in
     let s = c.args.lanes.now in
     let side = c.args.side in
-    let did = c.in_default.ensures.ok clean others stood in
+    let did = c.in_default-write_release.ensures.ok clean others stood in
     let all = all_left_of c.a_release_is_lane_by_lane.ensures side others new.committed s nine_most c.requires.sound refl all_most
     (subst (λ b. IsPair new.committed (sides_of side (released s nine_most b) others)) c.has_overflow-lower.ensures did.holds) in
     record { is_open = did.is_open; holds = all }
@@ -76,8 +76,8 @@ returns-in-Err-clause-device g c clean told =
     let lost : c.is_lost-lost.result ≡ true = lost_if c.is_lost-lost.result c.fault.result c.fault.ensures told in
     record { between = c.write_release.new.conn; error = _; refused = c.in-Err.ensures.refused early; lost = c.is_lost-lost.ensures.lost clean lost }
 
-pub returns-in_err-taken-clause-either : goal.returns-in_err-taken-clause-either
-returns-in_err-taken-clause-either g c clean others stood =
+pub returns-in_default-clause-either : goal.returns-in_default-clause-either
+returns-in_default-clause-either g c clean others stood =
     leaves_before (state g.S.Store c.args.conn.now) _ _ (g.met.S.Store.settled c.args.conn.now.store) stood
 
 pub returns-in-Err-clause-clean : goal.returns-in-Err-clause-clean

@@ -38,8 +38,8 @@ returns-in-Err-clause-device g c clean told =
     let lost : c.is_lost-lost.result ≡ true = lost_if c.is_lost-lost.result c.fault.result c.fault.ensures told in
     record { between = c.write_release.new.conn; error = _; refused = c.in-Err.ensures.refused early; lost = c.is_lost-lost.ensures.lost clean lost }
 
-pub returns-in_err-taken-clause-either : goal.returns-in_err-taken-clause-either
-returns-in_err-taken-clause-either g c clean others stood =
+pub returns-in_default-clause-either : goal.returns-in_default-clause-either
+returns-in_default-clause-either g c clean others stood =
     leaves_before (state g.S.Store c.args.conn.now) _ _ (g.met.S.Store.settled c.args.conn.now.store) stood
 
 -- what was written holds the other rows
@@ -48,7 +48,7 @@ written : (g : _) (c : goal.After-cut g) → HasCleanDisk (state g.S.Store c.wri
     → Stands (state g.S.Store c.write_release.new.conn) (sides_of c.args.side (without c.args.lanes.now c.args.upto.now) others)
 written g c clean others stood =
     subst (λ (t : Stock). Stands (state g.S.Store c.write_release.new.conn) (sides_of c.args.side t others)) c.lowers-lower.ensures
-    (c.in_default.ensures.ok clean others stood)
+    (c.in_default-write_release.ensures.ok clean others stood)
 
 pub returns-clause-stands : goal.returns-clause-stands
 returns-clause-stands g c clean others stood other =

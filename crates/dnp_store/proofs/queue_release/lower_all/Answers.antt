@@ -50,3 +50,9 @@ returns-in_err-note-clause-step g c =
 
 pub loop-number-init : goal.loop-number-init
 loop-number-init g c = record { step = step_none g.S.Store c.args.tx.now.conn c.requires.inside; lowered = λ clean others s figures nine same held. (figures, held, λ k low. absurd (omega arith)) }
+
+pub returns-clause-step : goal.returns-clause-step
+returns-clause-step g c = c.loop-number.invariant.step
+
+pub note-requires-clause-inside : goal.note-requires-clause-inside
+note-requires-clause-inside g c = c.loop-number.invariant.step.inside

@@ -1,7 +1,9 @@
-use Rattle.std.proofs.Common.{rules, ◌≡◌, ◌<◌, min, length, get_or, arith, sym, subst, add-one, refl}
+use Rattle.std.proofs.Common.{rules, ◌≡◌, ◌<◌, ◌≤◌, ◌++◌, ℕ, List, min, length, get_or, arith, sym, ap, ap₂, subst, ◌∙◌, add-one, refl}
+use Rattle.std.proofs.lemmas.List.{append-nil, drop_all, take_all}
 use Rattle.sqlite.specs.State.{HasCleanDisk}
 use Rattle.sqlite.specs.Held.{state}
 use Rattle.dnp_objects.specs.declared.limits.TheConstants.{LANES, MAX_ID}
+use Rattle.dnp_eventbuf.specs.Stock.{LaneState, Stock}
 use Rattle.dnp_store.specs.steps.Pairs.{HoldsFor}
 use Rattle.dnp_store.specs.steps.Steps.{left, mixed}
 use Rattle.dnp_store.proofs.Releasing.{cut_step, nine_left}
@@ -50,3 +52,26 @@ returns-in_err-take_some-clause-step g c =
 
 pub loop-number-init : goal.loop-number-init
 loop-number-init g c = record { step = step_none g.S.Store c.args.tx.now.conn c.requires.inside; taken = λ clean others figures held. held }
+
+pub returns-clause-step : goal.returns-clause-step
+returns-clause-step g c = c.loop-number.invariant.step
+
+pub take_some-requires-clause-inside : goal.take_some-requires-clause-inside
+take_some-requires-clause-inside g c = c.loop-number.invariant.step.inside
+
+-- all lanes are those without the rows
+all_mixed : (number : ℕ) (s : Stock) (upto : List ℕ) → LANES ≤ number → length s.lanes ≡ LANES → mixed number s (left s upto) ≡ left s upto
+all_mixed number s upto all nine =
+    let nine_b = nine_left s upto nine in
+    let ours = take_all number (left s upto).lanes (omega (arith, all, nine_b)) in
+    let theirs = drop_all number s.lanes (omega (arith, all, nine)) in
+    ap (λ (ls : List LaneState). record { lanes = ls; overflow = s.overflow; last_id = s.last_id })
+    (ap₂ (λ (xs ys : List LaneState). xs ++ ys) ours theirs ∙ append-nil (left s upto).lanes)
+
+pub returns-clause-taken : goal.returns-clause-taken
+returns-clause-taken g c clean others figures held =
+    let now = state g.S.Store c.loop-number.tx.conn.now in
+    let s = c.args.lanes.now in
+    let nine = c.requires.sound.nine in
+    subst (λ t. HoldsFor c.args.side others now.now t figures) (all_mixed c.loop-number.number s c.args.upto.now (omega (arith, nine)) nine)
+    (c.loop-number.invariant.taken clean others figures held)

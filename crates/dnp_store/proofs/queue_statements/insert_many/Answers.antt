@@ -1,9 +1,9 @@
-use Rattle.std.proofs.Common.{Ok, length-set, map, ap, sym, subst, ◌∙◌, arith, rules, subst₂}
+use Rattle.std.proofs.Common.{Ok, length-set, map, ap, sym, subst, ◌∙◌, arith, subst₂}
 use Rattle.std.proofs.lemmas.List.{take_all}
 use Rattle.std.proofs.lemmas.List.Elements.{recursion_from_All}
 use Rattle.sqlite.specs.Values.{bound}
 use Rattle.sqlite.specs.Held.{state}
-use Rattle.sqlite.specs.State.{HasCleanDisk, Executes}
+use Rattle.sqlite.specs.State.{Executes}
 use Rattle.dnp_eventbuf.specs.Carried.{IsCarried}
 use Rattle.dnp_store.specs.steps.Steps.{cells_of}
 use Rattle.dnp_store.proofs.QueueStatements.{insert_params}
@@ -12,7 +12,8 @@ use Rattle.dnp_store.proofs.Sixteen.{given_all, given_more}
 use Rattle.dnp_store.proofs.QueueMany.{holds_16}
 use Rattle.dnp_store.specs.declared.store_kind.StoreKind.TheVariants.{Queue}
 use Rattle.dnp_store.specs.Texts.{IsOwn}
-use Rattle.dnp_store.proofs.Refusing.{by_statement, own_insert_16}
+use Rattle.dnp_store.proofs.Refusing.{own_insert_16}
+use Rattle.dnp_store.proofs.Running.{statement_refused, ran_then}
 use Rattle.dnp_store.proofs.queue_statements.insert_many.Goals as goal
 
 pub loop-number-preserved : goal.loop-number-preserved
@@ -29,10 +30,9 @@ loop-number-preserved g c =
     }
 
 pub returns-clause-added : goal.returns-clause-added
-returns-clause-added g c clean others s figures nine holds =
+returns-clause-added g c clean =
     let old = state g.S.Store c.args.tx.now.conn.now in
-    let new = state g.S.Store c.execute.new.self.conn.now in
-    let early : HasCleanDisk old = omega (arith, c.execute.ensures.survives.clean) in
+    let new = state g.S.Store c.run.new.tx.conn.now in
     let xs = c.args.rows.now in
     let n = c.loop-number.number in
     let all = c.loop-number.invariant in
@@ -40,14 +40,14 @@ returns-clause-added g c clean others s figures nine holds =
     let rows = take_all n xs (omega (arith, c.requires.sixteen)) in
     let given = given_all (queued_for 0) xs c.loop-number.given
     (ap (map bound) (sym cells) ∙ all.given ∙ ap (map (λ x. insert_params (queued_for 0 x))) rows) in
-    let ran = c.in_ok-execute.ensures.runs clean (c.requires.inside early) in
-    holds_16 c.args.side old new others s figures xs c.in_ok-execute.field-0 nine c.requires.sixteen (recursion_from_All IsCarried xs c.requires.carried)
-    (subst₂ (λ sql ps. Executes sql ps old new (Ok c.in_ok-execute.field-0)) c.insert_16_text.ensures (ap bound c.as_flattened.ensures.value ∙ given) ran.0) holds
+    ran_then old new _ _ _ c.run.result (c.run.ensures.ran clean) (λ count ran others s figures nine holds.
+    holds_16 c.args.side old new others s figures xs count nine c.requires.sixteen (recursion_from_All IsCarried xs c.requires.carried)
+    (subst₂ (λ sql ps. Executes sql ps old new (Ok count)) c.insert_16_text.ensures (ap bound c.as_flattened.ensures.value ∙ given) ran) holds)
 
-pub returns-in_err-execute-clause-refused : goal.returns-in_err-execute-clause-refused
-returns-in_err-execute-clause-refused g c clean =
-    let early : HasCleanDisk (state g.S.Store c.args.tx.now.conn.now) = omega (arith, clean, c.execute.ensures.survives.clean) in
-    let here = by_statement g.S.Store Queue c.args.tx.now.conn.now c.execute.new.self.conn.now _ _ _
-    (subst (IsOwn Queue) (sym c.insert_16_text.ensures) (own_insert_16 c.args.side)) (c.requires.inside early)
-    (c.in_err-execute.ensures.runs clean (c.requires.inside early)) in
-    search (rules, here)
+pub returns-clause-refused : goal.returns-clause-refused
+returns-clause-refused g c clean =
+    let own = subst (IsOwn Queue) (sym c.insert_16_text.ensures) (own_insert_16 c.args.side) in
+    statement_refused g.S.Store Queue c.args.tx.now.conn.now c.run.new.tx.conn.now _ _ c.run.result own (c.run.ensures.refused clean)
+
+pub returns-clause-step : goal.returns-clause-step
+returns-clause-step g c = c.run.ensures.step

@@ -75,3 +75,6 @@ returns-in_err-insert_block-clause-step g c =
     let here = step_then g.S.Store c.args.tx.now.conn c.loop-block.tx.conn c.insert_block.new.tx.conn _ _ c.loop-block.invariant.step
     c.in_err-insert_block.ensures.step in
     step_too g.S.Store _ _ _ c.from_residual.result c.from_residual.ensures here
+
+pub returns-clause-step : goal.returns-clause-step
+returns-clause-step g c = c.loop-block.invariant.step

@@ -1,5 +1,5 @@
 use Rattle.std.proofs.Common.{rules, ◌≡◌, ◌+◌, ◌++◌, [], ◌∷◌, take, arith, sym, ap, subst, ◌∙◌}
-use Rattle.std.proofs.lemmas.List.{take_more}
+use Rattle.std.proofs.lemmas.List.{take_all, take_more}
 use Rattle.sqlite.specs.State.{HasCleanDisk}
 use Rattle.sqlite.specs.Held.{state}
 use Rattle.dnp_store.specs.steps.Pairs.{HoldsFor}
@@ -40,3 +40,15 @@ returns-in_err-insert-clause-step g c =
 
 pub loop-x-init : goal.loop-x-init
 loop-x-init g c = record { step = step_none g.S.Store c.args.tx.now.conn c.requires.inside; added = λ clean others s figures nine held. held }
+
+pub insert-requires-clause-inside : goal.insert-requires-clause-inside
+insert-requires-clause-inside g c = c.loop-x.invariant.step.inside
+
+pub returns-clause-added : goal.returns-clause-added
+returns-clause-added g c clean others s figures nine held =
+    let now = state g.S.Store c.loop-x.tx.conn.now in
+    let all = take_all c.loop-x.x-index c.args.rows.now (omega arith) in
+    subst (λ xs. HoldsFor c.args.side others now.now (all_added s xs) figures) all (c.loop-x.invariant.added clean others s figures nine held)
+
+pub returns-clause-step : goal.returns-clause-step
+returns-clause-step g c = c.loop-x.invariant.step

@@ -28,3 +28,9 @@ returns-in_err-trim-clause-step g c =
 
 pub loop-number-init : goal.loop-number-init
 loop-number-init g c = record { step = step_none g.S.Store c.args.tx.now.conn c.requires.inside; trimmed = λ clean others raised h. h }
+
+pub returns-clause-step : goal.returns-clause-step
+returns-clause-step g c = c.loop-number.invariant.step
+
+pub trim-requires-clause-inside : goal.trim-requires-clause-inside
+trim-requires-clause-inside g c = c.loop-number.invariant.step.inside

@@ -31,3 +31,9 @@ returns-clause-step g c =
     let here = (step_then g.S.Store c.args.tx.now.conn c.make_tables.new.tx.conn c.keep_probe.new.tx.conn _ _ c.make_tables.ensures.step
     c.in_ok-keep_probe.ensures.step) in
     record { same_reference = here.same_reference; inside = here.inside; kept = here.kept; survives = here.survives }
+
+pub returns-in_err-make_tables-clause-refused : goal.returns-in_err-make_tables-clause-refused
+returns-in_err-make_tables-clause-refused g c clean = err_too _ c.from_residual.result _ c.from_residual.ensures (c.in_err-make_tables.ensures.refused clean)
+
+pub returns-in_err-make_tables-clause-step : goal.returns-in_err-make_tables-clause-step
+returns-in_err-make_tables-clause-step g c = step_too g.S.Store _ _ _ c.from_residual.result c.from_residual.ensures c.in_err-make_tables.ensures.step

@@ -37,3 +37,6 @@ returns-clause-step g c =
     (step_then g.S.Store c.args.tx.now.conn c.make_form.new.tx.conn c.put_number.new.tx.conn _ _ c.make_form.ensures.step
     (step_then g.S.Store c.make_form.new.tx.conn c.make_rows.new.tx.conn c.put_number.new.tx.conn _ _ c.make_rows.ensures.step
     c.put_number.ensures.step))
+
+pub returns-in_err-make_form-clause-step : goal.returns-in_err-make_form-clause-step
+returns-in_err-make_form-clause-step g c = step_too g.S.Store _ _ _ c.from_residual.result c.from_residual.ensures c.in_err-make_form.ensures.step

@@ -1,9 +1,10 @@
-use Rattle.std.proofs.Common.{rules, arith, sym, ap, subst, ◌∙◌}
+use Rattle.std.proofs.Common.{arith, sym, ap, subst, ◌∙◌}
 use Rattle.sqlite.specs.State.{HasCleanDisk}
 use Rattle.sqlite.specs.Held.{state}
 use Rattle.sqlite.specs.Effect.{Database, IsDatabase}
 use Rattle.dnp_store.specs.Tables.{IsCounted}
 use Rattle.dnp_store.proofs.Stepping.{step_then, step_as}
+use Rattle.dnp_store.proofs.Running.{step_too}
 use Rattle.dnp_store.proofs.stores.read_begun.Goals as goal
 
 pub returns-clause-read : goal.returns-clause-read
@@ -18,7 +19,7 @@ pub returns-in_err-read_counts-clause-step : goal.returns-in_err-read_counts-cla
 returns-in_err-read_counts-clause-step g c =
     let here = step_then g.S.Store c.args.tx.now.conn c.read_form.new.tx.conn c.read_counts.new.tx.conn _ _ c.in_ok-read_form.ensures.step
     c.in_err-read_counts.ensures.step in
-    record { same_reference = here.same_reference; inside = search rules; kept = here.kept; survives = here.survives }
+    step_too g.S.Store _ _ _ c.from_residual-in_err-read_counts.result c.from_residual-in_err-read_counts.ensures here
 
 pub returns-clause-step : goal.returns-clause-step
 returns-clause-step g c =

@@ -7,12 +7,12 @@ use Rattle.dnp_streams.proofs.stream.asking.go_to.Goals as goal
 
 pub returns-in-Ok-clause-goes : goal.returns-in-Ok-clause-goes
 returns-in-Ok-clause-goes g c honest goes_on =
-    let request = c.in-Ok.request in
+    let request = c.ask_into.new.request in
     let frames = sent_frames c.args.port.now (sendable request.items) in
     record {
       sent = frames;
       sends =
-          Asked c.in-Some.task.now c.in-Some.left.now c.in-Some.ensures.cases.0 request.items (g.S.Station.state c.ask.new.self)
+          Asked c.in-Some.task.now c.in-Some.left.now c.in-Some.ensures.cases.0 request.items (g.S.Station.state c.ask_into.new.self)
           (c.in-Ok.ensures.asked honest) refl
           (dialogue_is _ _ _ _ _ _ _ _ _ _ _ _ _ _ _ _ refl c.put_request.ensures.moved refl refl refl refl refl refl);
       spelled = put_alone frames c.put_request.new.out.items c.put_request.ensures.put;

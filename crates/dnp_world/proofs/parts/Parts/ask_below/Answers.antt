@@ -9,24 +9,20 @@ use Rattle.dnp_world.specs.SystemEvents.{request_of, with_link}
 use Rattle.dnp_world.specs.SystemParts.{substation_of}
 use Rattle.dnp_concentrator.specs.Below.{link_in}
 use Rattle.dnp_world.specs.Wholes.{WholeConcentrator, seen_by}
-use Rattle.dnp_world.proofs.OneLinkRuns.{any_err}
 use Rattle.dnp_world.proofs.SystemPlaces.{concentrator_with, down_from, is_there, sends_at, unchanged_at, viewed}
 use Rattle.dnp_world.proofs.parts.Parts.ask_below.Goals as goal
 
-pub returns-in_err-reserve_down-clause-stopped : goal.returns-in_err-reserve_down-clause-stopped
-returns-in_err-reserve_down-clause-stopped g c = λ well.
-    let old = (viewed c.self.view_is).system in
+pub returns-in_default-clause-stopped : goal.returns-in_default-clause-stopped
+returns-in_default-clause-stopped g c = λ well.
     let was = c.index_mut.result.now in
     rw (← c.self.view_is)
-    (any_err c.from_residual.result _
-    (unchanged_at old c.self.inside.substations.items c.args.station c.from.result was (record was { channel = c.reserve_down.new.self }) refl
+    (unchanged_at _ c.self.inside.substations.items c.args.station c.from.result was (record was { channel = c.reserve_down.new.self }) refl
     c.from.ensures (rw (← c.self.view_is) at c.requires) c.index_mut.ensures.value
-    (ap (λ (k : ChannelState). record (substation_of was) { channel = k }) c.reserve_down.ensures.same)))
+    (ap (λ (k : ChannelState). record (substation_of was) { channel = k }) c.reserve_down.ensures.same))
 
 pub returns-clause-done : goal.returns-clause-done
 returns-clause-done g c = λ well.
-    let stock = g.Q.PairLanes.contents in
-    let ledger = g.A.Book.contents in
+    let ask = c.ask_below_into-asked.ensures in
     let old = (viewed c.self.view_is).system in
     let station = c.args.station in
     let xs = c.self.inside.substations.items in
@@ -34,12 +30,11 @@ returns-clause-done g c = λ well.
     let link = link_in old.concentrator.links station in
     let answer = ask_answer link.master c.args.task in
     let asked = asking link old.now c.args.task in
-    let middle = concentrator_with stock ledger c.self.inside.concentrator c.ask_below_into-asked.new.self old.concentrator.cores _
-    (c.ask_below_into-asked.ensures.cores 0 (omega arith)) (c.ask_below_into-asked.ensures.cores 1 (omega arith)) c.ask_below_into-asked.ensures.link
-    c.ask_below_into-asked.ensures.stores in
+    let middle = concentrator_with g.Q.PairLanes.contents g.A.Book.contents c.self.inside.concentrator c.ask_below_into-asked.new.self
+    old.concentrator.cores _ (ask.cores 0 (omega arith)) (ask.cores 1 (omega arith)) ask.link ask.stores in
     rw (← c.self.view_is)
     (λ (centre : ℕ) (low : centre < CENTRES). sends_at station c.from.result (request_of answer) (with_link (seen_by centre old) station asked) _ xs was
     c.send_asked.new.channel refl (ap (λ (m : WholeConcentrator). (seen_by centre (record old { concentrator = m })).concentrator) middle) c.from.ensures
     (rw c.from.ensures (is_there (seen_by 0 old) xs station refl (rw (← c.self.view_is) at c.requires))) c.index_mut.ensures.value
     (down_from (request_of answer) (state_of was.channel) (state_of c.reserve_down.new.self) (state_of c.send_asked.new.channel) c.reserve_down.ensures.same
-    (c.send_asked.ensures answer (request_for link.master.seq c.args.task) c.ask_below_into-asked.ensures.answer c.ask_below_into-asked.ensures.reads)))
+    (c.send_asked.ensures answer (request_for link.master.seq c.args.task) ask.answer ask.reads)))

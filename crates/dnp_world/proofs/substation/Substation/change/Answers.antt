@@ -14,7 +14,7 @@ put_all-requires c =
     let few = few_made _ (station_of old) c.args.now c.args.kind c.args.index c.args.reading
     (answer_of old.core.points c.args.kind c.args.index c.args.reading) c.change_into.result _ _ (actions_of c.change_into.new.actions)
     (rw c.points.ensures.value at c.change_into.ensures.refused) c.in_ok-change_into.was (rw c.points.ensures.value at (c.in_ok-change_into.ensures.changed tt)) in
-    omega (arith, few, c.in_ok-reserve_for_reading.ensures.places, ap (λ (rows : List Row). length rows) c.as_slice.ensures)
+    omega (arith, few, c.in-Ok.ensures.places, ap (λ (rows : List Row). length rows) c.as_slice.ensures)
 
 pub returns-clause-listed : goal.returns-clause-listed
 returns-clause-listed c =

@@ -1,7 +1,0 @@
-use Rattle.dnp_concentrator.specs.Centre.{link_of}
-use Rattle.dnp_concentrator.specs.Relayed.{asks_book}
-use Rattle.dnp_streams.proofs.streams.Refused.{refused_relay}
-use Rattle.dnp_streams.proofs.stream.centre.CentreAsker.relay.Goals as goal
-
-pub returns-clause-refused : goal.returns-clause-refused
-returns-clause-refused g c honest = refused_relay (asks_book (link_of c.args.self.now)) c.relay.result c.relay.ensures.unasked c.relay.ensures.named

@@ -1,0 +1,5 @@
+-- Definitions, by which contracts promise.
+pub mod Causes
+pub mod Doors
+pub mod Replays
+pub mod steps

@@ -1,0 +1,2 @@
+-- Private steps: words of clauses that no caller sees.
+pub mod Rounds
