@@ -1,4 +1,4 @@
-//! Plans of points.
+//! What is no plan, and plans of points.
 
 use dnp_objects::Kind;
 use dnp_pointdb::{Block, PlanFault, Point, PointDb, PointPlan, Points};
@@ -45,6 +45,46 @@ pub(crate) fn plan_of(
         })?;
     }
     Ok(PointPlan::new(binary, counter, analog))
+}
+
+#[test]
+fn what_is_no_plan(rt: HostRuntime) -> Result<(), Fail> {
+    use Kind::{Analog, Binary, Counter};
+    use PlanFault::{Class, Overlap, TooMany, TooWide};
+
+    // Two blocks, each by kind, first index, points, class and deadband, and what is wrong with
+    // them.
+    #[rattlefmt::skip]
+    let cases = [
+        ((Analog, 0, 6, 1, 0), (Analog, 5, 6, 1, 0), Some(Overlap)),
+        ((Analog, 5, 6, 1, 0), (Analog, 0, 6, 1, 0), Some(Overlap)),
+        ((Analog, 6, 6, 1, 0), (Analog, 0, 6, 1, 0), None),
+        ((Analog, 0, 6, 1, 0), (Analog, 3, 0, 1, 0), None),
+        ((Analog, 65_535, 2, 1, 0), (Analog, 0, 0, 1, 0), Some(TooWide)),
+        ((Analog, 65_535, 1, 1, 0), (Analog, 0, 0, 1, 0), None),
+        ((Analog, 0, 1_025, 1, 0), (Analog, 0, 1, 1, 0), Some(TooMany)),
+        ((Analog, 0, 1_024, 1, 0), (Analog, 1_024, 1, 1, 0), None),
+        // A wrong class is found before anything else.
+        ((Analog, 65_535, 2, 1, 0), (Analog, 0, 1, 4, 0), Some(Class)),
+        // Blocks of different kinds may share indices, and only an analog may have a deadband.
+        ((Binary, 0, 6, 1, 0), (Counter, 5, 6, 1, 0), None),
+        ((Counter, 5, 6, 1, 0), (Analog, 3, 6, 2, 10), None),
+        ((Binary, 0, 6, 1, 0), (Counter, 3, 6, 2, 10), Some(Class)),
+    ];
+    for (first, second, fault) in cases {
+        let blocks = [first, second].map(|(kind, base, count, class, deadband)| Alike {
+            kind,
+            base,
+            count,
+            class,
+            deadband,
+        });
+        assert!(rt;
+            plan_of(rt.alloc(), &blocks)?.err() == fault,
+            "{first:?} {second:?}"
+        );
+    }
+    Ok(())
 }
 
 /// Sixteen blocks of 1,024 points of each kind, the last index first.

@@ -136,6 +136,26 @@ fn requests(rt: HostRuntime) {
     }
 }
 
+/// A READ of 2,048 octets has 682 headers.
+#[test]
+fn the_longest_read(rt: HostRuntime) {
+    let mut octets = [0x06; 2_048];
+    octets[0] = 0xC0;
+    octets[1] = 0x01;
+    for k in 0..682 {
+        octets[2 + 3 * k] = 0x3C;
+        octets[3 + 3 * k] = 0x01;
+    }
+    let Ok(mut request) = read_request(&octets) else {
+        assert!(rt; false);
+        return;
+    };
+    for _ in 0..682 {
+        assert!(rt; request.headers.next() == Some(header!(60, 1, Range::All, &[])));
+    }
+    assert!(rt; request.headers.next().is_none());
+}
+
 macro_rules! row {
     ($kind:ident, $index:literal, $flags:literal, $value:literal, $time:expr) => {
         Row { kind: Kind::$kind, index: $index, flags: $flags, value: $value, time: $time }
