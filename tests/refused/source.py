@@ -178,7 +178,9 @@ class Crate:
         cut = next((place for place, it in enumerate(head) if it.text == "for"), None)
         if cut is None:
             own, arguments = last_name(head)
-            arguments = [it for it in arguments if it not in parameters]
+            # (they are where another argument stands beside them)
+            if all(it in parameters for it in arguments):
+                arguments = []
             home = here if arguments else self.home(own, here)
             return lambda name: home + ["+".join([own, *arguments]), name]
         trait, arguments = last_name(head[:cut])

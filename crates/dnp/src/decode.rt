@@ -1,11 +1,12 @@
 //! `dnp decode`: octets as lines for people.
 
+use crate::inputs::octets_of;
 use crate::options::{HINT, flag, subcommand, valued};
 use clap::{ArgMatches, Command};
 use dnp_captures::{CaptureFault, Item, Printer, items_of_capture, items_of_text, place_octets};
-use dnp_tcp::{Noted, exit, lost, unwritten};
+use dnp_tcp::{Noted, exit, unwritten};
 use std::alloc::{AllocError, Global};
-use std::io::{BufWriter, Read, Write};
+use std::io::{BufWriter, Write};
 use std::process::ExitCode;
 use std::rt::Files;
 use std::{fs, io};
@@ -125,11 +126,11 @@ pub(crate) fn run<R: AllocGlobal + Input + Print + Eprint + Files>(
             );
             Ok(ExitCode::from(exit::USAGE))
         }
-        Some(path) => match octets_of(rt, path, fs::open(rt, path)) {
+        Some(path) => match octets_of(rt, path, fs::open(rt, path), MAX_INPUT) {
             Ok(octets) => decode_capture(rt, path, octets.as_slice(), json),
             Err(status) => Ok(status),
         },
-        None => match octets_of(rt, "standard input", Ok(rt.reader())) {
+        None => match octets_of(rt, "standard input", Ok(rt.reader()), MAX_INPUT) {
             Ok(octets) => decode_octets(rt, octets.as_slice(), raw, json),
             Err(status) => Ok(status),
         },
@@ -149,27 +150,6 @@ fn decode_octets<R: AllocGlobal + Print + Eprint>(
         items_of_text(rt.alloc(), octets)?
     };
     print_items(rt, items.as_slice(), json)
-}
-
-/// The octets of an input. Where it can't be read, why is said on standard error, and the exit status is told.
-fn octets_of<R: AllocGlobal + Eprint, S: Read + Drop>(
-    rt: &R,
-    name: &str,
-    input: io::Result<S>,
-) -> Result<Vec<u8>, ExitCode> {
-    let mut octets = Vec::new(rt.alloc());
-    let read = match input {
-        Ok(input) => input.take(MAX_INPUT + 1).read_to_end(&mut octets),
-        Err(cause) => Err(cause),
-    };
-    match read {
-        Ok(_) if octets.len() as u64 > MAX_INPUT => {
-            let _ = eprintln!(rt; "dnp: {name}: over {MAX_INPUT} octets");
-            Err(ExitCode::from(exit::FAULT))
-        }
-        Ok(_) => Ok(octets),
-        Err(cause) => Err(lost(rt, name, &cause)),
-    }
 }
 
 /// Prints what a capture carries, or why it is refused, and tells the exit status.

@@ -8,6 +8,7 @@ mod answer;
 mod centre;
 mod concentrate;
 mod decode;
+mod inputs;
 mod looks;
 mod loopback;
 mod numbers;

@@ -3,10 +3,10 @@
 ghost use Rattle.std.specs.Prelude.{IfOk};
 ghost use Rattle.dnp_concentrator.specs.Plan.{KeepsLimits};
 
+use crate::inputs::octets_of;
 use dnp_concentrator::Plan;
 use dnp_daemons::{PlanTextFault, plan_fault, read_plan};
-use dnp_tcp::{exit, lost, unwritten};
-use std::io::Read;
+use dnp_tcp::{exit, unwritten};
 use std::process::ExitCode;
 use std::rt::Files;
 use std::{fs, str};
@@ -19,19 +19,7 @@ pub(crate) fn plan_text<R: AllocGlobal + Eprint + Files>(
     rt: &R,
     path: &str,
 ) -> Result<Vec<u8>, ExitCode> {
-    let mut text = Vec::new(rt.alloc());
-    let read = match fs::open(rt, path) {
-        Ok(file) => file.take(MAX_PLAN + 1).read_to_end(&mut text),
-        Err(cause) => Err(cause),
-    };
-    match read {
-        Ok(_) if text.len() as u64 > MAX_PLAN => {
-            let _ = eprintln!(rt; "dnp: {path}: over {MAX_PLAN} octets");
-            Err(ExitCode::from(exit::FAULT))
-        }
-        Ok(_) => Ok(text),
-        Err(cause) => Err(lost(rt, path, &cause)),
-    }
+    octets_of(rt, path, fs::open(rt, path), MAX_PLAN)
 }
 
 /// The plan in its file. Where it can't be read or is refused, that is said, and the exit status is told.

@@ -2,12 +2,12 @@
 
 ghost use Rattle.std.specs.Prelude.{◌<◌, IfOk, IfSome};
 
+use crate::inputs::octets_of;
 use dnp_daemons::{Change, number_in, octet_of};
 use dnp_objects::{Kind, MAX_TIME};
 use dnp_pointdb::Reading;
-use dnp_tcp::{Both, Replay, exit, lost, unwritten};
+use dnp_tcp::{Both, Replay, exit, unwritten};
 use std::alloc::AllocError;
-use std::io::Read;
 use std::process::ExitCode;
 use std::rt::{Clock, Files};
 use std::{fs, str};
@@ -151,19 +151,7 @@ fn change_in(line: &str, before: u64, start: Both) -> Result<Change, Reason> {
 
 /// The text of a replay. Where it can't be read, why is said on standard error, and the exit status is told.
 fn replay_text<R: AllocGlobal + Eprint + Files>(rt: &R, path: &str) -> Result<Vec<u8>, ExitCode> {
-    let mut text = Vec::new(rt.alloc());
-    let read = match fs::open(rt, path) {
-        Ok(file) => file.take(MAX_REPLAY + 1).read_to_end(&mut text),
-        Err(cause) => Err(cause),
-    };
-    match read {
-        Ok(_) if text.len() as u64 > MAX_REPLAY => {
-            let _ = eprintln!(rt; "dnp: {path}: over {MAX_REPLAY} octets");
-            Err(ExitCode::from(exit::FAULT))
-        }
-        Ok(_) => Ok(text),
-        Err(cause) => Err(lost(rt, path, &cause)),
-    }
+    octets_of(rt, path, fs::open(rt, path), MAX_REPLAY)
 }
 
 /// Prints that a line is refused, says on standard error why, and gives the exit status.

@@ -1,5 +1,5 @@
 -- The rows of headers as lists: by their numbers, and how many a response has of events.
-use Rattle.std.proofs.Common.{◌≡◌, refl, sym, ◌∙◌, ap, subst, ℕ, zero, suc, ◌+◌, ◌*◌, ◌<◌, ◌≤◌, Bool, true, false, cond, ◌&&◌, nat_le, List, [], ◌∷◌, ◌++◌, length, get_or, arith, Option, Some, None, IsTrue, ◌==◌, ◌||◌, inl, inr, eqb-true, length-append, Result, Ok, Err}
+use Rattle.std.proofs.Common.{◌≡◌, refl, sym, ◌∙◌, ap, subst, ℕ, zero, suc, ◌+◌, ◌-◌, ◌*◌, ◌<◌, ◌≤◌, Bool, true, false, cond, ◌&&◌, nat_le, List, [], ◌∷◌, ◌++◌, length, get_or, arith, Option, Some, None, IsTrue, ◌==◌, ◌||◌, inl, inr, eqb-true, length-append, Result, Ok, Err}
 use Rattle.std.specs.Prelude.{option_to_list, is_some}
 use Rattle.std.specs.List.{All, flat_map, list_all, range_with_len, slice_get}
 use Rattle.std.specs.Option.{option_map_or, IsSomeAnd}
@@ -12,13 +12,16 @@ use Rattle.dnp_objects.specs.declared.row.Row.{Row}
 use Rattle.dnp_appfragment.specs.declared.fault.AppFault.{AppFault}
 use Rattle.dnp_appfragment.specs.declared.table.Form.{Form}
 use Rattle.dnp_appfragment.specs.declared.table.Form.TheVariants as form
-use Rattle.dnp_appfragment.specs.EventRows.{header_rows, is_event_group, is_event_header, event_rows, events_in}
-use Rattle.dnp_appfragment.specs.Headers.{Head, AreHeaders, IsHeader, IsTimed, is_relative, Context, context_after, count_of, header_octets, octets_of, prefix_size, qualifier_of, range_octets, spelled}
+use Rattle.dnp_appfragment.specs.EventRows.{header_rows, is_event_group, is_event_header, event_rows, events_in, answered_events}
+use Rattle.dnp_appfragment.specs.Faults.{IsResponseFault}
+use Rattle.dnp_appfragment.specs.Fragments.{Answered, IsResponse}
+use Rattle.dnp_appfragment.specs.Headers.{Head, AreHeaders, IsHeader, IsTimed, is_relative, Context, begin, context_after, count_of, header_octets, octets_of, prefix_size, qualifier_of, range_octets, spelled}
 use Rattle.dnp_appfragment.specs.Left.{is_whole, headers_left}
 use Rattle.dnp_appfragment.specs.Meaning.{row_in}
 use Rattle.dnp_appfragment.specs.Objects.{HasRows}
 use Rattle.dnp_appfragment.specs.Reading.{headers_from}
 use Rattle.dnp_appfragment.specs.Table.{Rule, allows, form_eq, rules, takes_of}
+use Rattle.dnp_appfragment.proofs.Answering.{Meets}
 use Rattle.dnp_appfragment.proofs.Divisions.{ReadsHeaders, headers_read_from}
 use Rattle.dnp_appfragment.proofs.Numbers.{AreOctets}
 use Rattle.dnp_appfragment.proofs.TableLines.{line_of}
@@ -199,3 +202,15 @@ whole_few f context given octets are whole each =
     go : (r : Result (List Head) AppFault) → ReadsHeaders f context octets r → is_ok r ≡ true → octets ≡ spelled (result_unwrap_or r [])
     go (Ok hs) reads is = reads.whole
     go (Err e) reads is = cc
+
+-- nor has a response than stand after its first four
+pub answered_few : (octets : List ℕ) (r : Result Answered AppFault) → Meets r (IsResponse octets) (IsResponseFault octets)
+    → length (answered_events r) ≤ length octets - 4
+answered_few octets (Ok answered) is =
+    omega (
+      arith,
+      few_events begin answered.headers is.headers.each,
+      ap (λ (bs : List ℕ). length bs) is.headers.whole,
+      ap (λ (bs : List ℕ). length bs) is.whole,
+    )
+answered_few octets (Err e) is = omega arith

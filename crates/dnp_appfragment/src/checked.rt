@@ -55,7 +55,7 @@ fn checked_range(qualifier: u8, octets: &[u8]) -> (Range, &[u8])
 }
 
 /// The header at the front, with its objects, and the octets after them.
-#[inline]
+#[inline(always)]
 #[tactic(auto, unfolding(crate::specs::Reading::header_at))]
 pub(crate) fn checked_header(form: Form, common: Option<u64>, octets: &[u8]) -> (Header<'_>, &[u8])
     requires { IsTrue (is_ok (spec.header_at form common octets.now)) }

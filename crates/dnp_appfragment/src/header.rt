@@ -124,6 +124,7 @@ impl<'a> Header<'a> {
     /// The rows of the header, in order: as the k-th item it gives what `row(k)` gives, and it ends
     /// before the first k where that gives none. To go through all of them is quicker so. Each can be
     /// reported as an event.
+    #[inline(always)]
     pub fn rows(&self) -> RowWalk<'a>
         ensures items { (k : ℕ) → slice_get result k ≡ row_in (head self.now) k }
         ensures few { length result ≤ count_of self.now.range }

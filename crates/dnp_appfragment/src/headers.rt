@@ -126,6 +126,8 @@ impl<'a> Iterator for Headers<'a> {
 
     ghost remaining = { item_count (λ l. l.headers) };
 
+    // (in each loop over headers, as rows are)
+    #[inline(always)]
     fn next(&mut self) -> Option<Header<'a>> {
         if self.rest.is_empty() {
             return None;

@@ -21,7 +21,7 @@ pub use built::{
     what_is_put_stands_in_a_response,
 };
 pub use read::{
-    objects_say_rows_and_commands, octets_say_a_request, octets_say_a_response,
+    events_have_octets, objects_say_rows_and_commands, octets_say_a_request, octets_say_a_response,
     octets_say_their_control_and_function, rows_are_events, what_is_there_is_said,
 };
 

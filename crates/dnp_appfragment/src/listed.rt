@@ -123,8 +123,8 @@ impl RowObject for After {
     #[inline]
     fn append(&self, row: &Row, octets: &mut ArrayVec<u8, MAX_FRAGMENT>) {
         // (all of the row is read before anything is written)
-        let (index, row) = (row.index, *row);
-        push_number(octets, true, index);
+        let (number, row) = (row.index, *row);
+        push_number(octets, true, number);
         append_relative(&row, self.common, octets);
     }
 }

@@ -46,6 +46,7 @@ pub(crate) fn prefix_size(range: Range) -> usize
 }
 
 /// How many octets of objects follow a header; in a READ none.
+#[inline(always)]
 pub(crate) fn objects_size(form: Form, group: u8, variation: u8, range: Range) -> usize
     ensures { result ≡ spec.objects_size form group variation range }
 {

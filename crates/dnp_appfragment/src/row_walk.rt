@@ -112,6 +112,7 @@ impl<'a> RowWalk<'a> {
     ghost use Rattle.dnp_appfragment.specs.Seen.{head};
 
     /// The rows of this header.
+    #[inline(always)]
     pub(crate) fn new(header: &Header<'a>) -> RowWalk<'a>
         ensures { (k : ℕ) → slice_get result k ≡ row_in (head header.now) k }
     {
@@ -141,6 +142,8 @@ impl<'a> Iterator for RowWalk<'a> {
 
     ghost remaining = { item_count (λ rows. rows) };
 
+    // (in each loop over rows: as a call apart it costs twice as much, and LLVM takes it for too big)
+    #[inline(always)]
     fn next(&mut self) -> Option<Row> {
         if self.left == 0 {
             return None;

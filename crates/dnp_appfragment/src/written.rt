@@ -9,11 +9,12 @@ ghost use Rattle.dnp_appfragment.specs.steps.Building.{run_head};
 ghost use Rattle.dnp_appfragment.specs.Written as spec;
 
 use crate::header::Range;
+use crate::listed::{After, RowObject, Whole};
 use crate::putting::push_number;
 use crate::run::Run;
 use arrayvec::ArrayVec;
 use dnp_objects::laws::a_written_row_fills_its_object;
-use dnp_objects::{MAX_FRAGMENT, Row, append_object, append_relative, fits_object, object_size};
+use dnp_objects::{MAX_FRAGMENT, Row, append_object, fits_object, object_size};
 
 /// The range of one object after its index: qualifier 28.
 pub(crate) const BEHIND_INDEX: Range = Range::Indexed { wide: true, n: 1 };
@@ -80,27 +81,19 @@ impl<'a, const GROUP: u8, const VARIATION: u8> Object for Event<'a, GROUP, VARIA
 
     #[inline]
     fn run(&self) -> Run {
-        Run {
-            group: GROUP,
-            variation: VARIATION,
-            range: BEHIND_INDEX,
-            common: None,
-        }
+        Whole::<GROUP, VARIATION> {}.run()
     }
 
     #[inline]
     fn size(&self) -> usize {
         // (a law, for the proof: it does nothing)
         a_written_row_fills_its_object();
-        2 + object_size(GROUP, VARIATION).unwrap()
+        Whole::<GROUP, VARIATION> {}.size()
     }
 
     #[inline]
     fn append(&self, octets: &mut ArrayVec<u8, MAX_FRAGMENT>) {
-        // (all of the row is read before anything is written)
-        let (index, row) = (self.row.index, *self.row);
-        push_number(octets, true, index);
-        append_object(GROUP, VARIATION, &row, octets);
+        Whole::<GROUP, VARIATION> {}.append(self.row, octets);
     }
 }
 
@@ -211,24 +204,19 @@ impl<'a> Object for Relative<'a> {
 
     #[inline]
     fn run(&self) -> Run {
-        Run {
-            group: 2,
-            variation: 3,
-            range: BEHIND_INDEX,
-            common: Some(self.common),
-        }
+        let common = self.common;
+        After { common }.run()
     }
 
     #[inline]
     fn size(&self) -> usize {
-        5
+        let common = self.common;
+        After { common }.size()
     }
 
     #[inline]
     fn append(&self, octets: &mut ArrayVec<u8, MAX_FRAGMENT>) {
-        // (all of the row is read before anything is written)
-        let (number, row) = (self.row.index, *self.row);
-        push_number(octets, true, number);
-        append_relative(&row, self.common, octets);
+        let common = self.common;
+        After { common }.append(self.row, octets);
     }
 }

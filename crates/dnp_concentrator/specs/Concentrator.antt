@@ -4,7 +4,7 @@
 use Rattle.std.specs.Prelude.{◌≡◌, ◌≢◌, ℕ, Bool, true, IsTrue, List, Result, Err, IsErr, IfErr, OnErr, slice_set}
 use Rattle.dnp_controls.specs.Book.{Ledger}
 use Rattle.dnp_controls.specs.Panel.{Panel}
-use Rattle.dnp_eventbuf.specs.Sides.{AreSame, beside_of, other_than}
+use Rattle.dnp_eventbuf.specs.Sides.{AreSame, ForEach, beside_of, other_than}
 use Rattle.dnp_eventbuf.specs.Stock.{Stock}
 use Rattle.dnp_outstation.specs.State.{Core, State}
 use Rattle.dnp_outstation.specs.Stores.{IsLook, KeepsLanes}
@@ -99,6 +99,14 @@ with_readings centre c substation events statics =
 -- of this link it makes that one, and no other changes
 abbrev pub SetsLink : {Q B : Type 0} → Concentrator Q B → ℕ → Relaying → Concentrator Q B → Type 0
 SetsLink old substation r new = links_of new ≡ slice_set (links_of old) substation r
+
+-- what a step of relaying over a link leaves, whatever the book is: no other link changes, and nothing above
+pub record KeepsOthers {Q B : Type 0} (old : Concentrator Q B) (substation : ℕ) (new : Concentrator Q B) : Type 0 where
+  pub links : SetsLink old substation (link_at new substation) new
+  pub cores : ForEach (λ centre. core_of centre new ≡ core_of centre old)
+  pub plan : plan_above new ≡ plan_above old
+  pub queue : queue_of new ≡ queue_of old
+  pub indices : indices_of new ≡ indices_of old
 
 -- queue, book and index map are as they were, and so is the plan of the points above
 pub record KeepsStores {Q B : Type 0} (old new : Concentrator Q B) : Type 0 where

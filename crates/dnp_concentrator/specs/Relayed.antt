@@ -1,9 +1,11 @@
 -- Definition: what a step of relaying answers, and what it leaves of the book that was lent to it.
-use Rattle.std.specs.Prelude.{◌≡◌, ◌≢◌, ℕ, ◌==◌, Bool, true, false, not, ◌&&◌, IsTrue, List, [], ◌∷◌, ◌++◌, Option, Some, None, IfSome, Result, Err, IfErr, ⊤}
+use Rattle.std.specs.Prelude.{◌≡◌, ◌≢◌, ℕ, ◌==◌, Bool, true, false, not, ◌&&◌, IsTrue, List, [], ◌∷◌, ◌++◌, Option, Some, None, IfSome, Result, Err, IsOk, IfErr, ⊤}
 use Rattle.std.specs.Option.{IsSomeAnd}
 use Rattle.dnp_objects.specs.declared.command.Command.{Command}
 use Rattle.arrayvec.specs.ArrayVec.{ArrayVec}
 use Rattle.dnp_appfragment.specs.Fragments.{request_octets}
+use Rattle.dnp_controls.specs.declared.book.BookFault.{BookFault}
+use Rattle.dnp_controls.specs.declared.book.BookFault.TheVariants.{NoControl, NotPending, Exhausted, Memory, Device}
 use Rattle.dnp_controls.specs.declared.book.Entry.{Entry}
 use Rattle.dnp_controls.specs.declared.book.State as entry
 use Rattle.dnp_controls.specs.declared.book.State.TheVariants.{Pending, Spent, Finished}
@@ -21,7 +23,7 @@ use Rattle.dnp_concentrator.specs.declared.relayed.Relayed.{Relayed}
 use Rattle.dnp_concentrator.specs.declared.relayed.Relayed.TheVariants as relayed
 use Rattle.dnp_concentrator.specs.declared.relayed.RelayedStep.{RelayedStep}
 use Rattle.dnp_concentrator.specs.declared.relayed.RelayedStep.TheVariants as relayed_step
-use Rattle.dnp_concentrator.specs.Relaying.{Relaying, Step, Waits, Selects, Operates, Finishes}
+use Rattle.dnp_concentrator.specs.Relaying.{Relaying, Step, Waits, Selects, Operates, Finishes, step_of}
 
 -- ---- what is answered
 
@@ -141,3 +143,23 @@ pub record LeavesBook {Book Answer Fault : Type 0} (honest : Book → Type 0) (i
   -- Device stops it, and nothing else does
   pub device_stops : answer ≡ Err device → IsTrue (is_stopped new)
   pub runs_on : answer ≢ Err device → is_stopped new ≡ is_stopped old
+
+-- What a step of relaying over this link, for this target, leaves of the book, and when the book refuses it.
+pub record GoesByBook {Book Answer : Type 0} (honest : Book → Type 0) (is_stopped : Book → Bool) (contents : Book → Ledger) (asks_memory : Bool)
+    (link : Relaying) (target : ℕ) (old new : Book) (answer : Result Answer BookFault) : Type 0 where
+  -- an honest book was honest before
+  pub held : honest new → honest old
+  -- a refusal changes nothing
+  pub unchanged : honest new → IfErr answer (λ _. contents new ≡ contents old)
+  -- Device stops it, and nothing else does
+  pub device_stops : answer ≡ Err Device → IsTrue (is_stopped new)
+  pub runs_on : answer ≢ Err Device → is_stopped new ≡ is_stopped old
+  pub named : IfErr answer (λ e. e ≢ Exhausted)
+  pub no_control : honest new → answer ≡ Err NoControl → IsSomeAnd link.progress (λ p. entry_of (contents old).entries p.id ≡ None)
+  pub not_pending : honest new → answer ≡ Err NotPending
+      → IsSomeAnd link.progress (λ p. Has (contents old).entries p.id (λ state. not (is_pending state)))
+  pub past : honest new → answer ≡ Err NotPending → IsPast (contents old).entries (step_of link (contents old).entries target)
+  pub memory : answer ≡ Err Memory → IsTrue asks_memory
+  -- where the step needs no book, none is asked, and nothing refused
+  pub unasked : asks_book link ≡ false → (new ≡ old) × IsOk answer
+  pub stopped : asks_book link ≡ true → IsTrue (is_stopped old) → answer ≡ Err Device

@@ -1,11 +1,9 @@
 //! A centre.
 
-ghost use Rattle.std.specs.Prelude.{◌≡◌, ◌≢◌, ◌⊎◌, ◌↔◌, ℕ, [], true, false, not, Ok, Err, IsTrue, IsOk, IfOk, IfErr, OnOk, OnErr, MatchResult, option_map};
+ghost use Rattle.std.specs.Prelude.{◌≡◌, ◌⊎◌, ◌↔◌, ℕ, [], false, Ok, Err, IsTrue, IsOk, IfOk, IfErr, OnOk, OnErr, MatchResult, option_map};
 ghost use Rattle.std.specs.Borrow.{Lends, sem};
-ghost use Rattle.std.specs.Option.{IsSomeAnd};
 ghost use Rattle.std.specs.Result.{IsOkAnd};
 ghost use Rattle.dnp_appfragment.specs.Fragments.{IsRequest};
-ghost use Rattle.dnp_controls.specs.Book.{entry_of, Has, is_pending};
 ghost use Rattle.dnp_controls.specs.Moves.{AreGranted, after};
 ghost use Rattle.dnp_eventbuf.specs.Archive.{passes_limit, with_events};
 ghost use Rattle.dnp_master.specs.Calls.{actions_of, ask_answer, has_rows, receive_of};
@@ -273,18 +271,7 @@ impl<J: JournalStore, B: Book> Centre<J, B> {
         ensures own { B.honest (book_of self.new) → says.IsOf (B.contents (book_of self.old)).entries 0 (link_of self.old).progress
             → OnOk result (says.IsOf (B.contents (book_of self.new)).entries 0 (link_of self.new).progress) }
         ensures unchanged { OnErr result (link_of self.new ≡ link_of self.old) }
-        ensures book { says.LeavesBook B.honest B.is_stopped B.contents BookFault.Device (book_of self.old) (book_of self.new) result }
-        ensures named { IfErr result (λ e. e ≢ BookFault.Exhausted) }
-        ensures no_control { B.honest (book_of self.new) → result ≡ Err BookFault.NoControl
-            → IsSomeAnd (link_of self.old).progress (λ p. entry_of (B.contents (book_of self.old)).entries p.id ≡ None) }
-        ensures not_pending { B.honest (book_of self.new) → result ≡ Err BookFault.NotPending
-            → IsSomeAnd (link_of self.old).progress (λ p. Has (B.contents (book_of self.old)).entries p.id (λ state. not (is_pending state))) }
-        ensures past { B.honest (book_of self.new) → result ≡ Err BookFault.NotPending
-            → says.IsPast (B.contents (book_of self.old)).entries (spec.step_of (link_of self.old) (B.contents (book_of self.old)).entries 0) }
-        ensures memory { result ≡ Err BookFault.Memory → IsTrue B.asks_memory }
-        // Where the step needs no book, none is asked, and nothing refused.
-        ensures unasked { says.asks_book (link_of self.old) ≡ false → (book_of self.new ≡ book_of self.old) × IsOk result }
-        ensures stopped { says.asks_book (link_of self.old) ≡ true → IsTrue (B.is_stopped (book_of self.old)) → result ≡ Err BookFault.Device }
+        ensures book { says.GoesByBook B.honest B.is_stopped B.contents B.asks_memory (link_of self.old) 0 (book_of self.old) (book_of self.new) result }
         ensures journal { journal_of self.new ≡ journal_of self.old }
         ensures indices { indices_of self.new ≡ indices_of self.old }
     {
@@ -323,18 +310,7 @@ impl<J: JournalStore, B: Book> Centre<J, B> {
         ensures unchanged { OnErr result (link_of self.new ≡ link_of self.old) }
         ensures left { OnErr result (request.new ≡ request.old) }
         ensures left_alone { IfOk result (λ answer. says.has_request answer ≡ false → request.new ≡ request.old) }
-        ensures book { says.LeavesBook B.honest B.is_stopped B.contents BookFault.Device (book_of self.old) (book_of self.new) result }
-        ensures named { IfErr result (λ e. e ≢ BookFault.Exhausted) }
-        ensures no_control { B.honest (book_of self.new) → result ≡ Err BookFault.NoControl
-            → IsSomeAnd (link_of self.old).progress (λ p. entry_of (B.contents (book_of self.old)).entries p.id ≡ None) }
-        ensures not_pending { B.honest (book_of self.new) → result ≡ Err BookFault.NotPending
-            → IsSomeAnd (link_of self.old).progress (λ p. Has (B.contents (book_of self.old)).entries p.id (λ state. not (is_pending state))) }
-        ensures past { B.honest (book_of self.new) → result ≡ Err BookFault.NotPending
-            → says.IsPast (B.contents (book_of self.old)).entries (spec.step_of (link_of self.old) (B.contents (book_of self.old)).entries 0) }
-        ensures memory { result ≡ Err BookFault.Memory → IsTrue B.asks_memory }
-        // Where the step needs no book, none is asked, and nothing refused.
-        ensures unasked { says.asks_book (link_of self.old) ≡ false → (book_of self.new ≡ book_of self.old) × IsOk result }
-        ensures stopped { says.asks_book (link_of self.old) ≡ true → IsTrue (B.is_stopped (book_of self.old)) → result ≡ Err BookFault.Device }
+        ensures book { says.GoesByBook B.honest B.is_stopped B.contents B.asks_memory (link_of self.old) 0 (book_of self.old) (book_of self.new) result }
         ensures journal { journal_of self.new ≡ journal_of self.old }
         ensures indices { indices_of self.new ≡ indices_of self.old }
     {

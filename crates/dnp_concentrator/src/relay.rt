@@ -1,7 +1,6 @@
 //! A link's master that relays controls from a book.
 
 ghost use Rattle.std.specs.Prelude.{◌≡◌, ◌≢◌, ◌+◌, ◌⊎◌, ℕ, [], not, false, true, Ok, Err, IsTrue, IsOk, IfOk, IfErr, OnOk, OnErr, Some, MatchResult, option_map};
-ghost use Rattle.std.specs.Option.{IsSomeAnd};
 ghost use Rattle.std.specs.Result.{IsOkAnd};
 ghost use Rattle.dnp_appfragment.specs.Fragments.{IsRequest as ReadsAs};
 ghost use Rattle.dnp_controls.specs.Book.{entry_of, next_of, Has, is_pending};
@@ -269,11 +268,10 @@ impl Relay {
         target: u8,
         book: &mut B,
     ) -> Result<RelayedStep, BookFault>
-        ensures book { says.LeavesBook B.honest B.is_stopped B.contents BookFault.Device book.old book.new result }
+        ensures book { says.GoesByBook B.honest B.is_stopped B.contents B.asks_memory self.old target book.old book.new result }
         ensures unchanged { OnErr result (self.new ≡ self.old) }
         ensures left { OnErr result (request.new ≡ request.old) }
         ensures left_alone { IfOk result (λ answer. says.has_request answer ≡ false → request.new ≡ request.old) }
-        ensures memory { result ≡ Err BookFault.Memory → IsTrue B.asks_memory }
         ensures told { B.honest book.new → IfOk result (λ answer.
             says.Tells self.old.master.seq (spec.step_of self.old (B.contents book.old).entries target) (says.with_request answer request.new)) }
         ensures after { B.honest book.new → OnOk result (self.new
@@ -292,16 +290,6 @@ impl Relay {
             says.IfSelecting (says.with_request answer request.new) (says.IsLeast (B.contents book.old).entries target)) }
         ensures own { B.honest book.new → says.IsOf (B.contents book.old).entries target self.old.progress
             → OnOk result (says.IsOf (B.contents book.new).entries target self.new.progress) }
-        ensures named { IfErr result (λ e. e ≢ BookFault.Exhausted) }
-        ensures no_control { B.honest book.new → result ≡ Err BookFault.NoControl
-            → IsSomeAnd self.old.progress (λ p. entry_of (B.contents book.old).entries p.id ≡ None) }
-        ensures not_pending { B.honest book.new → result ≡ Err BookFault.NotPending
-            → IsSomeAnd self.old.progress (λ p. Has (B.contents book.old).entries p.id (λ state. not (is_pending state))) }
-        ensures past { B.honest book.new → result ≡ Err BookFault.NotPending
-            → says.IsPast (B.contents book.old).entries (spec.step_of self.old (B.contents book.old).entries target) }
-        // Where the step needs no book, none is asked, and nothing refused.
-        ensures unasked { says.asks_book self.old ≡ false → (book.new ≡ book.old) × IsOk result }
-        ensures stopped { says.asks_book self.old ≡ true → IsTrue (B.is_stopped book.old) → result ≡ Err BookFault.Device }
     {
         if !self.master.idle() {
             return Ok(RelayedStep::Nothing);

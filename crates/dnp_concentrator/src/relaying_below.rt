@@ -1,11 +1,8 @@
 //! A concentrator's controls on their way down.
 
-ghost use Rattle.std.specs.Prelude.{◌≡◌, ◌≢◌, ◌<◌, true, false, not, None, Err, IsTrue, IsOk, IfOk, IfErr, OnOk, OnErr, length};
-ghost use Rattle.std.specs.Option.{IsSomeAnd};
-ghost use Rattle.dnp_controls.specs.Book.{entry_of, Has, is_pending};
+ghost use Rattle.std.specs.Prelude.{◌≡◌, ◌<◌, false, None, IfOk, OnOk, OnErr, length};
 ghost use Rattle.dnp_controls.specs.Moves.{AreGranted, after};
-ghost use Rattle.dnp_eventbuf.specs.Sides.{ForEach};
-ghost use Rattle.dnp_concentrator.specs.Concentrator.{book_of, core_of, indices_of, link_at, links_of, plan_above, queue_of, SetsLink};
+ghost use Rattle.dnp_concentrator.specs.Concentrator.{book_of, link_at, links_of, KeepsOthers, SetsLink};
 ghost use Rattle.dnp_concentrator.specs.Relayed as says;
 ghost use Rattle.dnp_concentrator.specs.Relaying as spec;
 
@@ -44,24 +41,8 @@ impl<Q: PairLanes, B: Book> Concentrator<Q, B> {
         ensures own { B.honest (book_of self.new) → says.IsOf (B.contents (book_of self.old)).entries substation (link_at self.old substation).progress
             → OnOk result (says.IsOf (B.contents (book_of self.new)).entries substation (link_at self.new substation).progress) }
         ensures unchanged { OnErr result (links_of self.new ≡ links_of self.old) }
-        // No other link changes, whatever the book is.
-        ensures others { SetsLink self.old substation (link_at self.new substation) self.new }
-        ensures book { says.LeavesBook B.honest B.is_stopped B.contents BookFault.Device (book_of self.old) (book_of self.new) result }
-        ensures named { IfErr result (λ e. e ≢ BookFault.Exhausted) }
-        ensures no_control { B.honest (book_of self.new) → result ≡ Err BookFault.NoControl
-            → IsSomeAnd (link_at self.old substation).progress (λ p. entry_of (B.contents (book_of self.old)).entries p.id ≡ None) }
-        ensures not_pending { B.honest (book_of self.new) → result ≡ Err BookFault.NotPending
-            → IsSomeAnd (link_at self.old substation).progress (λ p. Has (B.contents (book_of self.old)).entries p.id (λ state. not (is_pending state))) }
-        ensures past { B.honest (book_of self.new) → result ≡ Err BookFault.NotPending
-            → says.IsPast (B.contents (book_of self.old)).entries (spec.step_of (link_at self.old substation) (B.contents (book_of self.old)).entries substation) }
-        ensures memory { result ≡ Err BookFault.Memory → IsTrue B.asks_memory }
-        // Where the step needs no book, none is asked, and nothing refused.
-        ensures unasked { says.asks_book (link_at self.old substation) ≡ false → (book_of self.new ≡ book_of self.old) × IsOk result }
-        ensures stopped { says.asks_book (link_at self.old substation) ≡ true → IsTrue (B.is_stopped (book_of self.old)) → result ≡ Err BookFault.Device }
-        ensures cores { ForEach (λ centre. core_of centre self.new ≡ core_of centre self.old) }
-        ensures plan { plan_above self.new ≡ plan_above self.old }
-        ensures queue { queue_of self.new ≡ queue_of self.old }
-        ensures indices { indices_of self.new ≡ indices_of self.old }
+        ensures others { KeepsOthers self.old substation self.new }
+        ensures book { says.GoesByBook B.honest B.is_stopped B.contents B.asks_memory (link_at self.old substation) substation (book_of self.old) (book_of self.new) result }
     {
         let mut request = Fragment::new();
         let step = self.relay_into(&mut request, alloc, substation, now)?;
@@ -100,24 +81,8 @@ impl<Q: PairLanes, B: Book> Concentrator<Q, B> {
         ensures unchanged { OnErr result (links_of self.new ≡ links_of self.old) }
         ensures left { OnErr result (request.new ≡ request.old) }
         ensures left_alone { IfOk result (λ answer. says.has_request answer ≡ false → request.new ≡ request.old) }
-        // No other link changes, whatever the book is.
-        ensures others { SetsLink self.old substation (link_at self.new substation) self.new }
-        ensures book { says.LeavesBook B.honest B.is_stopped B.contents BookFault.Device (book_of self.old) (book_of self.new) result }
-        ensures named { IfErr result (λ e. e ≢ BookFault.Exhausted) }
-        ensures no_control { B.honest (book_of self.new) → result ≡ Err BookFault.NoControl
-            → IsSomeAnd (link_at self.old substation).progress (λ p. entry_of (B.contents (book_of self.old)).entries p.id ≡ None) }
-        ensures not_pending { B.honest (book_of self.new) → result ≡ Err BookFault.NotPending
-            → IsSomeAnd (link_at self.old substation).progress (λ p. Has (B.contents (book_of self.old)).entries p.id (λ state. not (is_pending state))) }
-        ensures past { B.honest (book_of self.new) → result ≡ Err BookFault.NotPending
-            → says.IsPast (B.contents (book_of self.old)).entries (spec.step_of (link_at self.old substation) (B.contents (book_of self.old)).entries substation) }
-        ensures memory { result ≡ Err BookFault.Memory → IsTrue B.asks_memory }
-        // Where the step needs no book, none is asked, and nothing refused.
-        ensures unasked { says.asks_book (link_at self.old substation) ≡ false → (book_of self.new ≡ book_of self.old) × IsOk result }
-        ensures stopped { says.asks_book (link_at self.old substation) ≡ true → IsTrue (B.is_stopped (book_of self.old)) → result ≡ Err BookFault.Device }
-        ensures cores { ForEach (λ centre. core_of centre self.new ≡ core_of centre self.old) }
-        ensures plan { plan_above self.new ≡ plan_above self.old }
-        ensures queue { queue_of self.new ≡ queue_of self.old }
-        ensures indices { indices_of self.new ≡ indices_of self.old }
+        ensures others { KeepsOthers self.old substation self.new }
+        ensures book { says.GoesByBook B.honest B.is_stopped B.contents B.asks_memory (link_at self.old substation) substation (book_of self.old) (book_of self.new) result }
     {
         let book = self.outputs.book();
         self.links[usize::from(substation)].relay_into(request, alloc, now, substation, book)

@@ -6,7 +6,7 @@ ghost use Rattle.dnp_controls.specs.Latches.{value_of};
 use crate::latest::Latest;
 use crate::limits::{MAX_COMMANDS, MAX_OUTPUTS};
 use crate::outputs::Outputs;
-use crate::plain_outputs::can_perform;
+use crate::plain_outputs::{answered, can_perform};
 use arrayvec::ArrayVec;
 use dnp_objects::{Command, Status, StoreFault};
 use std::alloc::Global;
@@ -103,11 +103,7 @@ impl Outputs for LatestOutputs {
     }
 
     fn check(&self, command: &Command) -> Status {
-        if can_perform(self.outputs, self.setpoints, command) {
-            Status::SUCCESS
-        } else {
-            Status::NOT_SUPPORTED
-        }
+        answered(self.outputs, self.setpoints, command)
     }
 
     fn operate(

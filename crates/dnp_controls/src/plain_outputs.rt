@@ -87,6 +87,17 @@ pub(crate) fn can_perform(outputs: u16, setpoints: u16, command: &Command) -> bo
     }
 }
 
+/// What a command is answered: SUCCESS where it can be performed, and else NOT_SUPPORTED.
+pub(crate) fn answered(outputs: u16, setpoints: u16, command: &Command) -> Status
+    ensures { result ≡ plain_check outputs setpoints command.now }
+{
+    if can_perform(outputs, setpoints, command) {
+        Status::SUCCESS
+    } else {
+        Status::NOT_SUPPORTED
+    }
+}
+
 /// How many of the commands are performed.
 fn count_performed(outputs: u16, setpoints: u16, commands: &[Command]) -> usize
     ensures { result ≡ length (accepted (plain_check outputs setpoints) commands.now) }
@@ -151,11 +162,7 @@ impl Outputs for PlainOutputs {
     }
 
     fn check(&self, command: &Command) -> Status {
-        if can_perform(self.outputs, self.setpoints, command) {
-            Status::SUCCESS
-        } else {
-            Status::NOT_SUPPORTED
-        }
+        answered(self.outputs, self.setpoints, command)
     }
 
     fn operate(

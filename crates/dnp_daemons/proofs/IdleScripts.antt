@@ -18,7 +18,7 @@ use Rattle.dnp_pointdb.specs.declared.reading.Reading.{Reading}
 use Rattle.dnp_concentrator.specs.Mapped.{command_above}
 use Rattle.dnp_concentrator.specs.Relaying.{Relaying}
 use Rattle.dnp_world.specs.Channels.{ChannelState}
-use Rattle.dnp_world.specs.Controls.{ControlEnds, First, IsAccepted, IsControlFor, IsRefusedFor, IsRefusedOn, PassesBack, AtCentre, AtConcentrator, Second, Third, station_in}
+use Rattle.dnp_world.specs.Controls.{ControlEnds, First, IsAccepted, IsControlFor, IsRefusedFor, IsRefusedOn, PassesBack, AtCentre, AtConcentrator, Second, Third, substation_in}
 use Rattle.dnp_world.specs.OneLinkEvents.{is_own}
 use Rattle.dnp_world.specs.Planned.{HavePlannedPoints}
 use Rattle.dnp_world.specs.Rounds.{Flushes, IsRound, deliveries, events_polled}
@@ -69,38 +69,39 @@ as_it old new same = (ap (λ (s : System). s.centre.indices) same, λ low. subst
 then : (a b c : System) → Stays a b → Stays b c → Stays a c
 then a b c first second = (second.0 ∙ first.0, λ low. second.1 (first.1 low))
 
-changes_stay : (station : ℕ) (Change : SubstationState → SubstationState → Type 0) (rest : SubstationState → SubstationState → System → System)
-    (old new : System) → ((was is : SubstationState) (s : System) → Stays s (rest was is s)) → ChangesAt station Change rest old new → Stays old new
-changes_stay station Change rest old new stay h =
-    let s : System = record old { substations = slice_set old.substations station h.is } in
+changes_stay : (substation : ℕ) (Change : SubstationState → SubstationState → Type 0) (rest : SubstationState → SubstationState → System → System)
+    (old new : System) → ((was is : SubstationState) (s : System) → Stays s (rest was is s)) → ChangesAt substation Change rest old new → Stays old new
+changes_stay substation Change rest old new stay h =
+    let s : System = record old { substations = slice_set old.substations substation h.is } in
     then old (rest h.was h.is s) new (stay h.was h.is s) (as_it (rest h.was h.is s) new h.after)
 
 rest_stays : (was is : SubstationState) (s : System) → Stays s (same_rest was is s)
 rest_stays was is s = (refl, λ low. low)
 
 lines_stay : (on : Link) (Change : ChannelState → ChannelState → Type 0) (old new : System) → LinesChange on Change old new → Stays old new
-lines_stay (link.Below station) Change old new h = changes_stay station _ same_rest old new rest_stays h
-lines_stay (link.Above centre) Change old new h = then old (record old { above = new.above }) new (refl, λ low. low) (as_it (record old { above = new.above }) new h.1)
+lines_stay (link.Below substation) Change old new h = changes_stay substation _ same_rest old new rest_stays h
+lines_stay (link.Above centre) Change old new h =
+    then old (record old { above = new.above }) new (refl, λ low. low) (as_it (record old { above = new.above }) new h.1)
 
 middle_stays : (step : Step) (commands : List Command) (lines : ChannelState) (old new : System) → MiddleSteps step commands lines old new → Stays old new
 middle_stays step commands lines old new h =
     (ap (λ (s : System). s.centre.indices) h.after, λ low. subst (λ (s : System). s.now < 2 ^ 64) (sym h.after) low)
 
 sends_stay : (on : Link) (fragments : List (List ℕ)) (r : Relaying) (old new : System) → SendsDown on fragments r old new → Stays old new
-sends_stay (link.Below station) fragments r old new h =
+sends_stay (link.Below substation) fragments r old new h =
     (ap (λ (s : System). s.centre.indices) h.after, λ low. subst (λ (s : System). s.now < 2 ^ 64) (sym h.after) low)
 sends_stay (link.Above centre) fragments r old new h = (ap (λ (s : System). s.centre.indices) h.1, λ low. subst (λ (s : System). s.now < 2 ^ 64) (sym h.1) low)
 
 -- ---- each event
 
 opens_stay : (on : Link) (old new : System) → OpensOn on old new → Stays old new
-opens_stay (link.Below station) old new h = (ap (λ (s : System). s.centre.indices) h.after, λ low. subst (λ (s : System). s.now < 2 ^ 64) (sym h.after) low)
+opens_stay (link.Below substation) old new h = (ap (λ (s : System). s.centre.indices) h.after, λ low. subst (λ (s : System). s.now < 2 ^ 64) (sym h.after) low)
 opens_stay (link.Above centre) old new h = (ap (λ (s : System). s.centre.indices) h.after, λ low. subst (λ (s : System). s.now < 2 ^ 64) (sym h.after) low)
 
 hangs_stay : (on : Link) (e : End) (old new : System) → HangsUpOn on e old new → Stays old new
-hangs_stay (link.Below station) end.Master old new h =
+hangs_stay (link.Below substation) end.Master old new h =
     (ap (λ (s : System). s.centre.indices) h.after, λ low. subst (λ (s : System). s.now < 2 ^ 64) (sym h.after) low)
-hangs_stay (link.Below station) end.Outstation old new h =
+hangs_stay (link.Below substation) end.Outstation old new h =
     (ap (λ (s : System). s.centre.indices) h.after, λ low. subst (λ (s : System). s.now < 2 ^ 64) (sym h.after) low)
 hangs_stay (link.Above centre) end.Master old new h = (ap (λ (s : System). s.centre.indices) h, λ low. subst (λ (s : System). s.now < 2 ^ 64) (sym h) low)
 hangs_stay (link.Above centre) end.Outstation old new h = (ap (λ (s : System). s.centre.indices) h, λ low. subst (λ (s : System). s.now < 2 ^ 64) (sym h) low)
@@ -110,7 +111,7 @@ answers_stay [] old new h = as_it old new h
 answers_stay (fragment ∷ others) old new h = middle_stays _ _ _ old new h
 
 taken_stays : (on : Link) (s : System) (t : Taking) → Stays s (taken_on s on t)
-taken_stays (link.Below station) s t = (refl, λ low. low)
+taken_stays (link.Below substation) s t = (refl, λ low. low)
 taken_stays (link.Above centre) s t = (refl, λ low. low)
 
 receives_stay : (on : Link) (r : Result Taking MasterFault) (old new : System) → MasterReceives on r old new → Stays old new
@@ -122,29 +123,30 @@ takes_stay on [] old new h = as_it old new h
 takes_stay on (fragment ∷ others) old new h = receives_stay on (receive_of (relaying_at old on).master old.now fragment) old new h
 
 comes_stay : (left : LineState → LineState) (on : Link) (w : Way) (old new : System) → ComesOn left on w old new → Stays old new
-comes_stay left (link.Below station) way.Down old new h = changes_stay station _ _ old new (λ was is s. (refl, λ low. low)) h.came
+comes_stay left (link.Below substation) way.Down old new h = changes_stay substation _ _ old new (λ was is s. (refl, λ low. low)) h.came
 comes_stay left (link.Above centre) way.Down old new h =
     answers_stay h.given (record old { above = record old.above { down = left old.above.down; outstation_port = h.port } }) new h.came
-comes_stay left (link.Below station) way.Up old new h =
-    then old h.between new (lines_stay (link.Below station) _ old h.between h.heard) (takes_stay (link.Below station) h.given h.between new h.came)
+comes_stay left (link.Below substation) way.Up old new h =
+    then old h.between new (lines_stay (link.Below substation) _ old h.between h.heard) (takes_stay (link.Below substation) h.given h.between new h.came)
 comes_stay left (link.Above centre) way.Up old new h =
-    then old h.between new (lines_stay (link.Above centre) (IsHeardUp left h.given) old h.between h.heard) (takes_stay (link.Above centre) h.given h.between new h.came)
+    then old h.between new (lines_stay (link.Above centre) (IsHeardUp left h.given) old h.between h.heard)
+    (takes_stay (link.Above centre) h.given h.between new h.came)
 
-reads_stay : (made : Result (Option LaneRow) ChangeFault) (station : ℕ) (kind : Kind) (index : ℕ) (reading : Reading) (was : SubstationState)
-    (old new : System) → ReadsBy made station kind index reading was old new → Stays old new
-reads_stay (Ok made) station kind index reading was old new h = changes_stay station _ _ old new (λ was is s. (refl, λ low. low)) h.1
-reads_stay (Err fault) station kind index reading was old new h = as_it old new h
+reads_stay : (made : Result (Option LaneRow) ChangeFault) (substation : ℕ) (kind : Kind) (index : ℕ) (reading : Reading) (was : SubstationState)
+    (old new : System) → ReadsBy made substation kind index reading was old new → Stays old new
+reads_stay (Ok made) substation kind index reading was old new h = changes_stay substation _ _ old new (λ was is s. (refl, λ low. low)) h.1
+reads_stay (Err fault) substation kind index reading was old new h = as_it old new h
 
 asks_stay : (own : Bool) (on : Link) (t : Rattle.dnp_master.specs.declared.task.Task.Task) (old new : System) → AsksOn own on t old new → Stays old new
 asks_stay true on t old new h = sends_stay on _ _ old new h
 asks_stay false on t old new h = as_it old new h
 
-issues_stay : (o : Option Command) (station : ℕ) (command : Command) (old new : System) → IssuesBy o station command old new → Stays old new
-issues_stay None station command old new h = as_it old new h
-issues_stay (Some above) station command old new h = (ap (λ (s : System). s.centre.indices) h.2, λ low. subst (λ (s : System). s.now < 2 ^ 64) (sym h.2) low)
+issues_stay : (o : Option Command) (substation : ℕ) (command : Command) (old new : System) → IssuesBy o substation command old new → Stays old new
+issues_stay None substation command old new h = as_it old new h
+issues_stay (Some above) substation command old new h = (ap (λ (s : System). s.centre.indices) h.2, λ low. subst (λ (s : System). s.now < 2 ^ 64) (sym h.2) low)
 
 told_stays : (on : Link) (s : System) (step : Rattle.dnp_concentrator.specs.Relaying.Step) → Stays s (told s on step)
-told_stays (link.Below station) s step = (refl, λ low. low)
+told_stays (link.Below substation) s step = (refl, λ low. low)
 told_stays (link.Above centre) s step = (refl, λ low. low)
 
 relays_stay : (on : Link) (old new : System) → RelaysOn on old new → Stays old new
@@ -157,13 +159,14 @@ chosen_stays true old x y new first second same = then old x new first (as_it x 
 chosen_stays false old x y new first second same = then old y new second (as_it y new same)
 
 ticks_stay : (on : Link) (old new : System) → MasterTicks on old new → Stays old new
-ticks_stay (link.Below station) old new h =
-    chosen_stays (master.is_timed_out (happening.relaying_at old (link.Below station)).master old.now) old _ _ new (refl, λ low. low) (refl, λ low. low) h
+ticks_stay (link.Below substation) old new h =
+    chosen_stays (master.is_timed_out (happening.relaying_at old (link.Below substation)).master old.now) old _ _ new (refl, λ low. low) (refl, λ low. low) h
 ticks_stay (link.Above centre) old new h = (ap (λ (s : System). s.centre.indices) h, λ low. subst (λ (s : System). s.now < 2 ^ 64) (sym h) low)
 
 outstation_ticks_stay : (on : Link) (old new : System) → OutstationTicks on old new → Stays old new
-outstation_ticks_stay (link.Below station) old new h = changes_stay station _ same_rest old new rest_stays h
-outstation_ticks_stay (link.Above centre) old new h = (ap (λ (s : System). s.centre.indices) h.after, λ low. subst (λ (s : System). s.now < 2 ^ 64) (sym h.after) low)
+outstation_ticks_stay (link.Below substation) old new h = changes_stay substation _ same_rest old new rest_stays h
+outstation_ticks_stay (link.Above centre) old new h =
+    (ap (λ (s : System). s.centre.indices) h.after, λ low. subst (λ (s : System). s.now < 2 ^ 64) (sym h.after) low)
 
 there_stays : (b : Bool) (Change : System → System → Type 0) (old new : System) → (Change old new → Stays old new) → IfThere b Change old new → Stays old new
 there_stays true Change old new stay h = stay h
@@ -176,11 +179,11 @@ event_stays (event.Deliver on w) old new h = there_stays _ (ComesOn delivered_on
 event_stays (event.Repeat on w) old new h = there_stays _ (ComesOn repeated_on on w) old new (comes_stay repeated_on on w old new) h
 event_stays (event.Lose on w) old new h = there_stays _ (happening.LosesOn on w) old new (lines_stay on _ old new) h
 event_stays (event.Damage on w octets) old new h = there_stays _ (LinesChange on _) old new (lines_stay on _ old new) h
-event_stays (event.Change station kind index reading) old new h =
-    there_stays _ (Reads station kind index reading) old new
-    (λ r. reads_stay (answer_of r.was.core.points kind index reading) station kind index reading r.was old new r.reads) h
+event_stays (event.Change substation kind index reading) old new h =
+    there_stays _ (Reads substation kind index reading) old new
+    (λ r. reads_stay (answer_of r.was.core.points kind index reading) substation kind index reading r.was old new r.reads) h
 event_stays (event.Ask on t) old new h = there_stays _ (AsksOn (is_own t) on t) old new (asks_stay (is_own t) on t old new) h
-event_stays (event.Issue centre station command) old new h = issues_stay (command_above old.centre.indices station command) station command old new h
+event_stays (event.Issue centre substation command) old new h = issues_stay (command_above old.centre.indices substation command) substation command old new h
 event_stays (event.Relay on) old new h = there_stays _ (RelaysOn on) old new (relays_stay on old new) h
 event_stays (event.Pass ms) old new h =
     (ap (λ (s : System). s.centre.indices) h, λ low. subst (λ (s : System). s.now < 2 ^ 64) (sym h) (omega arith))
@@ -188,8 +191,8 @@ event_stays (event.Tick on end.Master) old new h = there_stays _ (MasterTicks on
 event_stays (event.Tick on end.Outstation) old new h = there_stays _ (OutstationTicks on) old new (outstation_ticks_stay on old new) h
 event_stays (event.Restart (place.Centre centre)) old new h = hangs_stay (link.Above centre) end.Master old new h
 event_stays (event.Restart place.Concentrator) old new h = (ap (λ (s : System). s.centre.indices) h, λ low. subst (λ (s : System). s.now < 2 ^ 64) (sym h) low)
-event_stays (event.Restart (place.Substation station)) old new h =
-    there_stays _ (happening.SubstationRestarts station) old new (λ r. changes_stay station _ _ old new (λ was is s. (refl, λ low. low)) r) h
+event_stays (event.Restart (place.Substation substation)) old new h =
+    there_stays _ (happening.SubstationRestarts substation) old new (λ r. changes_stay substation _ _ old new (λ was is s. (refl, λ low. low)) r) h
 
 -- ---- each event, as a centre sees it
 
@@ -260,11 +263,11 @@ accepted_keeps law plan see on id old new of h =
     let operated : IsOf plan h.operated = passes_keep law plan see on id h.selected h.operated selected h.operates in
     event_keeps law plan (event.Relay on) h.operated new operated h.finishes.relays
 
-control_keeps : PointsKept → (plan : Plan) (see : Whole → System) (centre : ℕ) (station : Option ℕ) (id : ℕ) (old new : Whole) → IsOf plan old
-    → IsControlFor HappensToAll see centre station id old new → IsOf plan new
+control_keeps : PointsKept → (plan : Plan) (see : Whole → System) (centre : ℕ) (substation : Option ℕ) (id : ℕ) (old new : Whole) → IsOf plan old
+    → IsControlFor HappensToAll see centre substation id old new → IsOf plan new
 control_keeps law plan see centre None id old new of h = accepted_keeps law plan see (link.Above centre) (Some id) old new of h
-control_keeps law plan see centre (Some station) id old new of (above, first, second) =
-    accepted_keeps law plan see (link.Below station) _ above new
+control_keeps law plan see centre (Some substation) id old new of (above, first, second) =
+    accepted_keeps law plan see (link.Below substation) _ above new
     (accepted_keeps law plan see (link.Above centre) (Some id) old above of first) second
 
 refused_keeps : PointsKept → (plan : Plan) (see : Whole → System) (on : Link) (id : Option ℕ) (status : ℕ) (old new : Whole) → IsOf plan old
@@ -277,11 +280,11 @@ refused_keeps law plan see on id status old new of (Third selected operated sele
     (passes_keep law plan see on id selected operated (passes_keep law plan see on id old selected of selects) operates)
     told.relays
 
-refused_for_keeps : PointsKept → (plan : Plan) (see : Whole → System) (centre : ℕ) (station : Option ℕ) (id status : ℕ) (old new : Whole) → IsOf plan old
-    → IsRefusedFor HappensToAll see centre station id status old new → IsOf plan new
-refused_for_keeps law plan see centre station id status old new of (AtCentre refused) =
+refused_for_keeps : PointsKept → (plan : Plan) (see : Whole → System) (centre : ℕ) (substation : Option ℕ) (id status : ℕ) (old new : Whole) → IsOf plan old
+    → IsRefusedFor HappensToAll see centre substation id status old new → IsOf plan new
+refused_for_keeps law plan see centre substation id status old new of (AtCentre refused) =
     refused_keeps law plan see (link.Above centre) (Some id) status old new of refused
-refused_for_keeps law plan see centre station id status old new of (AtConcentrator its above is accepted refused) =
+refused_for_keeps law plan see centre substation id status old new of (AtConcentrator its above is accepted refused) =
     refused_keeps law plan see (link.Below its) _ status above new
     (accepted_keeps law plan see (link.Above centre) (Some id) old above of accepted) refused
 
@@ -307,11 +310,11 @@ line_keeps law plan (Control centre id) old new text of (result, ends, said) = b
     by : (r : Result ⊤ ControlFault) → ControlEnds HappensToAll (seen_by (number_of centre)) may_stop (number_of centre) id old r new
         → Rattle.dnp_daemons.specs.ScriptTexts.control_said centre id r ≡ Some text → IsOf plan new
     by (Ok done) ends said =
-        control_keeps law plan (seen_by (number_of centre)) (number_of centre) (station_in (seen_by (number_of centre) old) id) id old new of ends.1
+        control_keeps law plan (seen_by (number_of centre)) (number_of centre) (substation_in (seen_by (number_of centre) old) id) id old new of ends.1
     by (Err control.NotQuiet) ends said = subst (IsOf plan) (sym ends.1) of
     by (Err control.NotNext) ends said = subst (IsOf plan) (sym ends.2) of
     by (Err (control.Refused status)) ends said =
-        refused_for_keeps law plan (seen_by (number_of centre)) (number_of centre) (station_in (seen_by (number_of centre) old) id) id status old new of
+        refused_for_keeps law plan (seen_by (number_of centre)) (number_of centre) (substation_in (seen_by (number_of centre) old) id) id status old new of
         ends.1
     by (Err (control.Fault cause)) ends said = absurd (none-some text said)
 

@@ -40,7 +40,7 @@ use Rattle.dnp_world.specs.OneLinkEvents.{is_own}
 use Rattle.dnp_world.specs.Planned.{HasClassesBelow, HavePlannedPoints}
 use Rattle.dnp_world.specs.SystemEvents.{AsksOn, IssuesBy, Reads, ReadsBy, SendsDown, relaying_at, request_of}
 use Rattle.dnp_world.specs.SystemRuns.{Happens, IfThere}
-use Rattle.dnp_world.specs.Systems.{SubstationState, System, has_link, has_station, link_at}
+use Rattle.dnp_world.specs.Systems.{SubstationState, System, has_link, has_substation, link_at}
 use Rattle.dnp_world.specs.declared.event.Event.{Event}
 use Rattle.dnp_world.specs.declared.event.Event.TheVariants as event
 use Rattle.dnp_world.specs.declared.event.Link.{Link}
@@ -84,11 +84,11 @@ no_point_in classes index out =
     by false = refl
 
 -- the substation of this number in a list
-span_there : (plans : List SubPlan) (station : ℕ) (planned : SubPlan) → slice_get plans station ≡ Some planned
-    → slice_index_or (map spans_of plans) station no_spans ≡ spans_of planned
-span_there [] station planned there = absurd (none-some planned there)
+span_there : (plans : List SubPlan) (substation : ℕ) (planned : SubPlan) → slice_get plans substation ≡ Some planned
+    → slice_index_or (map spans_of plans) substation no_spans ≡ spans_of planned
+span_there [] substation planned there = absurd (none-some planned there)
 span_there (x ∷ xs) zero planned there = ap spans_of (same_Some x planned there)
-span_there (x ∷ xs) (suc station) planned there = span_there xs station planned there
+span_there (x ∷ xs) (suc substation) planned there = span_there xs substation planned there
 
 -- the plan of a substation lacks the point
 no_class : (planned : SubPlan) (kind : Kind) (index : ℕ) → nat_lt index (span_of (spans_of planned) (kind_of_points kind)).count ≡ false
@@ -102,59 +102,59 @@ no_state None e = refl
 no_state (Some state) e = absurd (none-some state.point.class (sym e))
 
 -- so its points lack it
-unplanned : (plan : Plan) (s : System) (station : ℕ) (was : SubstationState) (kind : Kind) (index : ℕ) → HavePlannedPoints plan s
-    → slice_get s.substations station ≡ Some was → has_index plan station (kind_of_points kind) index ≡ false
+unplanned : (plan : Plan) (s : System) (substation : ℕ) (was : SubstationState) (kind : Kind) (index : ℕ) → HavePlannedPoints plan s
+    → slice_get s.substations substation ≡ Some was → has_index plan substation (kind_of_points kind) index ≡ false
     → state_at was.core.points kind index ≡ None
-unplanned plan s station was kind index planned there out = by (slice_get plan.substations station) refl
+unplanned plan s substation was kind index planned there out = by (slice_get plan.substations substation) refl
   where
     Has : Option SubPlan → Type 0
     Has o = IsSomeAnd o (λ x. HasClassesBelow x was.core.points)
 
-    had : Has (slice_get plan.substations station)
-    had = subst (λ (o : Option SubstationState). IfSome o (λ x. IsSomeAnd (slice_get plan.substations station) (λ y. HasClassesBelow y x.core.points)))
-        there (planned station)
+    had : Has (slice_get plan.substations substation)
+    had = subst (λ (o : Option SubstationState). IfSome o (λ x. IsSomeAnd (slice_get plan.substations substation) (λ y. HasClassesBelow y x.core.points)))
+        there (planned substation)
 
-    by : (o : Option SubPlan) → slice_get plan.substations station ≡ o → state_at was.core.points kind index ≡ None
+    by : (o : Option SubPlan) → slice_get plan.substations substation ≡ o → state_at was.core.points kind index ≡ None
     by None is = absurd (subst Has is had)
     by (Some x) is =
         let classes : HasClassesBelow x was.core.points = subst Has is had in
         let low : nat_lt index (span_of (spans_of x) (kind_of_points kind)).count ≡ false =
-        subst (λ (spans : Spans). nat_lt index (span_of spans (kind_of_points kind)).count ≡ false) (span_there plan.substations station x is) out in
+        subst (λ (spans : Spans). nat_lt index (span_of spans (kind_of_points kind)).count ≡ false) (span_there plan.substations substation x is) out in
         no_state (state_at was.core.points kind index) (classes kind index ∙ no_class x kind index low)
 
 -- a reading that a new point refuses
-idle_reading : (plan : Plan) (old new : System) (station : ℕ) (kind : Kind) (index : ℕ) (reading : Reading) (reason : IdleReason)
-    → HavePlannedPoints plan old → idle_reason plan (One (event.Change station kind index reading)) ≡ Some reason
-    → Reads station kind index reading old new → new ≡ old
-idle_reading plan old new station kind index reading reason planned e r =
-    by (has_index plan station (kind_of_points kind) index) refl
+idle_reading : (plan : Plan) (old new : System) (substation : ℕ) (kind : Kind) (index : ℕ) (reading : Reading) (reason : IdleReason)
+    → HavePlannedPoints plan old → idle_reason plan (One (event.Change substation kind index reading)) ≡ Some reason
+    → Reads substation kind index reading old new → new ≡ old
+idle_reading plan old new substation kind index reading reason planned e r =
+    by (has_index plan substation (kind_of_points kind) index) refl
   where
     refuses : (fault : ChangeFault) → checked (state_at r.was.core.points kind index) kind reading ≡ Err fault → new ≡ old
     refuses fault is =
-        subst (λ (x : Result PointState ChangeFault). ReadsBy (made_from kind index reading x) station kind index reading r.was old new) is r.reads
+        subst (λ (x : Result PointState ChangeFault). ReadsBy (made_from kind index reading x) substation kind index reading r.was old new) is r.reads
 
-    by : (b : Bool) → has_index plan station (kind_of_points kind) index ≡ b → new ≡ old
+    by : (b : Bool) → has_index plan substation (kind_of_points kind) index ≡ b → new ≡ old
     by true is =
         let (fault, refused) = refused_reading (state_at r.was.core.points kind index) kind reading reason (rw is at e) in
         refuses fault refused
     by false is =
         refuses change.NoPoint
-        (ap (λ (o : Option PointState). checked o kind reading) (unplanned plan old station r.was kind index planned r.there is))
+        (ap (λ (o : Option PointState). checked o kind reading) (unplanned plan old substation r.was kind index planned r.there is))
 
 -- ---- commands
 
-idle_command : (plan : Plan) (old new : System) (by_centre station : ℕ) (command : Command) (reason : IdleReason)
-    → old.centre.indices ≡ map_of plan → idle_reason plan (One (event.Issue by_centre station command)) ≡ Some reason
-    → IssuesBy (command_above old.centre.indices station command) station command old new → new ≡ old
-idle_command plan old new by_centre station command reason indices e issues =
-    by (has_index plan station (kind_of_command command) (index_of command)) refl
+idle_command : (plan : Plan) (old new : System) (by_centre substation : ℕ) (command : Command) (reason : IdleReason)
+    → old.centre.indices ≡ map_of plan → idle_reason plan (One (event.Issue by_centre substation command)) ≡ Some reason
+    → IssuesBy (command_above old.centre.indices substation command) substation command old new → new ≡ old
+idle_command plan old new by_centre substation command reason indices e issues =
+    by (has_index plan substation (kind_of_command command) (index_of command)) refl
   where
-    by : (b : Bool) → has_index plan station (kind_of_command command) (index_of command) ≡ b → new ≡ old
+    by : (b : Bool) → has_index plan substation (kind_of_command command) (index_of command) ≡ b → new ≡ old
     by true is = absurd (none-some reason (rw is at e))
     by false is =
-        let none : command_above old.centre.indices station command ≡ None =
-        ap (λ (spans : List Spans). command_above spans station command) indices ∙ rw is refl in
-        subst (λ (o : Option Command). IssuesBy o station command old new) none issues
+        let none : command_above old.centre.indices substation command ≡ None =
+        ap (λ (spans : List Spans). command_above spans substation command) indices ∙ rw is refl in
+        subst (λ (o : Option Command). IssuesBy o substation command old new) none issues
 
 -- ---- tasks
 
@@ -210,16 +210,16 @@ set_there (y ∷ ys) (suc i) x there = ap (λ zs. y ∷ zs) (set_there ys i x th
 none_sent : (old new : System) (on : Link) → SendsDown on [] (relaying_at old on) old new → new ≡ old
 none_sent old new (link.Above centre) sends =
     sends.1 ∙ ap (λ (lines : ChannelState). record old { above = lines }) (none_down old.above new.above sends.0)
-none_sent old new (link.Below station) sends =
-    let links : slice_set old.concentrator.links station (link_at old.concentrator station) ≡ old.concentrator.links =
-    set-get_or old.concentrator.links station no_link in
+none_sent old new (link.Below substation) sends =
+    let links : slice_set old.concentrator.links substation (link_at old.concentrator substation) ≡ old.concentrator.links =
+    set-get_or old.concentrator.links substation no_link in
     let same : sends.is ≡ sends.was =
     sends.changed.1 ∙ ap (λ (lines : ChannelState). record sends.was { channel = lines }) (none_down sends.was.channel sends.is.channel sends.changed.0) in
     sends.after
     ∙ ap (λ (xs : List Relaying).
-    record old { concentrator = record old.concentrator { links = xs }; substations = slice_set old.substations station sends.is }) links
-    ∙ ap (λ (x : SubstationState). record old { substations = slice_set old.substations station x }) same
-    ∙ ap (λ (xs : List SubstationState). record old { substations = xs }) (set_there old.substations station sends.was sends.there)
+    record old { concentrator = record old.concentrator { links = xs }; substations = slice_set old.substations substation sends.is }) links
+    ∙ ap (λ (x : SubstationState). record old { substations = slice_set old.substations substation x }) same
+    ∙ ap (λ (xs : List SubstationState). record old { substations = xs }) (set_there old.substations substation sends.was sends.there)
 
 idle_task : (old new : System) (on : Link) (t : Task) (reason : IdleReason) → task_reason t ≡ Some reason
     → AsksOn (is_own t) on t old new → new ≡ old
@@ -234,11 +234,11 @@ idle_task old new on t reason e asks =
 
 pub idle_to_one : (plan : Plan) (old new : System) (happening : Event) (reason : IdleReason) → IsOfToOne plan old
     → idle_reason plan (One happening) ≡ Some reason → Happens old happening new → new ≡ old
-idle_to_one plan old new (event.Change station kind index reading) reason of e h =
-    only_there (has_station old station) (Reads station kind index reading) old new
-    (λ r. idle_reading plan old new station kind index reading reason of.points e r) h
-idle_to_one plan old new (event.Issue by_centre station command) reason of e h =
-    idle_command plan old new by_centre station command reason of.indices e h
+idle_to_one plan old new (event.Change substation kind index reading) reason of e h =
+    only_there (has_substation old substation) (Reads substation kind index reading) old new
+    (λ r. idle_reading plan old new substation kind index reading reason of.points e r) h
+idle_to_one plan old new (event.Issue by_centre substation command) reason of e h =
+    idle_command plan old new by_centre substation command reason of.indices e h
 idle_to_one plan old new (event.Ask on t) reason of e h =
     only_there (has_link old on) (AsksOn (is_own t) on t) old new (λ asks. idle_task old new on t reason e asks) h
 idle_to_one plan old new (event.Pass ms) reason of e h = by (ms == 0) refl

@@ -1,20 +1,21 @@
 //! Lanes in memory.
 
 ghost use Rattle.std.specs.Prelude.{◌≡◌, ◌≢◌, ◌^◌, ◌<◌, ◌≤◌, ◌+◌, ◌-◌, slice_get, option_map, false, IfOk, IfSome, IfNone, OnOk, OnErr, IsTrue, All, length, [], ◌++◌, vec_len, vec_capacity, ⊤};
+ghost use Rattle.std.specs.List.{list_any};
 ghost use Rattle.dnp_objects.specs.Lanes.{lane_number};
 ghost use Rattle.dnp_eventbuf.specs.Carried.{IsCarried};
 ghost use Rattle.dnp_eventbuf.specs.Latest.{numbered_for};
 ghost use Rattle.dnp_eventbuf.specs.Sound.{IsSound};
-ghost use Rattle.dnp_eventbuf.specs.Stock.{Stock, lane_at, is_full, dropped_from, empty_stock, with_row, with_rows, dropped_by, is_past, exhausts, without, all_up_to, without_all, rows_in};
+ghost use Rattle.dnp_eventbuf.specs.Stock.{Stock, lane_at, is_full, lanes_above, dropped_from, empty_stock, with_row, with_rows, dropped_by, is_past, exhausts, without, all_up_to, without_all, rows_in};
 
 use crate::arriving::{count_for, id_for};
+use crate::lane_of::LaneOf;
 use crate::lanes::Lanes;
+use crate::nine_steps::{
+    any_full, clear_all, count_all_up_to, cut_all, drops_for, push_all, push_all_up_to,
+};
 use crate::numbered::{Numbered, Upto};
 use crate::plain_lane::PlainLane;
-use crate::plain_nine::{
-    any_full, any_full_above, clear_all, count_all_up_to, cut_all, drops_for, push_all,
-    push_all_up_to,
-};
 use crate::rows::{Rows, empty_for};
 use dnp_objects::{LANES, Lane, LaneRow, MAX_ID, Row, StoreFault};
 use std::alloc::{AllocError, Global};
@@ -27,7 +28,7 @@ pub const MAX_CAPACITY: u32 = 4096;
 /// Nine lanes in memory, which take their room as they are made.
 pub struct PlainLanes {
     /// The lanes, by their numbers.
-    pub(crate) lanes: [PlainLane; LANES],
+    pub(crate) lanes: [LaneOf<PlainLane>; LANES],
     /// Whether a row was dropped, and some lane has been full since.
     pub(crate) overflow: bool,
     /// The last id used, of all lanes; 0 before the first.
@@ -63,7 +64,7 @@ impl PlainLanes {
         requires { All (λ capacity. (1 ≤ capacity) × (capacity ≤ MAX_CAPACITY)) capacities }
         ensures { IfOk result (λ lanes. lanes ≡ empty_stock capacities) }
     {
-        let lanes = capacities.try_map(|capacity| PlainLane::new(alloc, capacity))?;
+        let lanes = capacities.try_map(|capacity| LaneOf::<PlainLane>::new(alloc, capacity))?;
         Ok(PlainLanes {
             lanes,
             overflow: false,
@@ -90,7 +91,8 @@ impl PlainLanes {
         requires few { length rows.now ≤ 2 ^ 62 }
         ensures { result ≡ (length (lane_at self.now number).rows + length (numbered_for number self.now.last_id rows.now)) - (lane_at self.now number).capacity }
     {
-        self.lanes[number].over(count_for(number, rows))
+        let lane = &self.lanes[number];
+        lane.one.over(count_for(number, rows))
     }
 
     /// The id of the row at this place among those of the lane of this number and, after them, these
@@ -103,7 +105,7 @@ impl PlainLanes {
         let lane = &self.lanes[number];
         let len = lane.len() as usize;
         if place < len {
-            lane.id_at(place)
+            lane.one.id_at(place)
         } else {
             id_for(number, self.last_id, rows, place - len)
         }
@@ -238,6 +240,19 @@ impl PlainLanes {
         clear_all(&mut self.lanes);
         self.overflow = false;
     }
+}
+
+/// Whether some lane is full without its rows with ids up to its number.
+fn any_full_above(lanes: &[LaneOf<PlainLane>; LANES], upto: &Upto) -> bool
+    ensures { result ≡ list_any is_full (lanes_above lanes.now upto.now) }
+{
+    for k in 0..LANES {
+        let lane = &lanes[k];
+        if lane.one.is_full_above(upto[k]) {
+            return true;
+        }
+    }
+    false
 }
 
 /// Out of memory, as a store names it.

@@ -15,7 +15,8 @@ impl PlainLanes {
         requires lost { lost ≤ MAX_ID }
         ensures { self.new ≡ with_lost self.old number lost }
     {
-        self.lanes[number].restore_lost(lost);
+        let lane = &mut self.lanes[number];
+        lane.one.restore_lost(lost);
     }
 
     /// Notes whether the overflow stood, and the last id used, of all lanes: at least the one noted so
@@ -39,10 +40,10 @@ impl PlainLanes {
     {
         let last_id = self.last_id;
         let lane = &mut self.lanes[x.lane.number()];
-        if !lane.takes(id) || last_id < id {
+        if !lane.one.takes(id) || last_id < id {
             return false;
         }
-        lane.push(Numbered { id, row: x.row });
+        lane.one.push(Numbered { id, row: x.row });
         true
     }
 }

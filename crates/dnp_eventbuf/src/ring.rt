@@ -1,21 +1,20 @@
 //! Lanes in rings of memory.
 
-ghost use Rattle.std.specs.Prelude.{◌≡◌, ◌≢◌, ◌<◌, ◌≤◌, ◌+◌, ◌-◌, false, IfOk, IfSome, IfNone, OnOk, OnErr, IsTrue, All, List, length, map, [], ◌∷◌, ◌++◌, vec_len, vec_capacity, ⊤};
-ghost use Rattle.std.specs.List.{AllPairs, list_any};
+ghost use Rattle.std.specs.Prelude.{◌≡◌, ◌≢◌, ◌<◌, ◌≤◌, ◌+◌, false, IfOk, IfSome, IfNone, OnOk, OnErr, IsTrue, All, length, [], ◌++◌, vec_len, vec_capacity, ⊤};
 ghost use Rattle.dnp_objects.specs.Lanes.{lane_number};
 ghost use Rattle.dnp_eventbuf.specs.Carried.{IsCarried};
 ghost use Rattle.dnp_eventbuf.specs.Sound.{IsSound};
-ghost use Rattle.dnp_eventbuf.specs.Stock.{Stock, lane_at, is_full, dropped_from, empty_stock, with_row, with_rows, dropped_by, is_past, exhausts, lanes_above, lanes_up_to, emptied, lane_rows, without, all_up_to, without_all, rows_in};
-ghost use Rattle.dnp_objects.specs.declared.lane.LaneRow.{LaneRow as RowValue};
-ghost use Rattle.dnp_eventbuf.specs.declared.tally.Tally.{Tally as TallyValue};
-ghost use Rattle.dnp_eventbuf.specs.steps.Tallies.{tally_of, tally_at, drops_from};
+ghost use Rattle.dnp_eventbuf.specs.Stock.{Stock, lane_at, dropped_from, empty_stock, with_row, with_rows, dropped_by, is_past, exhausts, without, all_up_to, without_all, rows_in};
 
+use crate::lane_of::LaneOf;
 use crate::lanes::Lanes;
+use crate::nine_steps::{
+    any_full, clear_all, count_all_up_to, cut_all, drops_for, push_all, push_all_up_to,
+};
 use crate::numbered::{Numbered, Upto};
 use crate::plain::{MAX_CAPACITY, memory};
 use crate::ring_lane::RingLane;
 use crate::rows::{Rows, empty_for};
-use crate::tally::{Tally, drops};
 use dnp_objects::{LANES, Lane, LaneRow, MAX_ID, Row, StoreFault};
 use std::alloc::{AllocError, Global};
 use std::marker::Model;
@@ -24,7 +23,7 @@ use std::mem;
 /// Nine lanes in memory, each a ring, which take their room as they are made and move no row.
 pub struct RingLanes {
     /// The lanes, by their numbers.
-    pub(crate) lanes: [RingLane; LANES],
+    pub(crate) lanes: [LaneOf<RingLane>; LANES],
     /// Whether a row was dropped, and some lane has been full since.
     pub(crate) overflow: bool,
     /// The last id used, of all lanes; 0 before the first.
@@ -60,7 +59,7 @@ impl RingLanes {
         requires { All (λ capacity. (1 ≤ capacity) × (capacity ≤ MAX_CAPACITY)) capacities }
         ensures { IfOk result (λ lanes. lanes ≡ empty_stock capacities) }
     {
-        let lanes = capacities.try_map(|capacity| RingLane::new(alloc, capacity))?;
+        let lanes = capacities.try_map(|capacity| LaneOf::<RingLane>::new(alloc, capacity))?;
         Ok(RingLanes {
             lanes,
             overflow: false,
@@ -178,104 +177,6 @@ impl RingLanes {
     {
         clear_all(&mut self.lanes);
         self.overflow = false;
-    }
-}
-
-/// How many rows the lanes drop for these, or `None` where a count of lost rows would pass the limit. Most
-/// appends are of one row, for which one lane is looked at.
-fn drops_for(lanes: &[RingLane; LANES], rows: &[LaneRow]) -> Option<usize>
-    ensures { result ≡ drops_from 0 (map tally_of lanes.now) rows.now }
-{
-    if let [x] = rows {
-        return drops_one(&lanes[x.lane.number()]);
-    }
-    let mut tallies = tallies(lanes);
-    drops(&mut tallies, rows)
-}
-
-/// How many rows a lane drops for one more.
-fn drops_one(lane: &RingLane) -> Option<usize>
-    ensures { (tallies : List TallyValue) (x : RowValue) → tally_at tallies (lane_number x.lane) ≡ tally_of lane.now
-        → result ≡ drops_from 0 tallies (x ∷ []) }
-{
-    let tally = lane.tally();
-    if tally.free > 0 {
-        Some(0)
-    } else if tally.lost < MAX_ID {
-        Some(1)
-    } else {
-        None
-    }
-}
-
-/// Each lane's tally.
-fn tallies(lanes: &[RingLane; LANES]) -> [Tally; LANES]
-    ensures { result ≡ map tally_of lanes.now }
-{
-    let mut tallies = [Tally { free: 0, lost: 0 }; LANES];
-    for (k, lane) in lanes.iter().enumerate() {
-        tallies[k] = lane.tally();
-    }
-    tallies
-}
-
-/// Whether some lane is full.
-fn any_full(lanes: &[RingLane; LANES]) -> bool
-    ensures { result ≡ list_any is_full lanes.now }
-{
-    lanes.iter().any(|lane| lane.is_full())
-}
-
-/// How many rows there are of each lane with ids up to its number.
-fn count_all_up_to(lanes: &[RingLane; LANES], upto: &Upto) -> usize
-    requires rising { All (λ lane. AllPairs (λ x y. x.id < y.id) lane.rows) lanes.now }
-    ensures { result ≡ length (lanes_up_to lanes.now upto.now) }
-{
-    let mut count = 0;
-    for k in 0..LANES {
-        count += lanes[k].count_up_to(upto[k]);
-    }
-    count
-}
-
-/// Adds the rows of each lane with ids up to its number, for which there is room.
-fn push_all_up_to(lanes: &[RingLane; LANES], upto: &Upto, out: &mut Vec<Row>)
-    requires rising { All (λ lane. AllPairs (λ x y. x.id < y.id) lane.rows) lanes.now }
-    requires room { vec_len out.old + length (lanes_up_to lanes.now upto.now) ≤ vec_capacity out.old }
-    ensures { out.new.items ≡ out.old.items ++ lanes_up_to lanes.now upto.now }
-{
-    for k in 0..LANES {
-        lanes[k].push_up_to(upto[k], out);
-    }
-}
-
-/// Takes the rows of each lane with ids up to its number out.
-fn cut_all(lanes: &mut [RingLane; LANES], upto: &Upto)
-    requires rising { All (λ lane. AllPairs (λ x y. x.id < y.id) lane.rows) lanes.old }
-    ensures { lanes.new ≡ lanes_above lanes.old upto.now }
-{
-    for k in 0..LANES {
-        lanes[k].cut(upto[k]);
-    }
-}
-
-/// Adds the rows of each lane.
-fn push_all(lanes: &[RingLane; LANES], out: &mut Vec<Row>) -> Result<(), AllocError>
-    ensures rows { OnOk result (out.new.items ≡ out.old.items ++ lane_rows lanes.now) }
-    ensures memory { OnErr result (lane_rows lanes.now ≢ []) }
-{
-    for lane in lanes {
-        lane.push_all(out)?;
-    }
-    Ok(())
-}
-
-/// Takes all rows out of each lane.
-fn clear_all(lanes: &mut [RingLane; LANES])
-    ensures { lanes.new ≡ map emptied lanes.old }
-{
-    for lane in lanes {
-        lane.clear();
     }
 }
 

@@ -33,6 +33,20 @@ pub record IsLook {Store Place Answer : Type 0} (honest : Store → Type 0) (is_
   -- and it answers no fault that the lanes may not
   pub faults : IfErr answer (λ e. IsTrue (may_fault e))
 
+-- of lanes from which the call releases rows: they stay where it is refused
+pub record Releases {Store Place Answer : Type 0} (honest : Store → Type 0) (is_stopped : Store → Bool) (contents : Store → Stock)
+    (others : Store → List Stock) (kept : Store → Place) (asks_memory : Bool) (may_fault : StoreFault → Bool) (old new : Store) (answer : Result Answer StoreFault) : Type 0 where
+  pub held : honest new → honest old
+  pub place : kept new ≡ kept old
+  pub beside : honest new → others new ≡ others old
+  pub unchanged : honest new → OnErr answer (contents new ≡ contents old)
+  pub device : answer ≡ Err Device → IsTrue (is_stopped new)
+  pub runs_on : answer ≢ Err Device → is_stopped new ≡ is_stopped old
+  -- in memory it is out of memory only where there were rows
+  pub memory : honest new → answer ≡ Err Memory → asks_memory ≡ false → rows_in (contents old) ≢ []
+  pub named : answer ≢ Err Exhausted
+  pub faults : IfErr answer (λ e. IsTrue (may_fault e))
+
 -- of outputs: nothing was performed. They are what they were, or have come of that by performing no commands
 abbrev pub HaveDoneNothing : {Store : Type 0} → (Store → List Command → Store → Type 0) → Store → Store → Type 0
 HaveDoneNothing performs old new = (new ≡ old) ⊎ performs old [] new

@@ -7,13 +7,13 @@ ghost use Rattle.dnp_appfragment.specs.declared.function.Function.TheVariants as
 ghost use Rattle.dnp_appfragment.specs.Meaning.{request_at};
 ghost use Rattle.dnp_controls.specs.Panel.{Panel};
 ghost use Rattle.dnp_controls.specs.Selecting.{deadline};
-ghost use Rattle.dnp_eventbuf.specs.Stock.{without, rows_in};
+ghost use Rattle.dnp_eventbuf.specs.Stock.{without};
 ghost use Rattle.dnp_outstation.specs.steps.Answering.{goes_on_by, went_on, KeepsWhole, answers_held_by, switched_by};
 ghost use Rattle.dnp_outstation.specs.Calls.{with_that};
 ghost use Rattle.dnp_outstation.specs.Connection.{goes_on, on_confirm, confirmed, at_end, control_in, answers_held, on_unsolicited_confirm};
 ghost use Rattle.dnp_outstation.specs.State.{Core, State, nothing, with_session, is_free};
 ghost use Rattle.dnp_outstation.specs.Station.{state_of, actions_of, HasRoom};
-ghost use Rattle.dnp_outstation.specs.Stores.{IsLook, KeepsLanes};
+ghost use Rattle.dnp_outstation.specs.Stores.{IsLook, Releases};
 ghost use Rattle.dnp_outstation.specs.steps.Filling.{after_release};
 ghost use Rattle.dnp_outstation.specs.Items.{last_in};
 
@@ -141,19 +141,15 @@ impl OutstationCore {
         outputs: &O,
         now: u64,
     ) -> Result<(), StoreFault>
-        ensures lanes { KeepsLanes L.honest L.is_stopped L.contents L.beside L.place StoreFault.Device lanes.old lanes.new result }
+        ensures releases { Releases L.honest L.is_stopped L.contents L.beside L.place L.asks_memory L.may_fault lanes.old lanes.new result }
         ensures confirmed { L.honest lanes.new → OnOk result ((p : Panel) → let s = state_of self.old (L.contents lanes.old) p in
             at_end now (with_that s s.core.session.awaited (on_confirm s (O.panel outputs.now) now))
             ≡ record { state = state_of self.new (L.contents lanes.new) p; does = actions_of actions.new }) }
         ensures whole { OnOk result (All (λ fragment. 4 ≤ length fragment) (actions_of actions.new).send) }
         ensures unchanged { OnErr result (self.new ≡ self.old) }
         ensures actions_unchanged { OnErr result (actions.new ≡ actions.old) }
-        ensures device { result ≡ Err StoreFault.Device → IsTrue (L.is_stopped lanes.new) }
-        ensures memory { L.honest lanes.new → result ≡ Err StoreFault.Memory → L.asks_memory ≡ false → rows_in (L.contents lanes.old) ≢ [] }
         ensures memory_idle { L.honest lanes.new → result ≡ Err StoreFault.Memory → L.asks_memory ≡ false → (p : Panel) → let s = state_of self.old (L.contents lanes.old) p in
             (at_end now (with_that s s.core.session.awaited (on_confirm s (O.panel outputs.now) now))).does ≢ nothing }
-        ensures named { result ≢ Err StoreFault.Exhausted }
-        ensures faults { IfErr result (λ e. IsTrue (L.may_fault e)) }
     {
         let Some(awaited) = self.session.awaited else {
             return self.end_only(actions, alloc, lanes, now);
@@ -309,17 +305,13 @@ impl OutstationCore {
         outputs: &O,
         now: u64,
     ) -> Result<(), StoreFault>
-        ensures lanes { KeepsLanes L.honest L.is_stopped L.contents L.beside L.place StoreFault.Device lanes.old lanes.new result }
+        ensures releases { Releases L.honest L.is_stopped L.contents L.beside L.place L.asks_memory L.may_fault lanes.old lanes.new result }
         ensures confirmed { L.honest lanes.new → OnOk result ((p : Panel) → let s = state_of self.old (L.contents lanes.old) p in
             at_end now (with_that s s.core.session.unsolicited (on_unsolicited_confirm s (O.panel outputs.now) now))
             ≡ record { state = state_of self.new (L.contents lanes.new) p; does = actions_of actions.new }) }
         ensures whole { OnOk result (All (λ fragment. 4 ≤ length fragment) (actions_of actions.new).send) }
         ensures unchanged { OnErr result (self.new ≡ self.old) }
         ensures actions_unchanged { OnErr result (actions.new ≡ actions.old) }
-        ensures device { result ≡ Err StoreFault.Device → IsTrue (L.is_stopped lanes.new) }
-        ensures memory { L.honest lanes.new → result ≡ Err StoreFault.Memory → L.asks_memory ≡ false → rows_in (L.contents lanes.old) ≢ [] }
-        ensures named { result ≢ Err StoreFault.Exhausted }
-        ensures faults { IfErr result (λ e. IsTrue (L.may_fault e)) }
     {
         let Some(response) = self.session.unsolicited else {
             return self.end_only(actions, alloc, lanes, now);

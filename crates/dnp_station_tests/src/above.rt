@@ -1,16 +1,16 @@
 //! A concentrator towards the stations above.
 
 ghost use Rattle.std.specs.Prelude.{◌<◌};
+ghost use Rattle.dnp_concentrator.specs.Plan.{KeepsLimits};
 
 use crate::system_plans::{SMALL, plan};
-use dnp_concentrator::Concentrator;
+use dnp_concentrator::{Concentrator, Plan};
 use dnp_controls::{Book, Entry, PlainBook, State};
 use dnp_eventbuf::{CENTRES, PlainPair};
 use dnp_objects::Command;
 use dnp_outstation::Actions;
 use std::alloc::{AllocError, Global};
 use std::process::Abort;
-use std::test::Fail;
 
 /// A concentrator over stores in memory.
 pub(crate) type Middle = Concentrator<PlainPair, PlainBook>;
@@ -77,60 +77,82 @@ fn is_answered(
     head: [u8; 2],
     objects: &[u8; 18],
     status: u8,
-) -> Result<bool, Fail>
+) -> bool
     requires { centre < CENTRES }
 {
-    let asked = fragment(alloc, &head, objects, 0x00)?;
-    let answered = fragment(alloc, &[head[0], 0x81, 0x80, 0x00], objects, status)?;
-    concentrator.receive_above(centre, actions, alloc, now, asked.as_slice())?;
-    Ok(sends(actions, answered.as_slice()))
+    let Ok(asked) = fragment(alloc, &head, objects, 0x00) else {
+        return false;
+    };
+    let answer = [head[0], 0x81, 0x80, 0x00];
+    concentrator
+        .receive_above(centre, actions, alloc, now, asked.as_slice())
+        .is_ok()
+        && match fragment(alloc, &answer, objects, status) {
+            Ok(answered) => sends(actions, answered.as_slice()),
+            Err(_) => false,
+        }
 }
 
-/// A new concentrator of a plan of one substation, with unsolicited responses or without. `None` where the plan isn't one.
-fn concentrator_of(alloc: Global, unsolicited: bool) -> Result<Option<Middle>, AllocError> {
-    let mut plan = plan(alloc, &[SMALL])?;
+/// A concentrator of a plan that keeps its limits, over a queue.
+pub(crate) fn concentrator_over(alloc: Global, plan: &Plan, queue: PlainPair) -> Option<Middle>
+    requires { KeepsLimits plan.now }
+{
+    Concentrator::new(alloc, plan, queue, PlainBook::new(alloc)).ok()
+}
+
+/// A new concentrator of a plan of one substation, with unsolicited responses or without. `None` where it could not be made.
+fn concentrator_of(alloc: Global, unsolicited: bool) -> Option<Middle> {
+    let mut plan = plan(alloc, &[SMALL]).ok()?;
     plan.times.unsolicited = unsolicited;
     if !plan.keeps_limits() {
-        return Ok(None);
+        return None;
     }
-    let queue = PlainPair::new(alloc, [100; 9], [100; 9])?;
-    Ok(Concentrator::new(alloc, &plan, queue, PlainBook::new(alloc)).ok())
+    concentrator_over(
+        alloc,
+        &plan,
+        PlainPair::new(alloc, [100; 9], [100; 9]).ok()?,
+    )
+}
+
+/// Whether a book holds these entries.
+fn holds(alloc: Global, book: &mut PlainBook, entries: &[Entry]) -> bool {
+    match book.rows(alloc, 0, 10) {
+        Ok(rows) => rows.as_slice() == entries,
+        Err(_) => false,
+    }
 }
 
 /// Commands from above come into the book, and those to an output that the plan lacks don't.
-fn commands_are_put(rt: &impl Abort, alloc: Global, concentrator: &mut Middle) -> Result<(), Fail> {
+fn commands_are_put(rt: &impl Abort, alloc: Global, concentrator: &mut Middle) {
     let mut actions = Actions::none(alloc);
-    concentrator.opened_above(0, &mut actions, alloc, 0)?;
-    for (head, objects, status) in STEPS {
-        let is_right = is_answered(
-            concentrator,
-            0,
-            &mut actions,
-            alloc,
-            1_000,
-            head,
-            &objects,
-            status,
-        )?;
-        assert!(rt; is_right, "{head:?} {status}");
+    assert!(rt; concentrator.opened_above(0, &mut actions, alloc, 0).is_ok());
+    for (head, objects, status) in &STEPS {
+        assert!(rt;
+            is_answered(
+                concentrator,
+                0,
+                &mut actions,
+                alloc,
+                1_000,
+                *head,
+                objects,
+                *status
+            ),
+            "{head:?} {status}"
+        );
     }
-    assert!(rt; concentrator.book().rows(alloc, 0, 10)?.as_slice() == [LATCHED].as_slice());
+    assert!(rt; holds(alloc, concentrator.book(), &[LATCHED]));
     concentrator.hung_up_above(0);
     assert!(rt; !concentrator.quiet_above(0));
     concentrator.restart(alloc);
-    Ok(())
 }
 
 #[test]
-fn a_command_above_is_put_into_the_book(rt: HostRuntime) -> Result<(), Fail> {
-    let alloc = rt.alloc();
-    let Some(mut concentrator) = concentrator_of(alloc, false)? else {
-        return Err(Fail::new("no concentrator"));
-    };
-    commands_are_put(&rt, alloc, &mut concentrator)?;
+fn a_command_above_is_put_into_the_book(rt: HostRuntime) {
+    let mut concentrator = concentrator_of(rt.alloc(), false).expect(&rt, "a concentrator");
+    commands_are_put(&rt, rt.alloc(), &mut concentrator);
     let (_queue, mut book) = concentrator.into_stores();
-    assert!(rt; book.rows(alloc, 0, 10)?.as_slice() == [LATCHED].as_slice());
-    Ok(())
+    assert!(rt; holds(rt.alloc(), &mut book, &[LATCHED]));
 }
 
 /// The moment, whether it is the second centre, the first octets of its request to latch the output 200, and the status that
@@ -158,63 +180,65 @@ const SELECT_ENDS: [Turn; 3] = [
 fn turns_are_taken(
     rt: &impl Abort,
     alloc: Global,
+    concentrator: &mut Middle,
     turns: &[Turn],
     commands: &[Entry],
-) -> Result<(), Fail> {
-    let Some(mut concentrator) = concentrator_of(alloc, false)? else {
-        return Err(Fail::new("no concentrator"));
-    };
+) {
     let mut actions = Actions::none(alloc);
     for centre in 0..CENTRES {
-        concentrator.opened_above(centre, &mut actions, alloc, 0)?;
+        assert!(rt;
+            concentrator
+                .opened_above(centre, &mut actions, alloc, 0)
+                .is_ok()
+        );
     }
     for &(now, is_second, head, status) in turns {
         let centre = u8::from(is_second);
-        let is_right = is_answered(
-            &mut concentrator,
-            centre,
-            &mut actions,
-            alloc,
-            now,
-            head,
-            &LATCHES,
-            status,
-        )?;
-        assert!(rt; is_right, "{now} {centre} {head:?} {status}");
+        assert!(rt;
+            is_answered(
+                concentrator,
+                centre,
+                &mut actions,
+                alloc,
+                now,
+                head,
+                &LATCHES,
+                status
+            ),
+            "{now} {centre} {head:?} {status}"
+        );
     }
-    assert!(rt; concentrator.book().rows(alloc, 0, 10)?.as_slice() == commands);
-    Ok(())
+    assert!(rt; holds(alloc, concentrator.book(), commands));
 }
 
 #[test]
-fn a_selected_output_is_reserved(rt: HostRuntime) -> Result<(), Fail> {
-    turns_are_taken(&rt, rt.alloc(), &TURNS, &[LATCHED])
+fn a_selected_output_is_reserved(rt: HostRuntime) {
+    let mut concentrator = concentrator_of(rt.alloc(), false).expect(&rt, "a concentrator");
+    turns_are_taken(&rt, rt.alloc(), &mut concentrator, &TURNS, &[LATCHED]);
 }
 
 #[test]
-fn a_reserved_output_is_free_after_the_select_timer(rt: HostRuntime) -> Result<(), Fail> {
-    turns_are_taken(&rt, rt.alloc(), &SELECT_ENDS, &[])
+fn a_reserved_output_is_free_after_the_select_timer(rt: HostRuntime) {
+    let mut concentrator = concentrator_of(rt.alloc(), false).expect(&rt, "a concentrator");
+    turns_are_taken(&rt, rt.alloc(), &mut concentrator, &SELECT_ENDS, &[]);
 }
 
 /// The first report above awaits its confirm, and the link closes when its time is over.
-fn report_closes(rt: &impl Abort, alloc: Global, concentrator: &mut Middle) -> Result<(), Fail> {
+fn report_closes(rt: &impl Abort, alloc: Global, concentrator: &mut Middle) {
     let mut actions = Actions::none(alloc);
-    concentrator.opened_above(0, &mut actions, alloc, 0)?;
+    assert!(rt; concentrator.opened_above(0, &mut actions, alloc, 0).is_ok());
     assert!(rt; sends(&actions, &[0xF0, 0x82, 0x80, 0x00]));
-    for (now, closes) in [(4_999, false), (5_000, true)] {
-        concentrator.tick_above(0, &mut actions, alloc, now)?;
+    for &(now, closes) in &[(4_999, false), (5_000, true)] {
+        assert!(rt; concentrator.tick_above(0, &mut actions, alloc, now).is_ok());
         assert!(rt;
             actions.send[0].is_none() && actions.close == closes,
             "{now}"
         );
     }
-    Ok(())
 }
 
 #[test]
-fn a_report_above_awaits_its_confirm(rt: HostRuntime) -> Result<(), Fail> {
-    match concentrator_of(rt.alloc(), true)? {
-        Some(mut concentrator) => report_closes(&rt, rt.alloc(), &mut concentrator),
-        None => Err(Fail::new("no concentrator")),
-    }
+fn a_report_above_awaits_its_confirm(rt: HostRuntime) {
+    let mut concentrator = concentrator_of(rt.alloc(), true).expect(&rt, "a concentrator");
+    report_closes(&rt, rt.alloc(), &mut concentrator);
 }

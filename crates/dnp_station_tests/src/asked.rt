@@ -9,7 +9,6 @@ use dnp_master::{Classes, MasterFault, Task};
 use dnp_objects::{Command, Lane, LaneRow, Row, Status, StoreFault};
 use std::alloc::{AllocError, Global};
 use std::process::Abort;
-use std::test::Fail;
 
 /// A queue for two centres that holds nothing, and counts its appends.
 #[derive(Drop)]
@@ -208,21 +207,21 @@ const EVENT: [u8; 12] = [0xE0, 0x81, 0x00, 0x00, 0x02, 0x01, 0x28, 0x01, 0x00, 0
 #[rattlefmt::skip]
 const EVENT_ABOVE: [u8; 12] = [0xE0, 0x81, 0x00, 0x00, 0x02, 0x01, 0x28, 0x01, 0x00, 0x64, 0x00, 0x81];
 
-/// A concentrator over a queue, of these substations. `None` where they make no plan.
+/// A concentrator over a queue, of these substations. `None` where it could not be made.
 fn concentrator_of(
     alloc: Global,
     substations: &[Sketch],
     is_spent: bool,
-) -> Result<Option<Concentrator<CountedQueue, PlainBook>>, AllocError> {
-    let plan = plan(alloc, substations)?;
+) -> Option<Concentrator<CountedQueue, PlainBook>> {
+    let plan = plan(alloc, substations).ok()?;
     if !plan.keeps_limits() {
-        return Ok(None);
+        return None;
     }
     let queue = CountedQueue {
         appends: 0,
         is_spent,
     };
-    Ok(Concentrator::new(alloc, &plan, queue, PlainBook::new(alloc)).ok())
+    Concentrator::new(alloc, &plan, queue, PlainBook::new(alloc)).ok()
 }
 
 /// Substation 0 answers a poll with these octets, for which the queue is asked once: how many events were taken, or the
@@ -233,27 +232,27 @@ fn polled(
     concentrator: &mut Concentrator<CountedQueue, PlainBook>,
     octets: &[u8],
     taken: Result<usize, MasterFault>,
-) -> Result<(), Fail> {
-    if concentrator.substations() == 0 {
-        return Err(Fail::new("no substation"));
-    }
+) {
+    assert!(rt; concentrator.substations() > 0);
     concentrator.opened_below(0);
-    let _ = concentrator.ask_below(0, 0, POLL)?;
+    assert!(rt; concentrator.ask_below(0, 0, POLL).is_ok());
     let answer = concentrator.receive_below(alloc, 0, 0, octets);
     assert!(rt; answer.map(|(actions, _)| actions.taken) == taken);
     assert!(rt; concentrator.queue().appends == 1);
-    Ok(())
 }
 
 #[test]
-fn a_fragment_is_queued_for_both_by_one_append(rt: HostRuntime) -> Result<(), Fail> {
+fn a_fragment_is_queued_for_both_by_one_append(rt: HostRuntime) {
     for (is_spent, taken) in [(false, Ok(1)), (true, Err(MasterFault::Exhausted))] {
-        match concentrator_of(rt.alloc(), &[SMALL], is_spent)? {
-            Some(mut concentrator) => polled(&rt, rt.alloc(), &mut concentrator, &EVENT, taken)?,
-            None => return Err(Fail::new("no concentrator")),
-        }
+        let concentrator = concentrator_of(rt.alloc(), &[SMALL], is_spent);
+        polled(
+            &rt,
+            rt.alloc(),
+            &mut concentrator.expect(&rt, "a concentrator"),
+            &EVENT,
+            taken,
+        );
     }
-    Ok(())
 }
 
 /// The most substations that a plan has, the first of them with 400 binary inputs.
@@ -269,58 +268,50 @@ fn many_substations() -> [Sketch; 16] {
     sketches
 }
 
-/// An answer with an event of each of the first 156 binary inputs, and the present values of 400.
-fn full_answer(alloc: Global) -> Result<Vec<u8>, AllocError> {
-    let mut octets = Vec::from_slice(
-        alloc,
-        &[0xE0, 0x81, 0x00, 0x00, 0x02, 0x01, 0x28, 156, 0x00],
-    )?;
+/// Writes an answer with an event of each of the first 156 binary inputs, and the present values of 400.
+fn put_full_answer(octets: &mut Vec<u8>) -> Result<(), AllocError> {
+    octets.extend_from_slice(&[0xE0, 0x81, 0x00, 0x00, 0x02, 0x01, 0x28, 156, 0x00])?;
     for index in 0..156 {
         octets.extend_from_slice(&[index, 0x00, 0x81])?;
     }
     octets.extend_from_slice(&[0x01, 0x02, 0x01, 0x00, 0x00, 0x8F, 0x01])?;
-    for _ in 0..400 {
-        octets.push(0x81)?;
-    }
-    Ok(octets)
+    octets.extend_from_slice(&[0x81; 400])
 }
 
 #[test]
-fn a_full_fragment_is_taken_of_the_first_of_16(rt: HostRuntime) -> Result<(), Fail> {
-    let answer = full_answer(rt.alloc())?;
-    match concentrator_of(rt.alloc(), &many_substations(), false)? {
-        Some(mut concentrator) => polled(&rt, rt.alloc(), &mut concentrator, &answer, Ok(156)),
-        None => Err(Fail::new("no concentrator")),
-    }
+fn a_full_fragment_is_taken_of_the_first_of_16(rt: HostRuntime) {
+    let mut answer = Vec::new(rt.alloc());
+    assert!(rt; put_full_answer(&mut answer).is_ok());
+    let concentrator = concentrator_of(rt.alloc(), &many_substations(), false);
+    polled(
+        &rt,
+        rt.alloc(),
+        &mut concentrator.expect(&rt, "a concentrator"),
+        &answer,
+        Ok(156),
+    );
 }
 
-/// A centre over a journal that has no number left. `None` where the plan isn't one.
-fn centre_of(alloc: Global) -> Result<Option<Centre<SpentJournal, CountedBook>>, AllocError> {
-    let plan = plan(alloc, &[SMALL])?;
+/// A centre over a journal that has no number left. `None` where it could not be made.
+fn centre_of(alloc: Global) -> Option<Centre<SpentJournal, CountedBook>> {
+    let plan = plan(alloc, &[SMALL]).ok()?;
     if !plan.keeps_limits() {
-        return Ok(None);
+        return None;
     }
-    Ok(Centre::new(alloc, &plan, SpentJournal {}, CountedBook { reads: 0 }).ok())
+    Centre::new(alloc, &plan, SpentJournal {}, CountedBook { reads: 0 }).ok()
 }
 
 /// The book is read once for a step of relaying, and the journal's refusal is told by its name.
-fn asked_by(
-    rt: &impl Abort,
-    alloc: Global,
-    centre: &mut Centre<SpentJournal, CountedBook>,
-) -> Result<(), Fail> {
+fn asked_by(rt: &impl Abort, alloc: Global, centre: &mut Centre<SpentJournal, CountedBook>) {
     centre.opened();
-    let _ = centre.relay(alloc, 0)?;
+    assert!(rt; centre.relay(alloc, 0).is_ok());
     assert!(rt; centre.book().reads == 1);
-    let _ = centre.ask(0, POLL)?;
+    assert!(rt; centre.ask(0, POLL).is_ok());
     assert!(rt; centre.receive(alloc, 0, &EVENT_ABOVE).err() == Some(MasterFault::Exhausted));
-    Ok(())
 }
 
 #[test]
-fn a_spent_journal_is_told_as_spent(rt: HostRuntime) -> Result<(), Fail> {
-    match centre_of(rt.alloc())? {
-        Some(mut centre) => asked_by(&rt, rt.alloc(), &mut centre),
-        None => Err(Fail::new("no centre")),
-    }
+fn a_spent_journal_is_told_as_spent(rt: HostRuntime) {
+    let mut centre = centre_of(rt.alloc()).expect(&rt, "a centre");
+    asked_by(&rt, rt.alloc(), &mut centre);
 }

@@ -20,30 +20,39 @@ pub struct Alike {
     pub deadband: u32,
 }
 
+/// Adds a block to others.
+fn add(alloc: Global, found: &mut Vec<Block>, block: &Alike) -> Result<(), AllocError> {
+    let point = Point {
+        class: block.class,
+        deadband: block.deadband,
+    };
+    let points = Points::new(vec![in alloc; point; block.count]?);
+    found.push(Block {
+        base: block.base,
+        points,
+    })?;
+    Ok(())
+}
+
+/// Those of the blocks that are of a kind.
+fn of_kind(alloc: Global, kind: Kind, blocks: &[Alike]) -> Result<Vec<Block>, AllocError> {
+    let mut found = Vec::new(alloc);
+    for block in blocks {
+        if block.kind == kind {
+            add(alloc, &mut found, block)?;
+        }
+    }
+    Ok(found)
+}
+
 /// The plan of these blocks, or why they are none.
 pub(crate) fn plan_of(
     alloc: Global,
     blocks: &[Alike],
 ) -> Result<Result<PointPlan, PlanFault>, AllocError> {
-    let mut binary = Vec::new(alloc);
-    let mut counter = Vec::new(alloc);
-    let mut analog = Vec::new(alloc);
-    for block in blocks {
-        let point = Point {
-            class: block.class,
-            deadband: block.deadband,
-        };
-        let points = Points::new(vec![in alloc; point; block.count]?);
-        let kind = match block.kind {
-            Kind::Binary => &mut binary,
-            Kind::Counter => &mut counter,
-            Kind::Analog => &mut analog,
-        };
-        kind.push(Block {
-            base: block.base,
-            points,
-        })?;
-    }
+    let binary = of_kind(alloc, Kind::Binary, blocks)?;
+    let counter = of_kind(alloc, Kind::Counter, blocks)?;
+    let analog = of_kind(alloc, Kind::Analog, blocks)?;
     Ok(PointPlan::new(binary, counter, analog))
 }
 

@@ -1,21 +1,23 @@
 -- How a store begins: what each way out of such a call leaves.
-use Rattle.std.proofs.Common.{◌≡◌, ◌⊎◌, ◌↔◌, cond, Bool, true, false, Ok, Err, Result, IsTrue, List, ℕ, inl, inr, arith, refl, sym, ap, subst, ◌∙◌}
+use Rattle.std.proofs.Common.{◌≡◌, ◌↔◌, cond, Bool, true, false, Ok, Err, Result, IsTrue, inl, inr, arith, refl, sym, subst, ◌∙◌}
 use Rattle.std.specs.Prelude.{◌≢◌, IfErr, IfOk, IsOk, OnErr, OnOk}
 use Rattle.sqlite_trees.specs.declared.store.Store.{Ghosts}
 use Rattle.sqlite.specs.Held.{Held, state}
 use Rattle.sqlite.specs.State.{State, HasCleanDisk, Survives}
+use Rattle.sqlite.specs.Effect.{Database}
 use Rattle.sqlite.specs.Tree.{Trees}
 use Rattle.sqlite.specs.declared.error.Error.{Error}
+use Rattle.dnp_store.specs.declared.fault.Unread.{Unread}
 use Rattle.dnp_store.specs.declared.open.OpenFault.{OpenFault}
 use Rattle.dnp_store.specs.declared.open.OpenFault.TheVariants.{Device, Memory, OldForm, WrongForm}
 use Rattle.dnp_store.specs.declared.store_kind.StoreKind.{StoreKind}
-use Rattle.dnp_store.specs.Faults.{is_taken}
-use Rattle.dnp_store.specs.Refusals.{IsRefused, IsTaken}
-use Rattle.dnp_store.specs.steps.Beginning.{Begins, IsMade, IsTold, Tells}
+use Rattle.dnp_store.specs.Refusals.{IsRefused}
+use Rattle.dnp_store.specs.steps.Beginning.{Begins, IsFound, IsMade, IsServed, IsTold}
 use Rattle.dnp_store.specs.Tables.{no_schema}
 use Rattle.dnp_store.proofs.Statements.{survives_on}
 use Rattle.dnp_store.proofs.Standing.{survives_itself}
 use Rattle.dnp_store.proofs.Refusing.{same_err}
+use Rattle.dnp_store.proofs.Outcomes.{at_ok}
 
 idle_not : (b : Bool) → b ≡ false → IsTrue b → ⊥
 idle_not true is so = absurd (let no = is in cc)
@@ -67,6 +69,42 @@ module _ {S A : Type 0} (g : Ghosts S) (Makes : Trees → Type 0) where
     idle = late;
     same = λ clean opened. tt;
     survives = survives;
+  }
+
+-- ---- where a store was found
+
+module _ {S A : Type 0} (g : Ghosts S) (Finds : Database → State → A → Type 0) where
+  pub found_inside : (old : Held S) → IsTrue old.in_transaction → IsFound g Finds old old (Err WrongForm)
+  found_inside old inside = record {
+    begins = begins_inside g _ old inside;
+    current = λ is. absurd (let no = is in cc);
+    found = λ clean. tt;
+  }
+
+  pub found_read : (old mid new : Held S) (P : Database → A → Type 0) (read : Result A Unread) (result : Result A OpenFault) → old.in_transaction ≡ false
+      → (HasCleanDisk (state g mid) → IsTrue (state g mid).is_open → IsTrue (state g old).is_open × ((state g mid).committed ≡ (state g old).committed))
+      → (HasCleanDisk (state g mid) → IfOk read (P (state g old).committed)) → Survives (state g old) (state g mid) (λ _. ⊥)
+      → ((found : A) → IsTrue (state g new).is_open → (state g new).committed ≡ (state g old).committed → P (state g old).committed found
+      → Finds (state g old).committed (state g new) found)
+      → IsServed g mid new read result → IsFound g Finds old new result
+  found_read old mid new P read (Ok found) idle same reads first makes served = record {
+    begins = begins_well g _ old new found idle served.idle (survives_on (state g old) (state g mid) (state g new) _ first served.survives);
+    current = tt;
+    found = λ clean.
+        let early : HasCleanDisk (state g mid) = omega (arith, clean, served.survives.clean) in
+        let is_open = served.opened clean in
+        let late = served.same clean is_open in
+        makes found is_open (late.1 ∙ (same early late.0).1) (at_ok (P (state g old).committed) read found served.handed (reads early));
+  }
+  found_read old mid new P read (Err fault) idle same reads first makes served = record {
+    begins = begins_refused g _ old new fault idle served.idle
+        (λ clean opened.
+        let early : HasCleanDisk (state g mid) = omega (arith, clean, served.survives.clean) in
+        let late = served.same clean opened in
+        late.1 ∙ (same early late.0).1)
+        (survives_on (state g old) (state g mid) (state g new) _ first served.survives);
+    current = served.current;
+    found = λ clean. tt;
   }
 
 -- ---- where tables are made

@@ -19,12 +19,11 @@ use Rattle.sqlite.specs.Listing.{understood, reads_listing}
 use Rattle.sqlite.specs.State.{State, Shown}
 use Rattle.sqlite.proofs.Callers.{command_of, reads_as}
 use Rattle.dnp_controls.specs.declared.book.Entry.{Entry}
-use Rattle.dnp_controls.specs.Book.{Ledger, IsSound}
+use Rattle.dnp_controls.specs.Book.{IsSound}
 use Rattle.dnp_store.specs.Tables.{IsCounted}
 use Rattle.dnp_store.specs.QueueTables.{IsForm1}
 use Rattle.dnp_store.specs.BookTables.{book_schema, book_columns, entry_row, IsBook, status_of}
-use Rattle.dnp_store.specs.steps.BookShown.{ShowsEntry, ShowEntries, EntriesRise, HoldsEntries, FindsBook}
-use Rattle.dnp_store.specs.BookKept.{Stands}
+use Rattle.dnp_store.specs.steps.BookShown.{ShowsEntry, ShowEntries, EntriesRise, HoldsEntries, FindsBook, IsBookFound}
 use Rattle.dnp_store.specs.declared.store_kind.StoreKind.TheVariants.{Book}
 use Rattle.dnp_store.specs.steps.Stores.{Reads}
 use Rattle.dnp_store.proofs.Rows.{IsTyped, typed_rows, null_is, and_left, at_most}
@@ -162,5 +161,12 @@ opened db f c entries last has form counted holds = record {
 }
 
 -- what an open found stands where the connection still serves
-pub found_again : (old new : State) (book : Ledger) → IsTrue new.is_open → new.committed ≡ old.committed → IsBook old.committed book → Stands new book
-found_again old new book is_open same finds = record { is_open = is_open; holds = subst (λ (d : Database). IsBook d book) (sym same) finds }
+pub found_again : (old : Database) (new : State) (entries : List Entry) (last : ℕ) → IsTrue new.is_open → new.committed ≡ old → FindsBook old entries last
+    → IsBookFound old new entries last
+found_again old new entries last is_open same finds = record {
+  found = finds;
+  stands = record {
+    is_open = is_open;
+    holds = subst (λ (d : Database). IsBook d (record { entries = entries; last_id = last })) (sym same) finds;
+  };
+}

@@ -20,6 +20,7 @@ use Rattle.dnp_controls.specs.declared.book.Entry.{Entry}
 use Rattle.dnp_store.specs.BookTables.{book_schema, book_with, kind_of, code_of, count_of, on_of, off_of, value_of}
 use Rattle.dnp_store.specs.declared.store_kind.StoreKind.TheVariants.{Book}
 use Rattle.dnp_store.proofs.Inserting as inserting
+use Rattle.dnp_store.proofs.Statements.{IsRead, command_read, plain_read}
 use Rattle.dnp_store.proofs.Counting.{cast_int, cast_null, PutsAt}
 
 abbrev pub insert_text : List ℕ
@@ -40,13 +41,15 @@ whole_cells e =
     ∷ Int (pos (count_of e.command)) ∷ Int (pos (on_of e.command)) ∷ Int (pos (off_of e.command)) ∷ Int (value_of e.command)
     ∷ Int (pos 0) ∷ Int (pos 0) ∷ []
 
-insert_is : (f j : List Term) → command_of (understood (book_schema f j) insert_text) ≡ Insert 1 (Values insert_terms 12)
+insert_read : (f j : List Term) → IsRead (Insert 1 (Values insert_terms 12)) (understood (book_schema f j) insert_text)
 unfolding understood everything
-insert_is f j = refl
+insert_read f j = (refl, refl, refl)
+
+insert_is : (f j : List Term) → command_of (understood (book_schema f j) insert_text) ≡ Insert 1 (Values insert_terms 12)
+insert_is f j = command_read _ (understood (book_schema f j) insert_text) (insert_read f j)
 
 insert_plain : (f j : List Term) → IsPlain (understood (book_schema f j) insert_text)
-unfolding understood everything
-insert_plain f j = (refl, refl)
+insert_plain f j = plain_read _ (understood (book_schema f j) insert_text) (insert_read f j)
 
 insert_sources : (f j : List Term) (limit : Option ℕ) (db : Trees) (x : Entry) (rows : List Row)
     → Sourced limit (record { schema = book_schema f j; trees = db }) (stamped (book_with j) (insert_params x)) (Values insert_terms 12) (Ok rows)

@@ -1,5 +1,5 @@
 -- What an UPDATE makes of a book's entries.
-use Rattle.std.proofs.Common.{◌≡◌, ◌≢◌, ℕ, suc, ◌<◌, pos, negsuc, List, [], ◌∷◌, map, filter, codes, not, cond, Bool, true, false, Option, None, Some, Ok, refl, sym, ap, subst, ◌∙◌, ◌==◌, arith}
+use Rattle.std.proofs.Common.{◌≡◌, ◌≢◌, ℕ, suc, ◌<◌, pos, negsuc, List, [], ◌∷◌, map, filter, not, cond, Bool, true, false, Option, None, Some, Ok, refl, sym, ap, subst, ◌∙◌, ◌==◌, arith}
 use Rattle.std.specs.Prelude.{AllPairs}
 use Rattle.std.specs.List.{list_all, AllByRecursion}
 use Rattle.std.specs.List.Sorted.{IsPermutation}
@@ -37,7 +37,7 @@ use Rattle.dnp_controls.specs.declared.book.State.{State as Control}
 use Rattle.dnp_controls.specs.Book.{entry_of, in_state}
 use Rattle.dnp_store.specs.Texts.{book_update}
 use Rattle.dnp_store.specs.BookTables.{book_schema, book_with, entry_row, kind_of, code_of, count_of, on_of, off_of, value_of, state_of, status_of}
-use Rattle.dnp_store.proofs.Statements.{went, written, same_value}
+use Rattle.dnp_store.proofs.Statements.{IsRead, command_read, plain_read, went, written, same_value}
 use Rattle.dnp_store.proofs.Counting.{cast_int, cast_null}
 use Rattle.dnp_store.proofs.IdRows.{put_apart}
 use Rattle.dnp_store.proofs.QueueDeletes.{passes_on, and_true}
@@ -62,13 +62,15 @@ query = record {
   offset = lit (Int (pos 0));
 }
 
-update_is : (f c : List Term) → command_of (understood (book_schema f c) update_text) ≡ Update 1 (record { lets = []; body = query })
+update_read : (f c : List Term) → IsRead (Update 1 (record { lets = []; body = query })) (understood (book_schema f c) update_text)
 unfolding understood everything
-update_is f c = refl
+update_read f c = (refl, refl, refl)
+
+update_is : (f c : List Term) → command_of (understood (book_schema f c) update_text) ≡ Update 1 (record { lets = []; body = query })
+update_is f c = command_read _ (understood (book_schema f c) update_text) (update_read f c)
 
 update_plain : (f c : List Term) → IsPlain (understood (book_schema f c) update_text)
-unfolding understood everything
-update_plain f c = (refl, refl)
+update_plain f c = plain_read _ (understood (book_schema f c) update_text) (update_read f c)
 
 -- ---- the entry that is found
 

@@ -1,5 +1,5 @@
 -- What one statement of sixteen rows is to a journal's tables.
-use Rattle.std.proofs.Common.{◌≡◌, ℕ, List, [], ◌∷◌, ◌++◌, ◌≤◌, length, map, codes, Ok, refl, sym, subst, ◌∙◌, arith}
+use Rattle.std.proofs.Common.{◌≡◌, ℕ, List, [], ◌∷◌, ◌≤◌, length, map, codes, Ok, refl, subst, ◌∙◌, arith}
 use Rattle.std.proofs.lemmas.List.{length-map}
 use Rattle.sqlite_trees.proofs.ListLemmas.{all_weaker}
 use Rattle.sqlite_tied.specs.Compute.{everything}
@@ -24,17 +24,20 @@ use Rattle.dnp_store.proofs.Sixteen.{terms_16, params_of, rests_of}
 use Rattle.dnp_store.proofs.QueueStatements.{whole_cells}
 use Rattle.dnp_store.proofs.JournalStatements.{insert_casts}
 use Rattle.dnp_store.proofs.JournalHolding.{logged_for, put, with-append}
+use Rattle.dnp_store.proofs.Statements.{IsRead, command_read, plain_read}
 
 abbrev pub insert_text_16 : List ℕ
 insert_text_16 = journal_insert_16
 
-insert_is_16 : (f j : List Term) → command_of (understood (journal_schema f j) insert_text_16) ≡ Insert 1 (Values terms_16 7)
+insert_read_16 : (f j : List Term) → IsRead (Insert 1 (Values terms_16 7)) (understood (journal_schema f j) insert_text_16)
 unfolding understood everything
-insert_is_16 f j = refl
+insert_read_16 f j = (refl, refl, refl)
+
+insert_is_16 : (f j : List Term) → command_of (understood (journal_schema f j) insert_text_16) ≡ Insert 1 (Values terms_16 7)
+insert_is_16 f j = command_read _ (understood (journal_schema f j) insert_text_16) (insert_read_16 f j)
 
 insert_plain_16 : (f j : List Term) → IsPlain (understood (journal_schema f j) insert_text_16)
-unfolding understood everything
-insert_plain_16 f j = (refl, refl)
+insert_plain_16 f j = plain_read _ (understood (journal_schema f j) insert_text_16) (insert_read_16 f j)
 
 -- the events, as they are given and as they are put in
 abbrev pub logged_all : List Event → List Queued

@@ -17,7 +17,7 @@ use Rattle.dnp_objects.specs.declared.store.StoreFault.TheVariants as fault
 use Rattle.dnp_eventbuf.specs.Archive.{Archive, IsSoundArchive, rows_over}
 use Rattle.dnp_eventbuf.specs.SinkCalls.{IsJournalCall, IsSinkCall}
 use Rattle.dnp_store.specs.JournalTables.{HoldsArchive, IsJournal, archive_in}
-use Rattle.dnp_store.specs.steps.JournalShown.{Finds}
+use Rattle.dnp_store.specs.steps.JournalShown.{Finds, IsJournalFound}
 use Rattle.dnp_store.specs.JournalKept.{Kept, Keeps, IsHonest, Stands, archive_of, held_archive}
 use Rattle.dnp_store.proofs.Calling.{call_refused, call_stopped}
 use Rattle.dnp_store.proofs.Statements.{leaves_committed, leaves_either}
@@ -126,12 +126,11 @@ module _ {S : Type 0} (g : Ghosts S) where
   sound_still old new last same sound = subst IsSoundArchive (sym (same_archive old new last same)) sound
 
 -- what an open found stands where the connection still serves
-pub found_again : (old new : State) (last count : ℕ) → IsTrue new.is_open → new.committed ≡ old.committed → Finds old.committed last count
-    → Stands new (archive_in new.committed.trees last) × (count ≡ length (archive_in new.committed.trees last).rows)
-    × IsJournal old.committed (archive_in new.committed.trees last)
+pub found_again : (old : Database) (new : State) (last count : ℕ) → IsTrue new.is_open → new.committed ≡ old → Finds old last count
+    → IsJournalFound old new last count
 found_again old new last count is_open same finds =
-    let now = found_is new.committed last count (subst (λ (d : Database). Finds d last count) (sym same) finds) in (
-      record { is_open = is_open; holds = now.0 },
-      now.1,
-      subst (λ (d : Database). IsJournal d (archive_in new.committed.trees last)) same now.0,
-    )
+    let now = found_is new.committed last count (subst (λ (d : Database). Finds d last count) (sym same) finds) in record {
+      found = subst (λ (d : Database). IsJournal d (archive_in new.committed.trees last)) same now.0;
+      stands = record { is_open = is_open; holds = now.0 };
+      many = now.1;
+    }

@@ -20,6 +20,7 @@ use Rattle.dnp_store.specs.JournalTables.{journal_schema, journal_with}
 use Rattle.dnp_store.specs.declared.store_kind.StoreKind.TheVariants.{Journal}
 use Rattle.dnp_store.proofs.QueueStatements.{cast_time, insert_params, whole_cells}
 use Rattle.dnp_store.proofs.Inserting as inserting
+use Rattle.dnp_store.proofs.Statements.{IsRead, command_read, plain_read}
 use Rattle.dnp_store.proofs.Counting.{cast_int, cast_null, PutsAt}
 
 abbrev pub insert_text : List ℕ
@@ -28,13 +29,15 @@ insert_text = journal_insert
 abbrev insert_terms : List Term
 insert_terms = lit Null ∷ lit Null ∷ col 0 0 ∷ col 0 1 ∷ col 0 2 ∷ col 0 3 ∷ col 0 4 ∷ []
 
-insert_is : (f j : List Term) → command_of (understood (journal_schema f j) insert_text) ≡ Insert 1 (Values insert_terms 7)
+insert_read : (f j : List Term) → IsRead (Insert 1 (Values insert_terms 7)) (understood (journal_schema f j) insert_text)
 unfolding understood everything
-insert_is f j = refl
+insert_read f j = (refl, refl, refl)
+
+insert_is : (f j : List Term) → command_of (understood (journal_schema f j) insert_text) ≡ Insert 1 (Values insert_terms 7)
+insert_is f j = command_read _ (understood (journal_schema f j) insert_text) (insert_read f j)
 
 insert_plain : (f j : List Term) → IsPlain (understood (journal_schema f j) insert_text)
-unfolding understood everything
-insert_plain f j = (refl, refl)
+insert_plain f j = plain_read _ (understood (journal_schema f j) insert_text) (insert_read f j)
 
 insert_sources : (f j : List Term) (limit : Option ℕ) (db : Trees) (x : Queued) (rows : List Row)
     → Sourced limit (record { schema = journal_schema f j; trees = db }) (stamped (journal_with j) (insert_params x)) (Values insert_terms 7) (Ok rows)

@@ -16,6 +16,7 @@ pub mod Appending
 pub mod Trimming
 pub mod Calling
 pub mod Standing
+pub mod Writing
 pub mod Refusing
 pub mod Releasing
 pub mod Creating

@@ -16,8 +16,6 @@ use Rattle.sqlite.proofs.Callers.{survives_begin}
 use Rattle.sqlite.proofs.StateLemmas.{survives_then}
 use Rattle.dnp_objects.specs.declared.store.StoreFault.{StoreFault}
 use Rattle.dnp_objects.specs.declared.store.StoreFault.TheVariants as store
-use Rattle.dnp_controls.specs.declared.book.BookFault.{BookFault}
-use Rattle.dnp_controls.specs.declared.book.BookFault.TheVariants as book
 use Rattle.dnp_store.specs.declared.open.OpenFault.{OpenFault}
 use Rattle.dnp_store.specs.declared.open.OpenFault.TheVariants as opening
 use Rattle.dnp_store.specs.declared.store_kind.StoreKind.{StoreKind}
@@ -140,11 +138,6 @@ unread_of g old new rows Form told wrong shown = (shown.0, shown.1, rows, shown.
 unread_of g old new rows Memory told wrong shown = tt
 unread_of g old new rows (Failed e) told wrong shown = elim told [ inl is ↦ absurd cc | inr is ↦ absurd cc ]
 
--- what is so of an answer that is this error
-pub err_as : {A : Type 0} (P : Error → Type 0) (r : Result A Error) (e : Error) → r ≡ Err e → P e → IfErr r P
-err_as P (Ok a) e is holds = absurd cc
-err_as P (Err f) e is holds = subst P (sym (same_err is)) holds
-
 -- what is so of each store
 pub any_kind : {S : Type 0} (g : Ghosts S) (kind : StoreKind) (old mid new : Held S) (r : Result (Unit {0}) Error)
     → Survives (state g old) (state g mid) (λ _. ⊥)
@@ -175,11 +168,6 @@ pub lost_if : {A : Type 0} (lost : Bool) (f : StoreFault) → f ≡ cond lost st
     → lost ≡ true
 lost_if true f is told = refl
 lost_if false f is told = absurd cc
-
-pub lost_book : {A : Type 0} (lost : Bool) (f : BookFault) → (lost ≡ false → f ≡ book.Memory) → ◌≡◌ {A = Result A BookFault} (Err f) (Err book.Device)
-    → lost ≡ true
-lost_book true f serves told = refl
-lost_book false f serves told = absurd (let is = serves refl in cc)
 
 -- ---- a text that asks for nothing
 

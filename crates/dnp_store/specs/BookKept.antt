@@ -1,14 +1,14 @@
 -- Definition: a book of controls, whose entries stand in memory and in a database.
-use Rattle.std.specs.Prelude.{◌≡◌, ◌≤◌, ◌⊎◌, ℕ, List, Bool, false, IsTrue, All, length, take, refl}
+use Rattle.std.specs.Prelude.{◌≡◌, ◌≤◌, ℕ, List, Bool, false, IsTrue, All, length, take, refl}
 use Rattle.std.specs.Coded.{Coded, code_by, coded×, coded_bool, coded_ℕ}
 use Rattle.dnp_objects.specs.declared.limits.TheConstants.{MAX_ID}
 use Rattle.dnp_controls.specs.contracts.plain_book.PlainBook as plain
 use Rattle.dnp_controls.specs.declared.book.Entry.{Entry}
 use Rattle.dnp_controls.specs.Book.{Ledger, IsSound, is_pending}
 use Rattle.sqlite_trees.specs.declared.store.Store.{Ghosts}
-use Rattle.sqlite.specs.Tree.{Trees}
 use Rattle.sqlite.specs.State.{State, HasCleanDisk}
 use Rattle.sqlite.specs.Held.{Held, held_code, state}
+use Rattle.dnp_store.specs.Commits.{LeavesAs, LeavesOneOf, StandsAs}
 use Rattle.dnp_store.specs.BookTables.{HoldsBook, IsBook}
 
 -- a book: its connection, what it holds, and whether it has answered Device
@@ -26,9 +26,8 @@ kept_code {S} s =
     (λ p. record { conn = p.0; ledger = record { entries = p.1.0; last_id = p.1.1.0 }; stopped = p.1.1.1.0; owned = p.1.1.1.1 }) (λ _. refl)
 
 -- the connection serves, and the last commit holds these entries
-pub record Stands (s : State) (book : Ledger) : Type 0 where
-  pub is_open : IsTrue s.is_open
-  pub holds : IsBook s.committed book
+abbrev pub Stands : State → Ledger → Type 0
+Stands = StandsAs IsBook
 
 -- no entry before this place is pending
 pub record IsPast (entries : List Entry) (first : ℕ) : Type 0 where
@@ -50,8 +49,8 @@ IsHonest g b = HasCleanDisk (state g b.conn) × (b.stopped ≡ false) × IsTrue 
 
 -- each database that a crash may leave holds the one ledger or the other
 abbrev pub LeavesEither : State → Ledger → Ledger → Type 0
-LeavesEither s before after = (db : Trees) → s.may_leave db → HoldsBook db before ⊎ HoldsBook db after
+LeavesEither = LeavesOneOf HoldsBook
 
 -- each database that a crash may leave holds this ledger
 abbrev pub Leaves : State → Ledger → Type 0
-Leaves s book = (db : Trees) → s.may_leave db → HoldsBook db book
+Leaves = LeavesAs HoldsBook

@@ -1,12 +1,12 @@
 -- Definition: a journal, whose rows stand in a database, and whose count and last id stand in memory too.
-use Rattle.std.specs.Prelude.{◌≡◌, ◌≤◌, ◌⊎◌, ℕ, Bool, false, IsTrue, length, refl}
+use Rattle.std.specs.Prelude.{◌≡◌, ◌≤◌, ℕ, Bool, false, IsTrue, length, refl}
 use Rattle.std.specs.Coded.{Coded, code_by, coded×, coded_bool, coded_ℕ}
 use Rattle.dnp_objects.specs.declared.limits.TheConstants.{MAX_ID}
 use Rattle.dnp_eventbuf.specs.Archive.{Archive}
 use Rattle.sqlite_trees.specs.declared.store.Store.{Ghosts}
-use Rattle.sqlite.specs.Tree.{Trees}
 use Rattle.sqlite.specs.State.{State, HasCleanDisk}
 use Rattle.sqlite.specs.Held.{Held, held_code, state}
+use Rattle.dnp_store.specs.Commits.{LeavesAs, LeavesOneOf, StandsAs}
 use Rattle.dnp_store.specs.JournalTables.{HoldsArchive, IsJournal, archive_in}
 
 -- a journal: its connection, the last id used, how many rows it holds, and whether it has answered Device
@@ -25,9 +25,8 @@ kept_code {S} s =
     (λ p. record { conn = p.0; last_id = p.1.0; count = p.1.1.0; stopped = p.1.1.1.0; owned = p.1.1.1.1 }) (λ _. refl)
 
 -- the connection serves, and the last commit holds this archive
-pub record Stands (s : State) (a : Archive) : Type 0 where
-  pub is_open : IsTrue s.is_open
-  pub holds : IsJournal s.committed a
+abbrev pub Stands : State → Archive → Type 0
+Stands = StandsAs IsJournal
 
 -- what the last commit holds
 abbrev pub archive_of : {S : Type 0} → Ghosts S → Held S → ℕ → Archive
@@ -51,8 +50,8 @@ IsHonest g j = HasCleanDisk (state g j.conn) × (j.stopped ≡ false) × IsTrue 
 
 -- each database that a crash may leave holds the one archive or the other
 abbrev pub LeavesEither : State → Archive → Archive → Type 0
-LeavesEither s before after = (db : Trees) → s.may_leave db → HoldsArchive db before ⊎ HoldsArchive db after
+LeavesEither = LeavesOneOf HoldsArchive
 
 -- each database that a crash may leave holds this archive
 abbrev pub Leaves : State → Archive → Type 0
-Leaves s a = (db : Trees) → s.may_leave db → HoldsArchive db a
+Leaves = LeavesAs HoldsArchive

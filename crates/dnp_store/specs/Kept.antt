@@ -1,13 +1,13 @@
 -- Definition: a queue, whose rows stand in memory and in a database.
-use Rattle.std.specs.Prelude.{◌≡◌, ◌⊎◌, Bool, false, IsTrue, refl}
+use Rattle.std.specs.Prelude.{◌≡◌, Bool, false, IsTrue, refl}
 use Rattle.std.specs.Coded.{Coded, code_by, coded×, coded_bool}
 use Rattle.dnp_eventbuf.specs.contracts.plain.PlainLanes as plain
 use Rattle.dnp_eventbuf.specs.Sound.{IsSound}
 use Rattle.dnp_eventbuf.specs.Stock.{Stock}
 use Rattle.sqlite_trees.specs.declared.store.Store.{Ghosts}
-use Rattle.sqlite.specs.Tree.{Trees}
 use Rattle.sqlite.specs.State.{State, HasCleanDisk}
 use Rattle.sqlite.specs.Held.{Held, held_code, state}
+use Rattle.dnp_store.specs.Commits.{LeavesAs, LeavesOneOf, StandsAs}
 use Rattle.dnp_store.specs.PairTables.{HoldsPair, IsPair, Sides}
 
 -- a queue: its connection, what it holds for each of the two centres, and whether it has answered Device
@@ -26,9 +26,8 @@ kept_code {S} s =
     (λ p. record { conn = p.0; sides = record { first = p.1.0; second = p.1.1.0 }; stopped = p.1.1.1.0; owned = p.1.1.1.1 }) (λ _. refl)
 
 -- the connection serves, and the last commit holds these lanes
-pub record Stands (s : State) (sides : Sides) : Type 0 where
-  pub is_open : IsTrue s.is_open
-  pub holds : IsPair s.committed sides
+abbrev pub Stands : State → Sides → Type 0
+Stands = StandsAs IsPair
 
 -- the lanes of each side are as lanes are at all times
 abbrev pub AreSound : Sides → Type 0
@@ -48,8 +47,8 @@ IsHonest g q = HasCleanDisk (state g q.conn) × (q.stopped ≡ false) × IsTrue 
 
 -- each database that a crash may leave holds the one lanes or the other
 abbrev pub LeavesEither : State → Sides → Sides → Type 0
-LeavesEither s before after = (db : Trees) → s.may_leave db → HoldsPair db before ⊎ HoldsPair db after
+LeavesEither = LeavesOneOf HoldsPair
 
 -- each database that a crash may leave holds these lanes
 abbrev pub Leaves : State → Sides → Type 0
-Leaves s sides = (db : Trees) → s.may_leave db → HoldsPair db sides
+Leaves = LeavesAs HoldsPair

@@ -2,6 +2,7 @@
 pub mod Tables
 pub mod QueueTables
 pub mod PairTables
+pub mod Commits
 pub mod Kept
 pub mod JournalTables
 pub mod JournalKept

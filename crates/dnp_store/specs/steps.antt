@@ -12,3 +12,4 @@ pub mod Steps
 pub mod Stored
 pub mod Stores
 pub mod Turning
+pub mod Writing

@@ -190,6 +190,8 @@ impl<S: Alter> Book for ControlBook<S> {
         ensures kept { OnErr result (self.new.ledger ≡ self.old.ledger) }
         ensures owned { self.new.owned ≡ self.old.owned }
         ensures limit { self.new.conn.step_limit ≡ self.old.conn.step_limit }
+        ensures untouched { IsTrue self.old.stopped → self.new.conn ≡ self.old.conn }
+        ensures device { HasCleanDisk (state S.Store self.new.conn) → result ≡ Err BookFault.Device → IsTrue self.old.stopped ⊎ IsLost S.Store StoreKind.Book self.old.conn self.new.conn }
         ensures no_control { IfErr result (λ e. e ≡ BookFault.NoControl → entry_of self.old.ledger.entries id ≡ None) }
         ensures no_control_always { self.old.stopped ≡ false → entry_of self.old.ledger.entries id ≡ None → (result ≡ Err BookFault.NoControl) × (self.new ≡ self.old) }
         ensures was_finished { IfErr result (λ e. e ≡ BookFault.NotPending → Has self.old.ledger.entries id is_finished) }
@@ -198,8 +200,6 @@ impl<S: Alter> Book for ControlBook<S> {
         ensures memory { result ≡ Err BookFault.Memory → IsTrue true }
         ensures either { HasCleanDisk (state S.Store self.new.conn) → self.old.stopped ≡ false → IsTrue self.old.owned → LeavesEither (state S.Store self.new.conn) self.old.ledger (finished self.old.ledger id status) }
         ensures after { HasCleanDisk (state S.Store self.new.conn) → IsTrue self.old.owned → OnOk result (Leaves (state S.Store self.new.conn) self.new.ledger) }
-        ensures untouched { IsTrue self.old.stopped → self.new.conn ≡ self.old.conn }
-        ensures device { HasCleanDisk (state S.Store self.new.conn) → result ≡ Err BookFault.Device → IsTrue self.old.stopped ⊎ IsLost S.Store StoreKind.Book self.old.conn self.new.conn }
     {
         if self.stopped {
             return Err(BookFault::Device);

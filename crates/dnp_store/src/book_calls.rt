@@ -1,13 +1,12 @@
 //! What the calls of a book do to its controls, in the database and in memory.
 
 ghost use Rattle.std.specs.Prelude.{◌≡◌, ◌≢◌, ◌⊎◌, ◌+◌, ◌<◌, ◌≤◌, AllPairs, ℕ, false, not, IsTrue, IfErr, IfOk, None, OnErr, OnOk, Err};
-ghost use Rattle.sqlite.specs.Held.{state};
-ghost use Rattle.sqlite.specs.State.{HasCleanDisk};
 ghost use Rattle.dnp_objects.specs.declared.limits.TheConstants as limits;
 ghost use Rattle.dnp_controls.specs.Book.{Has, IsSound, added, entry_of, in_state};
-ghost use Rattle.dnp_store.specs.BookKept.{IsPast, Leaves, LeavesEither, Stands};
-ghost use Rattle.dnp_store.specs.Refusals.{IsLost};
+ghost use Rattle.dnp_store.specs.BookKept.{IsPast};
+ghost use Rattle.dnp_store.specs.BookTables.{HoldsBook, IsBook};
 ghost use Rattle.dnp_store.specs.steps.Turning.{is_barred, may_turn};
+ghost use Rattle.dnp_store.specs.steps.Writing.{IsWritten};
 
 use crate::book::book_fault;
 use crate::book_entries::{set_state, state_of};
@@ -82,16 +81,8 @@ pub(crate) fn turn_to<S: Alter>(
     ensures barred { IfErr result (λ e. e ≡ BookFault.NotPending → Has entries.old.items id (λ from. is_barred from control.now)) }
     ensures barred_always { Has entries.old.items id (λ from. is_barred from control.now) → (result ≡ Err BookFault.NotPending) × (conn.new ≡ conn.old) }
     ensures named { IfErr result (λ e. e ≢ BookFault.Exhausted) }
-    ensures idle { conn.new.in_transaction ≡ false }
-    ensures limit { conn.new.step_limit ≡ conn.old.step_limit }
-    ensures clean { HasCleanDisk (state S.Store conn.new) → HasCleanDisk (state S.Store conn.old) }
-    ensures stands { HasCleanDisk (state S.Store conn.new) → Stands (state S.Store conn.old) (record { entries = entries.old.items; last_id = last_id })
-        → (result ≡ Err BookFault.Device → ⊥) → Stands (state S.Store conn.new) (record { entries = entries.new.items; last_id = last_id }) }
-    ensures either { HasCleanDisk (state S.Store conn.new) → Stands (state S.Store conn.old) (record { entries = entries.old.items; last_id = last_id })
-        → LeavesEither (state S.Store conn.new) (record { entries = entries.old.items; last_id = last_id }) (record { entries = in_state entries.old.items id control.now; last_id = last_id }) }
-    ensures after { HasCleanDisk (state S.Store conn.new) → Stands (state S.Store conn.old) (record { entries = entries.old.items; last_id = last_id })
-        → OnOk result (Leaves (state S.Store conn.new) (record { entries = entries.new.items; last_id = last_id })) }
-    ensures device { HasCleanDisk (state S.Store conn.new) → result ≡ Err BookFault.Device → IsLost S.Store StoreKind.Book conn.old conn.new }
+    ensures written { IsWritten {I = Unit {0}} S.Store StoreKind.Book BookFault.Device IsBook HoldsBook (λ _. record { entries = entries.old.items; last_id = last_id })
+        (λ _. record { entries = in_state entries.old.items id control.now; last_id = last_id }) (λ _. record { entries = entries.new.items; last_id = last_id }) conn.old conn.new result }
 {
     // (a law, for the proof: it does nothing)
     ids_go_on();
@@ -126,16 +117,8 @@ pub(crate) fn add_to<S: Alter>(
     ensures exhausted_first { IfErr result (λ e. e ≡ BookFault.Memory → last_id.old < limits.MAX_ID) }
     ensures exhausted_always { limits.MAX_ID ≤ last_id.old → (result ≡ Err BookFault.Exhausted) × (conn.new ≡ conn.old) }
     ensures named { IfErr result (λ e. (e ≢ BookFault.NoControl) × (e ≢ BookFault.NotPending)) }
-    ensures idle { conn.new.in_transaction ≡ false }
-    ensures limit { conn.new.step_limit ≡ conn.old.step_limit }
-    ensures clean { HasCleanDisk (state S.Store conn.new) → HasCleanDisk (state S.Store conn.old) }
-    ensures stands { HasCleanDisk (state S.Store conn.new) → Stands (state S.Store conn.old) (record { entries = entries.old.items; last_id = last_id.old })
-        → (result ≡ Err BookFault.Device → ⊥) → Stands (state S.Store conn.new) (record { entries = entries.new.items; last_id = last_id.new }) }
-    ensures either { HasCleanDisk (state S.Store conn.new) → Stands (state S.Store conn.old) (record { entries = entries.old.items; last_id = last_id.old })
-        → LeavesEither (state S.Store conn.new) (record { entries = entries.old.items; last_id = last_id.old }) (added (record { entries = entries.old.items; last_id = last_id.old }) target command.now) }
-    ensures after { HasCleanDisk (state S.Store conn.new) → Stands (state S.Store conn.old) (record { entries = entries.old.items; last_id = last_id.old })
-        → OnOk result (Leaves (state S.Store conn.new) (record { entries = entries.new.items; last_id = last_id.new })) }
-    ensures device { HasCleanDisk (state S.Store conn.new) → result ≡ Err BookFault.Device → IsLost S.Store StoreKind.Book conn.old conn.new }
+    ensures written { IsWritten {I = Unit {0}} S.Store StoreKind.Book BookFault.Device IsBook HoldsBook (λ _. record { entries = entries.old.items; last_id = last_id.old })
+        (λ _. added (record { entries = entries.old.items; last_id = last_id.old }) target command.now) (λ _. record { entries = entries.new.items; last_id = last_id.new }) conn.old conn.new result }
 {
     // (a law, for the proof: it does nothing)
     ids_go_on();

@@ -1,10 +1,13 @@
 //! How a book of controls in a SQL database begins, and what stands at its end.
 
-ghost use Rattle.std.specs.Prelude.{◌≡◌, ◌≢◌, ◌↔◌, false, not, IsTrue, IfOk, IfErr, IsErrAnd, ◌⊎◌, Err};
+ghost use Rattle.std.specs.Prelude.{◌≡◌, ◌≢◌, ◌↔◌, ◌≤◌, [], false, not, IsTrue, IfOk, IfErr, IsErrAnd, ◌⊎◌, Err};
 ghost use Rattle.sqlite.specs.Held.{Held, state};
 ghost use Rattle.sqlite.specs.State.{HasCleanDisk, Survives};
 ghost use Rattle.sqlite.specs.Steps.{IsEmpty, over_memory};
-ghost use Rattle.dnp_controls.specs.Book.{empty_ledger};
+ghost use Rattle.dnp_controls.specs.Book.{IsSound, empty_ledger};
+ghost use Rattle.dnp_objects.specs.declared.limits.TheConstants as limits;
+ghost use Rattle.dnp_store.specs.steps.Beginning.{IsFound};
+ghost use Rattle.dnp_store.specs.steps.BookShown.{IsBookFound};
 ghost use Rattle.dnp_store.specs.BookKept.{IsHonest, Leaves, Stands};
 ghost use Rattle.dnp_store.specs.BookTables.{HoldsBook, IsBook};
 ghost use Rattle.dnp_store.specs.Refusals.{IsLost, IsTaken};
@@ -12,11 +15,29 @@ ghost use Rattle.dnp_store.specs.Schemas.{made_book};
 ghost use Rattle.dnp_store.specs.Tables.{no_schema};
 
 use crate::book::ControlBook;
-use crate::book_opening::read_book;
-use crate::open::{OpenFault, begin_tables, last_fault, unread_fault};
+use crate::book_opening::{FoundBook, read_book};
+use crate::open::{OpenFault, begin_tables, served};
 use crate::store_kind::StoreKind;
+use dnp_controls::Entry;
 use sqlite::{Alter, Connection, MemStore};
 use std::alloc::Global;
+
+/// What the database holds of a book, where the connection serves still, and whether nothing else stands there. The entries
+/// come into a list, which is empty.
+fn find_book<S: Alter>(
+    conn: &mut Connection<S>,
+    entries: &mut Vec<Entry>,
+) -> Result<(FoundBook, bool), OpenFault>
+    requires { entries.old.items ≡ [] }
+    ensures found { IsFound S.Store (λ old new found. IsTrue found.1 → IsBookFound old new entries.new.items found.0.last_id) conn.old conn.new result }
+    ensures sound { IfOk result (λ found. IsSound (record { entries = entries.new.items; last_id = found.0.last_id }) × (found.0.last_id ≤ limits.MAX_ID)) }
+{
+    if !conn.is_autocommit() {
+        return Err(OpenFault::WrongForm);
+    }
+    let read = read_book(conn, entries);
+    served(conn, read)
+}
 
 impl<S: Alter> ControlBook<S> {
     /// Makes a book without entries in the database. Other tables are left alone, but the book promises to
@@ -77,29 +98,18 @@ impl<S: Alter> ControlBook<S> {
         ensures handed_back { IfErr result (λ e. (e.1.in_transaction ≡ conn.in_transaction) × (e.1.step_limit ≡ conn.step_limit)) }
         ensures current { IfErr result (λ e. e.0 ≢ OpenFault.OldForm) }
     {
-        if !conn.is_autocommit() {
-            return Err((OpenFault::WrongForm, conn));
-        }
         let mut conn = conn;
         let mut entries = Vec::new(alloc);
-        match read_book(&mut conn, &mut entries) {
-            Ok((found, owned)) => {
-                if let Some(fault) = last_fault(&mut conn) {
-                    return Err((fault, conn));
-                }
-                Ok(ControlBook {
-                    conn,
-                    stopped: false,
-                    owned,
-                    last_id: found.last_id,
-                    first: 0,
-                    entries,
-                })
-            }
-            Err(unread) => {
-                let fault = unread_fault(&mut conn, &unread);
-                Err((fault, conn))
-            }
+        match find_book(&mut conn, &mut entries) {
+            Ok((found, owned)) => Ok(ControlBook {
+                conn,
+                stopped: false,
+                owned,
+                last_id: found.last_id,
+                first: 0,
+                entries,
+            }),
+            Err(fault) => Err((fault, conn)),
         }
     }
 

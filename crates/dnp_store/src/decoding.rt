@@ -1,6 +1,6 @@
 //! What rows that queries show of a queue's tables say.
 
-ghost use Rattle.std.specs.Prelude.{◌≡◌, ◌<◌, ◌≤◌, ◌^◌, ℕ, ℤ, Bool, Option, nat_le, false, IsTrue, IfOk, IfSome, [], ◌∷◌, List, codes, length, pos, All, slice_index_or, if◌then◌else◌, IfErr, OnErr};
+ghost use Rattle.std.specs.Prelude.{◌≡◌, ◌≢◌, ◌<◌, ◌≤◌, ◌^◌, ℕ, ℤ, Bool, Option, nat_le, false, IsTrue, IfOk, IfSome, [], ◌∷◌, List, codes, length, pos, All, slice_index_or, if◌then◌else◌, IfErr, OnErr};
 ghost use Rattle.sqlite.specs.declared.types.Value.TheVariants.{Int, Text};
 ghost use Rattle.sqlite.specs.Order.{column};
 ghost use Rattle.dnp_objects.specs.declared.limits.TheConstants as limits;
@@ -143,19 +143,28 @@ pub(crate) fn all_figures(rows: &[Shown]) -> Result<[Figures; LANES], Unread>
     Ok(figures)
 }
 
+/// Whether a row counts for this table.
+fn is_for(row: &Shown, table: &str) -> bool
+    ensures value { IsTrue result → column row.now 1 ≡ Text table.now }
+    ensures found { column row.now 1 ≡ Text table.now → IsTrue result }
+{
+    match row.get_ref(1) {
+        Ok(ValueRef::Text(name)) => name == table.as_bytes(),
+        _ => false,
+    }
+}
+
 /// The rowid of a row that counts for this table, and the number that it notes.
 fn count_in(row: &Shown, table: &str) -> Option<(u64, u64)>
     ensures value { IfSome result (λ x. ShowsCountOf table.now row.now x.0 x.1) }
     ensures found { (id n : ℕ) → ShowsCountOf table.now row.now id n → result ≡ Some (id, n) }
 {
-    match row.get_ref(1).ok()? {
-        ValueRef::Text(name) if name == table.as_bytes() => {
-            let id = whole(row, 0)?;
-            let n = whole(row, 2)?;
-            Some((id, n))
-        }
-        _ => None,
+    if !is_for(row, table) {
+        return None;
     }
+    let id = whole(row, 0)?;
+    let n = whole(row, 2)?;
+    Some((id, n))
 }
 
 /// The last id used, if nothing else is noted.
@@ -173,6 +182,15 @@ fn counted(rows: &[Shown], table: &str) -> Option<u64>
     Some(n)
 }
 
+/// The numbers that a row notes for one table and another row for a second, if their ids differ.
+fn pair_in(row: &Shown, other: &Shown, table: &str, second: &str) -> Option<(u64, u64)>
+    ensures { IfSome result (λ n. (id : ℕ) × (next : ℕ) × ShowsCountOf table.now row.now id n.0 × ShowsCountOf second.now other.now next n.1 × (id ≢ next)) }
+{
+    let (id, n) = count_in(row, table)?;
+    let (next, m) = count_in(other, second)?;
+    if id == next { None } else { Some((n, m)) }
+}
+
 /// The last ids used that are noted for two tables, 0 where none is, if nothing else is noted and their ids differ.
 fn counted_two(rows: &[Shown], first: &str, second: &str) -> Option<(u64, u64)>
     ensures { IfSome result (λ n. ShowsTwo first.now second.now rows.now n.0 n.1) }
@@ -183,15 +201,11 @@ fn counted_two(rows: &[Shown], first: &str, second: &str) -> Option<(u64, u64)>
             Some((_id, n)) => Some((n, 0)),
             None => Some((0, count_in(row, second)?.1)),
         },
-        [row, other] => match count_in(row, first) {
-            Some((id, n)) => {
-                let (next, m) = count_in(other, second)?;
-                if id == next { None } else { Some((n, m)) }
-            }
+        [row, other] => match pair_in(row, other, first, second) {
+            Some(found) => Some(found),
             None => {
-                let (id, m) = count_in(row, second)?;
-                let (next, n) = count_in(other, first)?;
-                if id == next { None } else { Some((n, m)) }
+                let (m, n) = pair_in(row, other, second, first)?;
+                Some((n, m))
             }
         },
         _ => None,

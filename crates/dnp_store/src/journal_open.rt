@@ -1,6 +1,6 @@
 //! How a journal in a SQL database begins, and what stands at its end.
 
-ghost use Rattle.std.specs.Prelude.{◌≡◌, ◌≢◌, ◌↔◌, false, not, IsTrue, IfOk, IfErr, IsErrAnd, ◌⊎◌, Err};
+ghost use Rattle.std.specs.Prelude.{◌≡◌, ◌≢◌, ◌↔◌, ◌≤◌, false, not, IsTrue, IfOk, IfErr, IsErrAnd, ◌⊎◌, Err};
 ghost use Rattle.sqlite.specs.Held.{Held, state};
 ghost use Rattle.sqlite.specs.State.{HasCleanDisk, Survives};
 ghost use Rattle.sqlite.specs.Steps.{IsEmpty, over_memory};
@@ -9,13 +9,31 @@ ghost use Rattle.dnp_store.specs.JournalTables.{HoldsArchive, IsJournal, empty_a
 ghost use Rattle.dnp_store.specs.Refusals.{IsLost, IsTaken};
 ghost use Rattle.dnp_store.specs.Schemas.{made_journal};
 ghost use Rattle.dnp_store.specs.Tables.{no_schema};
+ghost use Rattle.dnp_objects.specs.declared.limits.TheConstants as limits;
+ghost use Rattle.dnp_store.specs.steps.Beginning.{IsFound};
+ghost use Rattle.dnp_store.specs.steps.JournalShown.{IsJournalFound};
 
 use crate::journal::Journal;
-use crate::journal_opening::read_journal;
-use crate::open::{OpenFault, begin_tables, last_fault, unread_fault};
+use crate::journal_opening::{Found, read_journal};
+use crate::open::{OpenFault, begin_tables, served};
 use crate::store_kind::StoreKind;
 use sqlite::{Alter, Connection, MemStore};
 use std::alloc::Global;
+
+/// What the database holds of a journal, where the connection serves still, and whether nothing else stands there.
+fn find_journal<S: Alter>(
+    conn: &mut Connection<S>,
+    alloc: Global,
+) -> Result<(Found, bool), OpenFault>
+    ensures found { IsFound S.Store (λ old new found. IsTrue found.1 → IsJournalFound old new found.0.last_id found.0.count) conn.old conn.new result }
+    ensures range { IfOk result (λ found. (found.0.last_id ≤ limits.MAX_ID) × (found.0.count ≤ found.0.last_id)) }
+{
+    if !conn.is_autocommit() {
+        return Err(OpenFault::WrongForm);
+    }
+    let read = read_journal(conn, alloc);
+    served(conn, read)
+}
 
 impl<S: Alter> Journal<S> {
     /// Makes a journal without rows in the database. Other tables are left alone, but the journal promises
@@ -30,11 +48,11 @@ impl<S: Alter> Journal<S> {
         ensures owned { IfOk result (λ j. IsTrue j.owned ↔ ((state S.Store conn).now.schema ≡ no_schema)) }
         ensures empty { IfOk result (λ j. HasCleanDisk (state S.Store j.conn) → IsTrue j.owned → held_archive S.Store j ≡ empty_archive) }
         ensures stands { IfOk result (λ j. HasCleanDisk (state S.Store j.conn) → IsTrue j.owned → Stands (state S.Store j.conn) (held_archive S.Store j)) }
+        ensures handed_back { IfErr result (λ e. (e.1.in_transaction ≡ conn.in_transaction) × (e.1.step_limit ≡ conn.step_limit)) }
         ensures same { IfErr result (λ e. HasCleanDisk (state S.Store e.1) → IsTrue (state S.Store e.1).is_open → (state S.Store e.1).committed ≡ (state S.Store conn).committed) }
         ensures schema { IfOk result (λ j. HasCleanDisk (state S.Store j.conn) → IsTrue j.owned → (state S.Store j.conn).committed.schema ≡ made_journal) }
         ensures made { IfOk result (λ j. Survives (state S.Store conn) (state S.Store j.conn) (λ db. (state S.Store conn).now.schema ≡ no_schema → HoldsArchive db empty_archive)) }
         ensures left { IfErr result (λ e. Survives (state S.Store conn) (state S.Store e.1) (λ db. (state S.Store conn).now.schema ≡ no_schema → HoldsArchive db empty_archive)) }
-        ensures handed_back { IfErr result (λ e. (e.1.in_transaction ≡ conn.in_transaction) × (e.1.step_limit ≡ conn.step_limit)) }
         ensures device { IfErr result (λ e. HasCleanDisk (state S.Store e.1) → e.0 ≡ OpenFault.Device → IsLost S.Store StoreKind.Journal conn e.1) }
         ensures taken { IfErr result (λ e. HasCleanDisk (state S.Store e.1) → e.0 ≡ OpenFault.WrongForm → IsTrue conn.in_transaction ⊎ IsTaken S.Store StoreKind.Journal conn e.1) }
     {
@@ -49,6 +67,23 @@ impl<S: Alter> Journal<S> {
             }),
             Err(fault) => Err((fault, conn)),
         }
+    }
+
+    /// Whether the journal has not answered Device. If so, whatever a crash at this moment leaves holds the
+    /// rows as they stand.
+    pub fn serves(&self) -> bool
+        ensures value { result ≡ not self.now.stopped }
+        ensures left { HasCleanDisk (state S.Store self.now.conn) → IsTrue result → IsTrue self.now.owned → Leaves (state S.Store self.now.conn) (held_archive S.Store self.now) }
+    {
+        !self.stopped
+    }
+
+    /// Whether the database had no tables but the journal's own as it began or opened. Where it had, the
+    /// journal works alike, and promises nothing of its rows.
+    pub fn owns_database(&self) -> bool
+        ensures { result ≡ self.now.owned }
+    {
+        self.owned
     }
 
     /// Opens the journal that the database holds. Nothing is written, and each row is looked at once.
@@ -72,45 +107,17 @@ impl<S: Alter> Journal<S> {
         ensures handed_back { IfErr result (λ e. (e.1.in_transaction ≡ conn.in_transaction) × (e.1.step_limit ≡ conn.step_limit)) }
         ensures current { IfErr result (λ e. e.0 ≢ OpenFault.OldForm) }
     {
-        if !conn.is_autocommit() {
-            return Err((OpenFault::WrongForm, conn));
-        }
         let mut conn = conn;
-        match read_journal(&mut conn, alloc) {
-            Ok((found, owned)) => {
-                if let Some(fault) = last_fault(&mut conn) {
-                    return Err((fault, conn));
-                }
-                Ok(Journal {
-                    conn,
-                    last_id: found.last_id,
-                    count: found.count,
-                    owned,
-                    stopped: false,
-                })
-            }
-            Err(unread) => {
-                let fault = unread_fault(&mut conn, &unread);
-                Err((fault, conn))
-            }
+        match find_journal(&mut conn, alloc) {
+            Ok((found, owned)) => Ok(Journal {
+                conn,
+                last_id: found.last_id,
+                count: found.count,
+                owned,
+                stopped: false,
+            }),
+            Err(fault) => Err((fault, conn)),
         }
-    }
-
-    /// Whether the journal has not answered Device. If so, whatever a crash at this moment leaves holds the
-    /// rows as they stand.
-    pub fn serves(&self) -> bool
-        ensures value { result ≡ not self.now.stopped }
-        ensures left { HasCleanDisk (state S.Store self.now.conn) → IsTrue result → IsTrue self.now.owned → Leaves (state S.Store self.now.conn) (held_archive S.Store self.now) }
-    {
-        !self.stopped
-    }
-
-    /// Whether the database had no tables but the journal's own as it began or opened. Where it had, the
-    /// journal works alike, and promises nothing of its rows.
-    pub fn owns_database(&self) -> bool
-        ensures { result ≡ self.now.owned }
-    {
-        self.owned
     }
 }
 

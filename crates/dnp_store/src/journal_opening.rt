@@ -49,6 +49,17 @@ fn found_in(counts: &[Row], logged: Gathered) -> Result<Found, Unread>
     }
 }
 
+/// What was found, and whether it is the database's own.
+fn owned_by(found: Result<Found, Unread>, ours: bool) -> Result<(Found, bool), Unread>
+    ensures found { IfOk result (λ owned. found ≡ Ok owned.0) }
+    ensures owned { IfOk result (λ owned. IsTrue owned.1 → IsTrue ours × IsTrue owned.0.counted) }
+{
+    match found {
+        Ok(found) => Ok((found, both(ours, found.counted))),
+        Err(unread) => Err(unread),
+    }
+}
+
 /// What the tables hold, where they are a journal's.
 fn read_all<S: Alter>(tx: &mut Transaction<'_, S>, alloc: Global) -> Result<Found, Unread>
     requires inside { IsInside S.Store tx.old.conn }
@@ -61,17 +72,6 @@ fn read_all<S: Alter>(tx: &mut Transaction<'_, S>, alloc: Global) -> Result<Foun
     let counts = read_begun(tx)?;
     let logged = read_logged(tx, alloc)?;
     found_in(&counts, logged)
-}
-
-/// What was found, and whether it is the database's own.
-fn owned_by(found: Result<Found, Unread>, ours: bool) -> Result<(Found, bool), Unread>
-    ensures found { IfOk result (λ owned. found ≡ Ok owned.0) }
-    ensures owned { IfOk result (λ owned. IsTrue owned.1 → IsTrue ours × IsTrue owned.0.counted) }
-{
-    match found {
-        Ok(found) => Ok((found, both(ours, found.counted))),
-        Err(unread) => Err(unread),
-    }
 }
 
 /// What the tables hold, and whether the database has the tables of a journal and nothing else.

@@ -13,7 +13,7 @@ ghost use Rattle.dnp_store.specs.PairTables.{HoldsMigrated, HoldsPair, IsPair, S
 ghost use Rattle.dnp_store.specs.QueueTables.{IsQueue, queue_schema};
 ghost use Rattle.dnp_store.specs.Refusals.{IsLost, IsTaken};
 ghost use Rattle.dnp_store.specs.Schemas.{made_pair};
-ghost use Rattle.dnp_store.specs.steps.Beginning.{IsMade, IsTold};
+ghost use Rattle.dnp_store.specs.steps.Beginning.{IsMade, IsServed, IsTold};
 ghost use Rattle.dnp_store.specs.steps.Stores.{HasNumber, IsFresh};
 ghost use Rattle.dnp_store.specs.Tables.{no_schema};
 
@@ -105,6 +105,23 @@ pub(crate) fn last_fault<S: Alter>(conn: &mut Connection<S>) -> Option<OpenFault
     match probe(conn) {
         Ok(()) => None,
         Err(error) => Some(open_fault(false, !is_memory(&error))),
+    }
+}
+
+/// What was read of a store, where its connection serves still; or why the store doesn't open.
+pub(crate) fn served<S: Alter, Found: Drop>(
+    conn: &mut Connection<S>,
+    read: Result<Found, Unread>,
+) -> Result<Found, OpenFault>
+    requires { conn.old.in_transaction ≡ false }
+    ensures { IsServed S.Store conn.old conn.new read result }
+{
+    match read {
+        Ok(found) => match last_fault(conn) {
+            Some(fault) => Err(fault),
+            None => Ok(found),
+        },
+        Err(unread) => Err(unread_fault(conn, &unread)),
     }
 }
 

@@ -10,7 +10,7 @@ ghost use Rattle.dnp_store.specs.steps.Beginning.{AreFound, AreMade, AreMigrated
 ghost use Rattle.dnp_store.specs.steps.Seconds.{Opens};
 ghost use Rattle.dnp_store.specs.steps.Stored.{IsStored};
 
-use crate::open::{OpenFault, is_bare, last_fault, told, unread_fault};
+use crate::open::{OpenFault, is_bare, served, told};
 use crate::queue_opening::{Stored, read_stored};
 use crate::queue_tables::{write_second, write_tables};
 use dnp_eventbuf::{MAX_CAPACITY, PlainLanes};
@@ -69,13 +69,8 @@ fn find_stored<S: Alter>(conn: &mut Connection<S>, alloc: Global) -> Result<Stor
         → IsTrue (state S.Store conn.old).is_open × ((state S.Store conn.new).committed ≡ (state S.Store conn.old).committed) }
     ensures survives { Survives (state S.Store conn.old) (state S.Store conn.new) (λ _. ⊥) }
 {
-    match read_stored(conn, alloc) {
-        Ok(stored) => match last_fault(conn) {
-            Some(fault) => Err(fault),
-            None => Ok(stored),
-        },
-        Err(unread) => Err(unread_fault(conn, &unread)),
-    }
+    let read = read_stored(conn, alloc);
+    served(conn, read)
 }
 
 /// Why a queue for one centre doesn't open, by whether nothing else stands in its database and whether other tables do:

@@ -1,14 +1,12 @@
 //! What the calls of a queue do to one side, in the database and in memory, and to both.
 
 ghost use Rattle.std.specs.Prelude.{◌≡◌, ◌≢◌, ◌≤◌, ◌+◌, false, true, IsTrue, [], All, IfOk, IfErr, OnOk, OnErr, Err, ◌||◌, length, vec_len, vec_capacity};
-ghost use Rattle.sqlite.specs.Held.{state};
-ghost use Rattle.sqlite.specs.State.{HasCleanDisk};
 ghost use Rattle.dnp_eventbuf.specs.Carried.{IsCarried};
 ghost use Rattle.dnp_eventbuf.specs.Sound.{IsSound};
-ghost use Rattle.dnp_eventbuf.specs.Stock.{Stock, with_rows, dropped_by, exhausts, without, all_up_to, without_all, rows_in};
-ghost use Rattle.dnp_store.specs.Kept.{Leaves, LeavesEither, Stands};
-ghost use Rattle.dnp_store.specs.Refusals.{IsLost};
+ghost use Rattle.dnp_eventbuf.specs.Stock.{with_rows, dropped_by, exhausts, without, all_up_to, without_all, rows_in};
+ghost use Rattle.dnp_store.specs.PairTables.{HoldsPair, IsPair};
 ghost use Rattle.dnp_store.specs.steps.Pairs.{sides_of};
+ghost use Rattle.dnp_store.specs.steps.Writing.{IsWritten};
 
 use crate::fault::{fault, is_lost, memory};
 use crate::queue_release::{lowers, write_release};
@@ -94,13 +92,7 @@ pub(crate) fn append_to<S: Alter>(
     ensures exhausted { IfErr result (λ e. e ≡ StoreFault.Exhausted → IsTrue (exhausts lanes.old rows.now)) }
     ensures exhausted_first { IfErr result (λ e. e ≡ StoreFault.Memory → exhausts lanes.old rows.now ≡ false) }
     ensures exhausted_always { IsTrue (exhausts lanes.old rows.now) → (result ≡ Err StoreFault.Exhausted) × (conn.new ≡ conn.old) }
-    ensures idle { conn.new.in_transaction ≡ false }
-    ensures limit { conn.new.step_limit ≡ conn.old.step_limit }
-    ensures clean { HasCleanDisk (state S.Store conn.new) → HasCleanDisk (state S.Store conn.old) }
-    ensures stands { HasCleanDisk (state S.Store conn.new) → (others : Stock) → Stands (state S.Store conn.old) (sides_of side lanes.old others) → (result ≡ Err StoreFault.Device → ⊥) → Stands (state S.Store conn.new) (sides_of side lanes.new others) }
-    ensures either { HasCleanDisk (state S.Store conn.new) → (others : Stock) → Stands (state S.Store conn.old) (sides_of side lanes.old others) → LeavesEither (state S.Store conn.new) (sides_of side lanes.old others) (sides_of side (with_rows lanes.old rows.now) others) }
-    ensures after { HasCleanDisk (state S.Store conn.new) → (others : Stock) → Stands (state S.Store conn.old) (sides_of side lanes.old others) → OnOk result (Leaves (state S.Store conn.new) (sides_of side lanes.new others)) }
-    ensures device { HasCleanDisk (state S.Store conn.new) → result ≡ Err StoreFault.Device → IsLost S.Store StoreKind.Queue conn.old conn.new }
+    ensures written { IsWritten S.Store StoreKind.Queue StoreFault.Device IsPair HoldsPair (sides_of side lanes.old) (sides_of side (with_rows lanes.old rows.now)) (sides_of side lanes.new) conn.old conn.new result }
 {
     // (a law, for the proof: it does nothing)
     lanes_stay_sound();
@@ -137,13 +129,8 @@ pub(crate) fn append_both_to<S: Alter>(
     ensures exhausted { IfErr result (λ e. e ≡ StoreFault.Exhausted → IsTrue (exhausts first.old rows.now || exhausts second.old rows.now)) }
     ensures exhausted_first { IfErr result (λ e. e ≡ StoreFault.Memory → exhausts first.old rows.now || exhausts second.old rows.now ≡ false) }
     ensures exhausted_always { IsTrue (exhausts first.old rows.now || exhausts second.old rows.now) → (result ≡ Err StoreFault.Exhausted) × (conn.new ≡ conn.old) }
-    ensures idle { conn.new.in_transaction ≡ false }
-    ensures limit { conn.new.step_limit ≡ conn.old.step_limit }
-    ensures clean { HasCleanDisk (state S.Store conn.new) → HasCleanDisk (state S.Store conn.old) }
-    ensures stands { HasCleanDisk (state S.Store conn.new) → Stands (state S.Store conn.old) (record { first = first.old; second = second.old }) → (result ≡ Err StoreFault.Device → ⊥) → Stands (state S.Store conn.new) (record { first = first.new; second = second.new }) }
-    ensures either { HasCleanDisk (state S.Store conn.new) → Stands (state S.Store conn.old) (record { first = first.old; second = second.old }) → LeavesEither (state S.Store conn.new) (record { first = first.old; second = second.old }) (record { first = with_rows first.old rows.now; second = with_rows second.old rows.now }) }
-    ensures after { HasCleanDisk (state S.Store conn.new) → Stands (state S.Store conn.old) (record { first = first.old; second = second.old }) → OnOk result (Leaves (state S.Store conn.new) (record { first = first.new; second = second.new })) }
-    ensures device { HasCleanDisk (state S.Store conn.new) → result ≡ Err StoreFault.Device → IsLost S.Store StoreKind.Queue conn.old conn.new }
+    ensures written { IsWritten {I = Unit {0}} S.Store StoreKind.Queue StoreFault.Device IsPair HoldsPair (λ _. record { first = first.old; second = second.old })
+        (λ _. record { first = with_rows first.old rows.now; second = with_rows second.old rows.now }) (λ _. record { first = first.new; second = second.new }) conn.old conn.new result }
 {
     // (a law, for the proof: it does nothing)
     lanes_stay_sound();
@@ -172,13 +159,7 @@ pub(crate) fn release_from<S: Alter>(
     ensures taken { IfOk result (λ rows. rows.items ≡ all_up_to lanes.old upto.now) }
     ensures kept { OnErr result (lanes.new ≡ lanes.old) }
     ensures named { IfErr result (λ e. e ≢ StoreFault.Exhausted) }
-    ensures idle { conn.new.in_transaction ≡ false }
-    ensures limit { conn.new.step_limit ≡ conn.old.step_limit }
-    ensures clean { HasCleanDisk (state S.Store conn.new) → HasCleanDisk (state S.Store conn.old) }
-    ensures stands { HasCleanDisk (state S.Store conn.new) → (others : Stock) → Stands (state S.Store conn.old) (sides_of side lanes.old others) → (result ≡ Err StoreFault.Device → ⊥) → Stands (state S.Store conn.new) (sides_of side lanes.new others) }
-    ensures either { HasCleanDisk (state S.Store conn.new) → (others : Stock) → Stands (state S.Store conn.old) (sides_of side lanes.old others) → LeavesEither (state S.Store conn.new) (sides_of side lanes.old others) (sides_of side (without lanes.old upto.now) others) }
-    ensures after { HasCleanDisk (state S.Store conn.new) → (others : Stock) → Stands (state S.Store conn.old) (sides_of side lanes.old others) → OnOk result (Leaves (state S.Store conn.new) (sides_of side lanes.new others)) }
-    ensures device { HasCleanDisk (state S.Store conn.new) → result ≡ Err StoreFault.Device → IsLost S.Store StoreKind.Queue conn.old conn.new }
+    ensures written { IsWritten S.Store StoreKind.Queue StoreFault.Device IsPair HoldsPair (sides_of side lanes.old) (sides_of side (without lanes.old upto.now)) (sides_of side lanes.new) conn.old conn.new result }
 {
     let Ok(taken) = lanes.rows_up_to(alloc, upto) else {
         return Err(StoreFault::Memory);
@@ -206,13 +187,7 @@ pub(crate) fn empty_of<S: Alter>(
     ensures taken { IfOk result (λ rows. rows.items ≡ rows_in lanes.old) }
     ensures kept { OnErr result (lanes.new ≡ lanes.old) }
     ensures named { IfErr result (λ e. e ≢ StoreFault.Exhausted) }
-    ensures idle { conn.new.in_transaction ≡ false }
-    ensures limit { conn.new.step_limit ≡ conn.old.step_limit }
-    ensures clean { HasCleanDisk (state S.Store conn.new) → HasCleanDisk (state S.Store conn.old) }
-    ensures stands { HasCleanDisk (state S.Store conn.new) → (others : Stock) → Stands (state S.Store conn.old) (sides_of side lanes.old others) → (result ≡ Err StoreFault.Device → ⊥) → Stands (state S.Store conn.new) (sides_of side lanes.new others) }
-    ensures either { HasCleanDisk (state S.Store conn.new) → (others : Stock) → Stands (state S.Store conn.old) (sides_of side lanes.old others) → LeavesEither (state S.Store conn.new) (sides_of side lanes.old others) (sides_of side (without_all lanes.old) others) }
-    ensures after { HasCleanDisk (state S.Store conn.new) → (others : Stock) → Stands (state S.Store conn.old) (sides_of side lanes.old others) → OnOk result (Leaves (state S.Store conn.new) (sides_of side lanes.new others)) }
-    ensures device { HasCleanDisk (state S.Store conn.new) → result ≡ Err StoreFault.Device → IsLost S.Store StoreKind.Queue conn.old conn.new }
+    ensures written { IsWritten S.Store StoreKind.Queue StoreFault.Device IsPair HoldsPair (sides_of side lanes.old) (sides_of side (without_all lanes.old)) (sides_of side lanes.new) conn.old conn.new result }
 {
     // (a law, for the proof: it does nothing)
     a_release_is_lane_by_lane();

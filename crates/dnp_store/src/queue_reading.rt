@@ -11,14 +11,25 @@ ghost use Rattle.dnp_store.specs.PairTables.{lanes_tree, rows_tree};
 ghost use Rattle.dnp_store.specs.QueueTables.{figures_rows};
 ghost use Rattle.dnp_store.specs.steps.Pairs.{ReadsSide};
 ghost use Rattle.dnp_store.specs.steps.Shown.{AreNine, PutBack, Restores};
+ghost use Rattle.dnp_store.specs.Texts.{lanes_select, rows_select};
 
 use crate::decoding::all_figures;
 use crate::fault::Unread;
 use crate::figures::Figures;
-use crate::queue_side::{QueueSide, lanes_query, rows_query};
+use crate::queue_side::QueueSide;
 use crate::stores::list;
 use dnp_objects::LANES;
 use sqlite::{Alter, Error, Row, Transaction};
+
+/// The query for the figures of the lanes of a side, by their numbers.
+fn lanes_query(side: QueueSide) -> &'static str
+    ensures { result.now ≡ lanes_select side }
+{
+    match side {
+        QueueSide::First => "SELECT lane, cap, lost, raised FROM lanes ORDER BY lane",
+        QueueSide::Second => "SELECT lane, cap, lost, raised FROM lanes_b ORDER BY lane",
+    }
+}
 
 /// The capacities and counts of the nine lanes of a side.
 pub(crate) fn read_figures<S: Alter>(
@@ -48,4 +59,14 @@ pub(crate) fn read_queued<S: Alter>(
         → ((k : ℕ) → k < limits.LANES → (lane_at a k).rows ≡ []) → Restores 0 rows.items a b → PutBack (db (rows_tree side)) a b)) }
 {
     list(tx, rows_query(side))
+}
+
+/// The query for the rows of a side, by their ids.
+fn rows_query(side: QueueSide) -> &'static str
+    ensures { result.now ≡ rows_select side }
+{
+    match side {
+        QueueSide::First => "SELECT id, lane, point, flags, value, time FROM queue ORDER BY id",
+        QueueSide::Second => "SELECT id, lane, point, flags, value, time FROM queue_b ORDER BY id",
+    }
 }

@@ -1,8 +1,7 @@
 //! The two sides of a queue, and the statements of each.
 
 ghost use Rattle.std.specs.Prelude.{◌≡◌};
-ghost use Rattle.dnp_store.specs.PairTables.{rows_name};
-ghost use Rattle.dnp_store.specs.Texts.{lanes_select, lanes_update, rows_delete, rows_insert, rows_insert_16, rows_select};
+ghost use Rattle.dnp_store.specs.Texts.{lanes_update, rows_delete, rows_insert, rows_insert_16};
 
 /// One of the two sides of a queue: the lanes for the first centre, or for the second.
 #[derive(Clone, Copy)]
@@ -24,6 +23,16 @@ pub(crate) fn insert_text(side: QueueSide) -> &'static str
         QueueSide::Second => {
             "INSERT INTO queue_b (lane, point, flags, value, time) VALUES (?1, ?2, ?3, ?4, ?5)"
         }
+    }
+}
+
+/// The statement that takes rows of a lane out of the table of a side.
+pub(crate) fn delete_text(side: QueueSide) -> &'static str
+    ensures { result.now ≡ rows_delete side }
+{
+    match side {
+        QueueSide::First => "DELETE FROM queue WHERE lane = ?1 AND id <= ?2",
+        QueueSide::Second => "DELETE FROM queue_b WHERE lane = ?1 AND id <= ?2",
     }
 }
 
@@ -53,16 +62,6 @@ pub(crate) fn insert_16_text(side: QueueSide) -> &'static str
     }
 }
 
-/// The statement that takes rows of a lane out of the table of a side.
-pub(crate) fn delete_text(side: QueueSide) -> &'static str
-    ensures { result.now ≡ rows_delete side }
-{
-    match side {
-        QueueSide::First => "DELETE FROM queue WHERE lane = ?1 AND id <= ?2",
-        QueueSide::Second => "DELETE FROM queue_b WHERE lane = ?1 AND id <= ?2",
-    }
-}
-
 /// The statement that notes a lane's figures on a side.
 pub(crate) fn update_text(side: QueueSide) -> &'static str
     ensures { result.now ≡ lanes_update side }
@@ -70,35 +69,5 @@ pub(crate) fn update_text(side: QueueSide) -> &'static str
     match side {
         QueueSide::First => "UPDATE lanes SET lost = ?2, raised = ?3 WHERE lane = ?1",
         QueueSide::Second => "UPDATE lanes_b SET lost = ?2, raised = ?3 WHERE lane = ?1",
-    }
-}
-
-/// The query for the figures of the lanes of a side, by their numbers.
-pub(crate) fn lanes_query(side: QueueSide) -> &'static str
-    ensures { result.now ≡ lanes_select side }
-{
-    match side {
-        QueueSide::First => "SELECT lane, cap, lost, raised FROM lanes ORDER BY lane",
-        QueueSide::Second => "SELECT lane, cap, lost, raised FROM lanes_b ORDER BY lane",
-    }
-}
-
-/// The query for the rows of a side, by their ids.
-pub(crate) fn rows_query(side: QueueSide) -> &'static str
-    ensures { result.now ≡ rows_select side }
-{
-    match side {
-        QueueSide::First => "SELECT id, lane, point, flags, value, time FROM queue ORDER BY id",
-        QueueSide::Second => "SELECT id, lane, point, flags, value, time FROM queue_b ORDER BY id",
-    }
-}
-
-/// The name of the table of a side's rows.
-pub(crate) fn rows_name(side: QueueSide) -> &'static str
-    ensures { result.now ≡ rows_name side }
-{
-    match side {
-        QueueSide::First => "queue",
-        QueueSide::Second => "queue_b",
     }
 }

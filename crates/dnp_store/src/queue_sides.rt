@@ -1,6 +1,6 @@
 //! The lanes that the database of a queue for two centres holds.
 
-ghost use Rattle.std.specs.Prelude.{IsTrue, List, OnOk, IfOk};
+ghost use Rattle.std.specs.Prelude.{◌≡◌, IsTrue, List, OnOk, IfOk};
 ghost use Rattle.sqlite.specs.Held.{state};
 ghost use Rattle.sqlite.specs.State.{HasCleanDisk};
 ghost use Rattle.sqlite.specs.Order.{Row as SqlRow};
@@ -16,7 +16,7 @@ use crate::fault::Unread;
 use crate::figures::Figures;
 use crate::queue_opening::both;
 use crate::queue_reading::{read_figures, read_queued};
-use crate::queue_side::{QueueSide, rows_name};
+use crate::queue_side::QueueSide;
 use crate::store_kind::StoreKind;
 use crate::stores::read_counts;
 use dnp_eventbuf::PlainLanes;
@@ -121,4 +121,14 @@ pub(crate) fn read_sides<S: Alter>(
     );
     let (first, second, counted) = read_both(tx, alloc, &counts, (ours, theirs))?;
     Ok((first, second, both(alone, counted)))
+}
+
+/// The name of the table of a side's rows.
+fn rows_name(side: QueueSide) -> &'static str
+    ensures { result.now ≡ rows_name side }
+{
+    match side {
+        QueueSide::First => "queue",
+        QueueSide::Second => "queue_b",
+    }
 }

@@ -52,10 +52,10 @@ fn insert_block<S: Alter>(
 ) -> Result<(), Error>
     requires inside { IsInside S.Store tx.old.conn }
     requires carried { All IsCarried rows.now }
-    ensures step { IsStep S.Store tx.old.conn tx.new.conn result }
-    ensures refused { HasCleanDisk (state S.Store tx.new.conn.now) → IfErr result (IsRefused S.Store StoreKind.Queue tx.old.conn.now tx.new.conn.now) }
     ensures added { HasCleanDisk (state S.Store tx.new.conn.now) → OnOk result ((others s : Stock) (figures : List Figures) → length s.lanes ≡ limits.LANES
         → HoldsFor side others (state S.Store tx.old.conn.now).now s figures → HoldsFor side others (state S.Store tx.new.conn.now).now (all_added s rows.now) figures) }
+    ensures step { IsStep S.Store tx.old.conn tx.new.conn result }
+    ensures refused { HasCleanDisk (state S.Store tx.new.conn.now) → IfErr result (IsRefused S.Store StoreKind.Queue tx.old.conn.now tx.new.conn.now) }
 {
     if rows.len() == MANY {
         insert_many(tx, side, rows)
@@ -72,8 +72,8 @@ fn insert_all<S: Alter>(
 ) -> Result<(), Error>
     requires inside { IsInside S.Store tx.old.conn }
     requires carried { All IsCarried rows.now }
-    ensures step { IsStep S.Store tx.old.conn tx.new.conn result }
     ensures refused { HasCleanDisk (state S.Store tx.new.conn.now) → IfErr result (IsRefused S.Store StoreKind.Queue tx.old.conn.now tx.new.conn.now) }
+    ensures step { IsStep S.Store tx.old.conn tx.new.conn result }
     ensures added { HasCleanDisk (state S.Store tx.new.conn.now) → OnOk result ((others s : Stock) (figures : List Figures) → length s.lanes ≡ limits.LANES
         → HoldsFor side others (state S.Store tx.old.conn.now).now s figures → HoldsFor side others (state S.Store tx.new.conn.now).now (all_added s rows.now) figures) }
 {

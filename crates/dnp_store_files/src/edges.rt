@@ -1,6 +1,5 @@
 //! Rows at the ends of their ranges, which the CHECKs of a store's own tables let through.
 
-use crate::Fault;
 use crate::place::Place;
 use dnp_controls::{Book, BookFault};
 use dnp_eventbuf::{JournalStore, Lane, LaneRow, Lanes, Sink, is_carried};
@@ -93,53 +92,70 @@ fn are_logged<J: JournalStore>(journal: &mut J, alloc: Global) -> Option<bool> {
     Some(true)
 }
 
-/// Whether a new queue of lanes of the greatest capacity takes its events.
-fn of_queue<S: Alter, P: Place<Connection<S>>>(rt: &HostRuntime, place: &P) -> Result<bool, Fault> {
-    let conn = place.open(rt, "")?;
-    let (are_queued, conn) = match Queue::create(rt.alloc(), conn, [4_096; 9], [4_096; 9]) {
+/// Whether a new queue of lanes of the greatest capacity takes its events, and the connection.
+fn of_queue<S: Alter>(alloc: Global, conn: Connection<S>) -> (bool, Connection<S>) {
+    match Queue::create(alloc, conn, [4_096; 9], [4_096; 9]) {
         Ok(mut queue) => {
-            let are_queued = are_queued(&mut queue, rt.alloc());
+            let are_queued = are_queued(&mut queue, alloc) == Some(true);
             (are_queued, queue.into_connection())
         }
-        Err((_, conn)) => (None, conn),
-    };
-    place.close(conn)?;
-    Ok(are_queued == Some(true))
+        Err((_, conn)) => (false, conn),
+    }
 }
 
-/// Whether a new journal takes its events.
-fn of_journal<S: Alter, P: Place<Connection<S>>>(
-    rt: &HostRuntime,
-    place: &P,
-) -> Result<bool, Fault> {
-    let (are_logged, conn) = match Journal::create(place.open(rt, "")?) {
+/// Whether a new journal takes its events, and the connection.
+fn of_journal<S: Alter>(alloc: Global, conn: Connection<S>) -> (bool, Connection<S>) {
+    match Journal::create(conn) {
         Ok(mut journal) => {
-            let are_logged = are_logged(&mut journal, rt.alloc());
+            let are_logged = are_logged(&mut journal, alloc) == Some(true);
             (are_logged, journal.into_connection())
         }
-        Err((_, conn)) => (None, conn),
-    };
-    place.close(conn)?;
-    Ok(are_logged == Some(true))
+        Err((_, conn)) => (false, conn),
+    }
 }
 
-/// Whether a new book takes its commands.
-fn of_book<S: Alter, P: Place<Connection<S>>>(rt: &HostRuntime, place: &P) -> Result<bool, Fault> {
-    let (is_held, conn) = match ControlBook::create(rt.alloc(), place.open(rt, "")?) {
+/// Whether a new book takes its commands, and the connection.
+fn of_book<S: Alter>(alloc: Global, conn: Connection<S>) -> (bool, Connection<S>) {
+    match ControlBook::create(alloc, conn) {
         Ok(mut book) => {
-            let is_held = is_held(&mut book, rt.alloc());
+            let is_held = matches!(is_held(&mut book, alloc), Ok(true));
             (is_held, book.into_connection())
         }
-        Err((_, conn)) => (Ok(false), conn),
+        Err((_, conn)) => (false, conn),
+    }
+}
+
+/// A store that is tried.
+#[derive(Clone, Copy)]
+enum Subject {
+    /// A queue.
+    Queue,
+    /// A journal.
+    Journal,
+    /// A book of controls.
+    Book,
+}
+
+/// Whether a new store over a new database takes rows at the ends of their ranges.
+fn is_taken<S: Alter, P: Place<Connection<S>>>(
+    rt: &HostRuntime,
+    place: &P,
+    subject: Subject,
+) -> bool {
+    let Ok(conn) = place.open(rt, "") else {
+        return false;
     };
-    place.close(conn)?;
-    Ok(matches!(is_held, Ok(true)))
+    let (is_taken, conn) = match subject {
+        Subject::Queue => of_queue(rt.alloc(), conn),
+        Subject::Journal => of_journal(rt.alloc(), conn),
+        Subject::Book => of_book(rt.alloc(), conn),
+    };
+    place.close(conn).is_ok() && is_taken
 }
 
 /// Whether new stores take rows at the ends of their ranges.
-pub(crate) fn are_taken<S: Alter, P: Place<Connection<S>>>(
-    rt: &HostRuntime,
-    place: &P,
-) -> Result<bool, Fault> {
-    Ok(of_queue(rt, place)? && of_journal(rt, place)? && of_book(rt, place)?)
+pub(crate) fn are_taken<S: Alter, P: Place<Connection<S>>>(rt: &HostRuntime, place: &P) -> bool {
+    is_taken(rt, place, Subject::Queue)
+        && is_taken(rt, place, Subject::Journal)
+        && is_taken(rt, place, Subject::Book)
 }

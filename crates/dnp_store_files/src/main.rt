@@ -23,7 +23,7 @@ mod timing;
 
 use crate::old::Migrating;
 use crate::place::{InFile, InMemory, Place};
-use crate::spoilt::Form;
+use crate::spoilt::{Change, Form};
 use crate::stops::files::Failing;
 use crate::stored::Stored;
 use dnp_controls::BookFault;
@@ -35,7 +35,7 @@ use std::alloc::AllocError;
 use std::{env, io};
 
 /// Why a line was not printed.
-#[derive(Debug, Drop)]
+#[derive(Clone, Copy, Debug)]
 enum Fault {
     /// Printing failed, or the words could not be read.
     Io(io::Error),
@@ -240,23 +240,41 @@ fn try_form<S: Alter, P: Place<Connection<S>>, T: Stored<Connection<S>>>(
     place: &P,
     subject: &Subject,
 ) -> Result<(), Fault> {
-    match spoilt::mistaken::<S, P, T>(rt, place, &subject.form)? {
-        Some(change) => say(rt, subject.name, "over its tables", change.as_str())?,
-        None => say(rt, subject.name, "over its tables", verdict(true))?,
+    let Form { tables, .. } = subject.form;
+    let changes = spoilt::changes(rt.alloc(), &subject.form)?;
+    match spoilt::mistaken::<S, P, T>(rt, place, tables, &changes) {
+        Some(change) => say_change(rt, subject, change),
+        None => say_form(
+            rt,
+            subject,
+            spoilt::overwritten::<S, P, T>(rt, place, tables),
+        ),
     }
+}
+
+/// Prints the database that a store did not take as it has to.
+fn say_change(rt: &HostRuntime, subject: &Subject, change: Change) -> Result<(), Fault> {
+    let script = spoilt::script(rt.alloc(), subject.form.tables, change)?;
+    say_form(rt, subject, Some(script.as_str()))
+}
+
+/// Prints what a store did not take as it has to, or that it took all so.
+fn say_form(rt: &HostRuntime, subject: &Subject, mistaken: Option<&str>) -> Result<(), Fault> {
+    let came = mistaken.unwrap_or(verdict(true));
+    say(rt, subject.name, "over its tables", came)?;
     Ok(())
 }
 
 /// Gives the stores rows at the ends of their ranges, and prints whether they took them, and refused one after the last id.
 fn fill<S: Alter, P: Place<Connection<S>>>(rt: &HostRuntime, place: &P) -> Result<(), Fault> {
-    let are_taken = edges::are_taken(rt, place)?;
+    let are_taken = edges::are_taken(rt, place);
     say(
         rt,
         "rows",
         "at the ends of their ranges",
         verdict(are_taken),
     )?;
-    let are_full = others::are_full(rt, place)?;
+    let are_full = others::are_full(rt, place);
     say(rt, "no id", "after the last", verdict(are_full))?;
     println!(rt;
         "{}, {}, {}, {}",

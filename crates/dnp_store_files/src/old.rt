@@ -4,7 +4,7 @@ ghost use Rattle.std.specs.Prelude.{All};
 ghost use Rattle.dnp_eventbuf.specs.Carried.{IsCarried};
 
 use crate::Fault;
-use crate::queues::{are_carried, event, show_all};
+use crate::queues::{are_carried, are_numbered, event, show_all};
 use crate::stored::{Job, Stored};
 use dnp_eventbuf::{Lane, LaneRow, Lanes, Numbered, PairLanes, Side, StoreFault};
 use dnp_objects::Row;
@@ -58,12 +58,8 @@ fn appended<P: PairLanes>(
 pub(crate) fn holds_its_rows<P: PairLanes>(pair: &mut P, alloc: Global) -> Option<bool> {
     let lane = Lane::numbered(0)?;
     let rows = offered(pair, alloc, lane).ok()?;
-    let is_there = rows
-        .iter()
-        .map(|x| (x.id, x.row.index))
-        .eq([(2u64, 11u16)].iter().copied());
     Some(
-        is_there
+        are_numbered(&rows, &[(2, 11)])
             && pair.lost(0, lane) == 1
             && pair.raised(0)
             && pair.lost(1, lane) == 0
@@ -99,6 +95,18 @@ fn goes_on<P: PairLanes>(pair: &mut P, alloc: Global) -> Option<bool> {
 /// Whether a queue stands as its migration left it, and goes on.
 fn is_migrated<P: PairLanes>(pair: &mut P, alloc: Global) -> bool {
     holds_its_rows(pair, alloc) == Some(true) && goes_on(pair, alloc) == Some(true)
+}
+
+/// Does a job with lanes that were brought to the form for two.
+fn does<Q: Lanes + PairLanes>(rt: &HostRuntime, queue: &mut Q, job: Job) -> Result<bool, Fault> {
+    match job {
+        Job::Walk => Ok(true),
+        Job::Check => Ok(is_migrated(queue, rt.alloc())),
+        Job::Show => {
+            show_all(rt, queue)?;
+            Ok(true)
+        }
+    }
 }
 
 /// Why the tables were not made.
@@ -164,21 +172,12 @@ impl<S: Alter> Stored<Connection<S>> for Migrating<S> {
     }
 
     fn does(&mut self, rt: &HostRuntime, job: Job) -> Result<bool, Fault> {
-        match job {
-            Job::Walk => Ok(true),
-            Job::Check => match self {
-                Migrating::Old(_) => Ok(false),
-                Migrating::Now(queue, was_old) => {
-                    Ok(*was_old && queue.owns_database() && is_migrated(queue, rt.alloc()))
-                }
-            },
-            Job::Show => match self {
-                Migrating::Old(_) => Err(Fault::Store),
-                Migrating::Now(queue, _) => {
-                    show_all(rt, queue)?;
-                    Ok(true)
-                }
-            },
+        match self {
+            Migrating::Old(_) => Ok(job == Job::Walk),
+            Migrating::Now(queue, was_old) => {
+                let is_done = does(rt, queue, job)?;
+                Ok(is_done && (job != Job::Check || (*was_old && queue.owns_database())))
+            }
         }
     }
 }

@@ -1,11 +1,10 @@
 //! Stores over tables that others wrote, without CHECKs: whose database it is, and what comes after the last id.
 
-use crate::Fault;
 use crate::place::Place;
 use dnp_eventbuf::{Lane, LaneRow, Lanes, Sink, StoreFault, is_carried};
 use dnp_objects::{Kind, Row, is_event};
 use dnp_store::{Journal, Queue};
-use sqlite::{Alter, Connection, Error};
+use sqlite::{Alter, Connection};
 use std::alloc::Global;
 
 /// A queue's tables with one row in the first centre's first lane, whose id is the last, and a journal's with such a row.
@@ -80,63 +79,59 @@ fn is_journal_full<S: Alter>(journal: &mut Journal<S>, alloc: Global, is_owned: 
         && journal.owns_database() == is_owned
 }
 
-/// Makes tables, and what there is besides.
-fn make<S: Alter>(conn: &mut Connection<S>, tables: &str, more: &str) -> Result<(), Error> {
-    conn.execute_batch(tables)?;
-    conn.execute_batch(more)
-}
-
-/// Whether a queue opens on its tables, and is full.
-fn of_queue<S: Alter, P: Place<Connection<S>>>(
-    rt: &HostRuntime,
-    place: &P,
-    more: &str,
-    is_owned: bool,
-) -> Result<bool, Fault> {
-    let mut conn = place.open(rt, "")?;
-    let made = make(&mut conn, QUEUE, more);
-    let (is_full, conn) = match Queue::open(rt.alloc(), conn) {
+/// Whether a queue opens on its tables, and is full, and the connection.
+fn of_queue<S: Alter>(alloc: Global, conn: Connection<S>, is_owned: bool) -> (bool, Connection<S>) {
+    match Queue::open(alloc, conn) {
         Ok(mut queue) => {
-            let is_full = is_queue_full(&mut queue, rt.alloc(), is_owned);
+            let is_full = is_queue_full(&mut queue, alloc, is_owned);
             (is_full, queue.into_connection())
         }
         Err((_, conn)) => (false, conn),
-    };
-    place.close(conn)?;
-    made?;
-    Ok(is_full)
+    }
 }
 
 /// The same of a journal.
-fn of_journal<S: Alter, P: Place<Connection<S>>>(
-    rt: &HostRuntime,
-    place: &P,
-    more: &str,
+fn of_journal<S: Alter>(
+    alloc: Global,
+    conn: Connection<S>,
     is_owned: bool,
-) -> Result<bool, Fault> {
-    let mut conn = place.open(rt, "")?;
-    let made = make(&mut conn, JOURNAL, more);
-    let (is_full, conn) = match Journal::open(rt.alloc(), conn) {
+) -> (bool, Connection<S>) {
+    match Journal::open(alloc, conn) {
         Ok(mut journal) => {
-            let is_full = is_journal_full(&mut journal, rt.alloc(), is_owned);
+            let is_full = is_journal_full(&mut journal, alloc, is_owned);
             (is_full, journal.into_connection())
         }
         Err((_, conn)) => (false, conn),
+    }
+}
+
+/// Whether a queue or a journal is full over a database with its tables, its own or with one table more.
+fn is_full<S: Alter, P: Place<Connection<S>>>(
+    rt: &HostRuntime,
+    place: &P,
+    is_queue: bool,
+    is_owned: bool,
+) -> bool {
+    let Ok(mut conn) = place.open(rt, "") else {
+        return false;
     };
-    place.close(conn)?;
-    made?;
-    Ok(is_full)
+    let tables = if is_queue { QUEUE } else { JOURNAL };
+    let is_made = conn.execute_batch(tables).is_ok()
+        && (is_owned || conn.execute_batch(MORE).is_ok());
+    let (is_full, conn) = if is_queue {
+        of_queue(rt.alloc(), conn, is_owned)
+    } else {
+        of_journal(rt.alloc(), conn, is_owned)
+    };
+    place.close(conn).is_ok() && is_made && is_full
 }
 
 /// Whether no id comes after the last, in a queue and in a journal, over a database of its own and over another.
-pub(crate) fn are_full<S: Alter, P: Place<Connection<S>>>(
-    rt: &HostRuntime,
-    place: &P,
-) -> Result<bool, Fault> {
-    for (more, is_owned) in [("", true), (MORE, false)] {
-        if !of_queue(rt, place, more, is_owned)? || !of_journal(rt, place, more, is_owned)? {
-            return Ok(false);
+pub(crate) fn are_full<S: Alter, P: Place<Connection<S>>>(rt: &HostRuntime, place: &P) -> bool {
+    for is_owned in [true, false] {
+        if !is_full(rt, place, true, is_owned) || !is_full(rt, place, false, is_owned) {
+            return false;
         }
     }
-    Ok(true)
+    true
 }

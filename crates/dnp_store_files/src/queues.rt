@@ -79,6 +79,13 @@ fn emptied<L: Lanes>(lanes: &mut L, alloc: Global) -> Result<Vec<Row>, StoreFaul
     }
 }
 
+/// Whether the rows have these ids and indices.
+pub(crate) fn are_numbered(rows: &[Numbered], wanted: &[(u64, u16)]) -> bool {
+    rows.iter()
+        .map(|x| (x.id, x.row.index))
+        .eq(wanted.iter().copied())
+}
+
 /// Whether three rows of a lane, whose ids are these, are offered, the first is released, and the others leave.
 fn steps<L: Lanes>(
     lanes: &mut L,

@@ -1,6 +1,5 @@
 //! Databases of a store's form but for one thing: which of them open, and which are refused as of another form.
 
-use crate::Fault;
 use crate::place::Place;
 use crate::stored::Stored;
 use dnp_store::OpenFault;
@@ -54,6 +53,19 @@ pub(crate) struct Form {
     pub(crate) wrong: &'static [&'static str],
 }
 
+/// One thing in which a database differs from the tables of a store.
+#[derive(Clone, Copy)]
+pub(crate) enum Change {
+    /// This was run over them.
+    Run(&'static str),
+    /// A table is not there.
+    NoTable(&'static Table),
+    /// A table has `other` in place of this column.
+    NoColumn(&'static Table, &'static Column),
+    /// In a column of a table's last row this stands.
+    Value(&'static Table, &'static Column, &'static str),
+}
+
 /// A column of whole numbers: its name, what stands in it, the ends of its range, and numbers out of it.
 macro_rules! number {
     ($name:literal, $value:literal, $fine:expr, $wrong:expr $(,)?) => {
@@ -86,136 +98,33 @@ const NOT_WHOLE: [&str; 3] = ["'x'", "0.5", "x'00'"];
 /// No value.
 const NULL: [&str; 1] = ["NULL"];
 
-/// The names of the table's columns, declared or bare, with `other` in place of the one that is missing.
-fn names(
-    alloc: Global,
-    table: &Table,
-    missing: Option<usize>,
-    is_declared: bool,
-) -> Result<String, AllocError> {
-    let mut text = String::new(alloc);
-    for (place, column) in table.columns.iter().enumerate() {
-        if place > 0 {
-            text.push_str(", ")?;
-        }
-        text.push_str(if missing == Some(place) {
-            "other"
-        } else {
-            column.name
-        })?;
-        if is_declared && matches!(column.role, Role::Key) {
-            text.push_str(table.key)?;
-        }
-    }
-    Ok(text)
-}
-
-/// The values of the row that begins so.
-fn values(alloc: Global, table: &Table, first: &str) -> Result<String, AllocError> {
-    let mut text = String::new(alloc);
-    for (place, column) in table.columns.iter().enumerate() {
-        if place == 0 {
-            text.push_str(first)?;
-        } else {
-            text.push_str(", ")?;
-            text.push_str(column.value)?;
-        }
-    }
-    Ok(text)
-}
-
-/// Makes the table and its rows. No column is held to be other than null, so that each value can be put there.
-fn make<S: Alter>(
-    alloc: Global,
-    conn: &mut Connection<S>,
-    table: &Table,
-    missing: Option<usize>,
-) -> Result<(), Error> {
-    let declared = names(alloc, table, missing, true)?;
-    let bare = names(alloc, table, missing, false)?;
-    let name = table.name;
-    conn.execute_batch(&format!(in alloc; "CREATE TABLE {name} ({declared})")?)?;
-    for first in table.rows {
-        let row = values(alloc, table, first)?;
-        conn.execute_batch(&format!(in alloc; "INSERT INTO {name} ({bare}) VALUES ({row})")?)?;
+/// Adds values of a column.
+fn add_values(
+    changes: &mut Vec<(Change, bool)>,
+    table: &'static Table,
+    column: &'static Column,
+    values: &[&'static str],
+    is_wrong: bool,
+) -> Result<(), AllocError> {
+    for value in values {
+        changes.push((Change::Value(table, column, value), is_wrong))?;
     }
     Ok(())
 }
 
-/// Makes the tables, of which one may lack a column, and changes them.
-fn make_all<S: Alter>(
-    alloc: Global,
-    conn: &mut Connection<S>,
-    tables: &[Table],
-    missing: Option<(usize, usize)>,
-    change: &str,
-) -> Result<(), Error> {
-    for (number, table) in tables.iter().enumerate() {
-        let place = match missing {
-            Some((which, place)) if which == number => Some(place),
-            _ => None,
-        };
-        make(alloc, conn, table, place)?;
+/// Adds what is tried in a column of a table: that it is not there, and the values that may stand there and those that may
+/// not.
+fn add_column(
+    changes: &mut Vec<(Change, bool)>,
+    table: &'static Table,
+    column: &'static Column,
+) -> Result<(), AllocError> {
+    changes.push((Change::NoColumn(table, column), true))?;
+    let [not_whole, null] = beside(column);
+    for (values, is_wrong) in [(column.fine, false), (column.wrong, true), not_whole, null] {
+        add_values(changes, table, column, values, is_wrong)?;
     }
-    conn.execute_batch(change)
-}
-
-/// Whether a store that opens is right, or one that is refused as of another form.
-fn is_judged<C, T: Stored<C>>(alloc: Global, conn: C, is_wrong: bool) -> (bool, C) {
-    match T::open(alloc, conn) {
-        Ok(store) => (!is_wrong, store.into_connection()),
-        Err((fault, conn)) => (is_wrong && fault == OpenFault::WrongForm, conn),
-    }
-}
-
-/// Whether the store takes its tables, of which one may lack a column, after a change of them as it has to: opens on
-/// them, or refuses them.
-fn is_right_after<S: Alter, P: Place<Connection<S>>, T: Stored<Connection<S>>>(
-    rt: &HostRuntime,
-    place: &P,
-    tables: &[Table],
-    missing: Option<(usize, usize)>,
-    change: &str,
-    is_wrong: bool,
-) -> Result<bool, Fault> {
-    let mut conn = place.open(rt, "")?;
-    let made = make_all(rt.alloc(), &mut conn, tables, missing, change);
-    let (is_right, conn) = is_judged::<Connection<S>, T>(rt.alloc(), conn, is_wrong);
-    place.close(conn)?;
-    made?;
-    Ok(is_right)
-}
-
-/// The first of these changes that the store does not take as it has to, or none.
-fn mistaken_after<S: Alter, P: Place<Connection<S>>, T: Stored<Connection<S>>>(
-    rt: &HostRuntime,
-    place: &P,
-    tables: &[Table],
-    changes: &[&'static str],
-    is_wrong: bool,
-) -> Result<Option<String>, Fault> {
-    for change in changes {
-        if !is_right_after::<S, P, T>(rt, place, tables, None, change, is_wrong)? {
-            return Ok(Some(change.to_string(rt.alloc())?));
-        }
-    }
-    Ok(None)
-}
-
-/// A change of the last row of a table, in one column.
-fn change_to(
-    alloc: Global,
-    table: &Table,
-    column: &Column,
-    value: &str,
-) -> Result<String, AllocError> {
-    let name = table.name;
-    let set = column.name;
-    let (Some(key), Some(last)) = (table.columns.first(), table.rows.last()) else {
-        return Ok(String::new(alloc));
-    };
-    let key = key.name;
-    format!(in alloc; "UPDATE {name} SET {set} = {value} WHERE {key} = {last}")
+    Ok(())
 }
 
 /// The values that are tried in a column beside those of its own, and whether each of them is wrong there.
@@ -227,98 +136,199 @@ fn beside(column: &Column) -> [(&'static [&'static str], bool); 2] {
     }
 }
 
-/// The first of these values of a column that the store does not take as it has to, as a change, or none.
-fn mistaken_among<S: Alter, P: Place<Connection<S>>, T: Stored<Connection<S>>>(
+/// Adds what is tried with a store's tables.
+fn add_all(changes: &mut Vec<(Change, bool)>, form: &Form) -> Result<(), AllocError> {
+    for table in form.tables {
+        changes.push((Change::NoTable(table), true))?;
+        for column in table.columns {
+            add_column(changes, table, column)?;
+        }
+    }
+    for (texts, is_wrong) in [(form.fine, false), (form.wrong, true), (&OTHER_FORMS, true)] {
+        for text in texts {
+            changes.push((Change::Run(text), is_wrong))?;
+        }
+    }
+    Ok(())
+}
+
+/// What is tried with a store's tables, and whether the store has to refuse it.
+pub(crate) fn changes(alloc: Global, form: &Form) -> Result<Vec<(Change, bool)>, AllocError> {
+    let mut changes = Vec::new(alloc);
+    add_all(&mut changes, form)?;
+    Ok(changes)
+}
+
+/// Adds the parts to a text.
+fn put(text: &mut String, parts: &[&str]) -> Result<(), AllocError> {
+    for part in parts {
+        text.push_str(part)?;
+    }
+    Ok(())
+}
+
+/// Whether the change takes this column away.
+fn lacks(change: Change, table: &Table, column: &Column) -> bool {
+    match change {
+        Change::NoColumn(its, missing) => its.name == table.name && missing.name == column.name,
+        _ => false,
+    }
+}
+
+/// Adds the names of the table's columns, declared or bare, with `other` in place of the one that is missing.
+fn put_names(
+    text: &mut String,
+    table: &Table,
+    change: Change,
+    is_declared: bool,
+) -> Result<(), AllocError> {
+    for (place, column) in table.columns.iter().enumerate() {
+        let is_key = is_declared && matches!(column.role, Role::Key);
+        text.push_str(if place > 0 { ", " } else { "" })?;
+        text.push_str(if lacks(change, table, column) {
+            "other"
+        } else {
+            column.name
+        })?;
+        text.push_str(if is_key { table.key } else { "" })?;
+    }
+    Ok(())
+}
+
+/// Adds the values of the row that begins so.
+fn put_values(text: &mut String, table: &Table, first: &str) -> Result<(), AllocError> {
+    for (place, column) in table.columns.iter().enumerate() {
+        if place == 0 {
+            text.push_str(first)?;
+        } else {
+            put(text, &[", ", column.value])?;
+        }
+    }
+    Ok(())
+}
+
+/// Adds what makes a table and its rows. No column is held to be other than null, so that each value can be put there.
+fn put_table(text: &mut String, table: &Table, change: Change) -> Result<(), AllocError> {
+    put(text, &["CREATE TABLE ", table.name, " ("])?;
+    put_names(text, table, change, true)?;
+    for first in table.rows {
+        put(text, &[");\nINSERT INTO ", table.name, " ("])?;
+        put_names(text, table, change, false)?;
+        text.push_str(") VALUES (")?;
+        put_values(text, table, first)?;
+    }
+    text.push_str(");\n")
+}
+
+/// Adds what changes the tables once they are made.
+fn put_change(text: &mut String, change: Change) -> Result<(), AllocError> {
+    match change {
+        Change::Run(statements) => text.push_str(statements),
+        Change::NoTable(table) => put(text, &["DROP TABLE ", table.name]),
+        Change::NoColumn(_, _) => Ok(()),
+        Change::Value(table, column, value) => match (table.columns.first(), table.rows.last()) {
+            (Some(key), Some(last)) => put(
+                text,
+                &[
+                    "UPDATE ",
+                    table.name,
+                    " SET ",
+                    column.name,
+                    " = ",
+                    value,
+                    " WHERE ",
+                    key.name,
+                    " = ",
+                    last,
+                ],
+            ),
+            _ => Ok(()),
+        },
+    }
+}
+
+/// Adds what makes the tables with a change.
+fn put_all(text: &mut String, tables: &[Table], change: Change) -> Result<(), AllocError> {
+    for table in tables {
+        put_table(text, table, change)?;
+    }
+    put_change(text, change)
+}
+
+/// The statements that make the tables with a change.
+pub(crate) fn script(
+    alloc: Global,
+    tables: &[Table],
+    change: Change,
+) -> Result<String, AllocError> {
+    let mut text = String::new(alloc);
+    put_all(&mut text, tables, change)?;
+    Ok(text)
+}
+
+/// Whether a store that opens is right, or one that is refused as of another form.
+fn is_judged<C, T: Stored<C>>(alloc: Global, conn: C, is_wrong: bool) -> (bool, C) {
+    match T::open(alloc, conn) {
+        Ok(store) => (!is_wrong, store.into_connection()),
+        Err((fault, conn)) => (is_wrong && fault == OpenFault::WrongForm, conn),
+    }
+}
+
+/// Whether these statements make a database that the store takes as it has to: opens on it, or refuses it.
+fn is_right<S: Alter, P: Place<Connection<S>>, T: Stored<Connection<S>>>(
     rt: &HostRuntime,
     place: &P,
-    tables: &[Table],
-    table: &Table,
-    column: &Column,
-    values: &[&str],
+    script: &str,
     is_wrong: bool,
-) -> Result<Option<String>, Fault> {
-    for value in values {
-        let change = change_to(rt.alloc(), table, column, value)?;
-        if !is_right_after::<S, P, T>(rt, place, tables, None, &change, is_wrong)? {
-            return Ok(Some(change));
+) -> bool {
+    match place.open(rt, "") {
+        Ok(mut conn) => {
+            let is_made = conn.execute_batch(script).is_ok();
+            let (is_right, conn) = is_judged::<Connection<S>, T>(rt.alloc(), conn, is_wrong);
+            place.close(conn).is_ok() && is_made && is_right
         }
+        Err(_) => false,
     }
-    Ok(None)
 }
 
-/// The first change of one column that the store does not take as it has to, or none.
-fn mistaken_in<S: Alter, P: Place<Connection<S>>, T: Stored<Connection<S>>>(
+/// The first of these changes that the store does not take as it has to, or none.
+pub(crate) fn mistaken<S: Alter, P: Place<Connection<S>>, T: Stored<Connection<S>>>(
     rt: &HostRuntime,
     place: &P,
     tables: &[Table],
-    table: &Table,
-    column: &Column,
-) -> Result<Option<String>, Fault> {
-    let [not_whole, null] = beside(column);
-    for (values, is_wrong) in [(column.fine, false), (column.wrong, true), not_whole, null] {
-        let mistaken = mistaken_among::<S, P, T>(
-            rt, place, tables, table, column, values, is_wrong,
-        )?;
-        if mistaken.is_some() {
-            return Ok(mistaken);
+    changes: &[(Change, bool)],
+) -> Option<Change> {
+    for (change, is_wrong) in changes {
+        let is_right = match script(rt.alloc(), tables, *change) {
+            Ok(script) => is_right::<S, P, T>(rt, place, &script, *is_wrong),
+            Err(_) => false,
+        };
+        if !is_right {
+            return Some(*change);
         }
     }
-    Ok(None)
+    None
 }
 
-/// Whether the store refuses its tables where one of them is not there, or lacks this column.
-fn refuses_without<S: Alter, P: Place<Connection<S>>, T: Stored<Connection<S>>>(
-    rt: &HostRuntime,
-    place: &P,
-    tables: &[Table],
-    which: usize,
-    column: usize,
-) -> Result<bool, Fault> {
-    let Some(table) = tables.get(which) else {
-        return Ok(false);
-    };
-    let name = table.name;
-    let dropped = format!(in rt.alloc(); "DROP TABLE {name}")?;
-    let missing = Some((which, column));
-    Ok(
-        is_right_after::<S, P, T>(rt, place, tables, missing, "", true)?
-            && is_right_after::<S, P, T>(rt, place, tables, None, &dropped, true)?,
-    )
-}
-
-/// The first database, of the store's form but for one column, that it does not take as it has to, or none.
-fn mistaken_column<S: Alter, P: Place<Connection<S>>, T: Stored<Connection<S>>>(
-    rt: &HostRuntime,
-    place: &P,
-    tables: &[Table],
-) -> Result<Option<String>, Fault> {
-    for (which, table) in tables.iter().enumerate() {
-        for (number, column) in table.columns.iter().enumerate() {
-            if !refuses_without::<S, P, T>(rt, place, tables, which, number)? {
-                return Ok(Some(column.name.to_string(rt.alloc())?));
-            }
-            let mistaken = mistaken_in::<S, P, T>(rt, place, tables, table, column)?;
-            if mistaken.is_some() {
-                return Ok(mistaken);
-            }
-        }
+/// Makes a table with a number: whether that went well.
+fn takes_name<S: Alter>(alloc: Global, conn: &mut Connection<S>, name: &str) -> bool {
+    match format!(in alloc; "CREATE TABLE {name} (x); INSERT INTO {name} VALUES (5)") {
+        Ok(script) => conn.execute_batch(&script).is_ok(),
+        Err(_) => false,
     }
-    Ok(None)
 }
 
-/// Makes a table with a number.
-fn take_name<S: Alter>(alloc: Global, conn: &mut Connection<S>, name: &str) -> Result<(), Error> {
-    conn.execute_batch(&format!(in alloc;
-        "CREATE TABLE {name} (x); INSERT INTO {name} VALUES (5)"
-    )?)
+/// The number in that table.
+fn number_in<S: Alter>(alloc: Global, conn: &mut Connection<S>, name: &str) -> Result<i64, Error> {
+    conn.query_row(&format!(in alloc; "SELECT x FROM {name}")?, &[])?
+        .get(0)
 }
 
 /// Whether the database holds that table with its number, and nothing else.
-fn is_kept<S: Alter>(alloc: Global, conn: &mut Connection<S>, name: &str) -> Result<bool, Error> {
-    let kept = conn
-        .query_row(&format!(in alloc; "SELECT x FROM {name}")?, &[])?
-        .get::<i64>(0)?;
-    Ok(kept == 5 && conn.schema().tables.len() == 1 && conn.is_autocommit())
+fn is_kept<S: Alter>(alloc: Global, conn: &mut Connection<S>, name: &str) -> bool {
+    matches!(number_in(alloc, conn, name), Ok(5))
+        && conn.schema().tables.len() == 1
+        && conn.is_autocommit()
 }
 
 /// Whether the store is refused as of another form where it is made.
@@ -334,46 +344,29 @@ fn leaves<S: Alter, P: Place<Connection<S>>, T: Stored<Connection<S>>>(
     rt: &HostRuntime,
     place: &P,
     name: &str,
-) -> Result<bool, Fault> {
-    let mut conn = place.open(rt, "")?;
-    let taken = take_name(rt.alloc(), &mut conn, name);
-    let (is_unmade, mut conn) = is_unmade::<Connection<S>, T>(rt.alloc(), conn);
-    let kept = is_kept(rt.alloc(), &mut conn, name);
-    place.close(conn)?;
-    taken?;
-    Ok(is_unmade && kept?)
+) -> bool {
+    match place.open(rt, "") {
+        Ok(mut conn) => {
+            let is_taken = takes_name(rt.alloc(), &mut conn, name);
+            let (is_unmade, mut conn) = is_unmade::<Connection<S>, T>(rt.alloc(), conn);
+            let is_kept = is_kept(rt.alloc(), &mut conn, name);
+            place.close(conn).is_ok() && is_taken && is_unmade && is_kept
+        }
+        Err(_) => false,
+    }
 }
 
 /// The first table over whose name the store is made, or whose refusal is not of its form or changes the database; or
 /// none.
-fn overwritten<S: Alter, P: Place<Connection<S>>, T: Stored<Connection<S>>>(
+pub(crate) fn overwritten<S: Alter, P: Place<Connection<S>>, T: Stored<Connection<S>>>(
     rt: &HostRuntime,
     place: &P,
     tables: &[Table],
-) -> Result<Option<String>, Fault> {
+) -> Option<&'static str> {
     for table in tables {
-        if !leaves::<S, P, T>(rt, place, table.name)? {
-            return Ok(Some(table.name.to_string(rt.alloc())?));
+        if !leaves::<S, P, T>(rt, place, table.name) {
+            return Some(table.name);
         }
     }
-    Ok(None)
-}
-
-/// The first database that the store does not take as it has to, or none.
-pub(crate) fn mistaken<S: Alter, P: Place<Connection<S>>, T: Stored<Connection<S>>>(
-    rt: &HostRuntime,
-    place: &P,
-    form: &Form,
-) -> Result<Option<String>, Fault> {
-    let mistaken = mistaken_column::<S, P, T>(rt, place, form.tables)?;
-    if mistaken.is_some() {
-        return Ok(mistaken);
-    }
-    for (changes, is_wrong) in [(form.fine, false), (form.wrong, true), (&OTHER_FORMS, true)] {
-        let mistaken = mistaken_after::<S, P, T>(rt, place, form.tables, changes, is_wrong)?;
-        if mistaken.is_some() {
-            return Ok(mistaken);
-        }
-    }
-    overwritten::<S, P, T>(rt, place, form.tables)
+    None
 }

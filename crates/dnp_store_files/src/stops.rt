@@ -212,36 +212,27 @@ fn outlives_stops<C, D: Device<C>, T: Stored<C>, W: WritingCall<T>>(
     false
 }
 
-/// Stops a call and prints its line.
+/// Stops calls and prints a line for each.
 fn tell<C, D: Device<C>, T: Stored<C>, W: WritingCall<T>>(
     rt: &HostRuntime,
-    call: W,
+    calls: &[W],
 ) -> io::Result<()> {
-    let came = if outlives_stops::<C, D, T, W>(rt.alloc(), call) {
-        "before or after"
-    } else {
-        "WRONG"
-    };
-    say(rt, call.name(), "stopped", came)
+    for call in calls {
+        let came = if outlives_stops::<C, D, T, W>(rt.alloc(), *call) {
+            "before or after"
+        } else {
+            "WRONG"
+        };
+        say(rt, call.name(), "stopped", came)?;
+    }
+    Ok(())
 }
 
 /// Stops each writing call.
 pub(crate) fn stop_all<S: Alter, D: Device<Connection<S>>>(rt: &HostRuntime) -> io::Result<()> {
-    for call in [
-        QueueCall::Append,
-        QueueCall::Overflow,
-        QueueCall::Release,
-        QueueCall::Empty,
-    ] {
-        tell::<Connection<S>, D, Queue<S>, QueueCall>(rt, call)?;
-    }
-    for call in [PairCall::Both, PairCall::Release] {
-        tell::<Connection<S>, D, Queue<S>, PairCall>(rt, call)?;
-    }
-    tell::<Connection<S>, D, Migrating<S>, MigrateCall>(rt, MigrateCall::Migrate)?;
-    tell::<Connection<S>, D, Journal<S>, JournalCall>(rt, JournalCall::Append)?;
-    for call in [BookCall::Add, BookCall::Spend, BookCall::Finish] {
-        tell::<Connection<S>, D, ControlBook<S>, BookCall>(rt, call)?;
-    }
-    Ok(())
+    tell::<Connection<S>, D, Queue<S>, QueueCall>(rt, &QueueCall::ALL)?;
+    tell::<Connection<S>, D, Queue<S>, PairCall>(rt, &PairCall::ALL)?;
+    tell::<Connection<S>, D, Migrating<S>, MigrateCall>(rt, &[MigrateCall::Migrate])?;
+    tell::<Connection<S>, D, Journal<S>, JournalCall>(rt, &[JournalCall::Append])?;
+    tell::<Connection<S>, D, ControlBook<S>, BookCall>(rt, &BookCall::ALL)
 }

@@ -7,7 +7,7 @@ use dnp_eventbuf::{Lane, LaneRow, Lanes};
 use dnp_objects::Row;
 use dnp_store::Queue;
 use sqlite::{Alter, Connection};
-use std::alloc::Global;
+use std::alloc::{AllocError, Global};
 use std::time::Instant;
 
 /// Nanoseconds in appends, offers and releases, and the sum of the ids that were offered.
@@ -23,9 +23,8 @@ struct Spent {
     ids: u64,
 }
 
-/// Analog events of the first class.
-fn events(alloc: Global, lane: Lane, count: u16) -> Result<Vec<LaneRow>, Fault> {
-    let mut events = Vec::new(alloc);
+/// Adds so many analog events of the first class.
+fn add_events(events: &mut Vec<LaneRow>, lane: Lane, count: u16) -> Result<(), AllocError> {
     for index in 0..count {
         let row = Row {
             kind: lane.kind,
@@ -34,11 +33,9 @@ fn events(alloc: Global, lane: Lane, count: u16) -> Result<Vec<LaneRow>, Fault> 
             value: i64::from(index),
             time: Some(1_000),
         };
-        if events.push(LaneRow { lane, row }).is_err() {
-            return Err(Fault::Memory);
-        }
+        events.push(LaneRow { lane, row })?;
     }
-    Ok(events)
+    Ok(())
 }
 
 /// Appends the events, offers them and releases them, each in one call.
@@ -81,7 +78,8 @@ fn turns<L: Lanes>(
     let Some(lane) = Lane::numbered(2) else {
         return Err(Fault::Store);
     };
-    let rows = events(rt.alloc(), lane, count)?;
+    let mut rows = Vec::new(rt.alloc());
+    add_events(&mut rows, lane, count)?;
     let mut spent = Spent::default();
     for _ in 0..turns {
         turn(rt, lanes, lane, &rows, &mut spent)?;

@@ -1,5 +1,6 @@
 -- Definitions, by which contracts promise.
 pub mod Causes
+pub mod Connections
 pub mod Doors
 pub mod Replays
 pub mod steps

@@ -3,9 +3,9 @@
 
 ghost use Rattle.std.specs.Prelude.{◌≡◌, ◌⊎◌, IfErr};
 ghost use Rattle.std.specs.Process.{exit_status};
-ghost use Rattle.dnp_tcp.specs.Causes.{attended_station, kept_attended};
+ghost use Rattle.dnp_tcp.specs.Causes.{watched_station, kept_watched};
 
-use crate::attended::Attended;
+use crate::attended::{Attended, Requests};
 use crate::door::{Caller, Door, listen};
 use crate::exit::{DONE, FAULT};
 use crate::fault::{Noted, unwritten};
@@ -13,6 +13,7 @@ use crate::logged::{End, Ending, note, utc};
 use crate::replay::Replay;
 use crate::serving::no_port;
 use crate::visit::{Ear, Leave, Mouth, Visit, moment, prepare};
+use crate::watched::Watched;
 use dnp_concentrator::addresses::MASTER_BELOW;
 use dnp_decode::Moment;
 use dnp_line::Port;
@@ -219,7 +220,8 @@ where
     }
     let idle_ms = listening.idle.saturating_mul(1_000);
     let visit = Visit::new(&caller.stream, door, rt, idle_ms);
-    let mut station = Attended::new(station, rt, peer, listening.is_said);
+    let is_said = listening.is_said;
+    let mut station = Watched::by(station, Requests { rt, peer, is_said });
     let mut reader = Noted::new(Ear::new(rt.alloc(), &visit, listening.own));
     let mut out = Noted::new(Mouth { visit: &visit });
     let (fragments, lived) = live_on(
@@ -252,8 +254,8 @@ fn live_on<S, R>(
 where
     S: Living,
     R: AllocGlobal + Eprint + Clock,
-    ensures kept { kept_attended S.kept station.new ≡ kept_attended S.kept station.old }
-    ensures held { S.honest (attended_station station.new).now → S.honest (attended_station station.old).now }
+    ensures kept { kept_watched S.kept station.new ≡ kept_watched S.kept station.old }
+    ensures held { S.honest (watched_station station.new).now → S.honest (watched_station station.old).now }
 {
     let mut port = Port::new(own, MASTER_BELOW, false);
     course.stands = false;
@@ -285,8 +287,8 @@ fn live_once<S, R>(
 where
     S: Living,
     R: AllocGlobal + Eprint + Clock,
-    ensures kept { kept_attended S.kept station.new ≡ kept_attended S.kept station.old }
-    ensures held { S.honest (attended_station station.new).now → S.honest (attended_station station.old).now }
+    ensures kept { kept_watched S.kept station.new ≡ kept_watched S.kept station.old }
+    ensures held { S.honest (watched_station station.new).now → S.honest (watched_station station.old).now }
 {
     course.replay.begin_again(rt);
     visit.begin(course.replay.ends());

@@ -1,10 +1,14 @@
 //! Stations that ask others over TCP.
 
-ghost use Rattle.std.specs.Prelude.{◌≡◌};
+ghost use Rattle.std.specs.Prelude.{◌≡◌, ◌⊎◌, Bool, true, Ok, Err};
+ghost use Rattle.dnp_line.specs.Ports.{new_port};
+ghost use Rattle.dnp_tcp.specs.Connections.{AsksOn, IsTold, TellsOn};
+ghost use Rattle.dnp_tcp.specs.declared.asking.Ended.TheVariants as told;
 
 use crate::fault::Noted;
 use crate::minded::Minded;
 use crate::pace::{LIMITS, Line};
+use dnp_concentrator::Cause;
 use dnp_line::Port;
 use dnp_master::Task;
 use dnp_streams::{Asked, Asker, Living, Log, ServeFault, Station, ask_live};
@@ -74,7 +78,8 @@ impl Call {
         }
     }
 
-    /// Asks tasks on a connection, relays controls, and hangs the station up. What goes wrong is said on standard error.
+    /// Asks tasks on a connection, relays controls, and hangs the station up. What goes wrong is said on standard error. On a connection
+    /// that can't be prepared nothing is asked, and the station is as it was.
     pub fn ask<S: Asker + Living, R: AllocGlobal + Eprint + Clock>(
         &self,
         rt: &R,
@@ -84,6 +89,9 @@ impl Call {
     ) -> Ended
         ensures kept { S.kept station.new ≡ S.kept station.old }
         ensures held { S.honest station.new → S.honest station.old }
+        ensures asks { S.honest station.new → ((result ≡ told.Failed) × (S.state station.new ≡ S.state station.old))
+            ⊎ TellsOn S.opens S.receives S.asking S.life S.hung_up_of (S.state station.old)
+            (new_port self.now.own self.now.other true) tasks.now result (S.state station.new) }
     {
         if let Err(cause) = self.prepare(stream) {
             let _ = eprintln!(rt; "dnp: {}: {cause}", self.peer);
@@ -93,31 +101,47 @@ impl Call {
         let mut port = Port::new(self.own, self.other, true);
         let mut reader = Noted::new(Line::new(stream));
         let mut out = Noted::new(stream);
-        let mut now = 0;
-        let asked = ask_live(
-            rt.alloc(),
+        let (asked, idle) = ask_and_hang_up(
+            rt,
             &mut station,
             &mut port,
-            rt,
-            &mut now,
             tasks,
             &mut reader,
             &mut out,
-            LIMITS,
-            &mut Log::new(),
         );
-        let idle = station.idle();
-        station.hung_up();
-        match (station.cause(), asked) {
-            (Some(cause), _) => {
-                let _ = eprintln!(rt; "dnp: {}: {cause}", self.peer);
-                Ended::Lost
+        let late = station.is_late();
+        let faults = [reader.cause(), out.cause()];
+        self.tell(rt, station.cause(), &asked, idle, late, faults)
+    }
+
+    /// How tasks ended, by why the station's stores or its memory refused a call, if they did; by what became of the tasks; by whether
+    /// the station was idle then, or had waited for too long; and by why a read and a write failed. It is said on standard error.
+    fn tell<R: Eprint>(
+        &self,
+        rt: &R,
+        cause: Option<Cause>,
+        asked: &Result<Asked, ServeFault>,
+        idle: bool,
+        late: bool,
+        faults: [Option<&io::Error>; 2],
+    ) -> Ended
+        ensures { IsTold idle asked.now result }
+    {
+        if let Some(cause) = cause {
+            let _ = eprintln!(rt; "dnp: {}: {cause}", self.peer);
+            return Ended::Lost;
+        }
+        let [read, written] = faults;
+        match asked {
+            Ok(asked) => self.end(rt, asked, idle, late),
+            Err(fault) => {
+                let cause = if *fault == ServeFault::ReadFailed {
+                    read
+                } else {
+                    written
+                };
+                self.fail(rt, *fault, cause)
             }
-            (None, Ok(asked)) => self.end(rt, &asked, idle, station.is_late()),
-            (None, Err(ServeFault::ReadFailed)) => {
-                self.fail(rt, ServeFault::ReadFailed, reader.cause())
-            }
-            (None, Err(fault)) => self.fail(rt, fault, out.cause()),
         }
     }
 
@@ -129,7 +153,9 @@ impl Call {
 
     /// How tasks ended where the stream failed in nothing, by whether the station was idle at its end, or else had waited for
     /// too long. What was refused of what came is said on standard error, and so is an end before the answer.
-    fn end<R: Eprint>(&self, rt: &R, asked: &Asked, idle: bool, late: bool) -> Ended {
+    fn end<R: Eprint>(&self, rt: &R, asked: &Asked, idle: bool, late: bool) -> Ended
+        ensures { IsTold idle (Ok asked.now) result }
+    {
         if late {
             let _ = eprintln!(rt; "dnp: {}: no answer in {} ms", self.peer, self.patience_ms);
             return Ended::Failed;
@@ -151,7 +177,9 @@ impl Call {
     }
 
     /// Says on standard error why a stream failed, and how the tasks on it ended.
-    fn fail<R: Eprint>(&self, rt: &R, fault: ServeFault, cause: Option<&io::Error>) -> Ended {
+    fn fail<R: Eprint>(&self, rt: &R, fault: ServeFault, cause: Option<&io::Error>) -> Ended
+        ensures { (is_idle : Bool) → IsTold is_idle (Err fault) result }
+    {
         let peer = self.peer;
         let _ = match cause {
             Some(cause) if is_late(cause) => {
@@ -163,11 +191,48 @@ impl Call {
             Some(cause) => eprintln!(rt; "dnp: {peer}: {fault}: {cause}"),
             None => eprintln!(rt; "dnp: {peer}: {fault}"),
         };
-        if fault == ServeFault::Memory {
-            Ended::Lost
-        } else {
-            Ended::Failed
+        match fault {
+            ServeFault::Memory => Ended::Lost,
+            ServeFault::ReadFailed | ServeFault::WriteFailed | ServeFault::TurnsSpent =>
+                Ended::Failed,
         }
+    }
+}
+
+/// Asks tasks on a connection that is read and written so, and hangs the station up, once; tells what became of them, and whether the
+/// station was idle before it was hung up.
+fn ask_and_hang_up<S: Asker + Living, C: AllocGlobal + Clock>(
+    rt: &C,
+    station: &mut S,
+    port: &mut Port,
+    tasks: &[Task],
+    reader: &mut Noted<Line<'_>>,
+    out: &mut Noted<&TcpStream>,
+) -> (Result<Asked, ServeFault>, bool)
+    ensures kept { S.kept station.new ≡ S.kept station.old }
+    ensures held { S.honest station.new → S.honest station.old }
+    ensures asks { S.honest station.new → AsksOn S.opens S.receives S.asking S.life S.hung_up_of (S.state station.old) port.old tasks.now
+        result.1 result.0 (S.state station.new) }
+{
+    let mut now = 0;
+    match ask_live(
+        rt.alloc(),
+        station,
+        port,
+        rt,
+        &mut now,
+        tasks,
+        reader,
+        out,
+        LIMITS,
+        &mut Log::new(),
+    ) {
+        Ok(asked) => {
+            let idle = station.idle();
+            station.hung_up();
+            (Ok(asked), idle)
+        }
+        Err(fault) => (Err(fault), false),
     }
 }
 

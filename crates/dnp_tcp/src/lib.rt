@@ -17,14 +17,16 @@ mod rounds;
 mod screen;
 mod serving;
 mod visit;
+mod watched;
 
 pub use alive::{Listening, live_on_connections};
 pub use asking::{Call, Ended, Peer};
 pub use door::{Caller, Door, listen};
 pub use fault::{Noted, lost, unwritten};
 pub use logged::{End, Ending, note, utc};
-pub use minded::Minded;
+pub use minded::{Minded, Minder};
 pub use replay::{Both, Replay};
 pub use rounds::{RoundSettings, Rounds};
 pub use serving::{no_port, serve_connection};
 pub use visit::{is_pause, moment};
+pub use watched::{Watched, Watcher};

@@ -1,7 +1,7 @@
 //! Changes of points that are made in order, once or again and again, by the clocks of the machine.
 
-ghost use Rattle.std.specs.Prelude.{◌≡◌, OnErr, OnOk};
-ghost use Rattle.dnp_tcp.specs.Replays.{no_changes, repeated_after, replay_seen, with_change};
+ghost use Rattle.std.specs.Prelude.{◌≡◌, OnErr, OnOk, is_some};
+ghost use Rattle.dnp_tcp.specs.Replays.{changes_left, first_due, made_if, no_changes, repeated_after, replay_seen, time_at, with_change, with_left};
 
 use crate::logged::utc;
 use crate::visit::moment;
@@ -20,7 +20,8 @@ pub struct Both {
 }
 
 impl Both {
-    ghost use Rattle.std.specs.Prelude.{◌<◌};
+    ghost use Rattle.std.specs.Prelude.{◌≡◌, ◌<◌};
+    ghost use Rattle.dnp_tcp.specs.Replays.{time_at};
 
     /// Now. It has no clause: a clock promises nothing.
     pub fn now<R: Clock>(rt: &R) -> Both {
@@ -32,7 +33,8 @@ impl Both {
 
     /// The time of another moment, both in milliseconds: since 1970-01-01 00:00 UTC, and below `MAX_TIME`, at which it stops.
     pub fn time_at(self, moment: u64) -> u64
-        ensures { result < MAX_TIME }
+        ensures below { result < MAX_TIME }
+        ensures exact { result ≡ time_at self moment }
     {
         let since = moment.saturating_sub(self.moment);
         let until = self.moment.saturating_sub(moment);
@@ -68,12 +70,16 @@ impl Replay {
     }
 
     /// The changes that are left, until it begins again.
-    pub(crate) fn left(&self) -> &[Change] {
+    pub(crate) fn left(&self) -> &[Change]
+        ensures { result.now ≡ changes_left (replay_seen self.now) }
+    {
         self.changes.as_slice().get(self.made..).unwrap_or(&[])
     }
 
     /// Only so many are left.
-    pub(crate) fn keep(&mut self, left: usize) {
+    pub(crate) fn keep(&mut self, left: usize)
+        ensures { replay_seen self.new ≡ with_left left (replay_seen self.old) }
+    {
         self.made = self.changes.len().saturating_sub(left);
     }
 
@@ -104,7 +110,10 @@ impl Replay {
     }
 
     /// The next change, where it is due at this moment: it counts as made.
-    pub(crate) fn next_due(&mut self, now: u64) -> Option<Change> {
+    pub(crate) fn next_due(&mut self, now: u64) -> Option<Change>
+        ensures due { result ≡ first_due now (changes_left (replay_seen self.old)) }
+        ensures made { replay_seen self.new ≡ made_if (is_some result) (replay_seen self.old) }
+    {
         let change = *self.left().first()?;
         if change.at > now {
             return None;

@@ -1,14 +1,19 @@
 //! A station that serves connections of centres over TCP.
 
-ghost use Rattle.std.specs.Prelude.{◌≡◌, ◌<◌};
+ghost use Rattle.std.specs.Prelude.{◌≡◌, ◌<◌, ◌⊎◌, Some, Err, false};
 ghost use Rattle.std.specs.Process.{exit_status};
+ghost use Rattle.dnp_concentrator.specs.Addresses as spec;
+ghost use Rattle.dnp_line.specs.Ports.{new_port};
+ghost use Rattle.dnp_streams.specs.streams.Clocks.{OpensSometime, ReceivesSometime};
+ghost use Rattle.dnp_streams.specs.streams.Counts.{most};
+ghost use Rattle.dnp_tcp.specs.Connections.{CountsOn, IsCounted, ServesOn};
 
 use crate::exit::FAULT;
 use crate::fault::Noted;
 use dnp_concentrator::addresses::{CONCENTRATOR_ABOVE, centre_address};
 use dnp_eventbuf::CENTRES;
 use dnp_line::Port;
-use dnp_streams::{Clocked, ServeFault, Station, serve_stream};
+use dnp_streams::{Clocked, ServeFault, Served, Station, serve_stream};
 use std::io;
 use std::net::TcpStream;
 use std::process::ExitCode;
@@ -27,7 +32,8 @@ pub fn no_port<R: Eprint>(rt: &R, port: u16, cause: &io::Error) -> ExitCode
 }
 
 /// Serves a connection of this centre to its end, or until it has stood still for `SILENCE`, hangs the station up, and tells
-/// how many fragments came whole; nothing where memory ran out. What goes wrong is said on standard error.
+/// how many fragments came whole; nothing where memory ran out. What goes wrong is said on standard error. A connection that can't
+/// be prepared isn't served, and the station is as it was.
 pub fn serve_connection<S, R>(
     rt: &R,
     station: &mut S,
@@ -40,6 +46,9 @@ where
     requires { centre < CENTRES }
     ensures kept { S.kept station.new ≡ S.kept station.old }
     ensures held { S.honest station.new → S.honest station.old }
+    ensures serves { S.honest station.new → ((result ≡ Some 0) × (S.state station.new ≡ S.state station.old))
+        ⊎ CountsOn (OpensSometime S.opens) (ReceivesSometime S.receives) S.hung_up_of most (S.state station.old)
+        (new_port CONCENTRATOR_ABOVE (spec.centre_address centre) false) result (S.state station.new) }
 {
     if let Err(cause) = prepare(stream) {
         let _ = eprintln!(rt; "dnp: centre {}: {cause}", centre + 1);
@@ -49,27 +58,46 @@ where
     let mut station = Clocked::new(station, rt);
     let mut reader = Noted::new(stream);
     let mut out = Noted::new(stream);
-    match serve_stream(
-        rt.alloc(),
-        &mut station,
-        &mut port,
-        0,
-        &mut reader,
-        &mut out,
-        u64::MAX,
-    ) {
-        Ok(served) => {
-            station.hung_up();
-            return Some(served.fragments);
-        }
+    match serve_and_hang_up(rt, &mut station, &mut port, &mut reader, &mut out) {
+        Ok(served) => Some(served.fragments),
         Err(fault) => {
             say(rt, centre + 1, fault, reader.cause(), out.cause());
-            if fault == ServeFault::Memory {
-                return None;
-            }
+            told_after(fault, station.fragments())
         }
     }
-    Some(station.fragments())
+}
+
+/// Serves a connection that is read and written so to its end, and hangs the station up, once.
+fn serve_and_hang_up<S: Station, R: AllocGlobal>(
+    rt: &R,
+    station: &mut S,
+    port: &mut Port,
+    reader: &mut Noted<&TcpStream>,
+    out: &mut Noted<&TcpStream>,
+) -> Result<Served, ServeFault>
+    ensures kept { S.kept station.new ≡ S.kept station.old }
+    ensures held { S.honest station.new → S.honest station.old }
+    ensures serves { S.honest station.new → ServesOn S.opens S.receives S.hung_up_of most (S.state station.old) port.old result (S.state station.new) }
+{
+    match serve_stream(rt.alloc(), station, port, 0, reader, out, u64::MAX) {
+        Ok(served) => {
+            station.hung_up();
+            Ok(served)
+        }
+        Err(fault) => Err(fault),
+    }
+}
+
+/// What is told of a connection that failed, on which so many fragments came whole.
+fn told_after(fault: ServeFault, fragments: u64) -> Option<u64>
+    ensures { IsCounted (Err fault) result }
+{
+    match fault {
+        ServeFault::Memory => None,
+        ServeFault::ReadFailed | ServeFault::WriteFailed | ServeFault::TurnsSpent => Some(
+            fragments,
+        ),
+    }
 }
 
 /// Sends what is written at once, and ends reads and writes that stand still.

@@ -40,16 +40,16 @@ abbrev IsComing : (LineState → LineState) → LinkEvent → Type 0
 IsComing left e = (s s' : LinkState ⊤) (panel : Panel) → ComesDown panel (left s.channel.down) s s' → HappensOn no_sink panel s e s'
 
 answered : Grounds → ComingLaws → (left : LineState → LineState) (e : LinkEvent) → IsComing left e → (old new : System) {el : Elsewhere} (h : IsStanding el old)
-    → (station : ℕ) (port : PortState) (given : List (List ℕ)) → HearsIfAny (front_of old.above.down) old.above.outstation_port port [] given
+    → (substation : ℕ) (port : PortState) (given : List (List ℕ)) → HearsIfAny (front_of old.above.down) old.above.outstation_port port [] given
     → rows_made_by old.concentrator.core.points (e ∷ []) ≡ []
-    → MiddleAnswers given (record old { above = heard_lines left port old }) new → Keeps el station [] old new
-answered grounds laws left e as_event old new h station port [] heard made came =
+    → MiddleAnswers given (record old { above = heard_lines left port old }) new → Keeps el substation [] old new
+answered grounds laws left e as_event old new h substation port [] heard made came =
     let lists : RowLists = lists_of h.links.above in
-    quiet_above grounds old new h station (middle_of old.concentrator) old.centre.link (heard_lines left port old) e refl made
+    quiet_above grounds old new h substation (middle_of old.concentrator) old.centre.link (heard_lines left port old) e refl made
     (as_event (seen_above old lists) (seen_above (record old { above = heard_lines left port old }) lists) (middle_panel old.concentrator old.now)
     (record { port = port; given = []; heard = heard; came = refl }))
     came
-answered grounds laws left e as_event old new h station port (fragment ∷ others) heard made came =
+answered grounds laws left e as_event old new h substation port (fragment ∷ others) heard made came =
     let l : Link = h.links.above in
     let s : State = middle_of old.concentrator in
     let panel : Panel = middle_panel old.concentrator old.now in
@@ -76,7 +76,7 @@ answered grounds laws left e as_event old new h station port (fragment ∷ other
     seen (record step.state { performed = performed }) old.centre.link.master new.above old.now lists in
     let steps : Steps step base s' =
     record { goes = came.sent; after = ap (λ (xs : List Command). seen_on xs) (performs ∙ sym (performs_as laws s panel old.now fragment)) } in
-    above_keeps grounds old new h station a [] released lists e
+    above_keeps grounds old new h substation a [] released lists e
     (record {
       lost = lost_same laws s panel old.now fragment;
       journal = none_behind _;
@@ -89,17 +89,18 @@ answered grounds laws left e as_event old new h station port (fragment ∷ other
     (as_event (seen_above old (lists_of l)) s' panel (record { port = port; given = fragment ∷ others; heard = heard; came = steps }))
     came.after
 
-comes : Grounds → ComingLaws → (left : LineState → LineState) (e : LinkEvent) → IsComing left e → (old new : System) {el : Elsewhere} (station : ℕ)
-    → IsStanding el old → rows_made_by old.concentrator.core.points (e ∷ []) ≡ [] → ComesDownAbove left old new → Keeps el station [] old new
-comes grounds laws left e as_event old new station h made c =
-    answered grounds laws left e as_event old new h station c.port c.given c.heard made c.came
+comes : Grounds → ComingLaws → (left : LineState → LineState) (e : LinkEvent) → IsComing left e → (old new : System) {el : Elsewhere} (substation : ℕ)
+    → IsStanding el old → rows_made_by old.concentrator.core.points (e ∷ []) ≡ [] → ComesDownAbove left old new → Keeps el substation [] old new
+comes grounds laws left e as_event old new substation h made c =
+    answered grounds laws left e as_event old new h substation c.port c.given c.heard made c.came
 
-pub delivers_to_concentrator : Grounds → ComingLaws → (old new : System) {el : Elsewhere} (station : ℕ) → IsStanding el old
-    → ComesDownAbove delivered_on old new → Keeps el station [] old new
-delivers_to_concentrator grounds laws old new station h c =
-    comes grounds laws delivered_on (event.Deliver way.Down) (λ s s' panel come. come) old new station h refl c
+pub delivers_to_concentrator : Grounds → ComingLaws → (old new : System) {el : Elsewhere} (substation : ℕ) → IsStanding el old
+    → ComesDownAbove delivered_on old new → Keeps el substation [] old new
+delivers_to_concentrator grounds laws old new substation h c =
+    comes grounds laws delivered_on (event.Deliver way.Down) (λ s s' panel come. come) old new substation h refl c
 
-pub repeats_to_concentrator : Grounds → ComingLaws → (old new : System) {el : Elsewhere} (station : ℕ) → IsStanding el old → ComesDownAbove repeated_on old new
-    → Keeps el station [] old new
-repeats_to_concentrator grounds laws old new station h c =
-    comes grounds laws repeated_on (event.Repeat way.Down) (λ s s' panel come. come) old new station h refl c
+pub repeats_to_concentrator : Grounds → ComingLaws → (old new : System) {el : Elsewhere} (substation : ℕ) → IsStanding el old
+    → ComesDownAbove repeated_on old new
+    → Keeps el substation [] old new
+repeats_to_concentrator grounds laws old new substation h c =
+    comes grounds laws repeated_on (event.Repeat way.Down) (λ s s' panel come. come) old new substation h refl c

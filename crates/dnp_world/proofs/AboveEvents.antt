@@ -38,51 +38,54 @@ abbrev pub with_ends : System → State → Relaying → ChannelState → Above
 with_ends s outstation r lines =
     record { core = outstation.core; queue = outstation.lanes; commands = []; link = r; journal = s.centre.journal; lines = lines }
 
-pub quiet_above : Grounds → (old new : System) {el : Elsewhere} (h : IsStanding el old) (station : ℕ) (outstation : State) (r : Relaying)
+pub quiet_above : Grounds → (old new : System) {el : Elsewhere} (h : IsStanding el old) (substation : ℕ) (outstation : State) (r : Relaying)
     (lines : ChannelState) (e : LinkEvent) → outstation.lanes ≡ old.concentrator.queue
     → rows_made_by old.concentrator.core.points (e ∷ []) ≡ []
     → HappensOn no_sink (middle_panel old.concentrator old.now) (seen_above old (lists_of h.links.above)) e
     (seen_above (changed_above (with_ends old outstation r lines) old) (lists_of h.links.above))
-    → new ≡ changed_above (with_ends old outstation r lines) old → Keeps el station [] old new
-quiet_above grounds old new h station outstation r lines e queue none happens after =
+    → new ≡ changed_above (with_ends old outstation r lines) old → Keeps el substation [] old new
+quiet_above grounds old new h substation outstation r lines e queue none happens after =
     let a : Above = with_ends old outstation r lines in
-    above_keeps grounds old new h station a [] [] (lists_of h.links.above) e
+    above_keeps grounds old new h substation a [] [] (lists_of h.links.above) e
     (record { lost = ap lost_in queue; journal = none_behind _; performs = none_behind _; used = none_used _; same = refl })
     (none_listed h.links.above) none happens after
 
 -- the lines alone change
-pub loses_above : Grounds → (centre : ℕ) (old new : System) {el : Elsewhere} (station : ℕ) (w : Way) → IsStanding el old → LosesOn (link.Above centre) w old new
-    → Keeps el station [] old new
-loses_above grounds centre old new station w h e =
-    quiet_above grounds old new h station (middle_of old.concentrator) old.centre.link (lost_at w old.above) (event.Lose w) refl refl refl
+pub loses_above : Grounds → (centre : ℕ) (old new : System) {el : Elsewhere} (substation : ℕ) (w : Way) → IsStanding el old
+    → LosesOn (link.Above centre) w old new
+    → Keeps el substation [] old new
+loses_above grounds centre old new substation w h e =
+    quiet_above grounds old new h substation (middle_of old.concentrator) old.centre.link (lost_at w old.above) (event.Lose w) refl refl refl
     (e.1 ∙ ap (λ (c : ChannelState). record old { above = c }) e.0)
 
-pub damages_above : Grounds → (centre : ℕ) (old new : System) {el : Elsewhere} (station : ℕ) (w : Way) (octets : List ℕ) → IsStanding el old
-    → LinesChange (link.Above centre) (DamagesAt w octets) old new → Keeps el station [] old new
-damages_above grounds centre old new station w octets h e =
-    quiet_above grounds old new h station (middle_of old.concentrator) old.centre.link new.above (event.Damage w (record { items = octets })) refl refl
+pub damages_above : Grounds → (centre : ℕ) (old new : System) {el : Elsewhere} (substation : ℕ) (w : Way) (octets : List ℕ) → IsStanding el old
+    → LinesChange (link.Above centre) (DamagesAt w octets) old new → Keeps el substation [] old new
+damages_above grounds centre old new substation w octets h e =
+    quiet_above grounds old new h substation (middle_of old.concentrator) old.centre.link new.above (event.Damage w (record { items = octets })) refl refl
     (record { damages = e.0; after = refl }) e.1
 
 -- ---- an end hangs up
 
-pub centre_hangs_up : Grounds → (centre : ℕ) (old new : System) {el : Elsewhere} (station : ℕ) → IsStanding el old → HangsUpOn (link.Above centre) end.Master old new
-    → Keeps el station [] old new
-centre_hangs_up grounds centre old new station h e =
-    quiet_above grounds old new h station (middle_of old.concentrator) (relaying.hung_up old.centre.link) (hung_up_at end.Master old.above)
+pub centre_hangs_up : Grounds → (centre : ℕ) (old new : System) {el : Elsewhere} (substation : ℕ) → IsStanding el old
+    → HangsUpOn (link.Above centre) end.Master old new
+    → Keeps el substation [] old new
+centre_hangs_up grounds centre old new substation h e =
+    quiet_above grounds old new h substation (middle_of old.concentrator) (relaying.hung_up old.centre.link) (hung_up_at end.Master old.above)
     (event.HangUp end.Master) refl refl refl e
 
-pub concentrator_hangs_up : Grounds → (centre : ℕ) (old new : System) {el : Elsewhere} (station : ℕ) → IsStanding el old → HangsUpOn (link.Above centre) end.Outstation old new
-    → Keeps el station [] old new
-concentrator_hangs_up grounds centre old new station h e =
-    quiet_above grounds old new h station (record (middle_of old.concentrator) { core = closed old.concentrator.core }) old.centre.link
+pub concentrator_hangs_up : Grounds → (centre : ℕ) (old new : System) {el : Elsewhere} (substation : ℕ) → IsStanding el old
+    → HangsUpOn (link.Above centre) end.Outstation old new
+    → Keeps el substation [] old new
+concentrator_hangs_up grounds centre old new substation h e =
+    quiet_above grounds old new h substation (record (middle_of old.concentrator) { core = closed old.concentrator.core }) old.centre.link
     (hung_up_at end.Outstation old.above) (event.HangUp end.Outstation) refl refl refl e
 
 -- ---- timers
 
-pub centre_ticks : Grounds → (centre : ℕ) (old new : System) {el : Elsewhere} (station : ℕ) → IsStanding el old → MasterTicks (link.Above centre) old new
-    → Keeps el station [] old new
-centre_ticks grounds centre old new station h e =
-    quiet_above grounds old new h station (middle_of old.concentrator) (relaying.ticked old.centre.link old.now) old.above
+pub centre_ticks : Grounds → (centre : ℕ) (old new : System) {el : Elsewhere} (substation : ℕ) → IsStanding el old → MasterTicks (link.Above centre) old new
+    → Keeps el substation [] old new
+centre_ticks grounds centre old new substation h e =
+    quiet_above grounds old new h substation (middle_of old.concentrator) (relaying.ticked old.centre.link old.now) old.above
     (event.Tick end.Master) refl refl refl e
 
 -- ---- steps of the concentrator's outstation
@@ -95,14 +98,14 @@ pub record AboveLaws : Type 0 where
   pub tick_performs : (s : State) (now : ℕ) → (tick_of s now).state.performed ≡ s.performed
 
 -- a step that releases and performs nothing, over these lines and with this link
-step_above : Grounds → (old new : System) {el : Elsewhere} (h : IsStanding el old) (station : ℕ) (step : Step) (r : Relaying) (lines : ChannelState)
+step_above : Grounds → (old new : System) {el : Elsewhere} (h : IsStanding el old) (substation : ℕ) (step : Step) (r : Relaying) (lines : ChannelState)
     (e : LinkEvent) → ReleasesNone (middle_of old.concentrator) step
     → step.state.performed ≡ (middle_of old.concentrator).performed
     → rows_made_by old.concentrator.core.points (e ∷ []) ≡ []
     → ((s' : LinkState ⊤) → Steps step (seen (middle_of old.concentrator) r.master lines old.now (lists_of h.links.above)) s'
     → HappensOn no_sink (middle_panel old.concentrator old.now) (seen_above old (lists_of h.links.above)) e s')
-    → MiddleSteps step [] lines (record old { centre = record old.centre { link = r } }) new → Keeps el station [] old new
-step_above grounds old new h station step r lines e none same made as_event m =
+    → MiddleSteps step [] lines (record old { centre = record old.centre { link = r } }) new → Keeps el substation [] old new
+step_above grounds old new h substation step r lines e none same made as_event m =
     let a : Above = with_ends old step.state r new.above in
     let lists : RowLists = lists_of h.links.above in
     let base : LinkState ⊤ = seen (middle_of old.concentrator) r.master lines old.now lists in
@@ -112,21 +115,23 @@ step_above grounds old new h station step r lines e none same made as_event m =
     ap (λ (p : List Command). stepped p lists.released) (sym same)
     ∙ ap (λ (xs : List Row). stepped step.state.performed xs)
     (sym (append-nil lists.released) ∙ ap (λ (xs : List Row). lists.released ++ xs) (sym none.discarded)) in
-    quiet_above grounds old new h station step.state r new.above e none.lanes made
+    quiet_above grounds old new h substation step.state r new.above e none.lanes made
     (as_event (seen_above (changed_above a old) lists) (record { goes = m.sent; after = there })) m.after
 
-pub opens_above : Grounds → AboveLaws → (centre : ℕ) (old new : System) {el : Elsewhere} (station : ℕ) → IsStanding el old → OpensOn (link.Above centre) old new
-    → Keeps el station [] old new
-opens_above grounds laws centre old new station h e =
+pub opens_above : Grounds → AboveLaws → (centre : ℕ) (old new : System) {el : Elsewhere} (substation : ℕ) → IsStanding el old
+    → OpensOn (link.Above centre) old new
+    → Keeps el substation [] old new
+opens_above grounds laws centre old new substation h e =
     let s : State = middle_of old.concentrator in
-    step_above grounds old new h station (opened_of s old.now) (relaying.opened old.centre.link) (cleared old.above) event.Open
+    step_above grounds old new h substation (opened_of s old.now) (relaying.opened old.centre.link) (cleared old.above) event.Open
     (laws.open_none s old.now) (laws.open_performs s old.now) refl (λ s' steps. steps) e
 
-pub concentrator_ticks : Grounds → AboveLaws → (centre : ℕ) (old new : System) {el : Elsewhere} (station : ℕ) → IsStanding el old → OutstationTicks (link.Above centre) old new
-    → Keeps el station [] old new
-concentrator_ticks grounds laws centre old new station h e =
+pub concentrator_ticks : Grounds → AboveLaws → (centre : ℕ) (old new : System) {el : Elsewhere} (substation : ℕ) → IsStanding el old
+    → OutstationTicks (link.Above centre) old new
+    → Keeps el substation [] old new
+concentrator_ticks grounds laws centre old new substation h e =
     let s : State = middle_of old.concentrator in
-    step_above grounds old new h station (tick_of s old.now) old.centre.link old.above (event.Tick end.Outstation)
+    step_above grounds old new h substation (tick_of s old.now) old.centre.link old.above (event.Tick end.Outstation)
     (laws.tick_none s old.now) (laws.tick_performs s old.now) refl (λ s' steps. steps) e
 
 -- ---- a task is asked
@@ -141,18 +146,19 @@ asked_so old task lines lists (Err fault) answer down =
     ap (λ (c : ChannelState). seen (middle_of old.concentrator) (relaying.asking r old.now task).master c old.now lists) (none_goes old.above lines down)
     ∙ ap (λ (a : Result (List ℕ) AskFault). seen (middle_of old.concentrator) (asked_by r.master old.now task a) old.above old.now lists) answer
 
-asks_if : Grounds → (centre : ℕ) (old new : System) {el : Elsewhere} (station : ℕ) (task : Task) (own : Bool) → is_own task ≡ own → IsStanding el old
-    → AsksOn own (link.Above centre) task old new → Keeps el station [] old new
-asks_if grounds centre old new station task true own h e =
+asks_if : Grounds → (centre : ℕ) (old new : System) {el : Elsewhere} (substation : ℕ) (task : Task) (own : Bool) → is_own task ≡ own → IsStanding el old
+    → AsksOn own (link.Above centre) task old new → Keeps el substation [] old new
+asks_if grounds centre old new substation task true own h e =
     let r : Relaying = old.centre.link in
     let lists : RowLists = lists_of h.links.above in
     let next : System = record old { centre = record old.centre { link = relaying.asking r old.now task }; above = new.above } in
-    quiet_above grounds old new h station (middle_of old.concentrator) (relaying.asking r old.now task) new.above (event.Ask task) refl refl
+    quiet_above grounds old new h substation (middle_of old.concentrator) (relaying.asking r old.now task) new.above (event.Ask task) refl refl
     (subst (λ (b : Bool). AsksIfOwn b task (seen_above old lists) (seen_above next lists)) (sym own)
     (asked_so old task new.above lists (ask_answer r.master task) refl e.0))
     e.1
-asks_if grounds centre old new station task false own h e = same_keeps station old new h e
+asks_if grounds centre old new substation task false own h e = same_keeps substation old new h e
 
-pub asks_above : Grounds → (centre : ℕ) (old new : System) {el : Elsewhere} (station : ℕ) (task : Task) → IsStanding el old → AsksOn (is_own task) (link.Above centre) task old new
-    → Keeps el station [] old new
-asks_above grounds centre old new station task h e = asks_if grounds centre old new station task (is_own task) refl h e
+pub asks_above : Grounds → (centre : ℕ) (old new : System) {el : Elsewhere} (substation : ℕ) (task : Task) → IsStanding el old
+    → AsksOn (is_own task) (link.Above centre) task old new
+    → Keeps el substation [] old new
+asks_above grounds centre old new substation task h e = asks_if grounds centre old new substation task (is_own task) refl h e

@@ -22,14 +22,14 @@ use Rattle.dnp_world.specs.Kept.{commands_below, commands_in, kept_in, orders_in
 use Rattle.dnp_world.specs.Link.{Link}
 use Rattle.dnp_world.specs.OneLinkEvents.{LinkState, HappensOn}
 use Rattle.dnp_world.specs.OutstationSeen.{ShowOctets}
-use Rattle.dnp_world.specs.Stations.{of_station, HasSameCounts}
+use Rattle.dnp_world.specs.Stations.{of_substation, HasSameCounts}
 use Rattle.dnp_world.specs.Systems.{System, middle_panel}
 use Rattle.dnp_world.specs.SystemStanding.{RowLists, lists_of, no_sink, seen_above, IsJoinedBelow, IsStanding, Keeps}
 use Rattle.dnp_world.proofs.BelowKeeps.{Grounds, TurnLaws, grows_by, lane_rows, none_more, none_used, relisted, stays_still}
 use Rattle.dnp_world.proofs.SystemCounts.{same_is, same_refl}
 use Rattle.dnp_world.proofs.SystemMapping.{added_orders, added_unused}
 use Rattle.dnp_world.proofs.SystemPlans.{still_of_plan}
-use Rattle.dnp_world.proofs.Turning.{by_station}
+use Rattle.dnp_world.proofs.Turning.{by_substation}
 
 -- What changes above: the concentrator's outstation with its queue, and the commands that come into its book, the centre's link with its
 -- journal, and the lines.
@@ -77,26 +77,26 @@ pub record ListsMore (l : Link) (taken released : List Row) (lists : RowLists) :
 pub none_listed : (l : Link) → ListsMore l [] [] (lists_of l)
 none_listed l = record { taken_is = sym (append-nil (rows_of l.took)); released_is = sym (append-nil (rows_of l.released)); left_is = refl }
 
-turn_above : (old : System) {el : Elsewhere} (h : IsStanding el old) (station : ℕ) (a : Above) (orders : Ledger) (taken released : List Row)
+turn_above : (old : System) {el : Elsewhere} (h : IsStanding el old) (substation : ℕ) (a : Above) (orders : Ledger) (taken released : List Row)
     (asked : List Command) (link : Link) → StoresShow old a orders taken asked
     → Grows h.links.above link (record does_nothing { discarded = released; taken = taken; asked = asked; performed = a.commands })
     → HasSameCounts (rows_of link.lanes) (kept_in (with_orders orders (changed_above a old))).queue
-    → Turn old.indices station h.links (kept_in old) (kept_in (with_orders orders (changed_above a old)))
-turn_above old h station a orders taken released asked link shows grows lanes =
+    → Turn old.indices substation h.links (kept_in old) (kept_in (with_orders orders (changed_above a old)))
+turn_above old h substation a orders taken released asked link shows grows lanes =
     let new : System = with_orders orders (changed_above a old) in
     let spans : List Spans = old.concentrator.indices in
     let was : Ledger = old.concentrator.controls in
     record {
-      below = h.links.below station;
+      below = h.links.below substation;
       above = link;
       here = does_nothing;
       there = record does_nothing { discarded = released; taken = taken; asked = asked; performed = a.commands };
-      below_grows = stays_still (h.links.below station);
+      below_grows = stays_still (h.links.below substation);
       above_grows = grows;
       joined = refl;
       mapped = refl;
-      buffered = h.behind.buffered station;
-      others = λ i other. same_refl (of_station i (kept_in old).buffered);
+      buffered = h.behind.buffered substation;
+      others = λ i other. same_refl (of_substation i (kept_in old).buffered);
       confirmed = none_more old.history.confirmed;
       left = none_more (old.history.overwritten ++ old.history.gone);
       queue = lanes;
@@ -118,12 +118,13 @@ turn_above old h station a orders taken released asked link shows grows lanes =
     }
 
 -- The link by itself moves so.
-pub above_follows : TurnLaws → (old : System) {el : Elsewhere} (h : IsStanding el old) (station : ℕ) (a : Above) (orders : Ledger) (taken released : List Row)
+pub above_follows : TurnLaws → (old : System) {el : Elsewhere} (h : IsStanding el old) (substation : ℕ) (a : Above) (orders : Ledger)
+    (taken released : List Row)
     (asked : List Command) (lists : RowLists) → StoresShow old a orders taken asked → ListsMore h.links.above taken released lists
     → Follows [] [] asked (middle_panel old.concentrator old.now).performed h.links.above (seen_above (changed_above a old) lists)
-    → Keeps el station [] old (with_orders orders (changed_above a old))
+    → Keeps el substation [] old (with_orders orders (changed_above a old))
 unfolding turn_above
-above_follows laws old h station a orders taken released asked lists shows listed f =
+above_follows laws old h substation a orders taken released asked lists shows listed f =
     let l : Link = h.links.above in
     let next : System = with_orders orders (changed_above a old) in
     let s' : LinkState ⊤ = seen_above next lists in
@@ -133,32 +134,34 @@ above_follows laws old h station a orders taken released asked lists shows liste
     subst (λ (xs : List Command). Grows l link (record does_nothing { discarded = released; taken = taken; asked = asked; performed = xs }))
     (ap (λ (xs : List Command). drop (length before) xs) shows.performs ∙ drop-append_seam before a.commands)
     (grows_by [] taken released [] asked before l s' listed.taken_is listed.released_is (listed.left_is ∙ sym (append-nil (rows_of l.left))) f) in
-    let t : Turn old.indices station h.links (kept_in old) (kept_in next) =
-    turn_above old h station a orders taken released asked link shows grows (same_is (rows_of link.lanes) (kept_in next).queue (lane_rows s' link f.joined)) in
+    let t : Turn old.indices substation h.links (kept_in old) (kept_in next) =
+    turn_above old h substation a orders taken released asked link shows grows
+    (same_is (rows_of link.lanes) (kept_in next).queue (lane_rows s' link f.joined)) in
     record {
       standing = record {
         plan = h.plan;
         of_plan = still_of_plan old next h.plan refl refl refl refl refl h.of_plan;
-        links = with_links h.links station (h.links.below station) link;
-        below = by_station (λ i x. IfSome (slice_get old.substations i) (IsJoinedBelow old.now (link_in old.concentrator.links i) x)) h.links station
-            (h.links.below station) link (h.below station) (λ i other. h.below i);
+        links = with_links h.links substation (h.links.below substation) link;
+        below = by_substation (λ i x. IfSome (slice_get old.substations i) (IsJoinedBelow old.now (link_in old.concentrator.links i) x)) h.links substation
+            (h.links.below substation) link (h.below substation) (λ i other. h.below i);
         above = relisted s' link old.now f.joined;
-        behind = laws.kept old.indices station h.links (kept_in old) (kept_in next) h.behind t;
+        behind = laws.kept old.indices substation h.links (kept_in old) (kept_in next) h.behind t;
       };
-      fate = laws.fate old.indices station h.links (kept_in old) (kept_in next) h.behind t;
+      fate = laws.fate old.indices substation h.links (kept_in old) (kept_in next) h.behind t;
     }
 
 -- The event is one of the link by itself, at which no point changes, and which asks for no command.
-pub above_keeps : Grounds → (old new : System) {el : Elsewhere} (h : IsStanding el old) (station : ℕ) (a : Above) (taken released : List Row) (lists : RowLists)
+pub above_keeps : Grounds → (old new : System) {el : Elsewhere} (h : IsStanding el old) (substation : ℕ) (a : Above)
+    (taken released : List Row) (lists : RowLists)
     (e : LinkEvent) → StoresShow old a old.centre.orders taken [] → ListsMore h.links.above taken released lists
     → rows_made_by old.concentrator.core.points (e ∷ []) ≡ []
     → HappensOn no_sink (middle_panel old.concentrator old.now) (seen_above old (lists_of h.links.above)) e
-    (seen_above (changed_above a old) lists) → new ≡ changed_above a old → Keeps el station [] old new
-above_keeps grounds old new {el = el} h station a taken released lists e shows listed none happens after =
+    (seen_above (changed_above a old) lists) → new ≡ changed_above a old → Keeps el substation [] old new
+above_keeps grounds old new {el = el} h substation a taken released lists e shows listed none happens after =
     let s : LinkState ⊤ = seen_above old (lists_of h.links.above) in
     let s' : LinkState ⊤ = seen_above (changed_above a old) lists in
     let panel : Panel = middle_panel old.concentrator old.now in
-    subst (λ (x : System). Keeps el station [] old x) (sym after)
-    (above_follows grounds.turns old h station a old.centre.orders taken released [] lists shows listed
+    subst (λ (x : System). Keeps el substation [] old x) (sym after)
+    (above_follows grounds.turns old h substation a old.centre.orders taken released [] lists shows listed
     (subst (λ (rows : List Row). Follows [] rows [] panel.performed h.links.above s') none
     (grounds.happens panel s s' e h.links.above (shown_above old) h.behind.above_stands h.above happens)))

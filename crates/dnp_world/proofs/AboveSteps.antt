@@ -187,7 +187,8 @@ relayed spans reserved command is = by (can_relay spans command) refl is
     by true can is = (and_parts (is_some (command_below spans command)) (obeys_code command) can).0
     by false can is = absurd (cc)
 
-accepted_relayed : (spans : List Spans) (reserved : Option Command) (commands : List Command) → Each (IsRelayed spans) (accepted (relay_check spans reserved) commands)
+accepted_relayed : (spans : List Spans) (reserved : Option Command) (commands : List Command)
+    → Each (IsRelayed spans) (accepted (relay_check spans reserved) commands)
 accepted_relayed spans reserved [] = tt
 accepted_relayed spans reserved (c ∷ cs) = by (relay_check spans reserved c == status.success) refl (accepted_relayed spans reserved cs)
   where
@@ -204,7 +205,8 @@ performed_relayed spans reserved book commands = by (are_too_many (book_panel sp
     by true = tt
     by false = accepted_relayed spans reserved commands
 
-function_relayed : (spans : List Spans) (reserved : Option Command) (book : Ledger) (select : Option Select) (time now : ℕ) (octets : List ℕ) (f : Function) (headers : List Head)
+function_relayed : (spans : List Spans) (reserved : Option Command) (book : Ledger) (select : Option Select) (time now : ℕ) (octets : List ℕ) (f : Function)
+    (headers : List Head)
     → (let o : Panel = book_panel spans reserved book in
     Each (IsRelayed spans) (performs_of (come_to (outcome_of f select time o now octets (commands_in headers)) headers)))
 function_relayed spans reserved book select time now octets function.Select headers = tt
@@ -224,7 +226,8 @@ function_relayed spans reserved book select time now octets function.DirectOpera
 function_relayed spans reserved book select time now octets function.DirectOperateNr headers = performed_relayed spans reserved book (commands_in headers)
 function_relayed spans reserved book select time now octets _ headers = tt
 
-outcome_relayed : (spans : List Spans) (reserved : Option Command) (book : Ledger) (select : Option Select) (time now : ℕ) (octets : List ℕ) (r : Result Asked AppFault)
+outcome_relayed : (spans : List Spans) (reserved : Option Command) (book : Ledger) (select : Option Select) (time now : ℕ) (octets : List ℕ)
+    (r : Result Asked AppFault)
     → Each (IsRelayed spans) (performs_of (outcome_at select time (book_panel spans reserved book) now octets r))
 outcome_relayed spans reserved book select time now octets (Err fault) = tt
 outcome_relayed spans reserved book select time now octets (Ok request) = by (nat_lt (MAX_FRAGMENT - 2) (length octets))

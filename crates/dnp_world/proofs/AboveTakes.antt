@@ -44,26 +44,28 @@ abbrev IsComing : (LineState → LineState) → LinkEvent → Type 0
 IsComing left e = (s s' : LinkState ⊤) (panel : Panel) → one.ComesUp no_sink (left s.channel.up) s s' → HappensOn no_sink panel s e s'
 
 -- nothing is taken
-untaken : Grounds → (left : LineState → LineState) (e : LinkEvent) → IsComing left e → (old new : System) {el : Elsewhere} (h : IsStanding el old) (station : ℕ)
+untaken : Grounds → (left : LineState → LineState) (e : LinkEvent) → IsComing left e
+    → (old new : System) {el : Elsewhere} (h : IsStanding el old) (substation : ℕ)
     → (port : PortState) (given : List (List ℕ)) → HearsIfAny (front_of old.above.up) old.above.master_port port [] given
     → rows_made_by old.concentrator.core.points (e ∷ []) ≡ []
     → (let base : LinkState ⊤ = seen_above (record old { above = heard_lines left port old }) (lists_of h.links.above) in one.ComeUp no_sink given base base)
-    → new ≡ record old { above = heard_lines left port old } → Keeps el station [] old new
-untaken grounds left e as_event old new h station port given heard made came after =
+    → new ≡ record old { above = heard_lines left port old } → Keeps el substation [] old new
+untaken grounds left e as_event old new h substation port given heard made came after =
     let lists : RowLists = lists_of h.links.above in
-    quiet_above grounds old new h station (middle_of old.concentrator) old.centre.link (heard_lines left port old) e refl made
+    quiet_above grounds old new h substation (middle_of old.concentrator) old.centre.link (heard_lines left port old) e refl made
     (as_event (seen_above old lists) (seen_above (record old { above = heard_lines left port old }) lists) (middle_panel old.concentrator old.now)
     (record { port = port; given = given; heard = heard; came = came }))
     after
 
 -- the centre takes the fragment, or refuses it
 received : Grounds → (left : LineState → LineState) (e : LinkEvent) → IsComing left e
-    → (centre : ℕ) (old new : System) {el : Elsewhere} (h : IsStanding el old) (station : ℕ) → (port : PortState) (fragment : List ℕ) (others : List (List ℕ))
+    → (centre : ℕ) (old new : System) {el : Elsewhere} (h : IsStanding el old) (substation : ℕ)
+    → (port : PortState) (fragment : List ℕ) (others : List (List ℕ))
     → HearsIfAny (front_of old.above.up) old.above.master_port port [] (fragment ∷ others)
     → rows_made_by old.concentrator.core.points (e ∷ []) ≡ []
     → (r : Result Taking MasterFault) → receive_of old.centre.link.master old.now fragment ≡ r
-    → MasterReceives (link.Above centre) r (record old { above = heard_lines left port old }) new → Keeps el station [] old new
-received grounds left e as_event centre old new h station port fragment others heard made (Ok t) is (room, (down, after)) =
+    → MasterReceives (link.Above centre) r (record old { above = heard_lines left port old }) new → Keeps el substation [] old new
+received grounds left e as_event centre old new h substation port fragment others heard made (Ok t) is (room, (down, after)) =
     let l : Link = h.links.above in
     let lines : ChannelState = heard_lines left port old in
     let base : LinkState ⊤ = seen_above (record old { above = lines }) (lists_of l) in
@@ -82,7 +84,7 @@ received grounds left e as_event centre old new h station port fragment others h
       goes = down;
       after = refl;
     } in
-    above_keeps grounds old new h station a t.events [] lists e
+    above_keeps grounds old new h substation a t.events [] lists e
     (record {
       lost = refl;
       journal = map-append row_of old.centre.journal.rows (numbered old.centre.journal.last_id t.events)
@@ -101,36 +103,39 @@ received grounds left e as_event centre old new h station port fragment others h
       came = subst (λ (x : Result Taking MasterFault). Receives no_sink x base s') (sym is) takes;
     }))
     after
-received grounds left e as_event centre old new h station port fragment others heard made (Err fault) is after =
+received grounds left e as_event centre old new h substation port fragment others heard made (Err fault) is after =
     let base : LinkState ⊤ = seen_above (record old { above = heard_lines left port old }) (lists_of h.links.above) in
-    untaken grounds left e as_event old new h station port (fragment ∷ others) heard made
+    untaken grounds left e as_event old new h substation port (fragment ∷ others) heard made
     (subst (λ (x : Result Taking MasterFault). Receives no_sink x base base) (sym is) refl) after
 
 taken_in : Grounds → (left : LineState → LineState) (e : LinkEvent) → IsComing left e
-    → (centre : ℕ) (old new : System) {el : Elsewhere} (h : IsStanding el old) (station : ℕ)
+    → (centre : ℕ) (old new : System) {el : Elsewhere} (h : IsStanding el old) (substation : ℕ)
     → (port : PortState) (given : List (List ℕ)) → HearsIfAny (front_of old.above.up) old.above.master_port port [] given
     → rows_made_by old.concentrator.core.points (e ∷ []) ≡ []
-    → MasterTakes (link.Above centre) given (record old { above = heard_lines left port old }) new → Keeps el station [] old new
-taken_in grounds left e as_event centre old new h station port [] heard made came =
-    untaken grounds left e as_event old new h station port [] heard made refl came
-taken_in grounds left e as_event centre old new h station port (fragment ∷ others) heard made came =
-    received grounds left e as_event centre old new h station port fragment others heard made (receive_of old.centre.link.master old.now fragment) refl came
+    → MasterTakes (link.Above centre) given (record old { above = heard_lines left port old }) new → Keeps el substation [] old new
+taken_in grounds left e as_event centre old new h substation port [] heard made came =
+    untaken grounds left e as_event old new h substation port [] heard made refl came
+taken_in grounds left e as_event centre old new h substation port (fragment ∷ others) heard made came =
+    received grounds left e as_event centre old new h substation port fragment others heard made (receive_of old.centre.link.master old.now fragment) refl came
 
-comes : Grounds → (left : LineState → LineState) (e : LinkEvent) → IsComing left e → (centre : ℕ) (old new : System) {el : Elsewhere} (station : ℕ) → IsStanding el old
-    → rows_made_by old.concentrator.core.points (e ∷ []) ≡ [] → ComesUp left (link.Above centre) old new → Keeps el station [] old new
-comes grounds left e as_event centre old new station h made c =
+comes : Grounds → (left : LineState → LineState) (e : LinkEvent) → IsComing left e
+    → (centre : ℕ) (old new : System) {el : Elsewhere} (substation : ℕ) → IsStanding el old
+    → rows_made_by old.concentrator.core.points (e ∷ []) ≡ [] → ComesUp left (link.Above centre) old new → Keeps el substation [] old new
+comes grounds left e as_event centre old new substation h made c =
     let port : PortState = c.between.above.master_port in
     let is : c.between ≡ record old { above = heard_lines left port old } =
     c.heard.1 ∙ ap (λ (lines : ChannelState). record old { above = lines }) c.heard.0.after in
-    taken_in grounds left e as_event centre old new h station port c.given c.heard.0.heard made
+    taken_in grounds left e as_event centre old new h substation port c.given c.heard.0.heard made
     (subst (λ (s : System). MasterTakes (link.Above centre) c.given s new) is c.came)
 
-pub delivers_to_centre : Grounds → (centre : ℕ) (old new : System) {el : Elsewhere} (station : ℕ) → IsStanding el old → ComesUp delivered_on (link.Above centre) old new
-    → Keeps el station [] old new
-delivers_to_centre grounds centre old new station h c =
-    comes grounds delivered_on (event.Deliver way.Up) (λ s s' panel come. come) centre old new station h refl c
+pub delivers_to_centre : Grounds → (centre : ℕ) (old new : System) {el : Elsewhere} (substation : ℕ) → IsStanding el old
+    → ComesUp delivered_on (link.Above centre) old new
+    → Keeps el substation [] old new
+delivers_to_centre grounds centre old new substation h c =
+    comes grounds delivered_on (event.Deliver way.Up) (λ s s' panel come. come) centre old new substation h refl c
 
-pub repeats_to_centre : Grounds → (centre : ℕ) (old new : System) {el : Elsewhere} (station : ℕ) → IsStanding el old → ComesUp repeated_on (link.Above centre) old new
-    → Keeps el station [] old new
-repeats_to_centre grounds centre old new station h c =
-    comes grounds repeated_on (event.Repeat way.Up) (λ s s' panel come. come) centre old new station h refl c
+pub repeats_to_centre : Grounds → (centre : ℕ) (old new : System) {el : Elsewhere} (substation : ℕ) → IsStanding el old
+    → ComesUp repeated_on (link.Above centre) old new
+    → Keeps el substation [] old new
+repeats_to_centre grounds centre old new substation h c =
+    comes grounds repeated_on (event.Repeat way.Up) (λ s s' panel come. come) centre old new substation h refl c

@@ -21,20 +21,20 @@ use Rattle.dnp_world.proofs.TakenPlans.{IsMasterOf, master_there}
 
 -- what the crate of the index map promises
 abbrev pub QueuedLaw : Type 0
-QueuedLaw = (plan : Plan) (station : ℕ) (substation : SubPlan) (events : List Row) → KeepsLimits plan → IsMap (map_of plan)
-    → slice_get plan.substations station ≡ Some substation → All (λ event. is_reported (points_below substation) event ≡ true) events
-    → length (queued_rows (map_of plan) (points_above plan) station events) ≡ length events
+QueuedLaw = (plan : Plan) (substation : ℕ) (planned : SubPlan) (events : List Row) → KeepsLimits plan → IsMap (map_of plan)
+    → slice_get plan.substations substation ≡ Some planned → All (λ event. is_reported (points_below planned) event ≡ true) events
+    → length (queued_rows (map_of plan) (points_above plan) substation events) ≡ length events
 
-pub all_are_queued : QueuedLaw → (s : System) {el : Elsewhere} (station : ℕ) → IsStanding el s → station < length s.concentrator.links → (rows : List Row)
-    → All (λ row. is_reported (link_at s.concentrator station).master.plan row ≡ true) rows
-    → length (rows_queued s.concentrator station rows) ≡ length rows
-all_are_queued law s station standing low rows asked =
+pub all_are_queued : QueuedLaw → (s : System) {el : Elsewhere} (substation : ℕ) → IsStanding el s → substation < length s.concentrator.links → (rows : List Row)
+    → All (λ row. is_reported (link_at s.concentrator substation).master.plan row ≡ true) rows
+    → length (rows_queued s.concentrator substation rows) ≡ length rows
+all_are_queued law s substation standing low rows asked =
     let plan : Plan = standing.plan in
     let p : IsOfPlan plan s = standing.of_plan in
-    let m : IsMasterOf plan.substations station (link_in s.concentrator.links station) =
-    master_there s.concentrator.links plan.substations station low p.masters in
-    let all : length (queued_rows (map_of plan) (points_above plan) station rows) ≡ length rows =
-    law plan station m.substation rows p.limits (subst IsMap p.indices p.is_map) m.there
+    let m : IsMasterOf plan.substations substation (link_in s.concentrator.links substation) =
+    master_there s.concentrator.links plan.substations substation low p.masters in
+    let all : length (queued_rows (map_of plan) (points_above plan) substation rows) ≡ length rows =
+    law plan substation m.planned rows p.limits (subst IsMap p.indices p.is_map) m.there
     (subst (λ (q : points.Plan). All (λ row. is_reported q row ≡ true) rows) m.asks asked) in
-    subst (λ (xs : List Spans). length (queued_rows xs s.concentrator.points station rows) ≡ length rows) (sym (p.middle_indices ∙ p.indices))
-    (subst (λ (q : points.Plan). length (queued_rows (map_of plan) q station rows) ≡ length rows) (sym p.middle_points) all)
+    subst (λ (xs : List Spans). length (queued_rows xs s.concentrator.points substation rows) ≡ length rows) (sym (p.middle_indices ∙ p.indices))
+    (subst (λ (q : points.Plan). length (queued_rows (map_of plan) q substation rows) ≡ length rows) (sym p.middle_points) all)

@@ -167,9 +167,9 @@ all_come low on way (f ∷ fragments) behind c old new there b runs =
 
 -- as many units stand there
 standing_there : (on : Link) (way : Way) (s : System) (c : ChannelState) → channel_on s on ≡ Some c → standing_on s on way ≡ length (line_of way c).units
-standing_there (Below station) way s c there =
-    let f : Found s station c = found s station c there in
-    ap (λ (b : Bool). if b then units_at way (slice_get s.substations station) else 0) f.has
+standing_there (Below substation) way s c there =
+    let f : Found s substation c = found s substation c there in
+    ap (λ (b : Bool). if b then units_at way (slice_get s.substations substation) else 0) f.has
     ∙ ap (λ (o : Option SubstationState). units_at way o) f.there ∙ ap (λ (l : ChannelState). length (line_of way l).units) f.lines
 standing_there (Above centre) way s c there = ap (λ (l : ChannelState). length (line_of way l).units) (same_Some s.above c there)
 

@@ -18,7 +18,7 @@ use Rattle.dnp_world.specs.Joined.{Carries}
 use Rattle.dnp_world.specs.Rounds.{is_quiet_at, is_quiet_on}
 use Rattle.dnp_world.specs.SystemEvents.{LinesChange, MasterReceives, SendsDown, relaying_at, taken_on, with_relaying, with_substation}
 use Rattle.dnp_world.specs.SystemStanding.{IsJoinedBelow, IsStanding}
-use Rattle.dnp_world.specs.Systems.{SubstationState, System, has_station, link_at}
+use Rattle.dnp_world.specs.Systems.{SubstationState, System, has_substation, link_at}
 use Rattle.dnp_world.specs.declared.event.Link.{Link}
 use Rattle.dnp_world.specs.declared.event.Link.TheVariants.{Below, Above}
 use Rattle.dnp_world.specs.declared.link_event.Way.{Way}
@@ -55,29 +55,29 @@ nothing_stands line sender receiver is_open rest quiet c =
       history = record { heard = port.heard; answers = port.answers; pushed = port.pushed; stands = port.stands };
     }
 
-quiet_below : (s : System) {el : Elsewhere} (station : ℕ) (o : Option SubstationState) → IsStanding el s → slice_get s.substations station ≡ o
-    → has_station s station ≡ true → is_quiet_at o ≡ true → IsClearOn (Below station) s
-quiet_below s station None h there has e = absurd (cc)
-quiet_below s station (Some was) h there has e =
+quiet_below : (s : System) {el : Elsewhere} (substation : ℕ) (o : Option SubstationState) → IsStanding el s → slice_get s.substations substation ≡ o
+    → has_substation s substation ≡ true → is_quiet_at o ≡ true → IsClearOn (Below substation) s
+quiet_below s substation None h there has e = absurd (cc)
+quiet_below s substation (Some was) h there has e =
     let lines : ChannelState = was.channel in
-    let joined_to : SubstationState → Type 0 = IsJoinedBelow s.now (link_at s.concentrator station) (h.links.below station) in
-    let joined = (some_of joined_to (slice_get s.substations station) was there (h.below station)).joined in
+    let joined_to : SubstationState → Type 0 = IsJoinedBelow s.now (link_at s.concentrator substation) (h.links.below substation) in
+    let joined = (some_of joined_to (slice_get s.substations substation) was there (h.below substation)).joined in
     let quiet : are_quiet lines ≡ true = (and_parts (is_quiet was.core) (are_quiet lines) e).1 in
     let parts = and_parts (is_quiet_line lines.down) (is_quiet_line lines.up) quiet in
     record {
       channel = lines;
-      there = channel_found s station was has there;
-      down_is = nothing_stands lines.down lines.master_port lines.outstation_port (link_at s.concentrator station).master.is_open
+      there = channel_found s substation was has there;
+      down_is = nothing_stands lines.down lines.master_port lines.outstation_port (link_at s.concentrator substation).master.is_open
           joined.going_down parts.0 joined.down;
       up_is = nothing_stands lines.up lines.outstation_port lines.master_port was.core.is_open _ parts.1 joined.up;
     }
 
 pub quiet_is_clear : (on : Link) (s : System) {el : Elsewhere} → IsStanding el s → is_quiet_on s on ≡ true → IsClearOn on s
-quiet_is_clear (Below station) s h e =
-    let idle : Bool = is_idle (link_at s.concentrator station).master in
-    let quiet : Bool = is_quiet_at (slice_get s.substations station) in
-    let parts = and_parts (has_station s station) (idle && quiet) e in
-    quiet_below s station (slice_get s.substations station) h refl parts.0 (and_parts idle quiet parts.1).1
+quiet_is_clear (Below substation) s h e =
+    let idle : Bool = is_idle (link_at s.concentrator substation).master in
+    let quiet : Bool = is_quiet_at (slice_get s.substations substation) in
+    let parts = and_parts (has_substation s substation) (idle && quiet) e in
+    quiet_below s substation (slice_get s.substations substation) h refl parts.0 (and_parts idle quiet parts.1).1
 quiet_is_clear (Above centre) s h e =
     let lines : ChannelState = s.above in
     let ends_quiet : Bool = is_quiet s.concentrator.core && are_quiet lines in
@@ -93,20 +93,20 @@ quiet_is_clear (Above centre) s h e =
 
 -- ---- the other links
 
-set_apart : (s : System) (station other : ℕ) (is : SubstationState) → station ≢ other
-    → channel_on (with_substation s other is) (Below station) ≡ channel_on s (Below station)
-set_apart s station other is apart =
+set_apart : (s : System) (substation other : ℕ) (is : SubstationState) → substation ≢ other
+    → channel_on (with_substation s other is) (Below substation) ≡ channel_on s (Below substation)
+set_apart s substation other is apart =
     let set : System = with_substation s other is in
     let lines_in : Bool → Option SubstationState → Option ChannelState = λ b o. if b then channel_at o else None in
-    ap (λ (b : Bool). lines_in b (slice_get set.substations station)) (has_set s other station is)
-    ∙ ap (λ (o : Option SubstationState). lines_in (has_station s station) o) (set_there s.substations other station is apart)
+    ap (λ (b : Bool). lines_in b (slice_get set.substations substation)) (has_set s other substation is)
+    ∙ ap (λ (o : Option SubstationState). lines_in (has_substation s substation) o) (set_there s.substations other substation is apart)
 
 pub lines_apart : (on other : Link) (C : ChannelState → ChannelState → Type 0) (old new : System) → AreApart on other → LinesChange other C old new
     → channel_on new on ≡ channel_on old on
-lines_apart (Below station) (Below other) C old new apart e =
-    ap (λ (s : System). channel_on s (Below station)) e.after ∙ set_apart old station other e.is apart
+lines_apart (Below substation) (Below other) C old new apart e =
+    ap (λ (s : System). channel_on s (Below substation)) e.after ∙ set_apart old substation other e.is apart
 lines_apart (Above centre) (Below other) C old new apart e = ap (λ (s : System). channel_on s (Above centre)) e.after
-lines_apart (Below station) (Above centre) C old new apart e = ap (λ (s : System). channel_on s (Below station)) e.1
+lines_apart (Below substation) (Above centre) C old new apart e = ap (λ (s : System). channel_on s (Below substation)) e.1
 lines_apart (Above centre) (Above other) C old new apart e = absurd apart
 
 received_apart : (on other : Link) (r : Result Taking MasterFault) (old new : System) → AreApart on other → MasterReceives other r old new
@@ -117,11 +117,11 @@ received_apart on other (Err fault) old new apart is = ap (λ (s : System). chan
 
 takes_apart : (on other : Link) (way : Way) (f : List ℕ) (old new : System) → AreApart on other → TakesOn other way f old new
     → channel_on new on ≡ channel_on old on
-takes_apart (Below station) (Below other) Down f old new apart h =
+takes_apart (Below substation) (Below other) Down f old new apart h =
     let e = h.answers in
-    ap (λ (s : System). channel_on s (Below station)) e.after ∙ set_apart old station other e.is apart
+    ap (λ (s : System). channel_on s (Below substation)) e.after ∙ set_apart old substation other e.is apart
 takes_apart (Above centre) (Below other) Down f old new apart h = ap (λ (s : System). channel_on s (Above centre)) h.answers.after
-takes_apart (Below station) (Above centre) Down f old new apart h = ap (λ (s : System). channel_on s (Below station)) h.after
+takes_apart (Below substation) (Above centre) Down f old new apart h = ap (λ (s : System). channel_on s (Below substation)) h.after
 takes_apart (Above centre) (Above other) Down f old new apart h = absurd apart
 takes_apart on (Below other) Up f old new apart h =
     received_apart on (Below other) (receive_of (relaying_at old (Below other)).master old.now f) old new apart h

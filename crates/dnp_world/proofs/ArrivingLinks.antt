@@ -8,7 +8,7 @@ use Rattle.dnp_line.specs.Ports.{PortState}
 use Rattle.dnp_world.specs.Arriving.{channel_at, channel_on}
 use Rattle.dnp_world.specs.Channels.{ChannelState, line_of}
 use Rattle.dnp_world.specs.SystemEvents.{LinesChange, with_substation}
-use Rattle.dnp_world.specs.Systems.{SubstationState, System, has_link, has_station}
+use Rattle.dnp_world.specs.Systems.{SubstationState, System, has_link, has_substation}
 use Rattle.dnp_world.specs.declared.event.Link.{Link}
 use Rattle.dnp_world.specs.declared.event.Link.TheVariants.{Below, Above}
 use Rattle.dnp_world.specs.declared.link_event.Way.{Way}
@@ -48,36 +48,36 @@ heard_again Up c line line' port port' = refl
 -- ---- the lines of a link
 
 -- a substation of the plan with these lines
-pub record Found (s : System) (station : ℕ) (c : ChannelState) : Type 0 where
-  pub has : has_station s station ≡ true
+pub record Found (s : System) (substation : ℕ) (c : ChannelState) : Type 0 where
+  pub has : has_substation s substation ≡ true
   pub was : SubstationState
-  pub there : slice_get s.substations station ≡ Some was
+  pub there : slice_get s.substations substation ≡ Some was
   pub lines : was.channel ≡ c
 
-found_by : (s : System) (station : ℕ) (c : ChannelState) (b : Bool) (o : Option SubstationState) → has_station s station ≡ b
-    → slice_get s.substations station ≡ o → (if b then channel_at o else None) ≡ Some c → Found s station c
-found_by s station c true (Some was) has there e = record { has = has; was = was; there = there; lines = same_Some was.channel c e }
-found_by s station c true None has there e = absurd (none-some c e)
-found_by s station c false o has there e = absurd (none-some c e)
+found_by : (s : System) (substation : ℕ) (c : ChannelState) (b : Bool) (o : Option SubstationState) → has_substation s substation ≡ b
+    → slice_get s.substations substation ≡ o → (if b then channel_at o else None) ≡ Some c → Found s substation c
+found_by s substation c true (Some was) has there e = record { has = has; was = was; there = there; lines = same_Some was.channel c e }
+found_by s substation c true None has there e = absurd (none-some c e)
+found_by s substation c false o has there e = absurd (none-some c e)
 
-pub found : (s : System) (station : ℕ) (c : ChannelState) → channel_on s (Below station) ≡ Some c → Found s station c
-found s station c e = found_by s station c (has_station s station) (slice_get s.substations station) refl refl e
+pub found : (s : System) (substation : ℕ) (c : ChannelState) → channel_on s (Below substation) ≡ Some c → Found s substation c
+found s substation c e = found_by s substation c (has_substation s substation) (slice_get s.substations substation) refl refl e
 
-pub channel_found : (s : System) (station : ℕ) (was : SubstationState) → has_station s station ≡ true → slice_get s.substations station ≡ Some was
-    → channel_on s (Below station) ≡ Some was.channel
-channel_found s station was has there =
-    ap (λ (b : Bool). if b then channel_at (slice_get s.substations station) else None) has
+pub channel_found : (s : System) (substation : ℕ) (was : SubstationState) → has_substation s substation ≡ true → slice_get s.substations substation ≡ Some was
+    → channel_on s (Below substation) ≡ Some was.channel
+channel_found s substation was has there =
+    ap (λ (b : Bool). if b then channel_at (slice_get s.substations substation) else None) has
     ∙ ap (λ (o : Option SubstationState). channel_at o) there
 
 -- a link with lines is one of the plan
 pub linked : (on : Link) (s : System) (c : ChannelState) → channel_on s on ≡ Some c → has_link s on ≡ true
-linked (Below station) s c e = (found s station c e).has
+linked (Below substation) s c e = (found s substation c e).has
 linked (Above centre) s c e = refl
 
 -- another list of as many substations has the same places
-pub has_set : (s : System) (i station : ℕ) (is : SubstationState) → has_station (with_substation s i is) station ≡ has_station s station
-has_set s i station is =
-    ap (λ (n : ℕ). nat_lt station n && nat_lt station (length s.concentrator.links)) (length-set s.substations i is)
+pub has_set : (s : System) (i substation : ℕ) (is : SubstationState) → has_substation (with_substation s i is) substation ≡ has_substation s substation
+has_set s i substation is =
+    ap (λ (n : ℕ). nat_lt substation n && nat_lt substation (length s.concentrator.links)) (length-set s.substations i is)
 
 -- ---- changes of the lines alone
 
@@ -93,7 +93,7 @@ pub record LinesGo (on : Link) (c c' : ChannelState) (old new : System) : Type 0
 
 pub lines_as : (on : Link) (C D : ChannelState → ChannelState → Type 0) (old new : System)
     → ((was is : ChannelState) → C was is → D was is) → LinesChange on C old new → LinesChange on D old new
-lines_as (Below station) C D old new weaker e = record {
+lines_as (Below substation) C D old new weaker e = record {
   was = e.was;
   is = e.is;
   there = e.there;
@@ -117,19 +117,19 @@ pub record WentTo (on : Link) (C : ChannelState → ChannelState → Type 0) (c 
 
 pub lines_go : (on : Link) (C : ChannelState → ChannelState → Type 0) (c : ChannelState) (old new : System) → channel_on old on ≡ Some c
     → LinesChange on C old new → WentTo on C c old new
-lines_go (Below station) C c old new there e =
-    let f : Found old station c = found old station c there in
+lines_go (Below substation) C c old new there e =
+    let f : Found old substation c = found old substation c there in
     let same : e.was.channel ≡ c =
     ap (λ (x : SubstationState). x.channel) (same_Some e.was f.was (sym e.there ∙ f.there)) ∙ f.lines in
-    let changed : System = with_substation old station e.is in
-    let after : channel_on changed (Below station) ≡ Some e.is.channel =
-    channel_found changed station e.is (has_set old station station e.is ∙ f.has) (set_here old.substations station e.was e.is e.there) in
+    let changed : System = with_substation old substation e.is in
+    let after : channel_on changed (Below substation) ≡ Some e.is.channel =
+    channel_found changed substation e.is (has_set old substation substation e.is ∙ f.has) (set_here old.substations substation e.was e.is e.there) in
     record {
       lines = e.is.channel;
       changed = subst (λ (x : ChannelState). C x e.is.channel) same e.changed.0;
       go = record {
         before = there;
-        after = ap (λ (s : System). channel_on s (Below station)) e.after ∙ after;
+        after = ap (λ (s : System). channel_on s (Below substation)) e.after ∙ after;
         change = record { was = e.was; is = e.is; there = e.there; changed = ((same, refl), e.changed.1); after = e.after };
       };
     }
@@ -142,26 +142,26 @@ lines_go (Above centre) C c old new there e =
     }
 
 -- one change after another
-substations_both : (station : ℕ) (first next last : System) (was middle from is : SubstationState) → slice_get first.substations station ≡ Some was
-    → middle ≡ record was { channel = middle.channel } → next ≡ with_substation first station middle → slice_get next.substations station ≡ Some from
-    → is ≡ record from { channel = is.channel } → last ≡ with_substation next station is
-    → (is ≡ record was { channel = is.channel }) × (last ≡ with_substation first station is)
-substations_both station first next last was middle from is there changed set there' changed' set' =
+substations_both : (substation : ℕ) (first next last : System) (was middle from is : SubstationState) → slice_get first.substations substation ≡ Some was
+    → middle ≡ record was { channel = middle.channel } → next ≡ with_substation first substation middle → slice_get next.substations substation ≡ Some from
+    → is ≡ record from { channel = is.channel } → last ≡ with_substation next substation is
+    → (is ≡ record was { channel = is.channel }) × (last ≡ with_substation first substation is)
+substations_both substation first next last was middle from is there changed set there' changed' set' =
     let with_lines : SubstationState → SubstationState = λ s. record s { channel = is.channel } in
     let same : from ≡ middle =
     same_Some from middle
-    (sym there' ∙ ap (λ (s : System). slice_get s.substations station) set ∙ set_here first.substations station was middle there) in
+    (sym there' ∙ ap (λ (s : System). slice_get s.substations substation) set ∙ set_here first.substations substation was middle there) in
     let with_list : List SubstationState → System = λ xs. record first { substations = xs } in (
       changed' ∙ ap with_lines same ∙ ap with_lines changed,
-      set' ∙ ap (λ (s : System). with_substation s station is) set ∙ ap with_list (set-set first.substations station middle is),
+      set' ∙ ap (λ (s : System). with_substation s substation is) set ∙ ap with_list (set-set first.substations substation middle is),
     )
 
 pub lines_both : (on : Link) (a b c : ChannelState) (first next last : System) → LinesGo on a b first next → LinesGo on b c next last
     → LinesGo on a c first last
-lines_both (Below station) a b c first next last g h =
+lines_both (Below substation) a b c first next last g h =
     let e = g.change in
     let f = h.change in
-    let both = substations_both station first next last e.was e.is f.was f.is e.there e.changed.1 e.after f.there f.changed.1 f.after in
+    let both = substations_both substation first next last e.was e.is f.was f.is e.there e.changed.1 e.after f.there f.changed.1 f.after in
     record {
       before = g.before;
       after = h.after;

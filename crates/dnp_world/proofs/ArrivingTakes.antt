@@ -37,46 +37,46 @@ pub record HasTaken (on : Link) (way : Way) (answers : List (List ℕ)) (c : Cha
 
 -- ---- as many substations and links as before
 
-pub same_channel : (station : ℕ) (s t : System) → t.substations ≡ s.substations → length t.concentrator.links ≡ length s.concentrator.links
-    → channel_on t (Below station) ≡ channel_on s (Below station)
-same_channel station s t substations links =
+pub same_channel : (substation : ℕ) (s t : System) → t.substations ≡ s.substations → length t.concentrator.links ≡ length s.concentrator.links
+    → channel_on t (Below substation) ≡ channel_on s (Below substation)
+same_channel substation s t substations links =
     let lines_in : List SubstationState → ℕ → Option ChannelState = λ xs count.
-    if nat_lt station (length xs) && nat_lt station count then channel_at (slice_get xs station) else None in
+    if nat_lt substation (length xs) && nat_lt substation count then channel_at (slice_get xs substation) else None in
     ap (λ (xs : List SubstationState). lines_in xs (length t.concentrator.links)) substations ∙ ap (λ (n : ℕ). lines_in s.substations n) links
 
 -- also of another link
 pub relaying_same : (on other : Link) (s : System) (link : Relaying) → channel_on (with_relaying s other link) on ≡ channel_on s on
-relaying_same (Below station) (Below other) s link =
-    same_channel station s (with_relaying s (Below other) link) refl (length-set s.concentrator.links other link)
+relaying_same (Below substation) (Below other) s link =
+    same_channel substation s (with_relaying s (Below other) link) refl (length-set s.concentrator.links other link)
 relaying_same (Above centre) (Below other) s link = refl
-relaying_same (Below station) (Above centre) s link = refl
+relaying_same (Below substation) (Above centre) s link = refl
 relaying_same (Above centre) (Above other) s link = refl
 
 pub taken_same : (on other : Link) (s : System) (t : Taking) → channel_on (taken_on s other t) on ≡ channel_on s on
-taken_same (Below station) (Below other) s t =
-    same_channel station s (taken_on s (Below other) t) refl
+taken_same (Below substation) (Below other) s t =
+    same_channel substation s (taken_on s (Below other) t) refl
     (length-set s.concentrator.links other (relaying.received (link_at s.concentrator other) t))
 taken_same (Above centre) (Below other) s t = refl
-taken_same (Below station) (Above centre) s t = refl
+taken_same (Below substation) (Above centre) s t = refl
 taken_same (Above centre) (Above other) s t = refl
 
 -- ---- the stations
 
-substation_goes : (station : ℕ) (f : List ℕ) (c : ChannelState) (old new : System) → channel_on old (Below station) ≡ Some c
-    → SubstationTakes station f old new → HasTaken (Below station) Down (answers_below (slice_get old.substations station) old.now f) c new
-substation_goes station f c old new there h =
+substation_goes : (substation : ℕ) (f : List ℕ) (c : ChannelState) (old new : System) → channel_on old (Below substation) ≡ Some c
+    → SubstationTakes substation f old new → HasTaken (Below substation) Down (answers_below (slice_get old.substations substation) old.now f) c new
+substation_goes substation f c old new there h =
     let e = h.answers in
     let step : Step = connection_after (station_of e.was) (panel_of e.was) old.now f in
-    let place : Found old station c = found old station c there in
+    let place : Found old substation c = found old substation c there in
     let same : e.was.channel ≡ c =
     ap (λ (x : SubstationState). x.channel) (same_Some e.was place.was (sym e.there ∙ place.there)) ∙ place.lines in
     let up : GoUp step.does.send c e.is.channel = subst (λ (x : ChannelState). GoUp step.does.send x e.is.channel) same e.changed.1.sent in
-    let set : System = with_substation old station e.is in
-    let has : channel_on set (Below station) ≡ Some e.is.channel =
-    channel_found set station e.is (has_set old station station e.is ∙ place.has) (set_here old.substations station e.was e.is e.there) in
+    let set : System = with_substation old substation e.is in
+    let has : channel_on set (Below substation) ≡ Some e.is.channel =
+    channel_found set substation e.is (has_set old substation substation e.is ∙ place.has) (set_here old.substations substation e.was e.is e.there) in
     record {
       lines = e.is.channel;
-      there = ap (λ (s : System). channel_on s (Below station)) e.after ∙ has;
+      there = ap (λ (s : System). channel_on s (Below substation)) e.after ∙ has;
       goes = subst (λ (o : Option SubstationState). GoUp (answers_below o old.now f) c e.is.channel) (sym e.there) up;
     }
 
@@ -102,8 +102,8 @@ receives on (Err fault) c old new there is = record {
 
 pub takes_goes : (on : Link) (way : Way) (f : List ℕ) (c : ChannelState) (old new : System) → channel_on old on ≡ Some c → TakesOn on way f old new
     → HasTaken on way (answers_on old on way f) c new
-takes_goes (Below station) Down f c old new there h = substation_goes station f c old new there h
+takes_goes (Below substation) Down f c old new there h = substation_goes substation f c old new there h
 takes_goes (Above centre) Down f c old new there h = middle_goes centre f c old new there h
-takes_goes (Below station) Up f c old new there h =
-    receives (Below station) (receive_of (relaying_at old (Below station)).master old.now f) c old new there h
+takes_goes (Below substation) Up f c old new there h =
+    receives (Below substation) (receive_of (relaying_at old (Below substation)).master old.now f) c old new there h
 takes_goes (Above centre) Up f c old new there h = receives (Above centre) (receive_of (relaying_at old (Above centre)).master old.now f) c old new there h

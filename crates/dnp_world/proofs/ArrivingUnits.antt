@@ -21,7 +21,7 @@ use Rattle.dnp_world.specs.Channels.{ChannelState, line_of}
 use Rattle.dnp_world.specs.Rounds.{deliveries}
 use Rattle.dnp_world.specs.SystemEvents.{ComesDownAbove, ComesDownBelow, ComesOn, ComesUp, IsHeardUp, LinesChange, MasterTakes, MiddleAnswers, SubstationAnswers, with_substation}
 use Rattle.dnp_world.specs.SystemRuns.{Happens, IfThere, RunsTo}
-use Rattle.dnp_world.specs.Systems.{SubstationState, System, at_station}
+use Rattle.dnp_world.specs.Systems.{SubstationState, System, at_substation}
 use Rattle.dnp_world.specs.declared.event.Event.TheVariants.{Deliver}
 use Rattle.dnp_world.specs.declared.event.Link.{Link}
 use Rattle.dnp_world.specs.declared.event.Link.TheVariants.{Below, Above}
@@ -54,59 +54,59 @@ record Heard (on : Link) (way : Way) (old new : System) : Type 0 where
 
 -- a substation
 abbrev listed : ℕ → List Row → SubstationState → SubstationState → System → System
-listed station released was is s = record s {
+listed substation released was is s = record s {
   history = record s.history {
-    confirmed = s.history.confirmed ++ at_station station released;
-    operated = s.history.operated ++ at_station station (drop (length was.outputs.performed) is.outputs.performed);
+    confirmed = s.history.confirmed ++ at_substation substation released;
+    operated = s.history.operated ++ at_substation substation (drop (length was.outputs.performed) is.outputs.performed);
   };
 }
 
-nothing_listed : (station : ℕ) (released : List Row) (was middle is : SubstationState) (s : System) → released ≡ [] → is ≡ middle
-    → middle.outputs ≡ was.outputs → listed station released was is (with_substation s station is) ≡ with_substation s station middle
-nothing_listed station released was middle is s none same outputs =
-    let set : System = with_substation s station middle in
+nothing_listed : (substation : ℕ) (released : List Row) (was middle is : SubstationState) (s : System) → released ≡ [] → is ≡ middle
+    → middle.outputs ≡ was.outputs → listed substation released was is (with_substation s substation is) ≡ with_substation s substation middle
+nothing_listed substation released was middle is s none same outputs =
+    let set : System = with_substation s substation middle in
     let with_history : List (ℕ × Row) → List (ℕ × Command) → System = λ rows commands. record set {
       history = record s.history { confirmed = rows; operated = commands };
     } in
     let performed : drop (length was.outputs.performed) middle.outputs.performed ≡ [] =
     no_performs was middle (ap (λ (o : PlainState). o.performed) outputs) in
-    ap (λ (x : SubstationState). listed station released was x (with_substation s station x)) same
-    ∙ ap (λ (rows : List Row). listed station rows was middle set) none
-    ∙ ap (λ (xs : List Command). with_history (s.history.confirmed ++ []) (s.history.operated ++ at_station station xs)) performed
+    ap (λ (x : SubstationState). listed substation released was x (with_substation s substation x)) same
+    ∙ ap (λ (rows : List Row). listed substation rows was middle set) none
+    ∙ ap (λ (xs : List Command). with_history (s.history.confirmed ++ []) (s.history.operated ++ at_substation substation xs)) performed
     ∙ ap (λ (xs : List (ℕ × Row)). with_history xs (s.history.operated ++ [])) (append-nil s.history.confirmed)
     ∙ ap (λ (xs : List (ℕ × Command)). with_history s.history.confirmed xs) (append-nil s.history.operated)
 
-came_below : (station : ℕ) (released : List Row) (given : List (List ℕ)) (old new : System) (was is : SubstationState) (lines : ChannelState)
-    → slice_get old.substations station ≡ Some was → SubstationAnswers given old.now released (record was { channel = lines }) is
-    → new ≡ listed station released was is (with_substation old station is)
-    → TakesAll (Below station) Down given (with_substation old station (record was { channel = lines })) new
-came_below station released [] old new was is lines there came after =
-    after ∙ nothing_listed station released was (record was { channel = lines }) is old came.0 came.1 refl
-came_below station released (fragment ∷ others) old new was is lines there came after =
+came_below : (substation : ℕ) (released : List Row) (given : List (List ℕ)) (old new : System) (was is : SubstationState) (lines : ChannelState)
+    → slice_get old.substations substation ≡ Some was → SubstationAnswers given old.now released (record was { channel = lines }) is
+    → new ≡ listed substation released was is (with_substation old substation is)
+    → TakesAll (Below substation) Down given (with_substation old substation (record was { channel = lines })) new
+came_below substation released [] old new was is lines there came after =
+    after ∙ nothing_listed substation released was (record was { channel = lines }) is old came.0 came.1 refl
+came_below substation released (fragment ∷ others) old new was is lines there came after =
     let middle : SubstationState = record was { channel = lines } in
-    let with_list : List SubstationState → System = λ xs. listed station released was is (record old { substations = xs }) in
+    let with_list : List SubstationState → System = λ xs. listed substation released was is (record old { substations = xs }) in
     record {
       released = released;
       answers = record {
         was = middle;
         is = is;
-        there = set_here old.substations station was middle there;
+        there = set_here old.substations substation was middle there;
         changed = came;
-        after = after ∙ ap with_list (sym (set-set old.substations station middle is));
+        after = after ∙ ap with_list (sym (set-set old.substations substation middle is));
       };
     }
 
-heard_below : (station : ℕ) (old new : System) → ComesDownBelow delivered_on station old new → Heard (Below station) Down old new
-heard_below station old new h =
+heard_below : (substation : ℕ) (old new : System) → ComesDownBelow delivered_on substation old new → Heard (Below substation) Down old new
+heard_below substation old new h =
     let e = h.came in
     let c = e.changed in
     let lines : ChannelState = record e.was.channel { down = delivered_on e.was.channel.down; outstation_port = c.port } in
     let middle : SubstationState = record e.was { channel = lines } in
     record {
       given = c.given;
-      heard = with_substation old station middle;
+      heard = with_substation old substation middle;
       hears = record { was = e.was; is = middle; there = e.there; changed = ((c.heard, refl), refl); after = refl };
-      took = came_below station h.released c.given old new e.was e.is lines e.there c.came e.after;
+      took = came_below substation h.released c.given old new e.was e.is lines e.there c.came e.after;
     }
 
 -- the concentrator
@@ -121,10 +121,10 @@ heard_above centre old new h =
     record { given = h.given; heard = middle; hears = ((h.heard, refl), refl); took = came_above centre h.given middle new h.came }
 
 -- a master
-taken_below : (station : ℕ) (given : List (List ℕ)) (old new : System) → MasterTakes (Below station) given old new
-    → TakesAll (Below station) Up given old new
-taken_below station [] old new h = h
-taken_below station (fragment ∷ others) old new h = h
+taken_below : (substation : ℕ) (given : List (List ℕ)) (old new : System) → MasterTakes (Below substation) given old new
+    → TakesAll (Below substation) Up given old new
+taken_below substation [] old new h = h
+taken_below substation (fragment ∷ others) old new h = h
 
 taken_above : (centre : ℕ) (given : List (List ℕ)) (old new : System) → MasterTakes (Above centre) given old new → TakesAll (Above centre) Up given old new
 taken_above centre [] old new h = h
@@ -134,11 +134,11 @@ is_heard_up : (given : List (List ℕ)) (was is : ChannelState) → IsHeardUp de
 is_heard_up given was is h = (h.heard, h.after)
 
 heard_by_master : (on : Link) (old new : System) → ComesUp delivered_on on old new → Heard on Up old new
-heard_by_master (Below station) old new h = record {
+heard_by_master (Below substation) old new h = record {
   given = h.given;
   heard = h.between;
-  hears = lines_as (Below station) (IsHeardUp delivered_on h.given) (IsHeard Up h.given) old h.between (is_heard_up h.given) h.heard;
-  took = taken_below station h.given h.between new h.came;
+  hears = lines_as (Below substation) (IsHeardUp delivered_on h.given) (IsHeard Up h.given) old h.between (is_heard_up h.given) h.heard;
+  took = taken_below substation h.given h.between new h.came;
 }
 heard_by_master (Above centre) old new h = record {
   given = h.given;
@@ -148,9 +148,9 @@ heard_by_master (Above centre) old new h = record {
 }
 
 comes_on : (on : Link) (way : Way) (old new : System) → ComesOn delivered_on on way old new → Heard on way old new
-comes_on (Below station) Down old new h = heard_below station old new h
+comes_on (Below substation) Down old new h = heard_below substation old new h
 comes_on (Above centre) Down old new h = heard_above centre old new h
-comes_on (Below station) Up old new h = heard_by_master (Below station) old new h
+comes_on (Below substation) Up old new h = heard_by_master (Below substation) old new h
 comes_on (Above centre) Up old new h = heard_by_master (Above centre) old new h
 
 -- the lines before and after it

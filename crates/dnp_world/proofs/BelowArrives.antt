@@ -31,7 +31,7 @@ use Rattle.dnp_world.specs.Joined.{rows_made_by}
 use Rattle.dnp_world.specs.Link.{Link}
 use Rattle.dnp_world.specs.OneLinkEvents as one
 use Rattle.dnp_world.specs.OneLinkEvents.{HappensOn, LinkState, Receives, Takes}
-use Rattle.dnp_world.specs.Systems.{SubstationState, System, has_station, panel_of}
+use Rattle.dnp_world.specs.Systems.{SubstationState, System, has_substation, panel_of}
 use Rattle.dnp_world.specs.SystemEvents.{ComesUp, MasterReceives, MasterTakes, taken_below, with_substation}
 use Rattle.dnp_world.specs.SystemStanding.{RowLists, lists_of, no_sink, seen_below, IsStanding, Keeps}
 use Rattle.dnp_world.proofs.BelowEvents.{few_outputs, quiet, seen_at, shown_with}
@@ -50,92 +50,93 @@ heard_at left port s = record s { channel = record s.channel { up = left s.chann
 abbrev pub IsComing : (LineState → LineState) → LinkEvent → Type 0
 IsComing left e = (s s' : LinkState ⊤) (panel : Panel) → one.ComesUp no_sink (left s.channel.up) s s' → HappensOn no_sink panel s e s'
 
-has_link_to : (s : System) (station : ℕ) → has_station s station ≡ true → station < length s.concentrator.links
-has_link_to s station has =
-    ltb-true station (length s.concentrator.links)
-    ((and_parts (nat_lt station (length s.substations)) (nat_lt station (length s.concentrator.links)) has).1)
+has_link_to : (s : System) (substation : ℕ) → has_substation s substation ≡ true → substation < length s.concentrator.links
+has_link_to s substation has =
+    ltb-true substation (length s.concentrator.links)
+    ((and_parts (nat_lt substation (length s.substations)) (nat_lt substation (length s.concentrator.links)) has).1)
 
 -- ---- a unit comes to the master of a substation
 
 -- what was heard there
-record Comes (left : LineState → LineState) (e : LinkEvent) (old : System) (station : ℕ) : Type 0 where
+record Comes (left : LineState → LineState) (e : LinkEvent) (old : System) (substation : ℕ) : Type 0 where
   is_event : IsComing left e
-  has : has_station old station ≡ true
+  has : has_substation old substation ≡ true
   was : SubstationState
-  there : slice_get old.substations station ≡ Some was
+  there : slice_get old.substations substation ≡ Some was
   port : PortState
   given : List (List ℕ)
   heard : HearsIfAny (front_of was.channel.up) was.channel.master_port port [] given
   made : rows_made_by was.core.points (e ∷ []) ≡ []
 
 -- nothing is taken
-untaken : Grounds → (left : LineState → LineState) (e : LinkEvent) (old new : System) {el : Elsewhere} (h : IsStanding el old) (station : ℕ)
-    (c : Comes left e old station)
-    → (let base : LinkState ⊤ = seen_at old station (heard_at left c.port c.was) (lists_of (h.links.below station)) in
+untaken : Grounds → (left : LineState → LineState) (e : LinkEvent) (old new : System) {el : Elsewhere} (h : IsStanding el old) (substation : ℕ)
+    (c : Comes left e old substation)
+    → (let base : LinkState ⊤ = seen_at old substation (heard_at left c.port c.was) (lists_of (h.links.below substation)) in
     one.ComeUp no_sink c.given base base)
-    → new ≡ with_substation old station (heard_at left c.port c.was) → Keeps el station [] old new
-untaken grounds left e old new {el = el} h station c came after =
-    let lists : RowLists = lists_of (h.links.below station) in
+    → new ≡ with_substation old substation (heard_at left c.port c.was) → Keeps el substation [] old new
+untaken grounds left e old new {el = el} h substation c came after =
+    let lists : RowLists = lists_of (h.links.below substation) in
     let is : SubstationState = heard_at left c.port c.was in
-    subst (λ (rows : List Row). Keeps el station rows old new) c.made
-    (quiet grounds old new h station c.was is e c.there refl
-    (c.is_event (seen_at old station c.was lists) (seen_at old station is lists) (panel_of c.was)
+    subst (λ (rows : List Row). Keeps el substation rows old new) c.made
+    (quiet grounds old new h substation c.was is e c.there refl
+    (c.is_event (seen_at old substation c.was lists) (seen_at old substation is lists) (panel_of c.was)
     (record { port = c.port; given = c.given; heard = c.heard; came = came })) after)
 
 -- the events that the concentrator takes are all queued
-taken_queued : ArrivalLaws → (old : System) {el : Elsewhere} (h : IsStanding el old) (station : ℕ) → has_station old station ≡ true
-    → (fragment : List ℕ) (t : Taking) → receive_of (link_in old.concentrator.links station).master old.now fragment ≡ Ok t
-    → length (queued_for old station t.events) ≡ length t.events
-taken_queued laws old h station has fragment t is =
-    let r : Relaying = link_in old.concentrator.links station in
-    let m : IsMasterOf h.plan.substations station r =
-    master_there old.concentrator.links h.plan.substations station (has_link_to old station has) h.of_plan.masters in
+taken_queued : ArrivalLaws → (old : System) {el : Elsewhere} (h : IsStanding el old) (substation : ℕ) → has_substation old substation ≡ true
+    → (fragment : List ℕ) (t : Taking) → receive_of (link_in old.concentrator.links substation).master old.now fragment ≡ Ok t
+    → length (queued_for old substation t.events) ≡ length t.events
+taken_queued laws old h substation has fragment t is =
+    let r : Relaying = link_in old.concentrator.links substation in
+    let m : IsMasterOf h.plan.substations substation r =
+    master_there old.concentrator.links h.plan.substations substation (has_link_to old substation has) h.of_plan.masters in
     let spans : old.concentrator.indices ≡ map_of h.plan = h.of_plan.middle_indices ∙ h.of_plan.indices in
-    let AllQueued : List Spans → points.Plan → Taking → Type 0 = λ xs plan t. length (queued_rows xs plan station t.events) ≡ length t.events in
+    let AllQueued : List Spans → points.Plan → Taking → Type 0 = λ xs plan t. length (queued_rows xs plan substation t.events) ≡ length t.events in
     let all : AllQueued (map_of h.plan) (points_above h.plan) t =
     subst (λ (x : Result Taking MasterFault). IfOk x (AllQueued (map_of h.plan) (points_above h.plan))) is
-    (laws.queued h.plan station m.substation r.master old.now fragment h.of_plan.limits
+    (laws.queued h.plan substation m.planned r.master old.now fragment h.of_plan.limits
     (subst (λ (xs : List Spans). IsMap xs) h.of_plan.indices h.of_plan.is_map) m.there m.asks) in
     subst (λ (xs : List Spans). AllQueued xs old.concentrator.points t) (sym spans)
     (subst (λ (plan : points.Plan). AllQueued (map_of h.plan) plan t) (sym h.of_plan.middle_points) all)
 
 -- the concentrator takes the fragment, or refuses it
 received : Grounds → ArrivalLaws
-    → (left : LineState → LineState) (e : LinkEvent) (old new : System) {el : Elsewhere} (h : IsStanding el old) (station : ℕ) (c : Comes left e old station)
+    → (left : LineState → LineState) (e : LinkEvent) (old new : System) {el : Elsewhere} (h : IsStanding el old) (substation : ℕ)
+    (c : Comes left e old substation)
     → HappenedAsEvents old → (fragment : List ℕ) (others : List (List ℕ)) → c.given ≡ fragment ∷ others → (r : Result Taking MasterFault)
-    → receive_of (link_in old.concentrator.links station).master old.now fragment ≡ r
-    → MasterReceives (Below station) r (with_substation old station (heard_at left c.port c.was)) new → Keeps el station [] old new
-received grounds laws left e old new h station c events fragment others given (Ok t) is (room, change) =
-    let l : Link = h.links.below station in
-    let r : Relaying = link_in old.concentrator.links station in
+    → receive_of (link_in old.concentrator.links substation).master old.now fragment ≡ r
+    → MasterReceives (Below substation) r (with_substation old substation (heard_at left c.port c.was)) new → Keeps el substation [] old new
+received grounds laws left e old new h substation c events fragment others given (Ok t) is (room, change) =
+    let l : Link = h.links.below substation in
+    let r : Relaying = link_in old.concentrator.links substation in
     let mid : SubstationState = heard_at left c.port c.was in
-    let between : System = with_substation old station mid in
+    let between : System = with_substation old substation mid in
     let same : change.was ≡ mid =
-    same_Some change.was mid (sym change.there ∙ set_here old.substations station c.was mid c.there) in
+    same_Some change.was mid (sym change.there ∙ set_here old.substations substation c.was mid c.there) in
     let lines : ChannelState = change.is.channel in
     let is_now : SubstationState = record mid { channel = lines } in
     let down : GoDown (option_to_list t.confirm) mid.channel lines =
     subst (λ (x : SubstationState). GoDown (option_to_list t.confirm) x.channel lines) same change.changed.0 in
-    let after : new ≡ taken_with station is_now t old =
+    let after : new ≡ taken_with substation is_now t old =
     change.after
-    ∙ ap (λ (x : SubstationState). with_substation (taken_below between station t) station x)
+    ∙ ap (λ (x : SubstationState). with_substation (taken_below between substation t) substation x)
     (change.changed.1 ∙ ap (λ (x : SubstationState). record x { channel = lines }) same)
-    ∙ ap (λ (xs : List SubstationState). record (taken_below between station t) { substations = xs })
-    (set-set old.substations station mid is_now) in
+    ∙ ap (λ (xs : List SubstationState). record (taken_below between substation t) { substations = xs })
+    (set-set old.substations substation mid is_now) in
     let lists : RowLists = record (lists_of l) { taken = rows_of l.took ++ t.events } in
-    let base : LinkState ⊤ = seen_at old station mid (lists_of l) in
+    let base : LinkState ⊤ = seen_at old substation mid (lists_of l) in
     let s' : LinkState ⊤ = seen_below old.now (relaying.received r t) is_now lists in
     let takes : Takes no_sink t base s' = record {
       rows = record { given = λ some. ([], tt); spared = λ none. refl };
       goes = down;
       after = refl;
     } in
-    takes_keep grounds laws old new h station c.was is_now t e events (has_link_to old station c.has) c.there refl
-    (shown_with c.was is_now (few_outputs old h station c.was c.there) refl)
-    (taken_queued laws old h station c.has fragment t is) room
+    takes_keep grounds laws old new h substation c.was is_now t e events (has_link_to old substation c.has) c.there refl
+    (shown_with c.was is_now (few_outputs old h substation c.was c.there) refl)
+    (taken_queued laws old h substation c.has fragment t is) room
     (subst (λ (x : Result Taking MasterFault). IfOk x (λ t. t.state.plan ≡ r.master.plan)) is (receiving_keeps_plan r.master old.now fragment))
     c.made
-    (c.is_event (seen_at old station c.was (lists_of l)) s' (panel_of c.was)
+    (c.is_event (seen_at old substation c.was (lists_of l)) s' (panel_of c.was)
     (record {
       port = c.port;
       given = c.given;
@@ -144,34 +145,35 @@ received grounds laws left e old new h station c events fragment others given (O
           (subst (λ (x : Result Taking MasterFault). Receives no_sink x base s') (sym is) takes);
     }))
     after
-received grounds laws left e old new h station c events fragment others given (Err fault) is after =
-    let base : LinkState ⊤ = seen_at old station (heard_at left c.port c.was) (lists_of (h.links.below station)) in
-    untaken grounds left e old new h station c
+received grounds laws left e old new h substation c events fragment others given (Err fault) is after =
+    let base : LinkState ⊤ = seen_at old substation (heard_at left c.port c.was) (lists_of (h.links.below substation)) in
+    untaken grounds left e old new h substation c
     (subst (λ (xs : List (List ℕ)). one.ComeUp no_sink xs base base) (sym given)
     (subst (λ (x : Result Taking MasterFault). Receives no_sink x base base) (sym is) refl)) after
 
 taken_in : Grounds → ArrivalLaws
-    → (left : LineState → LineState) (e : LinkEvent) (old new : System) {el : Elsewhere} (h : IsStanding el old) (station : ℕ) (c : Comes left e old station)
+    → (left : LineState → LineState) (e : LinkEvent) (old new : System) {el : Elsewhere} (h : IsStanding el old) (substation : ℕ)
+    (c : Comes left e old substation)
     → HappenedAsEvents old → (given : List (List ℕ)) → c.given ≡ given
-    → MasterTakes (Below station) given (with_substation old station (heard_at left c.port c.was)) new → Keeps el station [] old new
-taken_in grounds laws left e old new h station c events [] given after =
-    let base : LinkState ⊤ = seen_at old station (heard_at left c.port c.was) (lists_of (h.links.below station)) in
-    untaken grounds left e old new h station c (subst (λ (xs : List (List ℕ)). one.ComeUp no_sink xs base base) (sym given) refl) after
-taken_in grounds laws left e old new h station c events (fragment ∷ others) given came =
-    received grounds laws left e old new h station c events fragment others given
-    (receive_of (link_in old.concentrator.links station).master old.now fragment) refl came
+    → MasterTakes (Below substation) given (with_substation old substation (heard_at left c.port c.was)) new → Keeps el substation [] old new
+taken_in grounds laws left e old new h substation c events [] given after =
+    let base : LinkState ⊤ = seen_at old substation (heard_at left c.port c.was) (lists_of (h.links.below substation)) in
+    untaken grounds left e old new h substation c (subst (λ (xs : List (List ℕ)). one.ComeUp no_sink xs base base) (sym given) refl) after
+taken_in grounds laws left e old new h substation c events (fragment ∷ others) given came =
+    received grounds laws left e old new h substation c events fragment others given
+    (receive_of (link_in old.concentrator.links substation).master old.now fragment) refl came
 
-comes : Grounds → ArrivalLaws → (left : LineState → LineState) (e : LinkEvent) → IsComing left e → (old new : System) {el : Elsewhere} (station : ℕ)
-    → has_station old station ≡ true → IsStanding el old → HappenedAsEvents old
-    → ((was : SubstationState) → rows_made_by was.core.points (e ∷ []) ≡ []) → ComesUp left (Below station) old new → Keeps el station [] old new
-comes grounds laws left e is_event old new station has h events made c =
+comes : Grounds → ArrivalLaws → (left : LineState → LineState) (e : LinkEvent) → IsComing left e → (old new : System) {el : Elsewhere} (substation : ℕ)
+    → has_substation old substation ≡ true → IsStanding el old → HappenedAsEvents old
+    → ((was : SubstationState) → rows_made_by was.core.points (e ∷ []) ≡ []) → ComesUp left (Below substation) old new → Keeps el substation [] old new
+comes grounds laws left e is_event old new substation has h events made c =
     let was : SubstationState = c.heard.was in
     let port : PortState = c.heard.is.channel.master_port in
-    let is : c.between ≡ with_substation old station (heard_at left port was) =
+    let is : c.between ≡ with_substation old substation (heard_at left port was) =
     c.heard.after
-    ∙ ap (λ (s : SubstationState). with_substation old station s)
+    ∙ ap (λ (s : SubstationState). with_substation old substation s)
     (c.heard.changed.1 ∙ ap (λ (lines : ChannelState). record was { channel = lines }) c.heard.changed.0.after) in
-    taken_in grounds laws left e old new h station
+    taken_in grounds laws left e old new h substation
     (record {
       is_event = is_event;
       has = has;
@@ -183,14 +185,14 @@ comes grounds laws left e is_event old new station has h events made c =
       made = made was;
     })
     events c.given refl
-    (subst (λ (s : System). MasterTakes (Below station) c.given s new) is c.came)
+    (subst (λ (s : System). MasterTakes (Below substation) c.given s new) is c.came)
 
-pub delivers_below : Grounds → ArrivalLaws → (old new : System) {el : Elsewhere} (station : ℕ) → has_station old station ≡ true → IsStanding el old
-    → HappenedAsEvents old → ComesUp delivered_on (Below station) old new → Keeps el station [] old new
-delivers_below grounds laws old new station has h events c =
-    comes grounds laws delivered_on (event.Deliver way.Up) (λ s s' panel come. come) old new station has h events (λ was. refl) c
+pub delivers_below : Grounds → ArrivalLaws → (old new : System) {el : Elsewhere} (substation : ℕ) → has_substation old substation ≡ true → IsStanding el old
+    → HappenedAsEvents old → ComesUp delivered_on (Below substation) old new → Keeps el substation [] old new
+delivers_below grounds laws old new substation has h events c =
+    comes grounds laws delivered_on (event.Deliver way.Up) (λ s s' panel come. come) old new substation has h events (λ was. refl) c
 
-pub repeats_below : Grounds → ArrivalLaws → (old new : System) {el : Elsewhere} (station : ℕ) → has_station old station ≡ true → IsStanding el old
-    → HappenedAsEvents old → ComesUp repeated_on (Below station) old new → Keeps el station [] old new
-repeats_below grounds laws old new station has h events c =
-    comes grounds laws repeated_on (event.Repeat way.Up) (λ s s' panel come. come) old new station has h events (λ was. refl) c
+pub repeats_below : Grounds → ArrivalLaws → (old new : System) {el : Elsewhere} (substation : ℕ) → has_substation old substation ≡ true → IsStanding el old
+    → HappenedAsEvents old → ComesUp repeated_on (Below substation) old new → Keeps el substation [] old new
+repeats_below grounds laws old new substation has h events c =
+    comes grounds laws repeated_on (event.Repeat way.Up) (λ s s' panel come. come) old new substation has h events (λ was. refl) c

@@ -26,7 +26,7 @@ use Rattle.dnp_world.specs.Joined.{rows_made_by}
 use Rattle.dnp_world.specs.Link.{Link}
 use Rattle.dnp_world.specs.OneLinkEvents.{LinkState, HappensOn, ComesDown, ComeDown, Steps}
 use Rattle.dnp_world.specs.OutstationSeen.{ShowOctets}
-use Rattle.dnp_world.specs.Systems.{SubstationState, System, at_station, in_state, panel_of, station_of}
+use Rattle.dnp_world.specs.Systems.{SubstationState, System, at_substation, in_state, panel_of, station_of}
 use Rattle.dnp_world.specs.SystemEvents.{HangsUpOn, LosesOn, SubstationAnswers, SubstationSteps, ComesDownBelow, SubstationRestarts, with_substation}
 use Rattle.dnp_world.specs.SystemStanding.{RowLists, lists_of, no_sink, seen, seen_below, IsJoinedBelow, IsStanding, Keeps}
 use Rattle.dnp_world.proofs.BelowKeeps.{Grounds, Gone, IsListed, KeepsMiddle, Middle, changed_below, middle_in, middle_same, performs, below_keeps, some_of}
@@ -55,11 +55,12 @@ no_performs was is same =
     ap (λ (xs : List Command). drop (length was.outputs.performed) xs) same ∙ drop_all (length was.outputs.performed) was.outputs.performed (omega arith)
 
 -- the outputs of a substation that stands
-pub few_outputs : (old : System) {el : Elsewhere} (h : IsStanding el old) (station : ℕ) (was : SubstationState) → slice_get old.substations station ≡ Some was
+pub few_outputs : (old : System) {el : Elsewhere} (h : IsStanding el old) (substation : ℕ) (was : SubstationState)
+    → slice_get old.substations substation ≡ Some was
     → was.outputs.outputs ≤ 2 ^ 16
-few_outputs old h station was there =
-    let joined_to : SubstationState → Type 0 = IsJoinedBelow old.now (link_in old.concentrator.links station) (h.links.below station) in
-    (some_of joined_to (slice_get old.substations station) was there (h.below station)).shown.outputs
+few_outputs old h substation was there =
+    let joined_to : SubstationState → Type 0 = IsJoinedBelow old.now (link_in old.concentrator.links substation) (h.links.below substation) in
+    (some_of joined_to (slice_get old.substations substation) was there (h.below substation)).shown.outputs
 
 pub shown_with : (was is : SubstationState) → was.outputs.outputs ≤ 2 ^ 16 → is.outputs.outputs ≡ was.outputs.outputs → ShowOctets (panel_of is)
 shown_with was is few same = octets_shown is.outputs (subst (λ (n : ℕ). n ≤ 2 ^ 16) (sym same) few)
@@ -68,71 +69,71 @@ shown_with was is few same = octets_shown is.outputs (subst (λ (n : ℕ). n ≤
 
 -- the substation of the link by itself
 abbrev pub seen_at : System → ℕ → SubstationState → RowLists → LinkState ⊤
-seen_at old station substation lists = seen_below old.now (link_in old.concentrator.links station) substation lists
+seen_at old substation was lists = seen_below old.now (link_in old.concentrator.links substation) was lists
 
 -- the substation is another, and so is what the concentrator has of it
 abbrev pub with_both : System → ℕ → SubstationState → Middle → System
-with_both s station is middle = record (with_substation s station is) {
+with_both s substation is middle = record (with_substation s substation is) {
   concentrator = record s.concentrator { core = with_points s.concentrator.core middle.points; links = middle.links };
 }
 
-pub both_as : (old : System) (station : ℕ) (was is : SubstationState) (middle : Middle) → is.outputs ≡ was.outputs
-    → with_both old station is middle ≡ changed_below station was is middle nothing_gone old
-both_as old station was is middle same = rw (no_performs was is (ap (λ (o : PlainState). o.performed) same)) (simp append-nil)
+pub both_as : (old : System) (substation : ℕ) (was is : SubstationState) (middle : Middle) → is.outputs ≡ was.outputs
+    → with_both old substation is middle ≡ changed_below substation was is middle nothing_gone old
+both_as old substation was is middle same = rw (no_performs was is (ap (λ (o : PlainState). o.performed) same)) (simp append-nil)
 
-pub quiet_with : Grounds → (old new : System) {el : Elsewhere} (h : IsStanding el old) (station : ℕ) (was is : SubstationState) (middle : Middle)
-    (e : LinkEvent) → slice_get old.substations station ≡ Some was → KeepsMiddle station middle old → is.outputs ≡ was.outputs
-    → HappensOn no_sink (panel_of was) (seen_at old station was (lists_of (h.links.below station))) e
-    (seen_below old.now (link_in middle.links station) is (lists_of (h.links.below station)))
-    → new ≡ with_both old station is middle → Keeps el station (rows_made_by was.core.points (e ∷ [])) old new
-quiet_with grounds old new h station was is middle e there keeps same happens after =
-    below_keeps grounds old new h station was is middle nothing_gone (lists_of (h.links.below station)) e there keeps
-    (shown_with was is (few_outputs old h station was there) (ap (λ (o : PlainState). o.outputs) same))
-    (nothing_listed (h.links.below station)) happens
-    (after ∙ both_as old station was is middle same)
+pub quiet_with : Grounds → (old new : System) {el : Elsewhere} (h : IsStanding el old) (substation : ℕ) (was is : SubstationState) (middle : Middle)
+    (e : LinkEvent) → slice_get old.substations substation ≡ Some was → KeepsMiddle substation middle old → is.outputs ≡ was.outputs
+    → HappensOn no_sink (panel_of was) (seen_at old substation was (lists_of (h.links.below substation))) e
+    (seen_below old.now (link_in middle.links substation) is (lists_of (h.links.below substation)))
+    → new ≡ with_both old substation is middle → Keeps el substation (rows_made_by was.core.points (e ∷ [])) old new
+quiet_with grounds old new h substation was is middle e there keeps same happens after =
+    below_keeps grounds old new h substation was is middle nothing_gone (lists_of (h.links.below substation)) e there keeps
+    (shown_with was is (few_outputs old h substation was there) (ap (λ (o : PlainState). o.outputs) same))
+    (nothing_listed (h.links.below substation)) happens
+    (after ∙ both_as old substation was is middle same)
 
-pub quiet : Grounds → (old new : System) {el : Elsewhere} (h : IsStanding el old) (station : ℕ) (was is : SubstationState) (e : LinkEvent)
-    → slice_get old.substations station ≡ Some was → is.outputs ≡ was.outputs
-    → HappensOn no_sink (panel_of was) (seen_at old station was (lists_of (h.links.below station))) e
-    (seen_at old station is (lists_of (h.links.below station)))
-    → new ≡ with_substation old station is → Keeps el station (rows_made_by was.core.points (e ∷ [])) old new
-quiet grounds old new h station was is e there same happens after =
-    quiet_with grounds old new h station was is (middle_in old) e there (middle_same station old) same happens after
+pub quiet : Grounds → (old new : System) {el : Elsewhere} (h : IsStanding el old) (substation : ℕ) (was is : SubstationState) (e : LinkEvent)
+    → slice_get old.substations substation ≡ Some was → is.outputs ≡ was.outputs
+    → HappensOn no_sink (panel_of was) (seen_at old substation was (lists_of (h.links.below substation))) e
+    (seen_at old substation is (lists_of (h.links.below substation)))
+    → new ≡ with_substation old substation is → Keeps el substation (rows_made_by was.core.points (e ∷ [])) old new
+quiet grounds old new h substation was is e there same happens after =
+    quiet_with grounds old new h substation was is (middle_in old) e there (middle_same substation old) same happens after
 
 -- a line loses its front unit
-pub loses : Grounds → (old new : System) {el : Elsewhere} (station : ℕ) (way : Way) → IsStanding el old → LosesOn (Below station) way old new
-    → Keeps el station [] old new
-loses grounds old new station w h e =
-    quiet grounds old new h station e.was (record e.was { channel = lost_at w e.was.channel }) (event.Lose w) e.there refl refl
-    (e.after ∙ ap (λ (s : SubstationState). with_substation old station s)
+pub loses : Grounds → (old new : System) {el : Elsewhere} (substation : ℕ) (way : Way) → IsStanding el old → LosesOn (Below substation) way old new
+    → Keeps el substation [] old new
+loses grounds old new substation w h e =
+    quiet grounds old new h substation e.was (record e.was { channel = lost_at w e.was.channel }) (event.Lose w) e.there refl refl
+    (e.after ∙ ap (λ (s : SubstationState). with_substation old substation s)
     (e.changed.1 ∙ ap (λ (c : ChannelState). record e.was { channel = c }) e.changed.0))
 
 -- the outstation hangs up
-pub hangs_up : Grounds → (old new : System) {el : Elsewhere} (station : ℕ) → IsStanding el old → HangsUpOn (Below station) end.Outstation old new
-    → Keeps el station [] old new
-hangs_up grounds old new station h e =
-    quiet grounds old new h station e.was (record e.was { core = closed e.was.core; channel = hung_up_at end.Outstation e.was.channel })
-    (event.HangUp end.Outstation) e.there refl refl (e.after ∙ ap (λ (s : SubstationState). with_substation old station s) e.changed)
+pub hangs_up : Grounds → (old new : System) {el : Elsewhere} (substation : ℕ) → IsStanding el old → HangsUpOn (Below substation) end.Outstation old new
+    → Keeps el substation [] old new
+hangs_up grounds old new substation h e =
+    quiet grounds old new h substation e.was (record e.was { core = closed e.was.core; channel = hung_up_at end.Outstation e.was.channel })
+    (event.HangUp end.Outstation) e.there refl refl (e.after ∙ ap (λ (s : SubstationState). with_substation old substation s) e.changed)
 
 -- ---- it restarts, and its lanes are emptied
 
-pub restarts : Grounds → (old new : System) {el : Elsewhere} (station : ℕ) → IsStanding el old → SubstationRestarts station old new
-    → Keeps el station [] old new
-restarts grounds old new station h e =
+pub restarts : Grounds → (old new : System) {el : Elsewhere} (substation : ℕ) → IsStanding el old → SubstationRestarts substation old new
+    → Keeps el substation [] old new
+restarts grounds old new substation h e =
     let was : SubstationState = e.was in
     let is : SubstationState = record was {
       core = restarted_core was.core;
       lanes = without_all was.lanes;
       channel = hung_up_at end.Outstation was.channel;
     } in
-    let l : Link = h.links.below station in
+    let l : Link = h.links.below substation in
     let gone : Gone = record { confirmed = []; overwritten = []; emptied = rows_in was.lanes } in
-    let after : SubstationState → System = λ s. record (with_substation old station s) {
-      history = record old.history { gone = old.history.gone ++ at_station station (rows_in was.lanes) };
+    let after : SubstationState → System = λ s. record (with_substation old substation s) {
+      history = record old.history { gone = old.history.gone ++ at_substation substation (rows_in was.lanes) };
     } in
-    below_keeps grounds old new h station was is (middle_in old) gone
-    (record (lists_of l) { left = rows_of l.left ++ rows_in was.lanes }) (event.Restart end.Outstation) e.there (middle_same station old)
-    (shown_with was is (few_outputs old h station was e.there) refl)
+    below_keeps grounds old new h substation was is (middle_in old) gone
+    (record (lists_of l) { left = rows_of l.left ++ rows_in was.lanes }) (event.Restart end.Outstation) e.there (middle_same substation old)
+    (shown_with was is (few_outputs old h substation was e.there) refl)
     (record { taken = refl; released = none_behind (rows_of l.released); left = refl }) refl
     (e.after ∙ ap after e.changed ∙ rw (no_performs was is refl) (simp append-nil))
 
@@ -151,49 +152,50 @@ stepped_on now r step lines base is lists steps = record {
   after = ap (λ (s : SubstationState). seen_below now r s (with_released lists step.does.discarded)) steps.after;
 }
 
-stepped : (old : System) (station : ℕ) (step : Step) (base is : SubstationState) (lists : RowLists) → SubstationSteps step base.channel base is
-    → Steps step (seen_at old station base lists) (seen_at old station is (with_released lists step.does.discarded))
-stepped old station step base is lists steps =
-    stepped_on old.now (link_in old.concentrator.links station) step base.channel base is lists steps
+stepped : (old : System) (substation : ℕ) (step : Step) (base is : SubstationState) (lists : RowLists) → SubstationSteps step base.channel base is
+    → Steps step (seen_at old substation base lists) (seen_at old substation is (with_released lists step.does.discarded))
+stepped old substation step base is lists steps =
+    stepped_on old.now (link_in old.concentrator.links substation) step base.channel base is lists steps
 
 -- a step that releases nothing, and at which these rows are dropped
-pub step_keeps : Grounds → (old new : System) {el : Elsewhere} (h : IsStanding el old) (station : ℕ) (was is : SubstationState) (e : LinkEvent) (step : Step)
-    (dropped : List Row) → slice_get old.substations station ≡ Some was → step.does.discarded ≡ [] → SubstationSteps step was.channel was is
+pub step_keeps : Grounds → (old new : System) {el : Elsewhere} (h : IsStanding el old) (substation : ℕ) (was is : SubstationState) (e : LinkEvent) (step : Step)
+    (dropped : List Row) → slice_get old.substations substation ≡ Some was → step.does.discarded ≡ [] → SubstationSteps step was.channel was is
     → ((s' : LinkState ⊤)
-    → Steps step (seen_at old station was (record (lists_of (h.links.below station)) { left = rows_of (h.links.below station).left ++ dropped })) s'
-    → HappensOn no_sink (panel_of was) (seen_at old station was (lists_of (h.links.below station))) e s')
-    → new ≡ record (with_substation old station is) {
+    → Steps step (seen_at old substation was (record (lists_of (h.links.below substation)) { left = rows_of (h.links.below substation).left ++ dropped })) s'
+    → HappensOn no_sink (panel_of was) (seen_at old substation was (lists_of (h.links.below substation))) e s')
+    → new ≡ record (with_substation old substation is) {
       history = record old.history {
-        overwritten = old.history.overwritten ++ at_station station dropped;
-        operated = old.history.operated ++ at_station station (performs was is);
+        overwritten = old.history.overwritten ++ at_substation substation dropped;
+        operated = old.history.operated ++ at_substation substation (performs was is);
       };
     }
-    → Keeps el station (rows_made_by was.core.points (e ∷ [])) old new
-step_keeps grounds old new h station was is e step dropped there none steps as_event after =
-    let l : Link = h.links.below station in
+    → Keeps el substation (rows_made_by was.core.points (e ∷ [])) old new
+step_keeps grounds old new h substation was is e step dropped there none steps as_event after =
+    let l : Link = h.links.below substation in
     let gone : Gone = record { confirmed = step.does.discarded; overwritten = dropped; emptied = [] } in
     let lists : RowLists = record (lists_of l) { left = rows_of l.left ++ dropped } in
     let is' : SubstationState = record (in_state was step.state) { channel = is.channel } in
-    below_keeps grounds old new h station was is (middle_in old) gone (with_released lists step.does.discarded) e there (middle_same station old)
-    (shown_with was is (few_outputs old h station was there) (ap (λ (s : SubstationState). s.outputs.outputs) steps.after))
+    below_keeps grounds old new h substation was is (middle_in old) gone (with_released lists step.does.discarded) e there (middle_same substation old)
+    (shown_with was is (few_outputs old h substation was there) (ap (λ (s : SubstationState). s.outputs.outputs) steps.after))
     (record { taken = refl; released = refl; left = ap (λ (xs : List Row). rows_of l.left ++ xs) (none_behind dropped) })
-    (as_event (seen_at old station is (with_released lists step.does.discarded)) (stepped old station step was is lists steps))
+    (as_event (seen_at old substation is (with_released lists step.does.discarded)) (stepped old substation step was is lists steps))
     (after ∙ rw none (simp append-nil))
 
 -- ---- the front unit comes to it
 
 -- what a fragment, or none, makes of the substation is what it makes of the link by itself
-answered : (old : System) (station : ℕ) (l : Link) (base is : SubstationState) (given : List (List ℕ)) (released : List Row)
+answered : (old : System) (substation : ℕ) (l : Link) (base is : SubstationState) (given : List (List ℕ)) (released : List Row)
     → SubstationAnswers given old.now released base is
-    → ComeDown (panel_of base) given (seen_at old station base (lists_of l)) (seen_at old station is (with_released (lists_of l) released))
-answered old station l base is [] released (none, stays) =
-    ap (λ (s : SubstationState). seen_at old station s (with_released (lists_of l) released)) stays
-    ∙ ap (λ (xs : List Row). seen_at old station base (with_released (lists_of l) xs)) none
-    ∙ ap (λ (xs : List Row). seen_at old station base (record (lists_of l) { released = xs })) (append-nil (rows_of l.released))
-answered old station l base is (fragment ∷ others) released (released_is, steps) =
+    → ComeDown (panel_of base) given (seen_at old substation base (lists_of l)) (seen_at old substation is (with_released (lists_of l) released))
+answered old substation l base is [] released (none, stays) =
+    ap (λ (s : SubstationState). seen_at old substation s (with_released (lists_of l) released)) stays
+    ∙ ap (λ (xs : List Row). seen_at old substation base (with_released (lists_of l) xs)) none
+    ∙ ap (λ (xs : List Row). seen_at old substation base (record (lists_of l) { released = xs })) (append-nil (rows_of l.released))
+answered old substation l base is (fragment ∷ others) released (released_is, steps) =
     let step : Step = connection_after (station_of base) (panel_of base) old.now fragment in
-    subst (λ (xs : List Row). Steps step (seen_at old station base (lists_of l)) (seen_at old station is (with_released (lists_of l) xs))) (sym released_is)
-    (stepped old station step base is (lists_of l) steps)
+    subst (λ (xs : List Row). Steps step (seen_at old substation base (lists_of l))
+    (seen_at old substation is (with_released (lists_of l) xs))) (sym released_is)
+    (stepped old substation step base is (lists_of l) steps)
 
 outputs_stay : (given : List (List ℕ)) (now : ℕ) (released : List Row) (base is : SubstationState) → SubstationAnswers given now released base is
     → is.outputs.outputs ≡ base.outputs.outputs
@@ -202,27 +204,27 @@ outputs_stay (fragment ∷ others) now released base is (released_is, steps) = a
 
 comes : Grounds → (left : LineState → LineState) (e : LinkEvent)
     → ((s s' : LinkState ⊤) (panel : Panel) → ComesDown panel (left s.channel.down) s s' → HappensOn no_sink panel s e s')
-    → (old new : System) {el : Elsewhere} (station : ℕ) → IsStanding el old → (c : ComesDownBelow left station old new)
-    → Keeps el station (rows_made_by c.came.was.core.points (e ∷ [])) old new
-comes grounds left e as_event old new station h c =
+    → (old new : System) {el : Elsewhere} (substation : ℕ) → IsStanding el old → (c : ComesDownBelow left substation old new)
+    → Keeps el substation (rows_made_by c.came.was.core.points (e ∷ [])) old new
+comes grounds left e as_event old new substation h c =
     let was : SubstationState = c.came.was in
     let is : SubstationState = c.came.is in
     let x = c.came.changed in
-    let l : Link = h.links.below station in
+    let l : Link = h.links.below substation in
     let base : SubstationState = record was { channel = record was.channel { down = left was.channel.down; outstation_port = x.port } } in
     let gone : Gone = record { confirmed = c.released; overwritten = []; emptied = [] } in
     let lists : RowLists = record (lists_of l) { released = rows_of l.released ++ c.released } in
-    below_keeps grounds old new h station was is (middle_in old) gone lists e c.came.there (middle_same station old)
-    (shown_with was is (few_outputs old h station was c.came.there) (outputs_stay x.given old.now c.released base is x.came))
+    below_keeps grounds old new h substation was is (middle_in old) gone lists e c.came.there (middle_same substation old)
+    (shown_with was is (few_outputs old h substation was c.came.there) (outputs_stay x.given old.now c.released base is x.came))
     (record { taken = refl; released = refl; left = none_behind (rows_of l.left) })
-    (as_event (seen_at old station was (lists_of l)) (seen_at old station is lists) (panel_of was)
-    (record { port = x.port; given = x.given; heard = x.heard; came = answered old station l base is x.given c.released x.came }))
+    (as_event (seen_at old substation was (lists_of l)) (seen_at old substation is lists) (panel_of was)
+    (record { port = x.port; given = x.given; heard = x.heard; came = answered old substation l base is x.given c.released x.came }))
     (c.came.after ∙ simp append-nil)
 
-pub delivers : Grounds → (old new : System) {el : Elsewhere} (station : ℕ) → IsStanding el old → ComesDownBelow delivered_on station old new
-    → Keeps el station [] old new
-delivers grounds old new station h c = comes grounds delivered_on (event.Deliver way.Down) (λ s s' panel come. come) old new station h c
+pub delivers : Grounds → (old new : System) {el : Elsewhere} (substation : ℕ) → IsStanding el old → ComesDownBelow delivered_on substation old new
+    → Keeps el substation [] old new
+delivers grounds old new substation h c = comes grounds delivered_on (event.Deliver way.Down) (λ s s' panel come. come) old new substation h c
 
-pub repeats : Grounds → (old new : System) {el : Elsewhere} (station : ℕ) → IsStanding el old → ComesDownBelow repeated_on station old new
-    → Keeps el station [] old new
-repeats grounds old new station h c = comes grounds repeated_on (event.Repeat way.Down) (λ s s' panel come. come) old new station h c
+pub repeats : Grounds → (old new : System) {el : Elsewhere} (substation : ℕ) → IsStanding el old → ComesDownBelow repeated_on substation old new
+    → Keeps el substation [] old new
+repeats grounds old new substation h c = comes grounds repeated_on (event.Repeat way.Down) (λ s s' panel come. come) old new substation h c

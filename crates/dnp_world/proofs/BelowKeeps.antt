@@ -29,8 +29,8 @@ use Rattle.dnp_world.specs.OneLinkEvents.{LinkState, HappensOn}
 use Rattle.dnp_world.specs.OutstationSeen.{ShowOctets, Shows}
 use Rattle.dnp_world.specs.Reports.{IsFate}
 use Rattle.dnp_world.specs.Standing.{Stands}
-use Rattle.dnp_world.specs.Stations.{of_station, HasSameCounts}
-use Rattle.dnp_world.specs.Systems.{SubstationState, System, at_station, middle_of, panel_of}
+use Rattle.dnp_world.specs.Stations.{of_substation, HasSameCounts}
+use Rattle.dnp_world.specs.Systems.{SubstationState, System, at_substation, middle_of, panel_of}
 use Rattle.dnp_world.specs.SystemStanding.{RowLists, lists_of, no_sink, points_asked, seen, seen_above, seen_below, IsJoinedBelow, IsStanding, Keeps}
 use Rattle.dnp_world.proofs.Counting.{count_by-append}
 use Rattle.dnp_world.proofs.JoinedSteps.{with_lists}
@@ -38,15 +38,15 @@ use Rattle.dnp_world.proofs.ListedAt.{set_here, set_there, listed_here, listed_t
 use Rattle.dnp_world.proofs.OutstationOpenings.{rows_from}
 use Rattle.dnp_world.proofs.SystemCounts.{same_refl, same_is, same_sym, same_permutation}
 use Rattle.dnp_world.proofs.SystemPlans.{still_of_plan}
-use Rattle.dnp_world.proofs.Turning.{by_station}
+use Rattle.dnp_world.proofs.Turning.{by_substation}
 
 -- what a law of a system's lists says
 pub record TurnLaws : Type 0 where
-  pub kept : (indices : List Spans) {el : Elsewhere} (station : ℕ) (links : Links) (old new : Kept) → IsBehind indices el links old
-      → (turn : Turn indices station links old new) → IsBehind indices el (with_links links station turn.below turn.above) new
-  pub fate : (indices : List Spans) {el : Elsewhere} (station : ℕ) (links : Links) (old new : Kept) → IsBehind indices el links old
-      → (turn : Turn indices station links old new)
-      → IsFate (made_at station turn.here.made) (shown_of indices old) (shown_of indices new)
+  pub kept : (indices : List Spans) {el : Elsewhere} (substation : ℕ) (links : Links) (old new : Kept) → IsBehind indices el links old
+      → (turn : Turn indices substation links old new) → IsBehind indices el (with_links links substation turn.below turn.above) new
+  pub fate : (indices : List Spans) {el : Elsewhere} (substation : ℕ) (links : Links) (old new : Kept) → IsBehind indices el links old
+      → (turn : Turn indices substation links old new)
+      → IsFate (made_at substation turn.here.made) (shown_of indices old) (shown_of indices new)
 
 -- and the law of one link, of an event by itself
 pub record Grounds : Type 0 where
@@ -174,28 +174,28 @@ middle_in s = record { links = s.concentrator.links; points = s.concentrator.cor
 
 -- the substation is another, and so is what the concentrator has of it, and the lists get what became of the rows and commands
 abbrev pub changed_below : ℕ → SubstationState → SubstationState → Middle → Gone → System → System
-changed_below station was is middle gone s = record s {
-  substations = slice_set s.substations station is;
+changed_below substation was is middle gone s = record s {
+  substations = slice_set s.substations substation is;
   concentrator = record s.concentrator { core = with_points s.concentrator.core middle.points; links = middle.links };
   history = record s.history {
-    confirmed = s.history.confirmed ++ at_station station gone.confirmed;
-    overwritten = s.history.overwritten ++ at_station station gone.overwritten;
-    gone = s.history.gone ++ at_station station gone.emptied;
-    operated = s.history.operated ++ at_station station (performs was is);
+    confirmed = s.history.confirmed ++ at_substation substation gone.confirmed;
+    overwritten = s.history.overwritten ++ at_substation substation gone.overwritten;
+    gone = s.history.gone ++ at_substation substation gone.emptied;
+    operated = s.history.operated ++ at_substation substation (performs was is);
   };
 }
 
 -- the links to all other substations are as they were, the masters ask for the same points, and the points above stay sound
-pub record KeepsMiddle (station : ℕ) (middle : Middle) (s : System) : Type 0 where
-  pub others : (i : ℕ) → i ≢ station → link_in middle.links i ≡ link_in s.concentrator.links i
+pub record KeepsMiddle (substation : ℕ) (middle : Middle) (s : System) : Type 0 where
+  pub others : (i : ℕ) → i ≢ substation → link_in middle.links i ≡ link_in s.concentrator.links i
   pub masters : map points_asked middle.links ≡ map points_asked s.concentrator.links
   pub sound : points.IsSound s.concentrator.core.points → points.IsSound middle.points
 
-pub middle_same : (station : ℕ) (s : System) → KeepsMiddle station (middle_in s) s
-middle_same station s = record { others = λ i other. refl; masters = refl; sound = λ h. h }
+pub middle_same : (substation : ℕ) (s : System) → KeepsMiddle substation (middle_in s) s
+middle_same substation s = record { others = λ i other. refl; masters = refl; sound = λ h. h }
 
-left_more : (station : ℕ) (a b c d : List (ℕ × Row)) → HasSameCounts ((a ++ b) ++ (c ++ d)) ((a ++ c) ++ (b ++ d))
-left_more station a b c d = record {
+left_more : (substation : ℕ) (a b c d : List (ℕ × Row)) → HasSameCounts ((a ++ b) ++ (c ++ d)) ((a ++ c) ++ (b ++ d))
+left_more substation a b c d = record {
   same = λ test.
       omega (
         arith,
@@ -219,8 +219,8 @@ abbrev pub with_controls : Ledger → System → System
 with_controls controls s = record s { concentrator = record s.concentrator { controls = controls } }
 
 -- what the book says of commands that are asked for
-pub record BookShows (old : System) (station : ℕ) (controls : Ledger) (asked : List Command) : Type 0 where
-  pub used : IsCoveredBy (used_orders old.concentrator.controls.entries ++ at_station station asked) (used_orders controls.entries)
+pub record BookShows (old : System) (substation : ℕ) (controls : Ledger) (asked : List Command) : Type 0 where
+  pub used : IsCoveredBy (used_orders old.concentrator.controls.entries ++ at_substation substation asked) (used_orders controls.entries)
   pub orders : orders_in controls.entries ≡ orders_in old.concentrator.controls.entries
   pub shown : map (ordered old.concentrator.indices) controls.entries ≡ map (ordered old.concentrator.indices) old.concentrator.controls.entries
 
@@ -235,13 +235,13 @@ did was is gone came asked = record {
   performed = performs was is;
 }
 
-turn_below : (old : System) {el : Elsewhere} (links : Links) (station : ℕ) (was is : SubstationState) (middle : Middle) (controls : Ledger) (gone : Gone)
+turn_below : (old : System) {el : Elsewhere} (links : Links) (substation : ℕ) (was is : SubstationState) (middle : Middle) (controls : Ledger) (gone : Gone)
     (came : List Row) (asked : List Command) (link : Link)
-    → IsBehind old.indices el links (kept_in old) → slice_get old.substations station ≡ Some was → BookShows old station controls asked
-    → Grows (links.below station) link (did was is gone came asked) → rows_of link.lanes ≡ rows_in is.lanes
-    → Turn old.indices station links (kept_in old) (kept_in (with_controls controls (changed_below station was is middle gone old)))
-turn_below old links station was is middle controls gone came asked link b there book grows lanes =
-    let new : System = with_controls controls (changed_below station was is middle gone old) in
+    → IsBehind old.indices el links (kept_in old) → slice_get old.substations substation ≡ Some was → BookShows old substation controls asked
+    → Grows (links.below substation) link (did was is gone came asked) → rows_of link.lanes ≡ rows_in is.lanes
+    → Turn old.indices substation links (kept_in old) (kept_in (with_controls controls (changed_below substation was is middle gone old)))
+turn_below old links substation was is middle controls gone came asked link b there book grows lanes =
+    let new : System = with_controls controls (changed_below substation was is middle gone old) in
     record {
       below = link;
       above = links.above;
@@ -251,15 +251,15 @@ turn_below old links station was is middle controls gone came asked link b there
       above_grows = stays_still links.above;
       joined = refl;
       mapped = refl;
-      buffered = same_is (rows_of link.lanes) (of_station station (kept_in new).buffered)
-          (lanes ∙ sym (listed_here lane_rows_of old.substations station was is there));
-      others = λ i other. same_is (of_station i (kept_in new).buffered) (of_station i (kept_in old).buffered)
-          (listed_there lane_rows_of old.substations station i is other);
+      buffered = same_is (rows_of link.lanes) (of_substation substation (kept_in new).buffered)
+          (lanes ∙ sym (listed_here lane_rows_of old.substations substation was is there));
+      others = λ i other. same_is (of_substation i (kept_in new).buffered) (of_substation i (kept_in old).buffered)
+          (listed_there lane_rows_of old.substations substation i is other);
       confirmed = same_refl new.history.confirmed;
       left = subst (λ (xs : List (ℕ × Row)). HasSameCounts (new.history.overwritten ++ new.history.gone)
           ((old.history.overwritten ++ old.history.gone) ++ xs))
-          (sym (map-append (λ row. (station, row)) gone.overwritten gone.emptied))
-          (left_more station old.history.overwritten (at_station station gone.overwritten) old.history.gone (at_station station gone.emptied));
+          (sym (map-append (λ row. (substation, row)) gone.overwritten gone.emptied))
+          (left_more substation old.history.overwritten (at_substation substation gone.overwritten) old.history.gone (at_substation substation gone.emptied));
       queue = b.queue;
       dropped = none_more old.history.dropped;
       lost = omega arith;
@@ -281,26 +281,26 @@ pub record IsListed (l : Link) (gone : Gone) (lists : RowLists) : Type 0 where
   pub left : lists.left ≡ rows_of l.left ++ (gone.overwritten ++ gone.emptied)
 
 -- the link to another substation is as it was
-pub other_stands : (old : System) {el : Elsewhere} (h : IsStanding el old) (station : ℕ) (is : SubstationState) (relays : List Relaying)
-    → ((i : ℕ) → i ≢ station → link_in relays i ≡ link_in old.concentrator.links i) → (i : ℕ) → i ≢ station
-    → IfSome (slice_get (slice_set old.substations station is) i) (IsJoinedBelow old.now (link_in relays i) (h.links.below i))
-other_stands old h station is relays others i other = rw (others i other, set_there old.substations station i is other) (h.below i)
+pub other_stands : (old : System) {el : Elsewhere} (h : IsStanding el old) (substation : ℕ) (is : SubstationState) (relays : List Relaying)
+    → ((i : ℕ) → i ≢ substation → link_in relays i ≡ link_in old.concentrator.links i) → (i : ℕ) → i ≢ substation
+    → IfSome (slice_get (slice_set old.substations substation is) i) (IsJoinedBelow old.now (link_in relays i) (h.links.below i))
+other_stands old h substation is relays others i other = rw (others i other, set_there old.substations substation i is other) (h.below i)
 
 -- The link by itself moves so.
-pub below_follows : TurnLaws → (old : System) {el : Elsewhere} (h : IsStanding el old) (station : ℕ) (was is : SubstationState) (middle : Middle)
+pub below_follows : TurnLaws → (old : System) {el : Elsewhere} (h : IsStanding el old) (substation : ℕ) (was is : SubstationState) (middle : Middle)
     (controls : Ledger) (gone : Gone) (lists : RowLists) (came : List Row) (asked : List Command)
-    → slice_get old.substations station ≡ Some was → KeepsMiddle station middle old → ShowOctets (panel_of is)
-    → IsListed (h.links.below station) gone lists → BookShows old station controls asked
-    → Follows [] came asked was.outputs.performed (h.links.below station) (seen_below old.now (link_in middle.links station) is lists)
-    → Keeps el station came old (with_controls controls (changed_below station was is middle gone old))
+    → slice_get old.substations substation ≡ Some was → KeepsMiddle substation middle old → ShowOctets (panel_of is)
+    → IsListed (h.links.below substation) gone lists → BookShows old substation controls asked
+    → Follows [] came asked was.outputs.performed (h.links.below substation) (seen_below old.now (link_in middle.links substation) is lists)
+    → Keeps el substation came old (with_controls controls (changed_below substation was is middle gone old))
 unfolding turn_below
-below_follows laws old h station was is middle controls gone lists came asked there keeps shown listed book f =
-    let l : Link = h.links.below station in
-    let next : System = with_controls controls (changed_below station was is middle gone old) in
-    let s' : LinkState ⊤ = seen_below old.now (link_in middle.links station) is lists in
+below_follows laws old h substation was is middle controls gone lists came asked there keeps shown listed book f =
+    let l : Link = h.links.below substation in
+    let next : System = with_controls controls (changed_below substation was is middle gone old) in
+    let s' : LinkState ⊤ = seen_below old.now (link_in middle.links substation) is lists in
     let link : Link = f.link in
-    let t : Turn old.indices station h.links (kept_in old) (kept_in next) =
-    turn_below old h.links station was is middle controls gone came asked link h.behind there book
+    let t : Turn old.indices substation h.links (kept_in old) (kept_in next) =
+    turn_below old h.links substation was is middle controls gone came asked link h.behind there book
     (grows_by came [] gone.confirmed (gone.overwritten ++ gone.emptied) asked was.outputs.performed l s'
     (listed.taken ∙ sym (append-nil (rows_of l.took))) listed.released listed.left f)
     (lane_rows s' link f.joined) in
@@ -308,36 +308,36 @@ below_follows laws old h station was is middle controls gone lists came asked th
       standing = record {
         plan = h.plan;
         of_plan = still_of_plan old next h.plan refl refl refl refl keeps.masters h.of_plan;
-        links = with_links h.links station link h.links.above;
-        below = by_station (λ i x. IfSome (slice_get next.substations i) (IsJoinedBelow old.now (link_in middle.links i) x)) h.links station link
+        links = with_links h.links substation link h.links.above;
+        below = by_substation (λ i x. IfSome (slice_get next.substations i) (IsJoinedBelow old.now (link_in middle.links i) x)) h.links substation link
             h.links.above
-            (of_some (IsJoinedBelow old.now (link_in middle.links station) link) (slice_get next.substations station) is
-            (set_here old.substations station was is there)
+            (of_some (IsJoinedBelow old.now (link_in middle.links substation) link) (slice_get next.substations substation) is
+            (set_here old.substations substation was is there)
             (record { joined = relisted s' link old.now f.joined; shown = shown }))
-            (other_stands old h station is middle.links keeps.others);
+            (other_stands old h substation is middle.links keeps.others);
         above = subst (λ (performed : List Command). Joined [] (seen (record (middle_of next.concentrator) { performed = performed })
             old.centre.link.master old.above old.now (lists_of h.links.above)) h.links.above) (sym book.shown)
             (points_set (seen_above old (lists_of h.links.above)) h.links.above middle.points (keeps.sound h.above.outstation.well.points) h.above);
-        behind = laws.kept old.indices station h.links (kept_in old) (kept_in next) h.behind t;
+        behind = laws.kept old.indices substation h.links (kept_in old) (kept_in next) h.behind t;
       };
-      fate = laws.fate old.indices station h.links (kept_in old) (kept_in next) h.behind t;
+      fate = laws.fate old.indices substation h.links (kept_in old) (kept_in next) h.behind t;
     }
 
 -- The event is one of the link by itself, which asks for no command.
-pub below_keeps : Grounds → (old new : System) {el : Elsewhere} (h : IsStanding el old) (station : ℕ)
+pub below_keeps : Grounds → (old new : System) {el : Elsewhere} (h : IsStanding el old) (substation : ℕ)
     → (was is : SubstationState) (middle : Middle) (gone : Gone) (lists : RowLists) (e : LinkEvent)
-    → slice_get old.substations station ≡ Some was → KeepsMiddle station middle old → ShowOctets (panel_of is)
-    → IsListed (h.links.below station) gone lists
-    → HappensOn no_sink (panel_of was) (seen_below old.now (link_in old.concentrator.links station) was (lists_of (h.links.below station))) e
-    (seen_below old.now (link_in middle.links station) is lists)
-    → new ≡ changed_below station was is middle gone old → Keeps el station (rows_made_by was.core.points (e ∷ [])) old new
-below_keeps grounds old new {el = el} h station was is middle gone lists e there keeps shown listed happens after =
-    let l : Link = h.links.below station in
+    → slice_get old.substations substation ≡ Some was → KeepsMiddle substation middle old → ShowOctets (panel_of is)
+    → IsListed (h.links.below substation) gone lists
+    → HappensOn no_sink (panel_of was) (seen_below old.now (link_in old.concentrator.links substation) was (lists_of (h.links.below substation))) e
+    (seen_below old.now (link_in middle.links substation) is lists)
+    → new ≡ changed_below substation was is middle gone old → Keeps el substation (rows_made_by was.core.points (e ∷ [])) old new
+below_keeps grounds old new {el = el} h substation was is middle gone lists e there keeps shown listed happens after =
+    let l : Link = h.links.below substation in
     let came : List Row = rows_made_by was.core.points (e ∷ []) in
-    let r : Relaying = link_in old.concentrator.links station in
-    let before : IsJoinedBelow old.now r l was = some_of (IsJoinedBelow old.now r l) (slice_get old.substations station) was there (h.below station) in
-    subst (λ (x : System). Keeps el station came old x) (sym after)
-    (below_follows grounds.turns old h station was is middle old.concentrator.controls gone lists came [] there keeps shown listed
+    let r : Relaying = link_in old.concentrator.links substation in
+    let before : IsJoinedBelow old.now r l was = some_of (IsJoinedBelow old.now r l) (slice_get old.substations substation) was there (h.below substation) in
+    subst (λ (x : System). Keeps el substation came old x) (sym after)
+    (below_follows grounds.turns old h substation was is middle old.concentrator.controls gone lists came [] there keeps shown listed
     (record { used = none_used (used_orders old.concentrator.controls.entries); orders = refl; shown = refl })
-    (grounds.happens (panel_of was) (seen_below old.now r was (lists_of l)) (seen_below old.now (link_in middle.links station) is lists) e l before.shown
-    (h.behind.below_stands station) before.joined happens))
+    (grounds.happens (panel_of was) (seen_below old.now r was (lists_of l)) (seen_below old.now (link_in middle.links substation) is lists) e l before.shown
+    (h.behind.below_stands substation) before.joined happens))

@@ -177,8 +177,8 @@ at_none laws e a a' b b' {el = el} {el' = el'} s t is is' none h k shares =
 
 -- what is at a centre makes no row
 none_at : (s : System) (e : Event) (i : ℕ) (o : ℕ) → centre_at e ≡ Some o → moves_at s e i ≡ []
-none_at s (event.Change station kind index reading) i o is = absurd (none-some o is)
-none_at s (event.Restart (place.Substation station)) i o is = absurd (none-some o is)
+none_at s (event.Change substation kind index reading) i o is = absurd (none-some o is)
+none_at s (event.Restart (place.Substation substation)) i o is = absurd (none-some o is)
 none_at s e i o is = refl
 
 pub none_made_at : (s : System) (e : Event) (o : ℕ) → centre_at e ≡ Some o → (i : ℕ) → rows_made_at s (e ∷ []) i ≡ []
@@ -186,7 +186,7 @@ none_made_at s e o is i = rw (none_at s e i o is) (none_made (points_at s i))
 
 -- both see the same substations
 pub seen_alike : (w : Whole) (events : List Event) (i : ℕ) → rows_made_at (seen_by 1 w) events i ≡ rows_made_at (seen_by 0 w) events i
-seen_alike w events i = rw (all_moves (seen_by 0 w) (seen_by 1 w) (λ station. refl) events i) refl
+seen_alike w events i = rw (all_moves (seen_by 0 w) (seen_by 1 w) (λ substation. refl) events i) refl
 
 -- ---- an event
 
@@ -241,9 +241,9 @@ still_made old next substations links events i =
     (ap (λ (xs : List SubstationState). option_map (λ (x : SubstationState). x.core.points) (slice_get xs i)) substations)
     ∙ ap (λ (moves : List Move). made_from (points_at old i) moves)
     (all_moves old next
-    (λ station.
-    ap (λ (xs : List SubstationState). nat_lt station (length xs) && nat_lt station (length next.concentrator.links)) substations
-    ∙ ap (λ (ls : List Relaying). nat_lt station (length old.substations) && nat_lt station (length ls)) links)
+    (λ substation.
+    ap (λ (xs : List SubstationState). nat_lt substation (length xs) && nat_lt substation (length next.concentrator.links)) substations
+    ∙ ap (λ (ls : List Relaying). nat_lt substation (length old.substations) && nat_lt substation (length ls)) links)
     events i)
 
 -- where the event makes none

@@ -24,57 +24,57 @@ use Rattle.dnp_world.proofs.SystemTasks.{centre_with}
 
 -- it is issued at the centre that a system has
 abbrev pub Issues : ℕ → Command → System → System → Type 0
-Issues station command s t = IssuesBy (command_above s.centre.indices station command) station command s t
+Issues substation command s t = IssuesBy (command_above s.centre.indices substation command) substation command s t
 
 -- one to no output does nothing
-idle : (above : Option Command) (station : ℕ) (command : Command) (s : System) → is_some above ≡ false → IssuesBy above station command s s
-idle None station command s none = refl
-idle (Some above) station command s none = absurd (false≢true (sym none))
+idle : (above : Option Command) (substation : ℕ) (command : Command) (s : System) → is_some above ≡ false → IssuesBy above substation command s s
+idle None substation command s none = refl
+idle (Some above) substation command s none = absurd (false≢true (sym none))
 
 -- one to an output stands in the book, and is listed
-stands : {J B : Type 0} (archive : J → Archive) (orders : B → Ledger) (above : Option Command) (station : ℕ) (command : Command) (rest : System)
+stands : {J B : Type 0} (archive : J → Archive) (orders : B → Ledger) (above : Option Command) (substation : ℕ) (command : Command) (rest : System)
     (was k : Centre J B) → is_some above ≡ true → (orders (book_of was)).last_id < MAX_ID → HasWidths command
     → IfSome above (λ its. orders (book_of k) ≡ added (orders (book_of was)) 0 its) → link_of k ≡ link_of was → journal_of k ≡ journal_of was
     → indices_of k ≡ indices_of was
-    → IssuesBy above station command (record rest { centre = centre_of archive orders was }) (record rest {
+    → IssuesBy above substation command (record rest { centre = centre_of archive orders was }) (record rest {
       centre = centre_of archive orders k;
-      history = record rest.history { issued = rest.history.issued ++ (station, command) ∷ [] };
+      history = record rest.history { issued = rest.history.issued ++ (substation, command) ∷ [] };
     })
-stands archive orders None station command rest was k some left widths book link journal indices = absurd (false≢true some)
-stands archive orders (Some above) station command rest was k some left widths book link journal indices = (
+stands archive orders None substation command rest was k some left widths book link journal indices = absurd (false≢true some)
+stands archive orders (Some above) substation command rest was k some left widths book link journal indices = (
   left,
   widths,
   ap (λ (m : CentreState). record rest {
     centre = m;
-    history = record rest.history { issued = rest.history.issued ++ (station, command) ∷ [] };
+    history = record rest.history { issued = rest.history.issued ++ (substation, command) ∷ [] };
   }) (centre_with archive orders was k (link_of was) (added (orders (book_of was)) 0 above) link book journal indices),
 )
 
 module _ {J B : Type 0} (archive : J → Archive) (orders : B → Ledger) (n : ℕ) (low : n < CENTRES) (rest : Whole) (centres : Two (Centre J B))
-    (station : ℕ) (command : Command) (was : Centre J B) (there : was ≡ at n centres) where
+    (substation : ℕ) (command : Command) (was : Centre J B) (there : was ≡ at n centres) where
   -- so it is at one of the two: it does nothing
-  pub issues_nothing : (has : Bool) → has ≡ is_some (command_above (indices_of was) station command) → has ≡ false
-      → ChangesAll (Some n) (Issues station command) (record rest { centres = of_both (centre_of archive orders) centres })
+  pub issues_nothing : (has : Bool) → has ≡ is_some (command_above (indices_of was) substation command) → has ≡ false
+      → ChangesAll (Some n) (Issues substation command) (record rest { centres = of_both (centre_of archive orders) centres })
       (record rest { centres = of_both (centre_of archive orders) centres })
   issues_nothing has looked none =
       let set : Two (Centre J B) → Whole = λ t. record rest { centres = of_both (centre_of archive orders) t } in
-      subst (λ (t : Two (Centre J B)). ChangesAll (Some n) (Issues station command) (set centres) (set t)) (kept_there n centres was was there refl)
-      (centre_there archive orders n low (Issues station command) rest centres was was there
-      (idle (command_above (indices_of was) station command) station command _ (sym looked ∙ none)))
+      subst (λ (t : Two (Centre J B)). ChangesAll (Some n) (Issues substation command) (set centres) (set t)) (kept_there n centres was was there refl)
+      (centre_there archive orders n low (Issues substation command) rest centres was was there
+      (idle (command_above (indices_of was) substation command) substation command _ (sym looked ∙ none)))
 
   -- or it stands in that one's book
   pub issues_there : (seen k : Centre J B) (has : Bool) (listed items : List (ℕ × Command)) → seen ≡ at n centres
-      → has ≡ is_some (command_above (indices_of seen) station command) → has ≡ true → (orders (book_of was)).last_id < MAX_ID → HasWidths command
-      → IfSome (command_above (indices_of was) station command) (λ above. orders (book_of k) ≡ added (orders (book_of was)) 0 above)
+      → has ≡ is_some (command_above (indices_of seen) substation command) → has ≡ true → (orders (book_of was)).last_id < MAX_ID → HasWidths command
+      → IfSome (command_above (indices_of was) substation command) (λ above. orders (book_of k) ≡ added (orders (book_of was)) 0 above)
       → link_of k ≡ link_of was → journal_of k ≡ journal_of was → indices_of k ≡ indices_of was
-      → listed ≡ rest.history.issued → items ≡ listed ++ (station, command) ∷ []
-      → ChangesAll (Some n) (Issues station command) (record rest { centres = of_both (centre_of archive orders) centres }) (record rest {
+      → listed ≡ rest.history.issued → items ≡ listed ++ (substation, command) ∷ []
+      → ChangesAll (Some n) (Issues substation command) (record rest { centres = of_both (centre_of archive orders) centres }) (record rest {
         centres = of_both (centre_of archive orders) (with_at n centres k);
         history = record rest.history { issued = items };
       })
   issues_there seen k has listed items seen_there looked some left widths book link journal indices same put =
-      let found : is_some (command_above (indices_of was) station command) ≡ true = cc in
+      let found : is_some (command_above (indices_of was) substation command) ≡ true = cc in
       rw (put, same)
-      (issued_there archive orders n low (Issues station command) rest centres was k ((station, command) ∷ []) there
-      (stands archive orders (command_above (indices_of was) station command) station command (seen_by n rest) was k found left widths book link journal
+      (issued_there archive orders n low (Issues substation command) rest centres was k ((substation, command) ∷ []) there
+      (stands archive orders (command_above (indices_of was) substation command) substation command (seen_by n rest) was k found left widths book link journal
       indices))

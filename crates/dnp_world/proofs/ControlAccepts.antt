@@ -129,7 +129,8 @@ select_goes laws target now check entry old selected commands low can g =
         → WasAsked (request_octets (request_for old.link.master.seq (task.Select entry.command))) selected.station.core
         → found_in selected.book.entries entry.id ≡ Some entry → (b : Bool) → (check == success) ≡ b → SelectComesTo target check entry selected
     by link progress opens unmoved asked found true e =
-        Stands (eqb-true check 0 e) old.link.master.seq asked (stands entry selected link old.link.master.seq check unmoved.same progress opens e found can.widths asked unmoved.are)
+        Stands (eqb-true check 0 e) old.link.master.seq asked
+        (stands entry selected link old.link.master.seq check unmoved.same progress opens e found can.widths asked unmoved.are)
     by link progress opens unmoved asked found false e =
         let next : next_step target selected ≡ Finishes entry.id check = told_next target entry selected link check unmoved.same progress opens e in
         Refused (eqb-false check 0 e) next

@@ -155,7 +155,8 @@ operate_answers laws law is_control s o now seq command low widths opens number 
     let request : Asked = record { control = whole_bits false seq; function = function.Operate; headers = headers } in
     let control_is : control_in q ≡ whole_bits false seq = is_control (whole_bits false seq) low in
     let looked_is : is_looked_at s.core q ≡ true =
-    looked s.core q (whole_bits false seq) opens (two_octets seq function.Operate command) (few_octets seq function.Operate command) control_is refl refl refl in
+    looked s.core q (whole_bits false seq) opens (two_octets seq function.Operate command) (few_octets seq function.Operate command)
+    control_is refl refl refl in
     let case_is : case_of s.core q ≡ Asks = asks_case s.core q looked_is refl other refl in
     let read_is : request_at q ≡ Ok request = laws.is_request request low refl (order_fits command, tt) in
     let select : Option Select = t.core.session.selects in

@@ -178,7 +178,8 @@ staying_keeps step low = record {
 
 pub end_keeps : (now : ℕ) (step : Step) → step.state.core.session.next < 16 → EndKeeps step (at_end now step)
 end_keeps now step low =
-    by (step.state.core.times.unsolicited && (step.state.core.announced && (step.state.core.is_open && (is_free step.state.core && has_enabled_rows step.state))))
+    by (step.state.core.times.unsolicited && (step.state.core.announced &&
+    (step.state.core.is_open && (is_free step.state.core && has_enabled_rows step.state))))
   where
     by : (b : Bool) → EndKeeps step (if b then starts step now (content_from (pushed step.state.lanes step.state.core.enabled)) else step)
     by true = starting_keeps now step (content_from (pushed step.state.lanes step.state.core.enabled)) low

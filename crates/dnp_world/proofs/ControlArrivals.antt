@@ -155,7 +155,8 @@ operate_comes laws now seq status command (f ∷ fs) s new sent commands low wid
     let last : List ℕ = s.core.session.request in
     let facts : ConfirmFacts s o now last f =
     subst (ConfirmFacts s o now last) (sym f_is)
-    (confirm_leaves laws.is_control s o now number last four (record { is_open = is.is_open; request = refl; holds_none = is.holds_none; number = is.number })) in
+    (confirm_leaves laws.is_control s o now number last four
+    (record { is_open = is.is_open; request = refl; holds_none = is.holds_none; number = is.number })) in
     let stays : IsNewTo q (connection_after s o now f).state.core =
     subst (λ (x : List ℕ). IsNewTo q (connection_after s o now x).state.core) (sym f_is) (stays_new laws.is_control s o now number q four is) in
     let h : Operated command seq status new later more =
@@ -268,7 +269,8 @@ pub hears_answer : ControlLaws → (now status : ℕ) (task : Task) (command : C
     → Unmoved (heard_status r task status) new confirms
 hears_answer laws now status task command [] response behind r new confirms is_for widths awaits before_are behind_are repeats
     (next, first, later, heard, confirms_is, rest) =
-    let h : Heard task status now r.master response = answer_heard laws.reads laws.same task command status now r.master response is_for widths awaits repeats in
+    let h : Heard task status now r.master response =
+    answer_heard laws.reads laws.same task command status now r.master response is_for widths awaits repeats in
     let took : Hears (Ok h.taking) r next first = subst (λ (x : Result Taking MasterFault). Hears x r next first) h.takes heard in
     let next_is : next ≡ heard_status r task status = took.0 ∙ received_status r task status h.taking h.hears in
     let first_is : first ≡ [] = took.1 ∙ ap (λ (o : Option (List ℕ)). option_to_list o) h.hears.confirm in

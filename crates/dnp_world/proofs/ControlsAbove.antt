@@ -156,7 +156,8 @@ pub record UpAbove (fragments answers : List (List ℕ)) (old new : System) : Ty
 abbrev OneUp : Result Taking MasterFault → System → System → Type 0
 OneUp r old new = Hears r old.centre.link new.centre.link (confirms_of r) × (beyond new ≡ beyond old)
 
-up_from : (centre : ℕ) (r : Result Taking MasterFault) (old new : System) (lines : ChannelState) → MasterReceives (Above centre) r (with_above old lines) new → OneUp r old new
+up_from : (centre : ℕ) (r : Result Taking MasterFault) (old new : System) (lines : ChannelState)
+    → MasterReceives (Above centre) r (with_above old lines) new → OneUp r old new
 up_from centre (Ok t) old new lines (numbers, down) = ((ap (λ (s : System). s.centre.link) down.1, refl), ap beyond down.1)
 up_from centre (Err fault) old new lines same = ((ap (λ (s : System). s.centre.link) same, refl), ap beyond same)
 
@@ -253,7 +254,8 @@ back_from laws centre spans reserved id command old new going under checked p ta
         sent = answers;
         answered = subst (λ (n : ℕ). AnswersAll n Outputs (going ++ requests) (middle_of old.concentrator) (middle_of new.concentrator) answers d.commands)
             now_is
-            (subst (λ (c : ConcentratorState). AnswersAll p.relayed.now Outputs (going ++ requests) (middle_of c) (middle_of new.concentrator) answers d.commands)
+            (subst (λ (c : ConcentratorState). AnswersAll p.relayed.now Outputs (going ++ requests) (middle_of c)
+            (middle_of new.concentrator) answers d.commands)
             same
             (subst (λ (c : ConcentratorState). AnswersAll p.relayed.now Outputs (going ++ requests) (middle_of p.relayed.concentrator) (middle_of c) answers
             d.commands) (sym middle_is) d.all));

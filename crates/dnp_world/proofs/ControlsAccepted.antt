@@ -100,7 +100,8 @@ pub data Starts (target : ℕ) (entry : Entry) (ends : Ends) : Type 0 where
 
 -- ---- all the way
 
-pub record Accepted (id check : ℕ) (command : Command) (Kept : List Command → System → System → Type 0) (book : System → Ledger) (old new : System) : Type 0 where
+pub record Accepted (id check : ℕ) (command : Command) (Kept : List Command → System → System → Type 0) (book : System → Ledger)
+    (old new : System) : Type 0 where
   pub checks : check ≡ success
   pub kept : Kept (command ∷ []) old new
   pub says : status_at (book new) id ≡ Some success
@@ -191,11 +192,13 @@ module _ (laws : ControlLaws) (on : Link) (target check : ℕ) (entry : Entry) (
       }
 
   -- it ended with SUCCESS where the step that told the book passed
-  pub ended_good : (old operated new : System) (a : AnsweredOver old operated) → PassesBack Happens itself on (Some entry.id) operated new → a.comes.status ≡ success
+  pub ended_good : (old operated new : System) (a : AnsweredOver old operated) → PassesBack Happens itself on (Some entry.id) operated new
+      → a.comes.status ≡ success
   ended_good old operated new a finishes = (over.back operated new a.after a.view finishes a.taken).told a.comes.status a.comes.told
 
   -- what the book says after one step more
-  pub ended_says : (old operated ended new : System) (a : AnsweredOver old operated) (e : Ended over.View over.Kept target (told_to target a.after) [] operated ended)
+  pub ended_says : (old operated ended new : System) (a : AnsweredOver old operated)
+      (e : Ended over.View over.Kept target (told_to target a.after) [] operated ended)
       → over.book new ≡ told_to target e.after → status_at (over.book new) entry.id ≡ Some a.comes.status
   ended_says old operated ended new a e is = ap (λ (b : Ledger). status_at b entry.id) (is ∙ e.leaves.same ∙ e.is) ∙ a.comes.told
 
@@ -233,7 +236,8 @@ module _ (laws : ControlLaws) (on : Link) (target check : ℕ) (entry : Entry) (
       let there' : entry_of first.after.book.entries entry.id ≡ Some entry = ap (λ (b : Ledger). entry_of b.entries entry.id) book ∙ there in
       by first.after first.view there' (subst (λ (xs : List Command). over.Kept xs old a.selected) began.none first.kept) began.comes
     where
-      by : (e : Ends) → over.View a.selected e → entry_of e.book.entries entry.id ≡ Some entry → over.Kept [] old a.selected → SelectComesTo target check entry e
+      by : (e : Ends) → over.View a.selected e → entry_of e.book.entries entry.id ≡ Some entry → over.Kept [] old a.selected
+          → SelectComesTo target check entry e
           → Accepted entry.id check entry.command over.Kept over.book old new
       by e seen here kept (Stands good seq asked has) = operated_over old a.selected a.operated new e good seen kept has here pending a.operates a.finishes
       by e seen here kept (Refused other next told) =

@@ -17,7 +17,7 @@ use Rattle.dnp_world.specs.Arriving.{Arrive, HearsAt, SubstationTakes, answers_b
 use Rattle.dnp_world.specs.Channels.{ChannelState}
 use Rattle.dnp_world.specs.ControlExchanges.{AnswersAll, ChecksAs, Hears, HearsAll}
 use Rattle.dnp_world.specs.SystemEvents.{LinesChange, MasterReceives, SubstationAnswers, with_substation}
-use Rattle.dnp_world.specs.Systems.{CentreState, SubstationState, System, at_station, in_state, link_at, panel_of, station_of}
+use Rattle.dnp_world.specs.Systems.{CentreState, SubstationState, System, at_substation, in_state, link_at, panel_of, station_of}
 use Rattle.dnp_world.specs.declared.event.Link.TheVariants.{Below}
 use Rattle.dnp_world.specs.declared.link_event.Way.{Way}
 use Rattle.dnp_world.specs.declared.link_event.Way.TheVariants as way
@@ -36,25 +36,25 @@ abbrev pub beside : System → Beside
 beside s = record { indices = s.indices; now = s.now; centre = s.centre; spans = s.concentrator.indices }
 
 -- and what the substation performed is listed
-pub record KeptBelow (station : ℕ) (commands : List Command) (old new : System) : Type 0 where
+pub record KeptBelow (substation : ℕ) (commands : List Command) (old new : System) : Type 0 where
   pub beside_is : beside new ≡ beside old
   pub links : length new.concentrator.links ≡ length old.concentrator.links
-  pub operated : new.history.operated ≡ old.history.operated ++ at_station station commands
+  pub operated : new.history.operated ≡ old.history.operated ++ at_substation substation commands
 
-pub join_below : (station : ℕ) (first more : List Command) (a b c : System) → KeptBelow station first a b → KeptBelow station more b c
-    → KeptBelow station (first ++ more) a c
-join_below station first more a b c h k = record {
+pub join_below : (substation : ℕ) (first more : List Command) (a b c : System) → KeptBelow substation first a b → KeptBelow substation more b c
+    → KeptBelow substation (first ++ more) a c
+join_below substation first more a b c h k = record {
   beside_is = k.beside_is ∙ h.beside_is;
   links = k.links ∙ h.links;
   operated = k.operated
-      ∙ ap (λ (xs : List (ℕ × Command)). xs ++ at_station station more) h.operated
-      ∙ append_assoc a.history.operated (at_station station first) (at_station station more)
-      ∙ ap (λ (xs : List (ℕ × Command)). a.history.operated ++ xs) (sym (map-append (λ (x : Command). (station, x)) first more));
+      ∙ ap (λ (xs : List (ℕ × Command)). xs ++ at_substation substation more) h.operated
+      ∙ append_assoc a.history.operated (at_substation substation first) (at_substation substation more)
+      ∙ ap (λ (xs : List (ℕ × Command)). a.history.operated ++ xs) (sym (map-append (λ (x : Command). (substation, x)) first more));
 }
 
-pub same_below : (station : ℕ) (old new : System) → beside new ≡ beside old → length new.concentrator.links ≡ length old.concentrator.links
-    → new.history.operated ≡ old.history.operated → KeptBelow station [] old new
-same_below station old new beside_is links operated = record {
+pub same_below : (substation : ℕ) (old new : System) → beside new ≡ beside old → length new.concentrator.links ≡ length old.concentrator.links
+    → new.history.operated ≡ old.history.operated → KeptBelow substation [] old new
+same_below substation old new beside_is links operated = record {
   beside_is = beside_is;
   links = links;
   operated = operated ∙ sym (append-nil old.history.operated);
@@ -76,33 +76,33 @@ pub record HasAsMany (was is : SubstationState) : Type 0 where
   pub outputs : is.outputs.outputs ≡ was.outputs.outputs
   pub setpoints : is.outputs.setpoints ≡ was.outputs.setpoints
 
-pub record DownBelow (station : ℕ) (command : Command) (was : SubstationState) (fragments answers : List (List ℕ)) (old new : System) : Type 0 where
+pub record DownBelow (substation : ℕ) (command : Command) (was : SubstationState) (fragments answers : List (List ℕ)) (old new : System) : Type 0 where
   pub is : SubstationState
-  pub there : slice_get new.substations station ≡ Some is
+  pub there : slice_get new.substations substation ≡ Some is
   pub commands : List Command
   pub all : AnswersAll old.now (ChecksAs command (plain_check was.outputs.outputs was.outputs.setpoints command)) fragments (station_of was)
       (station_of is) answers commands
   pub many : HasAsMany was is
-  pub kept : KeptBelow station commands old new
+  pub kept : KeptBelow substation commands old new
   pub concentrator : new.concentrator ≡ old.concentrator
 
 -- one fragment
-record OneDown (station : ℕ) (fragment : List ℕ) (was : SubstationState) (old new : System) : Type 0 where
+record OneDown (substation : ℕ) (fragment : List ℕ) (was : SubstationState) (old new : System) : Type 0 where
   is : SubstationState
-  there : slice_get new.substations station ≡ Some is
+  there : slice_get new.substations substation ≡ Some is
   core : is.core ≡ (connection_after (station_of was) (panel_of was) old.now fragment).state.core
   many : HasAsMany was is
-  kept : KeptBelow station (performed_in was.core (panel_of was) old.now fragment) old new
+  kept : KeptBelow substation (performed_in was.core (panel_of was) old.now fragment) old new
   concentrator : new.concentrator ≡ old.concentrator
 
-down_from : PerformsLaw → (station : ℕ) (fragment : List ℕ) (was : SubstationState) (old new : System) (lines : ChannelState)
-    → slice_get old.substations station ≡ Some was → SubstationTakes station fragment (with_substation old station (on_lines was lines)) new
-    → OneDown station fragment was old new
-down_from law station fragment was old new lines there takes =
+down_from : PerformsLaw → (substation : ℕ) (fragment : List ℕ) (was : SubstationState) (old new : System) (lines : ChannelState)
+    → slice_get old.substations substation ≡ Some was → SubstationTakes substation fragment (with_substation old substation (on_lines was lines)) new
+    → OneDown substation fragment was old new
+down_from law substation fragment was old new lines there takes =
     let mid : SubstationState = on_lines was lines in
     let a = takes.answers in
     let step : Step = connection_after (station_of was) (panel_of was) old.now fragment in
-    let here : slice_get (slice_set old.substations station mid) station ≡ Some mid = set_here old.substations station was mid there in
+    let here : slice_get (slice_set old.substations substation mid) substation ≡ Some mid = set_here old.substations substation was mid there in
     let same : a.was ≡ mid = same_Some a.was mid (sym a.there ∙ here) in
     let changed : SubstationAnswers (fragment ∷ []) old.now takes.released mid a.is =
     subst (λ (x : SubstationState). SubstationAnswers (fragment ∷ []) old.now takes.released x a.is) same a.changed in
@@ -115,8 +115,8 @@ down_from law station fragment was old new lines there takes =
     ∙ drop_at was.outputs.performed (performed_in was.core (panel_of was) old.now fragment) (length was.outputs.performed) refl in
     record {
       is = a.is;
-      there = ap (λ (s : System). slice_get s.substations station) a.after
-          ∙ set_here (slice_set old.substations station mid) station mid a.is here;
+      there = ap (λ (s : System). slice_get s.substations substation) a.after
+          ∙ set_here (slice_set old.substations substation mid) substation mid a.is here;
       core = ap (λ (x : SubstationState). x.core) is_as;
       many = record {
         outputs = ap (λ (x : SubstationState). x.outputs.outputs) is_as;
@@ -126,43 +126,43 @@ down_from law station fragment was old new lines there takes =
         beside_is = ap beside a.after;
         links = ap (λ (s : System). length s.concentrator.links) a.after;
         operated = ap (λ (s : System). s.history.operated) a.after
-            ∙ ap (λ (xs : List Command). old.history.operated ++ at_station station xs) grown;
+            ∙ ap (λ (xs : List Command). old.history.operated ++ at_substation substation xs) grown;
       };
       concentrator = ap (λ (s : System). s.concentrator) a.after;
     }
 
 -- what was heard on the way there changed lines alone
-heard_at : (station : ℕ) (way : Way) (was : SubstationState) (old heard : System) → slice_get old.substations station ≡ Some was
-    → LinesChange (Below station) (HearsAt way) old heard
-    → (lines : ChannelState) × (heard ≡ with_substation old station (on_lines was lines))
-heard_at station way was old heard there h = (
+heard_at : (substation : ℕ) (way : Way) (was : SubstationState) (old heard : System) → slice_get old.substations substation ≡ Some was
+    → LinesChange (Below substation) (HearsAt way) old heard
+    → (lines : ChannelState) × (heard ≡ with_substation old substation (on_lines was lines))
+heard_at substation way was old heard there h = (
   h.is.channel,
   h.after
-      ∙ ap (λ (x : SubstationState). with_substation old station x)
+      ∙ ap (λ (x : SubstationState). with_substation old substation x)
       (h.changed.1 ∙ ap (λ (x : SubstationState). on_lines x h.is.channel) (same_Some h.was was (sym h.there ∙ there))),
 )
 
-pub below_down : PerformsLaw → (station : ℕ) (command : Command) (was : SubstationState) (fragments answers : List (List ℕ)) (old new : System)
-    → slice_get old.substations station ≡ Some was → Arrive (Below station) way.Down fragments answers old new
-    → DownBelow station command was fragments answers old new
-below_down law station command was [] answers old new there (answers_is, new_is) = record {
+pub below_down : PerformsLaw → (substation : ℕ) (command : Command) (was : SubstationState) (fragments answers : List (List ℕ)) (old new : System)
+    → slice_get old.substations substation ≡ Some was → Arrive (Below substation) way.Down fragments answers old new
+    → DownBelow substation command was fragments answers old new
+below_down law substation command was [] answers old new there (answers_is, new_is) = record {
   is = was;
-  there = ap (λ (s : System). slice_get s.substations station) new_is ∙ there;
+  there = ap (λ (s : System). slice_get s.substations substation) new_is ∙ there;
   commands = [];
   all = (refl, answers_is, refl);
   many = record { outputs = refl; setpoints = refl };
-  kept = subst (KeptBelow station [] old) (sym new_is) (same_below station old old refl refl refl);
+  kept = subst (KeptBelow substation [] old) (sym new_is) (same_below substation old old refl refl refl);
   concentrator = ap (λ (s : System). s.concentrator) new_is;
 }
-below_down law station command was (f ∷ fs) answers old new there (first, more, next, arrives, rest, answers_is) =
-    let (lines, heard) = heard_at station way.Down was old arrives.heard there arrives.hears in
-    let one : OneDown station f was old next =
-    down_from law station f was old next lines there (subst (λ (s : System). SubstationTakes station f s next) heard arrives.takes) in
+below_down law substation command was (f ∷ fs) answers old new there (first, more, next, arrives, rest, answers_is) =
+    let (lines, heard) = heard_at substation way.Down was old arrives.heard there arrives.hears in
+    let one : OneDown substation f was old next =
+    down_from law substation f was old next lines there (subst (λ (s : System). SubstationTakes substation f s next) heard arrives.takes) in
     let sends : first ≡ (connection_after (station_of was) (panel_of was) old.now f).does.send =
     arrives.sends
-    ∙ ap (λ (s : System). answers_below (slice_get s.substations station) s.now f) heard
-    ∙ ap (λ (o : Option SubstationState). answers_below o old.now f) (set_here old.substations station was (on_lines was lines) there) in
-    let h : DownBelow station command one.is fs more next new = below_down law station command one.is fs more next new one.there rest in
+    ∙ ap (λ (s : System). answers_below (slice_get s.substations substation) s.now f) heard
+    ∙ ap (λ (o : Option SubstationState). answers_below o old.now f) (set_here old.substations substation was (on_lines was lines) there) in
+    let h : DownBelow substation command one.is fs more next new = below_down law substation command one.is fs more next new one.there rest in
     let these : List Command = performed_in was.core (panel_of was) old.now f in
     let check : ℕ = plain_check was.outputs.outputs was.outputs.setpoints command in
     let same_check : plain_check one.is.outputs.outputs one.is.outputs.setpoints command ≡ check =
@@ -186,82 +186,82 @@ below_down law station command was (f ∷ fs) answers old new there (first, more
             (subst (λ (n : ℕ). AnswersAll next.now (ChecksAs command n) fs (station_of one.is) (station_of h.is) more h.commands) same_check h.all),
       );
       many = record { outputs = h.many.outputs ∙ one.many.outputs; setpoints = h.many.setpoints ∙ one.many.setpoints };
-      kept = join_below station these h.commands old next new one.kept h.kept;
+      kept = join_below substation these h.commands old next new one.kept h.kept;
       concentrator = h.concentrator ∙ one.concentrator;
     }
 
 -- ---- up
 
-pub record UpBelow (station : ℕ) (was : SubstationState) (fragments answers : List (List ℕ)) (old new : System) : Type 0 where
+pub record UpBelow (substation : ℕ) (was : SubstationState) (fragments answers : List (List ℕ)) (old new : System) : Type 0 where
   pub is : SubstationState
-  pub there : slice_get new.substations station ≡ Some is
+  pub there : slice_get new.substations substation ≡ Some is
   pub stays : station_of is ≡ station_of was
   pub many : HasAsMany was is
-  pub all : HearsAll old.now fragments (link_at old.concentrator station) (link_at new.concentrator station) answers
-  pub kept : KeptBelow station [] old new
+  pub all : HearsAll old.now fragments (link_at old.concentrator substation) (link_at new.concentrator substation) answers
+  pub kept : KeptBelow substation [] old new
   pub controls : new.concentrator.controls ≡ old.concentrator.controls
 
-record OneUp (station : ℕ) (r : Result Taking MasterFault) (was : SubstationState) (old new : System) : Type 0 where
+record OneUp (substation : ℕ) (r : Result Taking MasterFault) (was : SubstationState) (old new : System) : Type 0 where
   is : SubstationState
-  there : slice_get new.substations station ≡ Some is
+  there : slice_get new.substations substation ≡ Some is
   is_as : is ≡ on_lines was is.channel
-  hears : Hears r (link_at old.concentrator station) (link_at new.concentrator station) (confirms_of r)
-  kept : KeptBelow station [] old new
+  hears : Hears r (link_at old.concentrator substation) (link_at new.concentrator substation) (confirms_of r)
+  kept : KeptBelow substation [] old new
   controls : new.concentrator.controls ≡ old.concentrator.controls
 
-up_from : (station : ℕ) (r : Result Taking MasterFault) (was : SubstationState) (old new : System) (lines : ChannelState)
-    → slice_get old.substations station ≡ Some was → station < length old.concentrator.links
-    → MasterReceives (Below station) r (with_substation old station (on_lines was lines)) new → OneUp station r was old new
-up_from station (Ok t) was old new lines there long (numbers, b) =
+up_from : (substation : ℕ) (r : Result Taking MasterFault) (was : SubstationState) (old new : System) (lines : ChannelState)
+    → slice_get old.substations substation ≡ Some was → substation < length old.concentrator.links
+    → MasterReceives (Below substation) r (with_substation old substation (on_lines was lines)) new → OneUp substation r was old new
+up_from substation (Ok t) was old new lines there long (numbers, b) =
     let mid : SubstationState = on_lines was lines in
-    let here : slice_get (slice_set old.substations station mid) station ≡ Some mid = set_here old.substations station was mid there in
+    let here : slice_get (slice_set old.substations substation mid) substation ≡ Some mid = set_here old.substations substation was mid there in
     let same : b.was ≡ mid = same_Some b.was mid (sym b.there ∙ here) in
-    let next : Relaying = relaying.received (link_at old.concentrator station) t in
+    let next : Relaying = relaying.received (link_at old.concentrator substation) t in
     record {
       is = b.is;
-      there = ap (λ (s : System). slice_get s.substations station) b.after ∙ set_here (slice_set old.substations station mid) station mid b.is here;
+      there = ap (λ (s : System). slice_get s.substations substation) b.after ∙ set_here (slice_set old.substations substation mid) substation mid b.is here;
       is_as = b.changed.1 ∙ ap (λ (x : SubstationState). on_lines x b.is.channel) same;
       hears = (
-        ap (λ (s : System). link_at s.concentrator station) b.after ∙ link_here old.concentrator.links station next long,
+        ap (λ (s : System). link_at s.concentrator substation) b.after ∙ link_here old.concentrator.links substation next long,
         refl,
       );
-      kept = same_below station old new (ap beside b.after)
-          (ap (λ (s : System). length s.concentrator.links) b.after ∙ length-set old.concentrator.links station next)
+      kept = same_below substation old new (ap beside b.after)
+          (ap (λ (s : System). length s.concentrator.links) b.after ∙ length-set old.concentrator.links substation next)
           (ap (λ (s : System). s.history.operated) b.after);
       controls = ap (λ (s : System). s.concentrator.controls) b.after;
     }
-up_from station (Err fault) was old new lines there long same =
+up_from substation (Err fault) was old new lines there long same =
     let mid : SubstationState = on_lines was lines in
     record {
       is = mid;
-      there = ap (λ (s : System). slice_get s.substations station) same ∙ set_here old.substations station was mid there;
+      there = ap (λ (s : System). slice_get s.substations substation) same ∙ set_here old.substations substation was mid there;
       is_as = refl;
-      hears = (ap (λ (s : System). link_at s.concentrator station) same, refl);
-      kept = same_below station old new (ap beside same) (ap (λ (s : System). length s.concentrator.links) same)
+      hears = (ap (λ (s : System). link_at s.concentrator substation) same, refl);
+      kept = same_below substation old new (ap beside same) (ap (λ (s : System). length s.concentrator.links) same)
           (ap (λ (s : System). s.history.operated) same);
       controls = ap (λ (s : System). s.concentrator.controls) same;
     }
 
-pub below_up : (station : ℕ) (was : SubstationState) (fragments answers : List (List ℕ)) (old new : System) → slice_get old.substations station ≡ Some was
-    → station < length old.concentrator.links → Arrive (Below station) way.Up fragments answers old new → UpBelow station was fragments answers old new
-below_up station was [] answers old new there long (answers_is, new_is) = record {
+pub below_up : (substation : ℕ) (was : SubstationState) (fragments answers : List (List ℕ)) (old new : System) → slice_get old.substations substation ≡ Some was
+    → substation < length old.concentrator.links → Arrive (Below substation) way.Up fragments answers old new → UpBelow substation was fragments answers old new
+below_up substation was [] answers old new there long (answers_is, new_is) = record {
   is = was;
-  there = ap (λ (s : System). slice_get s.substations station) new_is ∙ there;
+  there = ap (λ (s : System). slice_get s.substations substation) new_is ∙ there;
   stays = refl;
   many = record { outputs = refl; setpoints = refl };
-  all = (ap (λ (s : System). link_at s.concentrator station) new_is, answers_is);
-  kept = subst (KeptBelow station [] old) (sym new_is) (same_below station old old refl refl refl);
+  all = (ap (λ (s : System). link_at s.concentrator substation) new_is, answers_is);
+  kept = subst (KeptBelow substation [] old) (sym new_is) (same_below substation old old refl refl refl);
   controls = ap (λ (s : System). s.concentrator.controls) new_is;
 }
-below_up station was (f ∷ fs) answers old new there long (first, more, next, arrives, rest, answers_is) =
-    let r : Result Taking MasterFault = receive_of (link_at old.concentrator station).master old.now f in
-    let (lines, heard) = heard_at station way.Up was old arrives.heard there arrives.hears in
-    let one : OneUp station r was old next =
-    up_from station r was old next lines there long
-    (subst (λ (s : System). MasterReceives (Below station) (receive_of (link_at s.concentrator station).master s.now f) s next) heard arrives.takes) in
-    let h : UpBelow station one.is fs more next new = below_up station one.is fs more next new one.there (omega (arith, long, one.kept.links)) rest in
+below_up substation was (f ∷ fs) answers old new there long (first, more, next, arrives, rest, answers_is) =
+    let r : Result Taking MasterFault = receive_of (link_at old.concentrator substation).master old.now f in
+    let (lines, heard) = heard_at substation way.Up was old arrives.heard there arrives.hears in
+    let one : OneUp substation r was old next =
+    up_from substation r was old next lines there long
+    (subst (λ (s : System). MasterReceives (Below substation) (receive_of (link_at s.concentrator substation).master s.now f) s next) heard arrives.takes) in
+    let h : UpBelow substation one.is fs more next new = below_up substation one.is fs more next new one.there (omega (arith, long, one.kept.links)) rest in
     let sends : first ≡ confirms_of r =
-    arrives.sends ∙ ap (λ (s : System). confirms_of (receive_of (link_at s.concentrator station).master s.now f)) heard in
+    arrives.sends ∙ ap (λ (s : System). confirms_of (receive_of (link_at s.concentrator substation).master s.now f)) heard in
     record {
       is = h.is;
       there = h.there;
@@ -271,14 +271,14 @@ below_up station was (f ∷ fs) answers old new there long (first, more, next, a
         setpoints = h.many.setpoints ∙ ap (λ (x : SubstationState). x.outputs.setpoints) one.is_as;
       };
       all = (
-        link_at next.concentrator station,
+        link_at next.concentrator substation,
         first,
         more,
-        subst (Hears r (link_at old.concentrator station) (link_at next.concentrator station)) (sym sends) one.hears,
+        subst (Hears r (link_at old.concentrator substation) (link_at next.concentrator substation)) (sym sends) one.hears,
         answers_is,
-        subst (λ (n : ℕ). HearsAll n fs (link_at next.concentrator station) (link_at new.concentrator station) more)
+        subst (λ (n : ℕ). HearsAll n fs (link_at next.concentrator substation) (link_at new.concentrator substation) more)
             (ap (λ b. b.now) one.kept.beside_is) h.all,
       );
-      kept = join_below station [] [] old next new one.kept h.kept;
+      kept = join_below substation [] [] old next new one.kept h.kept;
       controls = h.controls ∙ one.controls;
     }

@@ -28,10 +28,10 @@ use Rattle.dnp_world.specs.Behind.{Elsewhere}
 use Rattle.dnp_world.specs.Channels.{ChannelState, are_quiet}
 use Rattle.dnp_world.specs.CommandWidths.{HasWidths}
 use Rattle.dnp_world.specs.ControlExchanges.{CanBegin}
-use Rattle.dnp_world.specs.Controls.{is_entry, is_free_below, is_free_for, is_next, station_in}
+use Rattle.dnp_world.specs.Controls.{is_entry, is_free_below, is_free_for, is_next, substation_in}
 use Rattle.dnp_world.specs.Rounds.{is_quiet_at, is_quiet_on}
 use Rattle.dnp_world.specs.SystemStanding.{IsJoinedBelow, IsStanding, lists_of, seen_below}
-use Rattle.dnp_world.specs.Systems.{SubstationState, System, has_station, link_at}
+use Rattle.dnp_world.specs.Systems.{SubstationState, System, has_substation, link_at}
 use Rattle.dnp_world.specs.declared.event.Link.TheVariants.{Below}
 use Rattle.dnp_world.proofs.BelowKeeps.{some_of}
 use Rattle.dnp_world.proofs.ControlArrivals.{ControlLaws}
@@ -68,7 +68,8 @@ plain_low outputs setpoints command = by (can_perform outputs setpoints command)
     by false = omega arith
 
 -- what is relayed with SUCCESS is for a substation
-pub relayed_some : (spans : List Spans) (reserved : Option Command) (command : Command) → relay_check spans reserved command ≡ success → command_below spans command ≡ None → ⊥
+pub relayed_some : (spans : List Spans) (reserved : Option Command) (command : Command) → relay_check spans reserved command ≡ success
+    → command_below spans command ≡ None → ⊥
 relayed_some spans reserved command good none =
     let never : 4 ≡ 0 = sym (rw none refl) ∙ good in
     omega (arith, never)
@@ -86,21 +87,24 @@ next_entry (Some e) id is = (e, refl, eqb-true e.id id is)
 
 pub next_above : (s : System) (id : ℕ) → is_next s id ≡ true → NextAbove s id
 next_above s id is =
-    let parts = and_parts (is_entry id (next_of s.centre.orders.entries 0)) (is_free_for id s.centre.link.progress && is_free_below s (station_in s id)) is in
+    let parts = and_parts (is_entry id (next_of s.centre.orders.entries 0))
+    (is_free_for id s.centre.link.progress && is_free_below s (substation_in s id)) is in
     let (e, next, same) = next_entry (next_of s.centre.orders.entries 0) id parts.0 in
     record { entry = e; next = next; id_is = same }
 
 -- none is in progress above, or this one
 pub free_above : (s : System) (id : ℕ) → is_next s id ≡ true → is_free_for id s.centre.link.progress ≡ true
 free_above s id is =
-    let parts = and_parts (is_entry id (next_of s.centre.orders.entries 0)) (is_free_for id s.centre.link.progress && is_free_below s (station_in s id)) is in
-    (and_parts (is_free_for id s.centre.link.progress) (is_free_below s (station_in s id)) parts.1).0
+    let parts = and_parts (is_entry id (next_of s.centre.orders.entries 0))
+    (is_free_for id s.centre.link.progress && is_free_below s (substation_in s id)) is in
+    (and_parts (is_free_for id s.centre.link.progress) (is_free_below s (substation_in s id)) parts.1).0
 
 -- the concentrator is free for it
-pub free_below : (s : System) (id : ℕ) → is_next s id ≡ true → is_free_below s (station_in s id) ≡ true
+pub free_below : (s : System) (id : ℕ) → is_next s id ≡ true → is_free_below s (substation_in s id) ≡ true
 free_below s id is =
-    let parts = and_parts (is_entry id (next_of s.centre.orders.entries 0)) (is_free_for id s.centre.link.progress && is_free_below s (station_in s id)) is in
-    (and_parts (is_free_for id s.centre.link.progress) (is_free_below s (station_in s id)) parts.1).1
+    let parts = and_parts (is_entry id (next_of s.centre.orders.entries 0))
+    (is_free_for id s.centre.link.progress && is_free_below s (substation_in s id)) is in
+    (and_parts (is_free_for id s.centre.link.progress) (is_free_below s (substation_in s id)) parts.1).1
 
 pub none_is : {A : Type 0} (o : Option A) → is_none o ≡ true → o ≡ None
 none_is None e = refl
@@ -113,56 +117,57 @@ none_mapped f (Some x) e = absurd (cc)
 -- ---- below
 
 -- the entry that was added comes next, where none was pending for its target
-pub added_next : (book : Ledger) (station : ℕ) (command : Command) → next_of book.entries station ≡ None
-    → next_of (added book station command).entries station
-    ≡ Some (record { id = book.last_id + 1; target = station; command = command; state = Pending })
-added_next book station command none =
-    let e : Entry = record { id = book.last_id + 1; target = station; command = command; state = Pending } in
-    find-append (λ (x : Entry). is_pending x.state && x.target == station) book.entries (e ∷ [])
-    ∙ ap (λ (o : Option Entry). option_or o (next_of (e ∷ []) station)) none
-    ∙ ap (λ (b : Bool). cond b (Some e) None) (eq-eqb station station refl)
+pub added_next : (book : Ledger) (substation : ℕ) (command : Command) → next_of book.entries substation ≡ None
+    → next_of (added book substation command).entries substation
+    ≡ Some (record { id = book.last_id + 1; target = substation; command = command; state = Pending })
+added_next book substation command none =
+    let e : Entry = record { id = book.last_id + 1; target = substation; command = command; state = Pending } in
+    find-append (λ (x : Entry). is_pending x.state && x.target == substation) book.entries (e ∷ [])
+    ∙ ap (λ (o : Option Entry). option_or o (next_of (e ∷ []) substation)) none
+    ∙ ap (λ (b : Bool). cond b (Some e) None) (eq-eqb substation substation refl)
 
-pub below_begins : (old s : System) {el : Elsewhere} (station : ℕ) (was : SubstationState) (entry : Entry) → IsStanding el old
-    → is_quiet_on old (Below station) ≡ true → slice_get old.substations station ≡ Some was → (link_at old.concentrator station).progress ≡ None
-    → s.concentrator.links ≡ old.concentrator.links → next_of s.concentrator.controls.entries station ≡ Some entry → IsSound s.concentrator.controls
-    → HasWidths entry.command → CanBegin station entry (ends_below station s was [])
-below_begins old s station was entry h quiet there free links next sound widths =
-    let link : link_at s.concentrator station ≡ link_at old.concentrator station =
-    ap (λ (xs : List Relaying). link_at (record s.concentrator { links = xs }) station) links in
-    let parts = and_parts (has_station old station) (is_idle (link_at old.concentrator station).master && is_quiet_at (slice_get old.substations station)) quiet in
-    let ends = and_parts (is_idle (link_at old.concentrator station).master) (is_quiet_at (slice_get old.substations station)) parts.1 in
+pub below_begins : (old s : System) {el : Elsewhere} (substation : ℕ) (was : SubstationState) (entry : Entry) → IsStanding el old
+    → is_quiet_on old (Below substation) ≡ true → slice_get old.substations substation ≡ Some was → (link_at old.concentrator substation).progress ≡ None
+    → s.concentrator.links ≡ old.concentrator.links → next_of s.concentrator.controls.entries substation ≡ Some entry → IsSound s.concentrator.controls
+    → HasWidths entry.command → CanBegin substation entry (ends_below substation s was [])
+below_begins old s substation was entry h quiet there free links next sound widths =
+    let link : link_at s.concentrator substation ≡ link_at old.concentrator substation =
+    ap (λ (xs : List Relaying). link_at (record s.concentrator { links = xs }) substation) links in
+    let parts = and_parts (has_substation old substation)
+    (is_idle (link_at old.concentrator substation).master && is_quiet_at (slice_get old.substations substation)) quiet in
+    let ends = and_parts (is_idle (link_at old.concentrator substation).master) (is_quiet_at (slice_get old.substations substation)) parts.1 in
     let rests : is_quiet_at (Some was) ≡ true = subst (λ (o : Option SubstationState). is_quiet_at o ≡ true) there ends.1 in
     let core = and_parts (is_quiet was.core) (are_quiet was.channel) rests in
     let opens : was.core.is_open ≡ true = (and_parts was.core.is_open (is_free was.core) core.0).0 in
-    let j : IsJoinedBelow old.now (link_at old.concentrator station) (h.links.below station) was =
-    some_of (IsJoinedBelow old.now (link_at old.concentrator station) (h.links.below station)) (slice_get old.substations station) was there
-    (h.below station) in
+    let j : IsJoinedBelow old.now (link_at old.concentrator substation) (h.links.below substation) was =
+    some_of (IsJoinedBelow old.now (link_at old.concentrator substation) (h.links.below substation)) (slice_get old.substations substation) was there
+    (h.below substation) in
     record {
       idle = rw link ends.0;
       number = rw link j.joined.number;
-      selects = ap (λ (r : Relaying). step_of r s.concentrator.controls.entries station) link ∙ rw (ends.0, free, next) refl;
-      found = next_found s.concentrator.controls.entries station entry sound.rising sound.from_1 next;
+      selects = ap (λ (r : Relaying). step_of r s.concentrator.controls.entries substation) link ∙ rw (ends.0, free, next) refl;
+      found = next_found s.concentrator.controls.entries substation entry sound.rising sound.from_1 next;
       widths = widths;
       is_open = opens;
       reports = j.joined.outstation.well.order.number;
       other = ap (λ (r : Relaying). is_last_request was.core.session (request_octets (request_for r.master.seq (task.Select entry.command)))) link
-          ∙ other_select [] (seen_below old.now (link_at old.concentrator station) was (lists_of (h.links.below station))) (h.links.below station)
-          entry.command j.joined (h.behind.below_stands station) ends.0 opens;
+          ∙ other_select [] (seen_below old.now (link_at old.concentrator substation) was (lists_of (h.links.below substation))) (h.links.below substation)
+          entry.command j.joined (h.behind.below_stands substation) ends.0 opens;
       clear = refl;
     }
 
 -- the lines of a link to a substation are those of the substation
 abbrev lines_by : List SubstationState → List Relaying → ℕ → Option ChannelState
-lines_by substations links station =
-    if nat_lt station (length substations) && nat_lt station (length links) then channel_at (slice_get substations station) else None
+lines_by substations links substation =
+    if nat_lt substation (length substations) && nat_lt substation (length links) then channel_at (slice_get substations substation) else None
 
-pub same_lines : (old s : System) (station : ℕ) → s.substations ≡ old.substations → s.concentrator.links ≡ old.concentrator.links
-    → channel_on s (Below station) ≡ channel_on old (Below station)
-same_lines old s station substations links =
-    ap (λ (xs : List SubstationState). lines_by xs s.concentrator.links station) substations
-    ∙ ap (λ (xs : List Relaying). lines_by old.substations xs station) links
+pub same_lines : (old s : System) (substation : ℕ) → s.substations ≡ old.substations → s.concentrator.links ≡ old.concentrator.links
+    → channel_on s (Below substation) ≡ channel_on old (Below substation)
+same_lines old s substation substations links =
+    ap (λ (xs : List SubstationState). lines_by xs s.concentrator.links substation) substations
+    ∙ ap (λ (xs : List Relaying). lines_by old.substations xs substation) links
 
-pub there_of : (s : System) (station : ℕ) (o : Option SubstationState) → slice_get s.substations station ≡ o → is_quiet_at o ≡ true
-    → (was : SubstationState) × (slice_get s.substations station ≡ Some was)
-there_of s station None found quiet = absurd (cc)
-there_of s station (Some was) found quiet = (was, found)
+pub there_of : (s : System) (substation : ℕ) (o : Option SubstationState) → slice_get s.substations substation ≡ o → is_quiet_at o ≡ true
+    → (was : SubstationState) × (slice_get s.substations substation ≡ Some was)
+there_of s substation None found quiet = absurd (cc)
+there_of s substation (Some was) found quiet = (was, found)

@@ -16,12 +16,12 @@ use Rattle.dnp_world.specs.Behind.{Elsewhere}
 use Rattle.dnp_world.specs.CommandWidths.{HasWidths}
 use Rattle.dnp_world.specs.ControlExchanges.{status_at}
 use Rattle.dnp_world.specs.ControlMoves.{ControlMoves}
-use Rattle.dnp_world.specs.Controls.{AtCentre, AtConcentrator, CanGo, IsAccepted, IsControl, IsControlFor, IsRefusedControl, IsRefusedOn, are_quiet_for, found_in, is_free_below, is_free_for, next_below, station_in}
+use Rattle.dnp_world.specs.Controls.{AtCentre, AtConcentrator, CanGo, IsAccepted, IsControl, IsControlFor, IsRefusedControl, IsRefusedOn, are_quiet_for, found_in, is_free_below, is_free_for, next_below, substation_in}
 use Rattle.dnp_world.specs.ControlsInStep.{InStep}
 use Rattle.dnp_world.specs.Rounds.{is_quiet_above, is_quiet_at, is_quiet_below}
 use Rattle.dnp_world.specs.SystemStanding.{IsStanding}
 use Rattle.dnp_world.specs.SystemRuns.{Happens}
-use Rattle.dnp_world.specs.Systems.{SubstationState, System, has_station, itself, link_at}
+use Rattle.dnp_world.specs.Systems.{SubstationState, System, has_substation, itself, link_at}
 use Rattle.dnp_world.specs.declared.event.Link.TheVariants.{Above, Below}
 use Rattle.dnp_world.proofs.ControlBooks.{next_found as next_is_found}
 use Rattle.dnp_world.proofs.ControlsAbove.{KeepsAround, KeptAbove, SeenAbove, ends_above, over_above}
@@ -37,7 +37,7 @@ use Rattle.dnp_world.proofs.StepBooks.{added_carries, next_found}
 
 module _ (laws : CleanLaws) (centre : ℕ) (old : System) {el : Elsewhere} (standing : IsStanding el old) (steps : InStep old) (entry : Entry)
     (next : next_of old.centre.orders.entries 0 ≡ Some entry) (goes : is_free_for entry.id old.centre.link.progress ≡ true)
-    (quiet : are_quiet_for old (station_in old entry.id) ≡ true) (free : is_free_below old (station_in old entry.id) ≡ true) where
+    (quiet : are_quiet_for old (substation_in old entry.id) ≡ true) (free : is_free_below old (substation_in old entry.id) ≡ true) where
   widths : HasWidths entry.command
   widths = (next_has (λ (e : Entry). HasWidths e.command) old.centre.orders.entries 0 entry steps.widths next).0
 
@@ -48,18 +48,18 @@ module _ (laws : CleanLaws) (centre : ℕ) (old : System) {el : Elsewhere} (stan
   found = next_is_found old.centre.orders.entries 0 entry steps.orders.rising steps.orders.from_1 next
 
   -- the substation that it is for
-  station_is : (o : Option (ℕ × Command)) → command_below old.indices entry.command ≡ o
-      → station_in old entry.id ≡ option_map (λ (p : ℕ × Command). p.0) o
-  station_is o e =
+  substation_is : (o : Option (ℕ × Command)) → command_below old.indices entry.command ≡ o
+      → substation_in old entry.id ≡ option_map (λ (p : ℕ × Command). p.0) o
+  substation_is o e =
       ap (option_and_then (λ (x : Entry). option_map (λ (p : ℕ × Command). p.0) (command_below old.indices x.command))) found
       ∙ ap (option_map (λ (p : ℕ × Command). p.0)) e
 
   above_quiet : is_quiet_above old ≡ true
-  above_quiet = by (station_in old entry.id) quiet
+  above_quiet = by (substation_in old entry.id) quiet
     where
       by : (o : Option ℕ) → are_quiet_for old o ≡ true → is_quiet_above old ≡ true
       by None quiet = quiet
-      by (Some station) quiet = (and_parts (is_quiet_above old) (is_quiet_below old station) quiet).0
+      by (Some substation) quiet = (and_parts (is_quiet_above old) (is_quiet_below old substation) quiet).0
 
   -- ---- above
 
@@ -101,28 +101,28 @@ module _ (laws : CleanLaws) (centre : ℕ) (old : System) {el : Elsewhere} (stan
 
   -- ---- below
 
-  module _ (station : ℕ) (command : Command) (is : command_below old.indices entry.command ≡ Some (station, command)) (above : System)
+  module _ (substation : ℕ) (command : Command) (is : command_below old.indices entry.command ≡ Some (substation, command)) (above : System)
       (accepted : AcceptedAbove above) where
     -- the substation is quiet, and nothing goes to it
-    quiet_here : is_quiet_below old station ≡ true
+    quiet_here : is_quiet_below old substation ≡ true
     quiet_here =
-        (and_parts (is_quiet_above old) (is_quiet_below old station)
-        (subst (λ (x : Option ℕ). are_quiet_for old x ≡ true) (station_is (Some (station, command)) is) quiet)).1
+        (and_parts (is_quiet_above old) (is_quiet_below old substation)
+        (subst (λ (x : Option ℕ). are_quiet_for old x ≡ true) (substation_is (Some (substation, command)) is) quiet)).1
 
-    frees : (is_none (next_below old station) ≡ true) × (is_none (link_at old.concentrator station).progress ≡ true)
-    frees = and_parts _ _ (subst (λ (x : Option ℕ). is_free_below old x ≡ true) (station_is (Some (station, command)) is) free)
+    frees : (is_none (next_below old substation) ≡ true) × (is_none (link_at old.concentrator substation).progress ≡ true)
+    frees = and_parts _ _ (subst (λ (x : Option ℕ). is_free_below old x ≡ true) (substation_is (Some (substation, command)) is) free)
 
-    found_there : (was : SubstationState) × (slice_get old.substations station ≡ Some was)
+    found_there : (was : SubstationState) × (slice_get old.substations substation ≡ Some was)
     found_there =
-        let ends = and_parts (has_station old station) _ quiet_here in
-        there_of old station (slice_get old.substations station) refl (and_parts _ (is_quiet_at (slice_get old.substations station)) ends.1).1
+        let ends = and_parts (has_substation old substation) _ quiet_here in
+        there_of old substation (slice_get old.substations substation) refl (and_parts _ (is_quiet_at (slice_get old.substations substation)) ends.1).1
 
     abbrev was : SubstationState
     was = found_there.0
 
     -- the concentrator's entry for it
     its : Entry
-    its = record { id = old.concentrator.controls.last_id + 1; target = station; command = command; state = Pending }
+    its = record { id = old.concentrator.controls.last_id + 1; target = substation; command = command; state = Pending }
 
     keeps : KeepsAround old above
     keeps = accepted.kept.keeps
@@ -130,36 +130,37 @@ module _ (laws : CleanLaws) (centre : ℕ) (old : System) {el : Elsewhere} (stan
     links : above.concentrator.links ≡ old.concentrator.links
     links = ap (λ a. a.links) keeps
 
-    controls : above.concentrator.controls ≡ added old.concentrator.controls station command
+    controls : above.concentrator.controls ≡ added old.concentrator.controls substation command
     controls = accepted.kept.controls ∙ ap (added_for old.concentrator.controls) is
 
-    its_next : next_of above.concentrator.controls.entries station ≡ Some its
+    its_next : next_of above.concentrator.controls.entries substation ≡ Some its
     unfolding its
-    its_next = ap (λ (b : Ledger). next_of b.entries station) controls ∙ added_next old.concentrator.controls station command
-        (none_mapped (λ (e : Entry). e.id) (next_of old.concentrator.controls.entries station) frees.0)
+    its_next = ap (λ (b : Ledger). next_of b.entries substation) controls ∙ added_next old.concentrator.controls substation command
+        (none_mapped (λ (e : Entry). e.id) (next_of old.concentrator.controls.entries substation) frees.0)
 
-    its_id : next_below above station ≡ Some its.id
+    its_id : next_below above substation ≡ Some its.id
     its_id = ap (option_map (λ (e : Entry). e.id)) its_next
 
-    under : UnderWay (Below station) [] [] above
+    under : UnderWay (Below substation) [] [] above
     under =
-        let clear : UnderWay (Below station) [] [] old = laws.lines.quiet (Below station) old standing quiet_here in
+        let clear : UnderWay (Below substation) [] [] old = laws.lines.quiet (Below substation) old standing quiet_here in
         record {
           channel = clear.channel;
-          there = same_lines old above station (ap (λ a. a.substations) keeps) links ∙ clear.there;
+          there = same_lines old above substation (ap (λ a. a.substations) keeps) links ∙ clear.there;
           down_is = clear.down_is;
           up_is = clear.up_is;
         }
 
-    long : station < length above.concentrator.links
+    long : substation < length above.concentrator.links
     long =
-        ltb-true station (length above.concentrator.links)
-        ((and_parts (nat_lt station (length above.substations)) (nat_lt station (length above.concentrator.links)) (under_has station [] [] above under)).1)
+        ltb-true substation (length above.concentrator.links)
+        ((and_parts (nat_lt substation (length above.substations)) (nat_lt substation (length above.concentrator.links))
+        (under_has substation [] [] above under)).1)
 
-    below_seen : SeenBelow station was.outputs.outputs was.outputs.setpoints above (ends_below station above was [])
+    below_seen : SeenBelow substation was.outputs.outputs was.outputs.setpoints above (ends_below substation above was [])
     below_seen = record {
       was = was;
-      there = ap (λ a. slice_get a.substations station) keeps ∙ found_there.1;
+      there = ap (λ a. slice_get a.substations substation) keeps ∙ found_there.1;
       going = [];
       is = refl;
       under = under;
@@ -170,46 +171,47 @@ module _ (laws : CleanLaws) (centre : ℕ) (old : System) {el : Elsewhere} (stan
 
     sound : IsSound above.concentrator.controls
     sound =
-        subst (λ (b : Ledger). IsSound b) (sym controls) ((added_carries laws.sound old.concentrator.controls station command).sound steps.controls)
+        subst (λ (b : Ledger). IsSound b) (sym controls) ((added_carries laws.sound old.concentrator.controls substation command).sound steps.controls)
 
-    below_starts : Starts station its (ends_below station above was [])
+    below_starts : Starts substation its (ends_below substation above was [])
     unfolding its
     below_starts =
-        Begins (below_begins old above station was its standing quiet_here found_there.1 (none_is (link_at old.concentrator station).progress frees.1)
-        links its_next sound (below_fits old.indices entry.command (station, command) widths is))
+        Begins (below_begins old above substation was its standing quiet_here found_there.1 (none_is (link_at old.concentrator substation).progress frees.1)
+        links its_next sound (below_fits old.indices entry.command (substation, command) widths is))
 
     below_found : entry_of above.concentrator.controls.entries its.id ≡ Some its
-    below_found = next_found above.concentrator.controls.entries station its sound.rising its_next
+    below_found = next_found above.concentrator.controls.entries substation its sound.rising its_next
 
-    below_accepted : (new : System) → IsAccepted Happens itself (Below station) (Some its.id) above new
-        → Accepted its.id (plain_check was.outputs.outputs was.outputs.setpoints command) command (KeptBelow station) (λ s. s.concentrator.controls) above new
+    below_accepted : (new : System) → IsAccepted Happens itself (Below substation) (Some its.id) above new
+        → Accepted its.id (plain_check was.outputs.outputs was.outputs.setpoints command) command (KeptBelow substation)
+        (λ s. s.concentrator.controls) above new
     unfolding its over_below
     below_accepted new a =
-        accepted_over laws.controls (Below station) station (plain_check was.outputs.outputs was.outputs.setpoints command) its
-        (over_below laws.lines laws.performs station its.id command was.outputs.outputs was.outputs.setpoints)
-        (plain_low was.outputs.outputs was.outputs.setpoints command) above new (ends_below station above was []) below_seen below_starts below_found refl a
+        accepted_over laws.controls (Below substation) substation (plain_check was.outputs.outputs was.outputs.setpoints command) its
+        (over_below laws.lines laws.performs substation its.id command was.outputs.outputs was.outputs.setpoints)
+        (plain_low was.outputs.outputs was.outputs.setpoints command) above new (ends_below substation above was []) below_seen below_starts below_found refl a
 
     -- what a status below ends, too
-    below_rests : (new : System) (status : ℕ) → IsRefusedOn Happens itself (Below station) (next_below above station) status above new
+    below_rests : (new : System) (status : ℕ) → IsRefusedOn Happens itself (Below substation) (next_below above substation) status above new
         → new.history.operated ≡ old.history.operated
     unfolding its over_below
     below_rests new status refused =
-        let kept : KeptBelow station [] above new =
-        refused_over laws.controls (Below station) station (plain_check was.outputs.outputs was.outputs.setpoints command) its
-        (over_below laws.lines laws.performs station its.id command was.outputs.outputs was.outputs.setpoints)
-        (plain_low was.outputs.outputs was.outputs.setpoints command) above new (ends_below station above was []) status below_seen below_starts below_found
-        refl (subst (λ (o : Option ℕ). IsRefusedOn Happens itself (Below station) o status above new) its_id refused) in
+        let kept : KeptBelow substation [] above new =
+        refused_over laws.controls (Below substation) substation (plain_check was.outputs.outputs was.outputs.setpoints command) its
+        (over_below laws.lines laws.performs substation its.id command was.outputs.outputs was.outputs.setpoints)
+        (plain_low was.outputs.outputs was.outputs.setpoints command) above new (ends_below substation above was []) status below_seen below_starts below_found
+        refl (subst (λ (o : Option ℕ). IsRefusedOn Happens itself (Below substation) o status above new) its_id refused) in
         kept.operated ∙ append-nil above.history.operated ∙ ap (λ a. a.history.operated) keeps
 
-    moved : (new : System) → IsAccepted Happens itself (Below station) (next_below above station) above new → ControlMoves entry.id old new
+    moved : (new : System) → IsAccepted Happens itself (Below substation) (next_below above substation) above new → ControlMoves entry.id old new
     unfolding its
     moved new a =
-        let b = below_accepted new (subst (λ (o : Option ℕ). IsAccepted Happens itself (Below station) o above new) its_id a) in
+        let b = below_accepted new (subst (λ (o : Option ℕ). IsAccepted Happens itself (Below substation) o above new) its_id a) in
         record {
-          station = station;
+          substation = substation;
           command = command;
           ordered = ap (option_and_then (λ (e : Entry). command_below old.indices e.command)) found ∙ is;
-          operated = b.kept.operated ∙ ap (λ a. a.history.operated ++ (station, command) ∷ []) keeps;
+          operated = b.kept.operated ∙ ap (λ a. a.history.operated ++ (substation, command) ∷ []) keeps;
           above = ap (λ x. status_at x.centre.orders entry.id) b.kept.beside_is ∙ accepted.says;
           below = b.says;
         }
@@ -221,9 +223,9 @@ module _ (laws : CleanLaws) (centre : ℕ) (old : System) {el : Elsewhere} (stan
   refused_entry new status (AtConcentrator its above is first refused) = by (command_below old.indices entry.command) refl
     where
       by : (o : Option (ℕ × Command)) → command_below old.indices entry.command ≡ o → new.history.operated ≡ old.history.operated
-      by None e = absurd (none-some its (sym (station_is None e) ∙ is))
+      by None e = absurd (none-some its (sym (substation_is None e) ∙ is))
       by (Some p) e =
-          let same : its ≡ p.0 = same_Some its p.0 (sym is ∙ station_is (Some p) e) in
+          let same : its ≡ p.0 = same_Some its p.0 (sym is ∙ substation_is (Some p) e) in
           below_rests p.0 p.1 e above (above_accepted above first) new status
           (subst (λ (n : ℕ). IsRefusedOn Happens itself (Below n) (next_below above n) status above new) same refused)
 
@@ -232,13 +234,14 @@ module _ (laws : CleanLaws) (centre : ℕ) (old : System) {el : Elsewhere} (stan
     where
       leads : (o : Option (ℕ × Command)) → command_below old.indices entry.command ≡ o
           → IsControlFor Happens itself centre (option_map (λ (p : ℕ × Command). p.0) o) entry.id old new
-      leads o e = subst (λ (x : Option ℕ). IsControlFor Happens itself centre x entry.id old new) (station_is o e) control
+      leads o e = subst (λ (x : Option ℕ). IsControlFor Happens itself centre x entry.id old new) (substation_is o e) control
 
       by : (o : Option (ℕ × Command)) → command_below old.indices entry.command ≡ o → ControlMoves entry.id old new
       by None e = absurd (relayed_some old.indices names entry.command (above_accepted new (leads None e)).checks e)
       by (Some p) e = let (above, first, second) = leads (Some p) e in moved p.0 p.1 e above (above_accepted above first) new second
 
-pub clean_moves : CleanLaws → (centre id : ℕ) (old new : System) {el : Elsewhere} → IsStanding el old → InStep old → CanGo id old → IsControl Happens itself centre id old new
+pub clean_moves : CleanLaws → (centre id : ℕ) (old new : System) {el : Elsewhere} → IsStanding el old → InStep old → CanGo id old
+    → IsControl Happens itself centre id old new
     → ControlMoves id old new
 clean_moves laws centre id old new standing steps can control =
     let n = next_above old id can.1 in

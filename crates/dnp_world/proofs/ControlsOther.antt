@@ -91,7 +91,8 @@ other_request others s l t is_no_read j stands idle opens = by s.outstation.core
     -- it was a READ
     read : (last : LastRequest) → session.last ≡ Some last → last.reply ≡ Further → q ≡ session.request → ⊥
     read last there further same =
-        let more : has_more session.last ≡ true = ap has_more there ∙ ap (λ (r : Reply). has_more (Some (record last { reply = r }))) further ∙ either (is_some last.left) in
+        let more : has_more session.last ≡ true = ap has_more there ∙ ap (λ (r : Reply). has_more (Some (record last { reply = r }))) further
+        ∙ either (is_some last.left) in
         is_no_read (ap function_in same ∙ j.outstation.well.order.several more)
       where
         either : (b : Bool) → (b || true) ≡ true

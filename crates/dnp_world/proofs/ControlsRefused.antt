@@ -57,7 +57,8 @@ module _ (laws : ControlLaws) (on : Link) (target check : ℕ) (entry : Entry) (
   -- ---- its SELECT is asked, or the book is told at once
 
   told_rests : (old new : System) (ends : Ends) (status : ℕ) → over.View old ends → IsTaken target ends
-      → ((selected : System) → PassesBack Happens itself on (Some entry.id) old selected → ⊥) → IsRefusedOn Happens itself on (Some entry.id) status old new → over.Kept [] old new
+      → ((selected : System) → PassesBack Happens itself on (Some entry.id) old selected → ⊥) → IsRefusedOn Happens itself on (Some entry.id) status old new
+      → over.Kept [] old new
   told_rests old new ends status view taken never (First told) = (over.step old new ends view told.relays taken).kept
   told_rests old new ends status view taken never (Second selected selects told) = absurd (never selected selects)
   told_rests old new ends status view taken never (Third selected operated selects operates told) = absurd (never selected selects)

@@ -13,7 +13,7 @@ use Rattle.dnp_world.specs.Kept.{report_of}
 use Rattle.dnp_world.specs.Link.{Link}
 use Rattle.dnp_world.specs.OneLinkEvents.{LinkState}
 use Rattle.dnp_world.specs.OutstationSeen.{Shows}
-use Rattle.dnp_world.specs.Stations.{of_station}
+use Rattle.dnp_world.specs.Stations.{of_substation}
 use Rattle.dnp_world.specs.Steady.{IsSteadyBeside}
 use Rattle.dnp_world.specs.Systems.{System, middle_of}
 use Rattle.dnp_world.specs.SystemStanding.{lists_of, seen_above}
@@ -83,7 +83,7 @@ beside_then sound s others commands reserved issues h from relays issued =
             lost = b.lost;
             operated = b.operated;
             asked_below = λ i.
-                subst (λ (xs : List (ℕ × Command)). IsCoveredBy (k.links.below i).asked (of_station i xs))
+                subst (λ (xs : List (ℕ × Command)). IsCoveredBy (k.links.below i).asked (of_substation i xs))
                 (sym (added_unused s.concentrator.indices was commands)) (b.asked_below i);
             relayed = relays;
             asked_above = b.asked_above;
@@ -102,7 +102,7 @@ beside_then sound s others commands reserved issues h from relays issued =
         };
         settled = h.settled;
         controls = record {
-          below = λ station. carried was next.concentrator.controls station _ carries (h.controls.below station);
+          below = λ substation. carried was next.concentrator.controls substation _ carries (h.controls.below substation);
           above = h.controls.above;
           controls = carries.sound h.controls.controls;
           orders = h.controls.orders;

@@ -18,7 +18,7 @@ use Rattle.dnp_world.specs.Centres.{centre_at}
 use Rattle.dnp_world.specs.Joined.{rows_made_by}
 use Rattle.dnp_world.specs.Steady.{issued_by, made_from, moves_at, points_at, rows_made_at}
 use Rattle.dnp_world.specs.SystemRuns.{Happens}
-use Rattle.dnp_world.specs.Systems.{System, SubstationState, has_station, station_of}
+use Rattle.dnp_world.specs.Systems.{System, SubstationState, has_substation, station_of}
 use Rattle.dnp_world.specs.declared.event.Event.{Event}
 use Rattle.dnp_world.specs.declared.event.Event.TheVariants as event
 use Rattle.dnp_world.specs.declared.event.Place.TheVariants as place
@@ -29,7 +29,7 @@ use Rattle.dnp_world.proofs.EventTouches.{Does, does}
 use Rattle.dnp_world.proofs.JoinedHappenings.{moved_all, refused_change, rows_behind}
 use Rattle.dnp_world.proofs.JoinedPoints.{end_points, opened_leaves, received_leaves, ticked_leaves}
 use Rattle.dnp_world.proofs.ListedAt.{set_here, set_there}
-use Rattle.dnp_world.proofs.SystemCounts.{of_station-at, of_station-other}
+use Rattle.dnp_world.proofs.SystemCounts.{of_substation-at, of_substation-other}
 use Rattle.dnp_world.proofs.Touches.{AllHangUp, Call, Called, Ends, HangsUp, Hears, LinkRelays, LinkUsed, Nobody, Opens, Outstation, Reads, Refused, Restarts, Ticks, Touched, Used, Waits, after_call, after_called, after_used, at_only, ends_of, moves_in, moves_of}
 
 -- ---- the points after a call
@@ -55,41 +55,43 @@ unmoved : (o : Option Database) → option_map (λ points. moved_all points []) 
 unmoved None = refl
 unmoved (Some points) = refl
 
--- at the station that was called, and at each other one
-set_points : (xs : List State) (station : ℕ) (was is : State) (moves : List Move) → slice_get xs station ≡ Some was
+-- at the substation that was called, and at each other one
+set_points : (xs : List State) (substation : ℕ) (was is : State) (moves : List Move) → slice_get xs substation ≡ Some was
     → is.core.points ≡ moved_all was.core.points moves
-    → (i : ℕ) → points_in (slice_set xs station is) i ≡ option_map (λ points. moved_all points (at_only station moves i)) (points_in xs i)
-set_points xs station was is moves there moved i = by (cases_eq station i)
+    → (i : ℕ) → points_in (slice_set xs substation is) i ≡ option_map (λ points. moved_all points (at_only substation moves i)) (points_in xs i)
+set_points xs substation was is moves there moved i = by (cases_eq substation i)
   where
     of_state : Option State → Option Database
     of_state o = option_map (λ x. x.core.points) o
 
-    here : points_in (slice_set xs station is) station ≡ option_map (λ points. moved_all points (at_only station moves station)) (points_in xs station)
-    here = rw (set_here xs station was is there, there, moved, eq-eqb station station refl)
+    here : points_in (slice_set xs substation is) substation
+        ≡ option_map (λ points. moved_all points (at_only substation moves substation)) (points_in xs substation)
+    here = rw (set_here xs substation was is there, there, moved, eq-eqb substation substation refl)
 
-    by : (station ≡ i) ⊎ (station ≡ i → ⊥)
-        → points_in (slice_set xs station is) i ≡ option_map (λ points. moved_all points (at_only station moves i)) (points_in xs i)
+    by : (substation ≡ i) ⊎ (substation ≡ i → ⊥)
+        → points_in (slice_set xs substation is) i ≡ option_map (λ points. moved_all points (at_only substation moves i)) (points_in xs i)
     by (inl same) =
-        subst (λ (n : ℕ). points_in (slice_set xs station is) n ≡ option_map (λ points. moved_all points (at_only station moves n)) (points_in xs n)) same here
+        subst (λ (n : ℕ). points_in (slice_set xs substation is) n
+        ≡ option_map (λ points. moved_all points (at_only substation moves n)) (points_in xs n)) same here
     by (inr other) =
-        ap of_state (set_there xs station i is (λ e. other (sym e)))
+        ap of_state (set_there xs substation i is (λ e. other (sym e)))
         ∙ sym (unmoved (points_in xs i))
-        ∙ ap (λ (b : Bool). option_map (λ points. moved_all points (if b then moves else [])) (points_in xs i)) (sym (ne_eqb station i other))
+        ∙ ap (λ (b : Bool). option_map (λ points. moved_all points (if b then moves else [])) (points_in xs i)) (sym (ne_eqb substation i other))
 
-same_points : (xs : List State) (station : ℕ) (was : State) (moves : List Move) → slice_get xs station ≡ Some was
+same_points : (xs : List State) (substation : ℕ) (was : State) (moves : List Move) → slice_get xs substation ≡ Some was
     → moved_all was.core.points moves ≡ was.core.points
-    → (i : ℕ) → points_in xs i ≡ option_map (λ points. moved_all points (at_only station moves i)) (points_in xs i)
-same_points xs station was moves there same i =
-    subst (λ (ys : List State). points_in ys i ≡ option_map (λ points. moved_all points (at_only station moves i)) (points_in xs i))
-    (same_set xs station was there) (set_points xs station was was moves there (sym same) i)
+    → (i : ℕ) → points_in xs i ≡ option_map (λ points. moved_all points (at_only substation moves i)) (points_in xs i)
+same_points xs substation was moves there same i =
+    subst (λ (ys : List State). points_in ys i ≡ option_map (λ points. moved_all points (at_only substation moves i)) (points_in xs i))
+    (same_set xs substation was there) (set_points xs substation was was moves there (sym same) i)
 
 called_points : PointLaws → (xs : List State) (called : Called xs) (i : ℕ)
     → points_in (after_called xs called) i ≡ option_map (λ points. moved_all points (moves_in called i)) (points_in xs i)
 called_points laws xs Nobody i = sym (unmoved (points_in xs i))
-called_points laws xs (Outstation station was call there) i =
-    set_points xs station was (after_call was call) (moves_of call) there (call_points laws was call) i
-called_points laws xs (Refused station was kind index reading fault there refused) i =
-    same_points xs station was _ there (refused_change was.core.points kind index reading fault refused) i
+called_points laws xs (Outstation substation was call there) i =
+    set_points xs substation was (after_call was call) (moves_of call) there (call_points laws was call) i
+called_points laws xs (Refused substation was kind index reading fault there refused) i =
+    same_points xs substation was _ there (refused_change was.core.points kind index reading fault refused) i
 
 -- ---- the points after an event
 
@@ -116,32 +118,32 @@ event_points laws old new e m i =
 
 called_length : (xs : List State) (called : Called xs) → length (after_called xs called) ≡ length xs
 called_length xs Nobody = refl
-called_length xs (Outstation station was call there) = length-set xs station (after_call was call)
-called_length xs (Refused station was kind index reading fault there refused) = refl
+called_length xs (Outstation substation was call there) = length-set xs substation (after_call was call)
+called_length xs (Refused substation was kind index reading fault there refused) = refl
 
 links_length : (e : Ends) (used : Used e) → length (after_used e used).links ≡ length e.links
-links_length e (LinkUsed station call) = length-set e.links station _
-links_length e (LinkRelays station now) = length-set e.links station _
+links_length e (LinkUsed substation call) = length-set e.links substation _
+links_length e (LinkRelays substation now) = length-set e.links substation _
 links_length e AllHangUp = length-map e.links _
 links_length e used = refl
 
-same_stations : (old new : System) → Touched old new → (station : ℕ) → has_station new station ≡ has_station old station
-same_stations old new t station =
-    ap (λ (n : ℕ). nat_lt station n && nat_lt station (length new.concentrator.links))
+same_substations : (old new : System) → Touched old new → (substation : ℕ) → has_substation new substation ≡ has_substation old substation
+same_substations old new t substation =
+    ap (λ (n : ℕ). nat_lt substation n && nat_lt substation (length new.concentrator.links))
     (sym (length-map new.substations station_of) ∙ ap (λ (x : Ends). length x.outstations) t.after
     ∙ called_length (ends_of old).outstations t.called ∙ length-map old.substations station_of)
-    ∙ ap (λ (n : ℕ). nat_lt station (length old.substations) && nat_lt station n)
+    ∙ ap (λ (n : ℕ). nat_lt substation (length old.substations) && nat_lt substation n)
     (ap (λ (x : Ends). length x.links) t.after ∙ links_length (ends_of old) t.used)
 
-same_moves : (old new : System) → ((station : ℕ) → has_station new station ≡ has_station old station) → (e : Event) (i : ℕ)
+same_moves : (old new : System) → ((substation : ℕ) → has_substation new substation ≡ has_substation old substation) → (e : Event) (i : ℕ)
     → moves_at new e i ≡ moves_at old e i
-same_moves old new same (event.Change station kind index reading) i =
-    ap (λ (b : Bool). if b && station == i then Change kind index reading ∷ [] else []) (same station)
-same_moves old new same (event.Restart (place.Substation station)) i =
-    ap (λ (b : Bool). if b && station == i then (let first : Move = Restart in first) ∷ [] else []) (same station)
+same_moves old new same (event.Change substation kind index reading) i =
+    ap (λ (b : Bool). if b && substation == i then Change kind index reading ∷ [] else []) (same substation)
+same_moves old new same (event.Restart (place.Substation substation)) i =
+    ap (λ (b : Bool). if b && substation == i then (let first : Move = Restart in first) ∷ [] else []) (same substation)
 same_moves old new same e i = refl
 
-pub all_moves : (old new : System) → ((station : ℕ) → has_station new station ≡ has_station old station) → (events : List Event) (i : ℕ)
+pub all_moves : (old new : System) → ((substation : ℕ) → has_substation new substation ≡ has_substation old substation) → (events : List Event) (i : ℕ)
     → flat_map (λ e. moves_at new e i) events ≡ flat_map (λ e. moves_at old e i) events
 all_moves old new same [] i = refl
 all_moves old new same (e ∷ events) i =
@@ -170,8 +172,8 @@ read_at None kind index reading = []
 read_at (Some s) kind index reading = rows_made_by s.core.points (link_event.Change kind index reading ∷ [])
 
 abbrev pub made_by : System → Event → ℕ → List Row
-made_by s (event.Change station kind index reading) i =
-    if has_station s station then made_at station (read_at (slice_get s.substations station) kind index reading) i else []
+made_by s (event.Change substation kind index reading) i =
+    if has_substation s substation then made_at substation (read_at (slice_get s.substations substation) kind index reading) i else []
 made_by s event i = []
 
 restarts_none : (o : Option Database) (b : Bool) → made_from o ((if b then Restart ∷ [] else []) ++ []) ≡ []
@@ -179,11 +181,11 @@ restarts_none None b = refl
 restarts_none (Some points) true = refl
 restarts_none (Some points) false = refl
 
-reads_once : (s : System) (station : ℕ) (kind : Kind) (index : ℕ) (reading : Reading) (i : ℕ) (b : Bool)
-    → made_from (points_at s i) ((if b && station == i then Change kind index reading ∷ [] else []) ++ [])
-    ≡ (if b then made_at station (read_at (slice_get s.substations station) kind index reading) i else [])
-reads_once s station kind index reading i false = none_made (points_at s i)
-reads_once s station kind index reading i true = by (cases_eq station i)
+reads_once : (s : System) (substation : ℕ) (kind : Kind) (index : ℕ) (reading : Reading) (i : ℕ) (b : Bool)
+    → made_from (points_at s i) ((if b && substation == i then Change kind index reading ∷ [] else []) ++ [])
+    ≡ (if b then made_at substation (read_at (slice_get s.substations substation) kind index reading) i else [])
+reads_once s substation kind index reading i false = none_made (points_at s i)
+reads_once s substation kind index reading i true = by (cases_eq substation i)
   where
     Made : ℕ → Bool → List Row
     Made k b = made_from (points_at s k) ((if b then Change kind index reading ∷ [] else []) ++ [])
@@ -193,18 +195,18 @@ reads_once s station kind index reading i true = by (cases_eq station i)
     of (Some x) = refl
 
     rows : List Row
-    rows = read_at (slice_get s.substations station) kind index reading
+    rows = read_at (slice_get s.substations substation) kind index reading
 
-    by : (station ≡ i) ⊎ (station ≡ i → ⊥) → Made i (station == i) ≡ made_at station rows i
+    by : (substation ≡ i) ⊎ (substation ≡ i → ⊥) → Made i (substation == i) ≡ made_at substation rows i
     by (inl same) =
-        subst (λ (k : ℕ). Made k (station == k) ≡ made_at station rows k) same
-        (ap (Made station) (eq-eqb station station refl) ∙ of (slice_get s.substations station) ∙ sym (of_station-at station rows))
+        subst (λ (k : ℕ). Made k (substation == k) ≡ made_at substation rows k) same
+        (ap (Made substation) (eq-eqb substation substation refl) ∙ of (slice_get s.substations substation) ∙ sym (of_substation-at substation rows))
     by (inr other) =
-        ap (Made i) (ne_eqb station i other) ∙ none_made (points_at s i) ∙ sym (of_station-other i station (λ e. other (sym e)) rows)
+        ap (Made i) (ne_eqb substation i other) ∙ none_made (points_at s i) ∙ sym (of_substation-other i substation (λ e. other (sym e)) rows)
 
 pub made_once : (s : System) (e : Event) (i : ℕ) → rows_made_at s (e ∷ []) i ≡ made_by s e i
-made_once s (event.Change station kind index reading) i = reads_once s station kind index reading i (has_station s station)
-made_once s (event.Restart (place.Substation station)) i = restarts_none (points_at s i) (has_station s station && station == i)
+made_once s (event.Change substation kind index reading) i = reads_once s substation kind index reading i (has_substation s substation)
+made_once s (event.Restart (place.Substation substation)) i = restarts_none (points_at s i) (has_substation s substation && substation == i)
 made_once s e i = none_made (points_at s i)
 
 -- ---- those of lists
@@ -218,4 +220,4 @@ made_behind laws old next e events h i =
     ∙ ap (λ (o : Option Database). rows_made_at old (e ∷ []) i ++ made_from o (flat_map (λ x. moves_at old x i) events))
     (sym (event_points laws old next e m i))
     ∙ ap (λ (moves : List Move). rows_made_at old (e ∷ []) i ++ made_from (points_at next i) moves)
-    (sym (all_moves old next (same_stations old next m.touched) events i))
+    (sym (all_moves old next (same_substations old next m.touched) events i))

@@ -23,7 +23,7 @@ use Rattle.dnp_pointdb.specs.declared.reading.Reading.{Reading}
 use Rattle.dnp_world.specs.Centres.{centre_at, centre_of}
 use Rattle.dnp_world.specs.Channels.{ChannelState}
 use Rattle.dnp_world.specs.OneLinkEvents.{is_own}
-use Rattle.dnp_world.specs.Systems.{ConcentratorState, SubstationState, System, has_link, has_station, link_at, middle_panel, panel_of, station_of}
+use Rattle.dnp_world.specs.Systems.{ConcentratorState, SubstationState, System, has_link, has_substation, link_at, middle_panel, panel_of, station_of}
 use Rattle.dnp_world.specs.SystemEvents as system
 use Rattle.dnp_world.specs.SystemEvents.{Refuses, Steps, AsksOn, ChangesAt, ComesOn, ComesUp, HangsUpOn, IssuesBy, LinesChange, MasterReceives, MasterTakes, MasterTicks, MiddleAnswers, OpensOn, OutstationTicks, ReadsBy, RelaysOn, SubstationAnswers, SubstationRestarts, master_gone, relaying_at, step_on, taken_on, told, with_link, with_lost, with_middle, with_substation}
 use Rattle.dnp_world.specs.Steady.{issued_by, moves_at}
@@ -45,7 +45,7 @@ use Rattle.dnp_world.proofs.Touches.{Call, Waits, Opens, Hears, Reads, Ticks, Ha
 abbrev pub leaves_books : {e : Ends} → Used e → Bool
 leaves_books (CentreRelays now) = false
 leaves_books (Performs spans commands) = false
-leaves_books (Issues station command above is fits) = false
+leaves_books (Issues substation command above is fits) = false
 leaves_books used = true
 
 -- of an event at that centre, or at none
@@ -78,16 +78,16 @@ same_system old new same = rests old new (ap ends_of same)
 -- ---- parts of events
 
 lines_same : (on : Link) (Change : ChannelState → ChannelState → Type 0) (old new : System) → LinesChange on Change old new → ends_of new ≡ ends_of old
-lines_same (Below station) Change old new c =
+lines_same (Below substation) Change old new c =
     ap ends_of c.after
     ∙ ap (λ (xs : List State). record (ends_of old) { outstations = xs })
-    (map-set_same station_of old.substations station c.is c.was
-    (ap station_of c.changed.1 ∙ ap station_of (sym (get_or_from_slice_get old.substations station c.was c.was c.there))))
+    (map-set_same station_of old.substations substation c.is c.was
+    (ap station_of c.changed.1 ∙ ap station_of (sym (get_or_from_slice_get old.substations substation c.was c.was c.there))))
 lines_same (Above centre) Change old new c = ap ends_of c.1
 
-there_of : (xs : List SubstationState) (station : ℕ) (was : SubstationState) → slice_get xs station ≡ Some was
-    → slice_get (map station_of xs) station ≡ Some (station_of was)
-there_of xs station was there = slice_get-map station_of xs station ∙ ap (option_map station_of) there
+there_of : (xs : List SubstationState) (substation : ℕ) (was : SubstationState) → slice_get xs substation ≡ Some was
+    → slice_get (map station_of xs) substation ≡ Some (station_of was)
+there_of xs substation was there = slice_get-map station_of xs substation ∙ ap (option_map station_of) there
 
 -- one outstation is called, over a system in which a master was used
 record IsCalled (moves : List Move) (was is : SubstationState) : Type 0 where
@@ -96,68 +96,68 @@ record IsCalled (moves : List Move) (was is : SubstationState) : Type 0 where
   moved : moves_of call ≡ moves
 
 changes_points : {o : Option ℕ} (moves : List Move)
-    → (station : ℕ) (Change : SubstationState → SubstationState → Type 0) (rest : SubstationState → SubstationState → System → System)
+    → (substation : ℕ) (Change : SubstationState → SubstationState → Type 0) (rest : SubstationState → SubstationState → System → System)
     (old new : System) (middle : ConcentratorState) (used : Used (ends_of old))
     → issued_in used ≡ [] → leaves_books used ≡ true
     → ends_of (with_middle old middle) ≡ record (after_used (ends_of old) used) { outstations = map station_of old.substations }
     → ((was is : SubstationState) (s : System) → ends_of (rest was is s) ≡ ends_of s)
-    → ((was is : SubstationState) → slice_get old.substations station ≡ Some was → Change was is → IsCalled moves was is)
-    → ChangesAt station Change rest (with_middle old middle) new → Moved o (at_only station moves) old new
-changes_points moves station Change rest old new middle used nothing books uses stays calls c =
+    → ((was is : SubstationState) → slice_get old.substations substation ≡ Some was → Change was is → IsCalled moves was is)
+    → ChangesAt substation Change rest (with_middle old middle) new → Moved o (at_only substation moves) old new
+changes_points moves substation Change rest old new middle used nothing books uses stays calls c =
     let x : IsCalled moves c.was c.is = calls c.was c.is c.there c.changed in
     record {
       touched = record {
-        called = Outstation station (station_of c.was) x.call (there_of old.substations station c.was c.there);
+        called = Outstation substation (station_of c.was) x.call (there_of old.substations substation c.was c.there);
         used = used;
-        after = ap ends_of c.after ∙ stays c.was c.is (with_substation (with_middle old middle) station c.is)
-            ∙ ap (λ (e : Ends). record e { outstations = map station_of (slice_set old.substations station c.is) }) uses
+        after = ap ends_of c.after ∙ stays c.was c.is (with_substation (with_middle old middle) substation c.is)
+            ∙ ap (λ (e : Ends). record e { outstations = map station_of (slice_set old.substations substation c.is) }) uses
             ∙ ap (λ (xs : List State). record (after_used (ends_of old) used) { outstations = xs })
-            (map-set station_of old.substations station c.is ∙ ap (slice_set (map station_of old.substations) station) x.after);
+            (map-set station_of old.substations substation c.is ∙ ap (slice_set (map station_of old.substations) substation) x.after);
       };
-      moved = λ i. ap (λ (moves : List Move). at_only station moves i) x.moved;
+      moved = λ i. ap (λ (moves : List Move). at_only substation moves i) x.moved;
       issued = nothing;
       books = λ _. books;
     }
 
 -- and its points stay as they are
-calm : {o : Option ℕ} (station : ℕ) (old new : System) → Moved o (at_only station []) old new → Moved o none old new
-calm station old new m = record { touched = m.touched; moved = λ i. m.moved i ∙ still (station == i); issued = m.issued; books = m.books }
+calm : {o : Option ℕ} (substation : ℕ) (old new : System) → Moved o (at_only substation []) old new → Moved o none old new
+calm substation old new m = record { touched = m.touched; moved = λ i. m.moved i ∙ still (substation == i); issued = m.issued; books = m.books }
   where
     still : (b : Bool) → (if b then (let moves : List Move = [] in moves) else []) ≡ []
     still true = refl
     still false = refl
 
-changes : {o : Option ℕ} (station : ℕ) (Change : SubstationState → SubstationState → Type 0) (rest : SubstationState → SubstationState → System → System)
+changes : {o : Option ℕ} (substation : ℕ) (Change : SubstationState → SubstationState → Type 0) (rest : SubstationState → SubstationState → System → System)
     (old new : System) (middle : ConcentratorState) (used : Used (ends_of old))
     → issued_in used ≡ [] → leaves_books used ≡ true
     → ends_of (with_middle old middle) ≡ record (after_used (ends_of old) used) { outstations = map station_of old.substations }
     → ((was is : SubstationState) (s : System) → ends_of (rest was is s) ≡ ends_of s)
-    → ((was is : SubstationState) → slice_get old.substations station ≡ Some was → Change was is → IsCalled [] was is)
-    → ChangesAt station Change rest (with_middle old middle) new → Moved o none old new
-changes station Change rest old new middle used nothing books uses stays calls c =
-    calm station old new (changes_points [] station Change rest old new middle used nothing books uses stays calls c)
+    → ((was is : SubstationState) → slice_get old.substations substation ≡ Some was → Change was is → IsCalled [] was is)
+    → ChangesAt substation Change rest (with_middle old middle) new → Moved o none old new
+changes substation Change rest old new middle used nothing books uses stays calls c =
+    calm substation old new (changes_points [] substation Change rest old new middle used nothing books uses stays calls c)
 
 -- and no master is used
-calls_at : {o : Option ℕ} (station : ℕ) (Change : SubstationState → SubstationState → Type 0) (rest : SubstationState → SubstationState → System → System)
+calls_at : {o : Option ℕ} (substation : ℕ) (Change : SubstationState → SubstationState → Type 0) (rest : SubstationState → SubstationState → System → System)
     (old new : System) → ((was is : SubstationState) (s : System) → ends_of (rest was is s) ≡ ends_of s)
-    → ((was is : SubstationState) → slice_get old.substations station ≡ Some was → Change was is → IsCalled [] was is)
-    → ChangesAt station Change rest old new → Moved o none old new
-calls_at station Change rest old new stays calls c = changes station Change rest old new old.concentrator Nothing refl refl refl stays calls c
+    → ((was is : SubstationState) → slice_get old.substations substation ≡ Some was → Change was is → IsCalled [] was is)
+    → ChangesAt substation Change rest old new → Moved o none old new
+calls_at substation Change rest old new stays calls c = changes substation Change rest old new old.concentrator Nothing refl refl refl stays calls c
 
 -- ---- events
 
 opens : (on : Link) (old new : System) → OpensOn on old new → Moved (centre_of on) none old new
-opens (Below station) old new c =
-    changes station _ _ old new _ (LinkUsed station LinkOpens) refl refl refl (λ was is s. refl)
+opens (Below substation) old new c =
+    changes substation _ _ old new _ (LinkUsed substation LinkOpens) refl refl refl (λ was is s. refl)
     (λ was is there steps. record { call = Opens old.now; after = ap station_of steps.after; moved = refl }) c
 opens (Above centre) old new m = moved_none old new (CentreUsed LinkOpens) (λ _. refl) (ap ends_of m.after)
 
 hangs_up : (on : Link) (e : End) (old new : System) → HangsUpOn on e old new → Moved (centre_of on) none old new
-hangs_up (Below station) end.Master old new c =
-    changes station _ _ old new _ (LinkUsed station LinkHangsUp) refl refl refl (λ was is s. refl)
+hangs_up (Below substation) end.Master old new c =
+    changes substation _ _ old new _ (LinkUsed substation LinkHangsUp) refl refl refl (λ was is s. refl)
     (λ was is there after. record { call = Waits; after = ap station_of after; moved = refl }) c
-hangs_up (Below station) end.Outstation old new c =
-    calls_at station _ _ old new (λ was is s. refl) (λ was is there after. record { call = HangsUp; after = ap station_of after; moved = refl }) c
+hangs_up (Below substation) end.Outstation old new c =
+    calls_at substation _ _ old new (λ was is s. refl) (λ was is there after. record { call = HangsUp; after = ap station_of after; moved = refl }) c
 hangs_up (Above centre) end.Master old new after = moved_none old new (CentreUsed LinkHangsUp) (λ _. refl) (ap ends_of after)
 hangs_up (Above centre) end.Outstation old new after = rests old new (ap ends_of after)
 
@@ -175,8 +175,8 @@ middle_answers centre (fragment ∷ others) old new m =
 
 receives : (on : Link) (now : ℕ) (fragment : List ℕ) (r : Result Taking MasterFault) (old new : System)
     → receive_of (relaying_at old on).master now fragment ≡ r → MasterReceives on r old new → Moved (centre_of on) none old new
-receives (Below station) now fragment (Ok t) old new is h = moved_none old new (LinkUsed station (LinkHears now fragment t is)) (λ _. refl)
-    (lines_same (Below station) _ (taken_on old (Below station) t) new h.1)
+receives (Below substation) now fragment (Ok t) old new is h = moved_none old new (LinkUsed substation (LinkHears now fragment t is)) (λ _. refl)
+    (lines_same (Below substation) _ (taken_on old (Below substation) t) new h.1)
 receives (Above centre) now fragment (Ok t) old new is h = moved_none old new (CentreUsed (LinkHears now fragment t is)) (λ _. refl)
     (ap ends_of h.1.1)
 receives on now fragment (Err fault) old new is same = same_system old new same
@@ -190,27 +190,27 @@ comes_up left on old new c =
     subst (λ (e : Ends). Does (centre_of on) none [] e (ends_of new)) (lines_same on _ old c.between c.heard) (takes on c.given c.between new c.came)
 
 comes : (left : LineState → LineState) (on : Link) (w : Way) (old new : System) → ComesOn left on w old new → Moved (centre_of on) none old new
-comes left (Below station) way.Down old new c =
-    calls_at station _ _ old new (λ was is s. refl)
+comes left (Below substation) way.Down old new c =
+    calls_at substation _ _ old new (λ was is s. refl)
     (λ was is there h. answers h.given old.now c.released was is _ h.came) c.came
 comes left (Above centre) way.Down old new c = middle_answers centre c.given (record old { above = _ }) new c.came
-comes left (Below station) way.Up old new c = comes_up left (Below station) old new c
+comes left (Below substation) way.Up old new c = comes_up left (Below substation) old new c
 comes left (Above centre) way.Up old new c = comes_up left (Above centre) old new c
 
-reads_by : (station : ℕ) (kind : Kind) (index : ℕ) (reading : Reading) (was : SubstationState) (r : Result (Option LaneRow) ChangeFault)
-    (old new : System) → slice_get old.substations station ≡ Some was → answer_of was.core.points kind index reading ≡ r
-    → ReadsBy r station kind index reading was old new → Moved None (at_only station (PointReads kind index reading ∷ [])) old new
-reads_by station kind index reading was (Ok made) old new there is h =
-    changes_points (PointReads kind index reading ∷ []) station _ _ old new old.concentrator Nothing refl refl refl (λ x is s. refl)
+reads_by : (substation : ℕ) (kind : Kind) (index : ℕ) (reading : Reading) (was : SubstationState) (r : Result (Option LaneRow) ChangeFault)
+    (old new : System) → slice_get old.substations substation ≡ Some was → answer_of was.core.points kind index reading ≡ r
+    → ReadsBy r substation kind index reading was old new → Moved None (at_only substation (PointReads kind index reading ∷ [])) old new
+reads_by substation kind index reading was (Ok made) old new there is h =
+    changes_points (PointReads kind index reading ∷ []) substation _ _ old new old.concentrator Nothing refl refl refl (λ x is s. refl)
     (λ x is at steps. record {
       call = Reads old.now kind index reading made;
       after = ap station_of steps.after
           ∙ ap (λ (y : SubstationState). after_call (station_of y) (Reads old.now kind index reading made)) (same_Some was x (sym there ∙ at));
       moved = refl;
     }) h.1
-reads_by station kind index reading was (Err fault) old new there is same = record {
+reads_by substation kind index reading was (Err fault) old new there is same = record {
   touched = record {
-    called = Refused station (station_of was) kind index reading fault (there_of old.substations station was there) is;
+    called = Refused substation (station_of was) kind index reading fault (there_of old.substations substation was there) is;
     used = Nothing;
     after = ap ends_of same;
   };
@@ -219,46 +219,47 @@ reads_by station kind index reading was (Err fault) old new there is same = reco
   books = λ _. refl;
 }
 
-moved_by_reading : (station : ℕ) (kind : Kind) (index : ℕ) (reading : Reading) (old new : System) → system.Reads station kind index reading old new
-    → Moved None (at_only station (PointReads kind index reading ∷ [])) old new
-moved_by_reading station kind index reading old new c =
-    reads_by station kind index reading c.was (answer_of c.was.core.points kind index reading) old new c.there refl c.reads
+moved_by_reading : (substation : ℕ) (kind : Kind) (index : ℕ) (reading : Reading) (old new : System) → system.Reads substation kind index reading old new
+    → Moved None (at_only substation (PointReads kind index reading ∷ [])) old new
+moved_by_reading substation kind index reading old new c =
+    reads_by substation kind index reading c.was (answer_of c.was.core.points kind index reading) old new c.there refl c.reads
 
 asks : (own : Bool) (on : Link) (task : Task) (old new : System) → AsksOn own on task old new → Moved (centre_of on) none old new
-asks true (Below station) task old new c = moved_none old new (LinkUsed station (LinkAsks old.now task)) (λ _. refl)
-    (lines_same (Below station) _ (with_link old station _) new c)
+asks true (Below substation) task old new c = moved_none old new (LinkUsed substation (LinkAsks old.now task)) (λ _. refl)
+    (lines_same (Below substation) _ (with_link old substation _) new c)
 asks true (Above centre) task old new c = moved_none old new (CentreUsed (LinkAsks old.now task)) (λ _. refl)
     (ap ends_of c.1)
 asks false on task old new same = same_system old new same
 
-issues : (centre : ℕ) (o : Option Command) (station : ℕ) (command : Command) (old new : System) → command_above old.centre.indices station command ≡ o
-    → IssuesBy o station command old new
-    → Does (Some centre) none (if is_some o then (station, command) ∷ [] else []) (ends_of old) (ends_of new)
-issues centre None station command old new is same = same_system old new same
-issues centre (Some above) station command old new is h =
-    moved_none old new (Issues station command above is h.1) (λ at. absurd (cc)) (ap ends_of h.2)
+issues : (centre : ℕ) (o : Option Command) (substation : ℕ) (command : Command) (old new : System) → command_above old.centre.indices substation command ≡ o
+    → IssuesBy o substation command old new
+    → Does (Some centre) none (if is_some o then (substation, command) ∷ [] else []) (ends_of old) (ends_of new)
+issues centre None substation command old new is same = same_system old new same
+issues centre (Some above) substation command old new is h =
+    moved_none old new (Issues substation command above is h.1) (λ at. absurd (cc)) (ap ends_of h.2)
 
 relays : (on : Link) (old new : System) → RelaysOn on old new → Moved (centre_of on) none old new
-relays (Below station) old new (Steps pending sends) = moved_none old new (LinkRelays station old.now) (λ _. refl)
-    (lines_same (Below station) _ (with_link (told old (Below station) (step_on old (Below station))) station _) new sends)
+relays (Below substation) old new (Steps pending sends) = moved_none old new (LinkRelays substation old.now) (λ _. refl)
+    (lines_same (Below substation) _ (with_link (told old (Below substation) (step_on old (Below substation))) substation _) new sends)
 relays (Above centre) old new (Steps pending sends) = moved_none old new (CentreRelays old.now) (λ at. absurd (cc))
     (ap ends_of sends.1)
 relays on old new (Refuses refused same) = same_system old new same
 
 master_ticks : (on : Link) (old new : System) → MasterTicks on old new → Moved (centre_of on) none old new
-master_ticks (Below station) old new after = by _ after
+master_ticks (Below substation) old new after = by _ after
   where
     ticked : System
-    ticked = with_link old station (relaying.ticked (link_at old.concentrator station) old.now)
+    ticked = with_link old substation (relaying.ticked (link_at old.concentrator substation) old.now)
 
-    by : (b : Bool) → new ≡ (if b then with_lost ticked station else ticked) → Moved None none old new
-    by true is = moved_none old new (LinkUsed station (LinkTicks old.now)) (λ _. refl) (ap ends_of is)
-    by false is = moved_none old new (LinkUsed station (LinkTicks old.now)) (λ _. refl) (ap ends_of is)
+    by : (b : Bool) → new ≡ (if b then with_lost ticked substation else ticked) → Moved None none old new
+    by true is = moved_none old new (LinkUsed substation (LinkTicks old.now)) (λ _. refl) (ap ends_of is)
+    by false is = moved_none old new (LinkUsed substation (LinkTicks old.now)) (λ _. refl) (ap ends_of is)
 master_ticks (Above centre) old new after = moved_none old new (CentreUsed (LinkTicks old.now)) (λ _. refl) (ap ends_of after)
 
 ticks : (on : Link) (old new : System) → OutstationTicks on old new → Moved (centre_of on) none old new
-ticks (Below station) old new c =
-    calls_at station _ _ old new (λ was is s. refl) (λ was is there steps. record { call = Ticks old.now; after = ap station_of steps.after; moved = refl }) c
+ticks (Below substation) old new c =
+    calls_at substation _ _ old new (λ was is s. refl)
+    (λ was is there steps. record { call = Ticks old.now; after = ap station_of steps.after; moved = refl }) c
 ticks (Above centre) old new m = rests old new (ap ends_of m.after)
 
 gone_same : (xs : List SubstationState) → map station_of (map master_gone xs) ≡ map station_of xs
@@ -270,11 +271,11 @@ if_there : {o : Option ℕ} (b : Bool) (Change : System → System → Type 0) (
 if_there true Change old new touched h = touched h
 if_there false Change old new touched same = same_system old new same
 
-if_moved : {o : Option ℕ} (b : Bool) (Change : System → System → Type 0) (station : ℕ) (moves : List Move) (old new : System)
-    → (Change old new → Moved o (at_only station moves) old new) → IfThere b Change old new
-    → Moved o (λ i. if b && station == i then moves else []) old new
-if_moved true Change station moves old new moved h = moved h
-if_moved false Change station moves old new moved same = same_system old new same
+if_moved : {o : Option ℕ} (b : Bool) (Change : System → System → Type 0) (substation : ℕ) (moves : List Move) (old new : System)
+    → (Change old new → Moved o (at_only substation moves) old new) → IfThere b Change old new
+    → Moved o (λ i. if b && substation == i then moves else []) old new
+if_moved true Change substation moves old new moved h = moved h
+if_moved false Change substation moves old new moved same = same_system old new same
 
 pub does : (old new : System) (e : Event) → Happens old e new → Does (centre_at e) (moves_at old e) (issued_by old e) (ends_of old) (ends_of new)
 does old new (event.Open on) h = if_there (has_link old on) (OpensOn on) old new (opens on old new) h
@@ -283,11 +284,11 @@ does old new (event.Deliver on w) h = if_there (has_link old on) (ComesOn delive
 does old new (event.Repeat on w) h = if_there (has_link old on) (ComesOn repeated_on on w) old new (comes repeated_on on w old new) h
 does old new (event.Lose on w) h = if_there (has_link old on) _ old new (λ c. rests old new (lines_same on _ old new c)) h
 does old new (event.Damage on w octets) h = if_there (has_link old on) _ old new (λ c. rests old new (lines_same on _ old new c)) h
-does old new (event.Change station kind index reading) h =
-    if_moved (has_station old station) (system.Reads station kind index reading) station (PointReads kind index reading ∷ []) old new
-    (moved_by_reading station kind index reading old new) h
+does old new (event.Change substation kind index reading) h =
+    if_moved (has_substation old substation) (system.Reads substation kind index reading) substation (PointReads kind index reading ∷ []) old new
+    (moved_by_reading substation kind index reading old new) h
 does old new (event.Ask on task) h = if_there (has_link old on) (AsksOn (is_own task) on task) old new (asks (is_own task) on task old new) h
-does old new (event.Issue centre station command) h = issues centre (command_above old.centre.indices station command) station command old new refl h
+does old new (event.Issue centre substation command) h = issues centre (command_above old.centre.indices substation command) substation command old new refl h
 does old new (event.Relay on) h = if_there (has_link old on) (RelaysOn on) old new (relays on old new) h
 does old new (event.Pass ms) h = rests old new (ap ends_of h)
 does old new (event.Tick on end.Master) h = if_there (has_link old on) (MasterTicks on) old new (master_ticks on old new) h
@@ -295,14 +296,14 @@ does old new (event.Tick on end.Outstation) h = if_there (has_link old on) (Outs
 does old new (event.Restart (place.Centre centre)) h = hangs_up (Above centre) end.Master old new h
 does old new (event.Restart place.Concentrator) h = moved_none old new AllHangUp (λ _. refl)
     (ap ends_of h ∙ ap (λ (xs : List State). record (after_used (ends_of old) AllHangUp) { outstations = xs }) (gone_same old.substations))
-does old new (event.Restart (place.Substation station)) h =
-    if_moved (has_station old station) (SubstationRestarts station) station (PointsRestart ∷ []) old new
-    (changes_points (PointsRestart ∷ []) station _ _ old new old.concentrator Nothing refl refl refl (λ was is s. refl)
+does old new (event.Restart (place.Substation substation)) h =
+    if_moved (has_substation old substation) (SubstationRestarts substation) substation (PointsRestart ∷ []) old new
+    (changes_points (PointsRestart ∷ []) substation _ _ old new old.concentrator Nothing refl refl refl (λ was is s. refl)
     (λ was is there after. record { call = Restarts; after = ap station_of after; moved = refl })) h
 
 pub touches : (old new : System) (e : Event) → Happens old e new → Touched old new
 touches old new e h = (does old new e h).touched
 
-pub touched_by_reading : (station : ℕ) (kind : Kind) (index : ℕ) (reading : Reading) (old new : System) → system.Reads station kind index reading old new
+pub touched_by_reading : (substation : ℕ) (kind : Kind) (index : ℕ) (reading : Reading) (old new : System) → system.Reads substation kind index reading old new
     → Touched old new
-touched_by_reading station kind index reading old new c = (moved_by_reading station kind index reading old new c).touched
+touched_by_reading substation kind index reading old new c = (moved_by_reading substation kind index reading old new c).touched

@@ -30,11 +30,11 @@ use Rattle.dnp_world.proofs.Touches.{Ends, Issues as IssuesOne, Used, after_used
 -- ---- one event
 
 used_issues : (e : Ends) (used : Used e) → (after_used e used).issued ≡ e.issued ++ issued_in used
-used_issues e (IssuesOne station command above is fits) = refl
+used_issues e (IssuesOne substation command above is fits) = refl
 used_issues e used = sym (append-nil e.issued)
 
 same_map : (e : Ends) (used : Used e) → (after_used e used).centre_indices ≡ e.centre_indices
-same_map e (IssuesOne station command above is fits) = refl
+same_map e (IssuesOne substation command above is fits) = refl
 same_map e used = refl
 
 event_issues : (old new : System) (e : Event) → Happens old e new → new.history.issued ≡ old.history.issued ++ one.issued_by old e
@@ -79,8 +79,8 @@ maps_kept old next e h =
 -- ---- lists of events
 
 by_map : (old next : System) → next.centre.indices ≡ old.centre.indices → (e : Event) → one.issued_by next e ≡ one.issued_by old e
-by_map old next same (event.Issue centre station command) =
-    ap (λ (indices : List Spans). if is_some (command_above indices station command) then (station, command) ∷ [] else []) same
+by_map old next same (event.Issue centre substation command) =
+    ap (λ (indices : List Spans). if is_some (command_above indices substation command) then (substation, command) ∷ [] else []) same
 by_map old next same e = refl
 
 issued_alike : (old next : Whole) → KeepMaps old next → (e : Event) (o : Option ℕ) → Issued o next e ≡ Issued o old e

@@ -23,7 +23,7 @@ use Rattle.dnp_world.specs.Joined.{point_moves, rows_made_by}
 use Rattle.dnp_world.specs.Kept.{lane_rows_of, report_of}
 use Rattle.dnp_world.specs.Reports.{happened}
 use Rattle.dnp_world.specs.Stations.{listed_from}
-use Rattle.dnp_world.specs.Systems.{at_station}
+use Rattle.dnp_world.specs.Systems.{at_substation}
 
 -- ---- rows that changes make
 
@@ -62,7 +62,7 @@ empty_rows (capacity ∷ capacities) = empty_rows capacities
 none_listed : (times : Times) (n m : ℕ) (plans : List SubPlan) → listed_from lane_rows_of n (fresh_substations times m plans) ≡ []
 none_listed times n m [] = refl
 none_listed times n m (plan ∷ plans) =
-    ap (λ (rows : List Row). at_station n rows ++ listed_from lane_rows_of (n + 1) (fresh_substations times (suc m) plans)) (empty_rows plan.lanes)
+    ap (λ (rows : List Row). at_substation n rows ++ listed_from lane_rows_of (n + 1) (fresh_substations times (suc m) plans)) (empty_rows plan.lanes)
     ∙ none_listed times (n + 1) (suc m) plans
 
 pub none_happened : (plan : Plan) (centre : ℕ) (queue : Stock) (journal : Archive) (controls orders : Ledger)

@@ -10,9 +10,9 @@ use Rattle.dnp_objects.specs.Equality.{pair_eq, row_eq}
 use Rattle.dnp_objects.specs.declared.row.Row.{Row}
 use Rattle.dnp_world.specs.Behind.{made_at}
 use Rattle.dnp_world.specs.Reports.{IsFate, Report, happened}
-use Rattle.dnp_world.specs.Stations.{of_station}
-use Rattle.dnp_world.specs.Systems.{at_station}
-use Rattle.dnp_world.proofs.ByStations.{contains_counts, count_pair}
+use Rattle.dnp_world.specs.Stations.{of_substation}
+use Rattle.dnp_world.specs.Systems.{at_substation}
+use Rattle.dnp_world.proofs.BySubstations.{contains_counts, count_pair}
 use Rattle.dnp_world.proofs.Counting.{one_if, count_by-append, count_by-cons}
 
 -- what holds of each member holds of one that is counted
@@ -40,15 +40,15 @@ all_counted P equal decided xs ys there all =
     all_by_counts P equal decided xs (λ x some. of_counted P equal decided ys x all (there x some))
 
 -- what holds of all rows holds of those of one substation
-pub all_at : {A : Type 0} (P : ℕ × A → Type 0) (station : ℕ) (xs : List (ℕ × A)) → All P xs → All (λ x. P (station, x)) (of_station station xs)
-all_at {A} P station [] all = All-nil (λ (x : A). P (station, x))
-all_at {A} P station (x ∷ xs) all = by (x.0 == station) refl (all_at P station xs (All-tail P x xs all))
+pub all_at : {A : Type 0} (P : ℕ × A → Type 0) (substation : ℕ) (xs : List (ℕ × A)) → All P xs → All (λ x. P (substation, x)) (of_substation substation xs)
+all_at {A} P substation [] all = All-nil (λ (x : A). P (substation, x))
+all_at {A} P substation (x ∷ xs) all = by (x.0 == substation) refl (all_at P substation xs (All-tail P x xs all))
   where
-    by : (b : Bool) → (x.0 == station) ≡ b → All (λ y. P (station, y)) (of_station station xs)
-        → All (λ y. P (station, y)) (cond b (x.1 ∷ of_station station xs) (of_station station xs))
+    by : (b : Bool) → (x.0 == substation) ≡ b → All (λ y. P (substation, y)) (of_substation substation xs)
+        → All (λ y. P (substation, y)) (cond b (x.1 ∷ of_substation substation xs) (of_substation substation xs))
     by true e rest =
-        All-cons (λ (y : A). P (station, y)) x.1 (of_station station xs)
-        (subst (λ (n : ℕ). P (n, x.1)) ((Decides-eqb x.0 station).0 e) (All-head P x xs all)) rest
+        All-cons (λ (y : A). P (substation, y)) x.1 (of_substation substation xs)
+        (subst (λ (n : ℕ). P (n, x.1)) ((Decides-eqb x.0 substation).0 e) (All-head P x xs all)) rest
     by false e rest = rest
 
 -- ---- what happened
@@ -60,7 +60,7 @@ pub record RowTests : Type 0 where
 
 -- what holds of all that had happened, and of each row that came, holds of all that has happened
 pub all_fated : RowTests → (P : ℕ × Row → Type 0) (came : ℕ → List Row) (old new : Report) → IsFate came old new
-    → ((station : ℕ) → All (λ row. P (station, row)) (came station)) → All P (happened old) → All P (happened new)
+    → ((substation : ℕ) → All (λ row. P (substation, row)) (came substation)) → All P (happened old) → All P (happened new)
 all_fated tests P came old new fate each all =
     all_by_counts P (pair_eq nat_eq row_eq) tests.pairs (happened new) (λ x some. by x some (cases_lt 0 (count_by (row_eq x.1) (came x.0))))
   where
@@ -76,16 +76,16 @@ all_fated tests P came old new fate each all =
           count_pair row_eq x (happened new),
           count_pair row_eq x (happened old),
           (fate x.0).same (row_eq x.1),
-          count_by-append (row_eq x.1) (of_station x.0 (happened old)) (came x.0),
+          count_by-append (row_eq x.1) (of_substation x.0 (happened old)) (came x.0),
         ))
 
 -- rows of one substation, and none of the others
-pub all_made : (P : ℕ × Row → Type 0) (station : ℕ) (made : List Row) → All (λ row. P (station, row)) made
-    → (i : ℕ) → All (λ row. P (i, row)) (made_at station made i)
-all_made P station made all i = all_at P i (at_station station made) (by made all)
+pub all_made : (P : ℕ × Row → Type 0) (substation : ℕ) (made : List Row) → All (λ row. P (substation, row)) made
+    → (i : ℕ) → All (λ row. P (i, row)) (made_at substation made i)
+all_made P substation made all i = all_at P i (at_substation substation made) (by made all)
   where
-    by : (rows : List Row) → All (λ row. P (station, row)) rows → All P (at_station station rows)
+    by : (rows : List Row) → All (λ row. P (substation, row)) rows → All P (at_substation substation rows)
     by [] h = All-nil P
     by (row ∷ rows) h =
-        All-cons P (station, row) (at_station station rows) (All-head (λ (r : Row). P (station, r)) row rows h)
-        (by rows (All-tail (λ (r : Row). P (station, r)) row rows h))
+        All-cons P (substation, row) (at_substation substation rows) (All-head (λ (r : Row). P (substation, r)) row rows h)
+        (by rows (All-tail (λ (r : Row). P (substation, r)) row rows h))

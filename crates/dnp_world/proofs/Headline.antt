@@ -20,10 +20,10 @@ use Rattle.dnp_world.specs.Kept.{Kept, shown_of, rows_below, commands_below, is_
 use Rattle.dnp_world.specs.Link.{Link}
 use Rattle.dnp_world.specs.Reports.{Holds, happened, times}
 use Rattle.dnp_world.specs.Standing.{Stands}
-use Rattle.dnp_world.specs.Stations.{of_station, HasSameCounts}
+use Rattle.dnp_world.specs.Stations.{of_substation, HasSameCounts}
 use Rattle.dnp_world.proofs.Counting.{count_by-append}
-use Rattle.dnp_world.proofs.ByStations.{Covers, count_pair, covered_by_stations, contains_counts, some_there}
-use Rattle.dnp_world.proofs.SystemCounts.{count_by-filter_map, passes, picked, counted_all, same_map, same_permutation, covered_filter_map, of_station-append}
+use Rattle.dnp_world.proofs.BySubstations.{Covers, count_pair, covered_by_substations, contains_counts, some_there}
+use Rattle.dnp_world.proofs.SystemCounts.{count_by-filter_map, passes, picked, counted_all, same_map, same_permutation, covered_filter_map, of_substation-append}
 
 -- what the law of a link promises
 pub record LinkLaws : Type 0 where
@@ -73,12 +73,13 @@ took_stood laws l stands test some =
 
 -- what happened at a substation is what ever stood in its lanes
 pub happened_stood : LinkLaws → (indices : List Spans) {el : Elsewhere} (links : Links) (k : Kept) → IsBehind indices el links k → (i : ℕ)
-    → HasSameCounts (rows_of (links.below i).stood) (of_station i (happened (shown_of indices k)))
+    → HasSameCounts (rows_of (links.below i).stood) (of_substation i (happened (shown_of indices k)))
 happened_stood laws indices links k b i =
     let l : Link = links.below i in
     let left : List (ℕ × Row) = k.overwritten ++ k.gone in
-    let parts : of_station i (k.buffered ++ (k.confirmed ++ left)) ≡ of_station i k.buffered ++ (of_station i k.confirmed ++ of_station i left) =
-    of_station-append i k.buffered (k.confirmed ++ left) ∙ ap (λ (xs : List Row). of_station i k.buffered ++ xs) (of_station-append i k.confirmed left) in
+    let parts : of_substation i (k.buffered ++ (k.confirmed ++ left)) ≡ of_substation i k.buffered ++ (of_substation i k.confirmed ++ of_substation i left) =
+    of_substation-append i k.buffered (k.confirmed ++ left)
+    ∙ ap (λ (xs : List Row). of_substation i k.buffered ++ xs) (of_substation-append i k.confirmed left) in
     record {
       same = λ test.
           omega (
@@ -88,8 +89,8 @@ happened_stood laws indices links k b i =
             (b.confirmed i).same test,
             (b.left i).same test,
             ap (count_by test) parts,
-            count_by-append test (of_station i k.buffered) (of_station i k.confirmed ++ of_station i left),
-            count_by-append test (of_station i k.confirmed) (of_station i left),
+            count_by-append test (of_substation i k.buffered) (of_substation i k.confirmed ++ of_substation i left),
+            count_by-append test (of_substation i k.confirmed) (of_substation i left),
           );
     }
 
@@ -237,7 +238,7 @@ nothing_vanishes : Laws → (indices : List Spans) {el : Elsewhere} (links : Lin
 nothing_vanishes laws indices links k b =
     let came : List (ℕ × Row) = rows_below indices (rows_of links.above.stood) in
     let there : List Row = k.queue ++ (k.dropped ++ k.journal) in
-    let first : IsCoveredBy k.confirmed came = covered_by_stations row_eq laws.rows k.confirmed came
+    let first : IsCoveredBy k.confirmed came = covered_by_substations row_eq laws.rows k.confirmed came
     (λ i. record {
       at_most = λ test. omega (
         arith,
@@ -271,7 +272,7 @@ commands_entered indices entries = covered_filter_map (command_below indices) (u
 
 no_command_twice : Laws → (indices : List Spans) {el : Elsewhere} (links : Links) (k : Kept) → IsBehind indices el links k → IsCoveredBy k.operated k.issued
 no_command_twice laws indices {el = el} links k b =
-    let below : IsCoveredBy k.operated (used_orders k.controls) = covered_by_stations command_eq laws.commands k.operated (used_orders k.controls)
+    let below : IsCoveredBy k.operated (used_orders k.controls) = covered_by_substations command_eq laws.commands k.operated (used_orders k.controls)
     (λ i. record {
       at_most = λ test. omega (
         arith,

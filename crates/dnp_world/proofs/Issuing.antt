@@ -13,7 +13,7 @@ use Rattle.dnp_concentrator.specs.Mapped.{command_above, command_below}
 use Rattle.dnp_world.specs.Behind.{Elsewhere, does_nothing, with_links, Turn}
 use Rattle.dnp_world.specs.Kept.{kept_in, report_of, command_of, commands_below, commands_in, orders_in, used_commands, used_orders}
 use Rattle.dnp_world.specs.Reports.{happened}
-use Rattle.dnp_world.specs.Stations.{of_station}
+use Rattle.dnp_world.specs.Stations.{of_substation}
 use Rattle.dnp_world.specs.Systems.{SubstationState, System, link_at}
 use Rattle.dnp_world.specs.SystemEvents.{IssuesBy}
 use Rattle.dnp_world.specs.SystemStanding.{lists_of, seen_below, seen_above, IsJoinedBelow, IsStanding, Keeps}
@@ -21,18 +21,18 @@ use Rattle.dnp_world.proofs.BelowKeeps.{TurnLaws, none_more, none_used, stays_st
 use Rattle.dnp_world.proofs.Books.{pending_last}
 use Rattle.dnp_world.proofs.SystemCounts.{given, given_first, same_refl, same_is}
 use Rattle.dnp_world.proofs.SystemPlans.{still_of_plan}
-use Rattle.dnp_world.proofs.Turning.{by_station}
+use Rattle.dnp_world.proofs.Turning.{by_substation}
 
 -- what the crate of the index map promises of commands
 abbrev pub Undoes : Type 0
-Undoes = (spans : List Spans) (station : ℕ) (command above : Command) → IsMap spans → command_above spans station command ≡ Some above
-    → command_below spans above ≡ Some (station, command)
+Undoes = (spans : List Spans) (substation : ℕ) (command above : Command) → IsMap spans → command_above spans substation command ≡ Some above
+    → command_below spans above ≡ Some (substation, command)
 
 -- nothing happens
-pub same_keeps : (station : ℕ) (s new : System) {el : Elsewhere} → IsStanding el s → new ≡ s → Keeps el station [] s new
-same_keeps station s new {el = el} h same =
-    subst (λ (x : System). Keeps el station [] s x) (sym same)
-    (record { standing = h; fate = λ i. none_more (of_station i (happened (report_of s))) })
+pub same_keeps : (substation : ℕ) (s new : System) {el : Elsewhere} → IsStanding el s → new ≡ s → Keeps el substation [] s new
+same_keeps substation s new {el = el} h same =
+    subst (λ (x : System). Keeps el substation [] s x) (sym same)
+    (record { standing = h; fate = λ i. none_more (of_substation i (happened (report_of s))) })
 
 -- ---- a command is issued
 
@@ -40,41 +40,41 @@ abbrev entry_of_order : System → Command → Entry
 entry_of_order s above = record { id = s.centre.orders.last_id + 1; target = 0; command = above; state = Pending }
 
 abbrev with_order : System → ℕ → Command → Command → System
-with_order s station command above = record s {
+with_order s substation command above = record s {
   centre = record s.centre {
     orders = record { entries = s.centre.orders.entries ++ entry_of_order s above ∷ []; last_id = s.centre.orders.last_id + 1 };
   };
-  history = record s.history { issued = s.history.issued ++ (station, command) ∷ [] };
+  history = record s.history { issued = s.history.issued ++ (substation, command) ∷ [] };
 }
 
 -- its book's commands, as they go down, get it
-ordered_more : Undoes → (s : System) (station : ℕ) (command above : Command) → IsMap s.indices → command_above s.indices station command ≡ Some above
+ordered_more : Undoes → (s : System) (substation : ℕ) (command above : Command) → IsMap s.indices → command_above s.indices substation command ≡ Some above
     → commands_below s.indices (commands_in (s.centre.orders.entries ++ entry_of_order s above ∷ []))
-    ≡ commands_below s.indices (commands_in s.centre.orders.entries) ++ (station, command) ∷ []
-ordered_more undoes s station command above m e =
+    ≡ commands_below s.indices (commands_in s.centre.orders.entries) ++ (substation, command) ∷ []
+ordered_more undoes s substation command above m e =
     let before : List Command = commands_in s.centre.orders.entries in
     ap (commands_below s.indices) (map-append command_of s.centre.orders.entries (entry_of_order s above ∷ []))
     ∙ filter_map-append (command_below s.indices) before (above ∷ [])
     ∙ ap (λ (xs : List (ℕ × Command)). commands_below s.indices before ++ xs)
     (given_first (command_below s.indices) above []
-    ∙ ap (λ (o : Option (ℕ × Command)). given o []) (undoes s.indices station command above m e))
+    ∙ ap (λ (o : Option (ℕ × Command)). given o []) (undoes s.indices substation command above m e))
 
-issue_turn : Undoes → (s : System) {el : Elsewhere} (h : IsStanding el s) (station : ℕ) (command above : Command) → IsMap s.indices
-    → command_above s.indices station command ≡ Some above → Turn s.indices station h.links (kept_in s) (kept_in (with_order s station command above))
-issue_turn undoes s h station command above m e =
+issue_turn : Undoes → (s : System) {el : Elsewhere} (h : IsStanding el s) (substation : ℕ) (command above : Command) → IsMap s.indices
+    → command_above s.indices substation command ≡ Some above → Turn s.indices substation h.links (kept_in s) (kept_in (with_order s substation command above))
+issue_turn undoes s h substation command above m e =
     let used : used_commands (s.centre.orders.entries ++ entry_of_order s above ∷ []) ≡ used_commands s.centre.orders.entries =
     pending_last command_of s.centre.orders.entries (entry_of_order s above) refl in
     record {
-      below = h.links.below station;
+      below = h.links.below substation;
       above = h.links.above;
       here = does_nothing;
       there = does_nothing;
-      below_grows = stays_still (h.links.below station);
+      below_grows = stays_still (h.links.below substation);
       above_grows = stays_still h.links.above;
       joined = refl;
       mapped = refl;
-      buffered = h.behind.buffered station;
-      others = λ i other. same_refl (of_station i (kept_in s).buffered);
+      buffered = h.behind.buffered substation;
+      others = λ i other. same_refl (of_substation i (kept_in s).buffered);
       confirmed = none_more s.history.confirmed;
       left = none_more (s.history.overwritten ++ s.history.gone);
       queue = h.behind.queue;
@@ -86,43 +86,43 @@ issue_turn undoes s h station command above m e =
       added = none_more (orders_in (kept_in s).controls);
       used_above = subst (λ (xs : List Command). IsCoveredBy (used_commands s.centre.orders.entries ++ []) xs) (sym used)
           (none_used (used_commands s.centre.orders.entries));
-      issues = (station, command) ∷ [];
-      issued = same_refl (s.history.issued ++ (station, command) ∷ []);
+      issues = (substation, command) ∷ [];
+      issued = same_refl (s.history.issued ++ (substation, command) ∷ []);
       ordered = same_is (commands_below s.indices (commands_in (s.centre.orders.entries ++ entry_of_order s above ∷ [])))
-          (commands_below s.indices (commands_in s.centre.orders.entries) ++ (station, command) ∷ [])
-          (ordered_more undoes s station command above m e);
+          (commands_below s.indices (commands_in s.centre.orders.entries) ++ (substation, command) ∷ [])
+          (ordered_more undoes s substation command above m e);
     }
 
-issued : TurnLaws → Undoes → (s : System) {el : Elsewhere} (h : IsStanding el s) (station : ℕ) (command above : Command) → IsMap s.indices
-    → command_above s.indices station command ≡ Some above → Keeps el station [] s (with_order s station command above)
+issued : TurnLaws → Undoes → (s : System) {el : Elsewhere} (h : IsStanding el s) (substation : ℕ) (command above : Command) → IsMap s.indices
+    → command_above s.indices substation command ≡ Some above → Keeps el substation [] s (with_order s substation command above)
 unfolding issue_turn
-issued laws undoes s h station command above m e =
-    let new : System = with_order s station command above in
-    let t : Turn s.indices station h.links (kept_in s) (kept_in new) = issue_turn undoes s h station command above m e in
+issued laws undoes s h substation command above m e =
+    let new : System = with_order s substation command above in
+    let t : Turn s.indices substation h.links (kept_in s) (kept_in new) = issue_turn undoes s h substation command above m e in
     record {
       standing = record {
         plan = h.plan;
         of_plan = still_of_plan s new h.plan refl refl refl refl refl h.of_plan;
-        links = with_links h.links station (h.links.below station) h.links.above;
-        below = by_station (λ i x. IfSome (slice_get s.substations i) (IsJoinedBelow s.now (link_at s.concentrator i) x)) h.links station
-            (h.links.below station) h.links.above (h.below station) (λ i other. h.below i);
+        links = with_links h.links substation (h.links.below substation) h.links.above;
+        below = by_substation (λ i x. IfSome (slice_get s.substations i) (IsJoinedBelow s.now (link_at s.concentrator i) x)) h.links substation
+            (h.links.below substation) h.links.above (h.below substation) (λ i other. h.below i);
         above = h.above;
-        behind = laws.kept s.indices station h.links (kept_in s) (kept_in new) h.behind t;
+        behind = laws.kept s.indices substation h.links (kept_in s) (kept_in new) h.behind t;
       };
-      fate = laws.fate s.indices station h.links (kept_in s) (kept_in new) h.behind t;
+      fate = laws.fate s.indices substation h.links (kept_in s) (kept_in new) h.behind t;
     }
 
-pub issues : TurnLaws → Undoes → (old new : System) {el : Elsewhere} (station : ℕ) (command : Command) → IsStanding el old
-    → IssuesBy (command_above old.centre.indices station command) station command old new → Keeps el station [] old new
-issues laws undoes old new {el = el} station command h e =
-    by (command_above old.centre.indices station command) refl e
+pub issues : TurnLaws → Undoes → (old new : System) {el : Elsewhere} (substation : ℕ) (command : Command) → IsStanding el old
+    → IssuesBy (command_above old.centre.indices substation command) substation command old new → Keeps el substation [] old new
+issues laws undoes old new {el = el} substation command h e =
+    by (command_above old.centre.indices substation command) refl e
   where
-    by : (o : Option Command) → command_above old.centre.indices station command ≡ o → IssuesBy o station command old new → Keeps el station [] old new
-    by None is k = same_keeps station old new h k
+    by : (o : Option Command) → command_above old.centre.indices substation command ≡ o → IssuesBy o substation command old new → Keeps el substation [] old new
+    by None is k = same_keeps substation old new h k
     by (Some above) is k =
-        subst (λ (x : System). Keeps el station [] old x) (sym k.2)
-        (issued laws undoes old h station command above h.of_plan.is_map
-        (ap (λ (spans : List Spans). command_above spans station command) (sym h.of_plan.centre_indices) ∙ is))
+        subst (λ (x : System). Keeps el substation [] old x) (sym k.2)
+        (issued laws undoes old h substation command above h.of_plan.is_map
+        (ap (λ (spans : List Spans). command_above spans substation command) (sym h.of_plan.centre_indices) ∙ is))
 
 -- ---- time passes
 
@@ -134,9 +134,10 @@ joined_at now s h i (Some substation) j = record {
   shown = j.shown;
 }
 
-pub passes : (old new : System) {el : Elsewhere} (now : ℕ) (station : ℕ) → IsStanding el old → new ≡ record old { now = now } → Keeps el station [] old new
-passes old new {el = el} now station h e =
-    subst (λ (x : System). Keeps el station [] old x) (sym e)
+pub passes : (old new : System) {el : Elsewhere} (now : ℕ) (substation : ℕ) → IsStanding el old → new ≡ record old { now = now }
+    → Keeps el substation [] old new
+passes old new {el = el} now substation h e =
+    subst (λ (x : System). Keeps el substation [] old x) (sym e)
     (record {
       standing = record {
         plan = h.plan;
@@ -146,5 +147,5 @@ passes old new {el = el} now station h e =
         above = relisted (seen_above old (lists_of h.links.above)) h.links.above now h.above;
         behind = h.behind;
       };
-      fate = λ i. none_more (of_station i (happened (report_of old)));
+      fate = λ i. none_more (of_substation i (happened (report_of old)));
     })

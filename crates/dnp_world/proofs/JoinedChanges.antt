@@ -36,7 +36,11 @@ change_if : {Sink : Type 0} → MoveLaws → (others : List Row) (s new : LinkSt
 change_if {Sink = Sink} laws others s new l kind index reading (Ok made) answer stands j h =
     let step : Step = change_of s.outstation s.now kind index reading made in
     let first : Step = record {
-      state = record s.outstation { core = record s.outstation.core { points = changed_of s.outstation.core.points kind index reading }; lanes = with_rows s.outstation.lanes (option_to_list made) };
+      state = record s.outstation {
+        core = record s.outstation.core { points = changed_of s.outstation.core.points kind index reading };
+        lanes =
+            with_rows s.outstation.lanes (option_to_list made);
+      };
       does = record nothing { overwritten = dropped_by s.outstation.lanes (option_to_list made) };
     } in
     let ends : s.outstation.core.is_open ≡ false → step ≡ first = still_closed s.now first (laws.outstation.ends s.now first) in

@@ -34,7 +34,8 @@ same_stood others s l j =
     let parts : map buffered_row (l.lanes ++ (l.released ++ l.left)) ≡ rows_in s.outstation.lanes ++ (s.released ++ map buffered_row l.left) =
     map-append buffered_row l.lanes (l.released ++ l.left)
     ∙ ap (λ (xs : List Row). xs ++ map buffered_row (l.released ++ l.left)) lanes
-    ∙ ap (λ (xs : List Row). rows_in s.outstation.lanes ++ xs) (map-append buffered_row l.released l.left ∙ ap (λ (xs : List Row). xs ++ map buffered_row l.left) j.released) in
+    ∙ ap (λ (xs : List Row). rows_in s.outstation.lanes ++ xs)
+    (map-append buffered_row l.released l.left ∙ ap (λ (xs : List Row). xs ++ map buffered_row l.left) j.released) in
     subst (λ (xs : List Row). IsPermutation xs (stood_in others s)) (sym parts)
     (IsPermutation-append_right (rows_in s.outstation.lanes) (s.released ++ map buffered_row l.left) (s.released ++ (s.left ++ others))
     (IsPermutation-append_right s.released (map buffered_row l.left) (s.left ++ others) j.left))
@@ -62,7 +63,8 @@ law_of laws others s h =
     record {
       covered = covered_in_order s.released (map buffered_row l.took) s.taken j.taken
           (subst (λ (xs : List Row). IsCoveredBy xs (map buffered_row l.took)) j.released (laws.covered l h.stands));
-      stood = All-weaker (Contains all) (Contains (stood_in others s)) (λ x there. Contains-permutation all (stood_in others s) x (same_stood others s l j) there) s.taken stood;
+      stood = All-weaker (Contains all) (Contains (stood_in others s))
+          (λ x there. Contains-permutation all (stood_in others s) x (same_stood others s l j) there) s.taken stood;
     }
 
 -- ---- what it grows by

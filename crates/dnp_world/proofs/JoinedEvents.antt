@@ -64,7 +64,8 @@ goes_away {Sink = Sink} laws others s new l step silent none closes j sim h =
     let link : Link = lost_down all sim.link in
     let after : LinkState Sink = record s { outstation = step.state; channel = hung_up_at end.Outstation s.channel; left = s.left ++ step.does.overwritten } in
     let up_is : map octets_of sim.link.up ≡ map octets_of l.up =
-    ap (map octets_of) sim.up ∙ map-append octets_of l.up sim.sent ∙ ap (λ (fs : List (List ℕ)). map octets_of l.up ++ fs) (sim.octets ∙ silent) ∙ append-nil (map octets_of l.up) in
+    ap (map octets_of) sim.up ∙ map-append octets_of l.up sim.sent ∙ ap (λ (fs : List (List ℕ)). map octets_of l.up ++ fs) (sim.octets ∙ silent)
+    ∙ append-nil (map octets_of l.up) in
     let up : Carries s.channel.up (reset_of s.channel.outstation_port) s.channel.master_port step.state.core.is_open (map octets_of l.up) =
     carries_still s.channel.up (reset_of s.channel.outstation_port) s.channel.master_port false step.state.core.is_open (map octets_of l.up) (λ e. closes)
     (carries_mute laws.line s.channel.up s.channel.outstation_port s.channel.master_port s.outstation.core.is_open (map octets_of l.up) j.up) in
@@ -176,7 +177,8 @@ event_follows laws takes panel shown others s new l (event.Damage way.Up octets)
     (carries_damaged laws.line s.channel.up new.channel.up s.channel.outstation_port s.channel.master_port s.outstation.core.is_open (map octets_of l.up)
     octets.items h.damages.0 j.up))
 event_follows laws takes panel shown others s new l (event.Change kind index reading) stands j h =
-    subst (λ rows. Follows others (arriving rows) [] s.outstation.performed l new) (sym (append-nil _)) (change_follows laws others s new l kind index reading stands j h)
+    subst (λ rows. Follows others (arriving rows) [] s.outstation.performed l new) (sym (append-nil _))
+    (change_follows laws others s new l kind index reading stands j h)
 event_follows laws takes panel shown others s new l (event.Ask task) stands j h = asks_follow laws others s new l task j h
 event_follows laws takes panel shown others s new l (event.Pass ms) stands j h =
     stays_as others l new _ h (with_lines others s l s.channel.down s.channel.up s.channel.outstation_port s.channel.master_port _ j j.down j.up)

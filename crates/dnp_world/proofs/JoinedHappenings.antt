@@ -73,9 +73,11 @@ none_in change (block ∷ blocks) index e = by (has_index block index) (λ there
   where
     by : (b : Bool) → (state_in blocks index ≡ None → updated_in change blocks index ≡ blocks)
         → (if b then slice_get block.points (index - block.base) else state_in blocks index) ≡ None
-        → (if b then record block { points = updated change block.points (index - block.base) } ∷ blocks else block ∷ updated_in change blocks index) ≡ block ∷ blocks
+        → (if b then record block { points = updated change block.points (index - block.base) } ∷ blocks
+        else block ∷ updated_in change blocks index) ≡ block ∷ blocks
     by true others there =
-        ap (λ (points : List PointState). let b : BlockState = record block { points = points } in b ∷ blocks) (none_updated change block.points (index - block.base) there)
+        ap (λ (points : List PointState). let b : BlockState = record block { points = points } in b ∷ blocks)
+        (none_updated change block.points (index - block.base) there)
     by false others there = ap (λ (bs : List BlockState). block ∷ bs) (others there)
 
 -- out of range, or no point
@@ -104,7 +106,8 @@ pub refused_change : (database : Database) (kind : Kind) (index : ℕ) (reading 
     → changed_of database kind index reading ≡ database
 refused_change database kind index reading fault e =
     same_blocks database kind (changed_in (blocks_of database kind) kind index reading)
-    (refused_if (blocks_of database kind) kind index reading fault (state_in (blocks_of database kind) index) (is_carried kind reading) (is_in_time reading.time) refl refl refl e)
+    (refused_if (blocks_of database kind) kind index reading fault (state_in (blocks_of database kind) index) (is_carried kind reading)
+    (is_in_time reading.time) refl refl refl e)
 
 -- ---- the points after an event
 

@@ -228,7 +228,8 @@ asks_by : {Sink : Type 0} → MoveLaws → (others : List Row) (s new : LinkStat
     → is_own task ≡ true → Joined others s l → AsksBy r task s new → Follows others [] [] s.outstation.performed l new
 asks_by laws others s new l task (Ok octets) answer own j h =
     let law : MasterAsks s.master task octets (asked s.master s.now task) =
-    of_ok (λ octets. MasterAsks s.master task octets (asked s.master s.now task)) (ask_answer s.master task) octets answer (laws.master.asked s.master s.now task) in
+    of_ok (λ octets. MasterAsks s.master task octets (asked s.master s.now task)) (ask_answer s.master task) octets answer
+    (laws.master.asked s.master s.now task) in
     subst (λ (asks : List Command). Follows others [] asks s.outstation.performed l new)
     (ap commands_in law.octets_are ∙ own_asks_none s.master.seq task own)
     (after_asking laws.line laws.master others s new l task octets (asked_octets s.master.seq task j.number own) j answer h)

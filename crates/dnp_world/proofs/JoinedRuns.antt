@@ -67,8 +67,10 @@ run_follows laws takes others s new l (e ∷ events) stands j (next, first, late
     event_follows laws takes no_panel no_octets others s next l e stands j first in
     let g : Follows others (rows_made_by next.outstation.core.points events) [] next.outstation.performed f.link new =
     run_follows laws takes others next new f.link events (moves_stand l f.link f.moves stands) f.joined later in
-    let rows : arriving (rows_of s.outstation.core.points (point_moves e)) ++ rows_made_by next.outstation.core.points events ≡ rows_made_by s.outstation.core.points (e ∷ events) =
-    ap (λ (d : Database). arriving (rows_of s.outstation.core.points (point_moves e)) ++ rows_made_by d events) (event_points laws.points takes no_panel s next e first)
+    let rows : arriving (rows_of s.outstation.core.points (point_moves e)) ++ rows_made_by next.outstation.core.points events
+    ≡ rows_made_by s.outstation.core.points (e ∷ events) =
+    ap (λ (d : Database). arriving (rows_of s.outstation.core.points (point_moves e)) ++ rows_made_by d events)
+    (event_points laws.points takes no_panel s next e first)
     ∙ made_behind s.outstation.core.points e events in
     subst (λ (rows : List Row). Follows others rows [] s.outstation.performed l new) rows
     (follows_both others (arriving (rows_of s.outstation.core.points (point_moves e))) (rows_made_by next.outstation.core.points events)
@@ -80,7 +82,8 @@ pub one_follows : {Sink : Type 0} → MoveLaws → (takes : Sink → List Row �
     → Stands l → Joined others s l → HappensOn takes panel s e new
     → Follows others (rows_made_by s.outstation.core.points (e ∷ [])) [] s.outstation.performed l new
 one_follows laws takes panel shown others s new l e stands j h =
-    subst (λ (moves : List Move). Follows others (arriving (rows_of s.outstation.core.points moves)) [] s.outstation.performed l new) (sym (append-nil (point_moves e)))
+    subst (λ (moves : List Move). Follows others (arriving (rows_of s.outstation.core.points moves)) [] s.outstation.performed l new)
+    (sym (append-nil (point_moves e)))
     (event_follows laws takes panel shown others s new l e stands j h)
 
 -- ---- a list that stops
@@ -88,8 +91,10 @@ one_follows laws takes panel shown others s new l e stands j h =
 counts_follows : {Sink : Type 0} → MoveLaws → (takes : Sink → List Row → List Row → List Row → Sink → Type 0) (others : List Row)
     → (s new : LinkState Sink) (l : Link) (e : LinkEvent)
     → Stands l → Joined others s l → CountsFor takes s e new → Follows others [] [] s.outstation.performed l new
-counts_follows laws takes others s new l (event.Deliver way.Down) stands j h = event_follows laws takes no_panel no_octets others s new l (event.Lose way.Down) stands j h
-counts_follows laws takes others s new l (event.Deliver way.Up) stands j h = event_follows laws takes no_panel no_octets others s new l (event.Lose way.Up) stands j h
+counts_follows laws takes others s new l (event.Deliver way.Down) stands j h =
+    event_follows laws takes no_panel no_octets others s new l (event.Lose way.Down) stands j h
+counts_follows laws takes others s new l (event.Deliver way.Up) stands j h =
+    event_follows laws takes no_panel no_octets others s new l (event.Lose way.Up) stands j h
 counts_follows laws takes others s new l e stands j h = stays_as others l new s h j
 
 pub stop_follows : {Sink : Type 0} → MoveLaws → (takes : Sink → List Row → List Row → List Row → Sink → Type 0) (keeps : Sink → Sink → Type 0)
@@ -123,7 +128,8 @@ pub append_follows : {Sink : Type 0} (others : List Row) (s : LinkState Sink) (l
 append_follows others s l rows j sim =
     let dropped : List Row = dropped_by s.outstation.lanes rows in
     let up_is : map octets_of sim.link.up ≡ map octets_of l.up =
-    ap (map octets_of) sim.up ∙ map-append octets_of l.up sim.sent ∙ ap (λ (fs : List (List ℕ)). map octets_of l.up ++ fs) sim.octets ∙ append-nil (map octets_of l.up) in
+    ap (map octets_of) sim.up ∙ map-append octets_of l.up sim.sent ∙ ap (λ (fs : List (List ℕ)). map octets_of l.up ++ fs) sim.octets
+    ∙ append-nil (map octets_of l.up) in
     record {
       link = sim.link;
       moves = sim.moves;
@@ -150,7 +156,8 @@ append_follows others s l rows j sim =
     }
 
 -- what left for others may be listed with the rest
-pub listed : {Sink : Type 0} (others dropped : List Row) (s : LinkState Sink) (l : Link) → Joined (others ++ dropped) s l → Joined others (record s { left = s.left ++ dropped }) l
+pub listed : {Sink : Type 0} (others dropped : List Row) (s : LinkState Sink) (l : Link) → Joined (others ++ dropped) s l
+    → Joined others (record s { left = s.left ++ dropped }) l
 listed others dropped s l j =
     with_lists (others ++ dropped) others s l s.sink s.now s.taken s.released (s.left ++ dropped) j j.taken j.released
     (IsPermutation-trans (map buffered_row l.left) (s.left ++ (others ++ dropped)) ((s.left ++ dropped) ++ others) j.left

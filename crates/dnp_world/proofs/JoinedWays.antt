@@ -198,7 +198,8 @@ speaks_on laws fragment line line' sender sender' receiver rest s c =
     let old : Way = way_of line sender receiver false c.sent c.given in
     let new : Way = way_of line' sender' receiver false (c.sent ++ fragment ∷ []) c.given in
     let ready : Way = way_of (all_sent_on s.units line) (moved_on (cut_count (length fragment)) sender) receiver false (c.sent ++ fragment ∷ []) c.given in
-    let after : new ≡ ready = way_same line' (all_sent_on s.units line) sender' (moved_on (cut_count (length fragment)) sender) receiver (c.sent ++ fragment ∷ []) c.given s.line_is s.port_is in
+    let after : new ≡ ready = way_same line' (all_sent_on s.units line) sender' (moved_on (cut_count (length fragment)) sender) receiver
+    (c.sent ++ fragment ∷ []) c.given s.line_is s.port_is in
     let h = laws.kept old new (Send fragment) rest c.flows (record { some = s.some; fits = s.fits; units = s.units; spelled = s.spelled; after = after }) in
     record { sent = c.sent ++ fragment ∷ []; given = c.given; flows = subst (λ (r : List (List ℕ)). Flows new r) h.1 h.2 }
 
@@ -246,7 +247,8 @@ carries_sent laws fragments line line' sender sender' receiver is_open rest quie
 -- the sender's number has moved on, and nothing else of its port
 sent_port : (fragments : List (List ℕ)) (line line' : LineState) (sender sender' : PortState) → AreSent fragments line sender line' sender'
     → sender' ≡ record sender { number = sender'.number }
-sent_port [] line line' sender sender' s = s.1 ∙ ap (λ (n : ℕ). let p : PortState = record sender { number = n } in p) (sym (ap (λ (p : PortState). p.number) s.1))
+sent_port [] line line' sender sender' s =
+    s.1 ∙ ap (λ (n : ℕ). let p : PortState = record sender { number = n } in p) (sym (ap (λ (p : PortState). p.number) s.1))
 sent_port (fragment ∷ fragments) line line' sender sender' (between, port, first, others) =
     let later : sender' ≡ record port { number = sender'.number } = sent_port fragments between line' port sender' others in
     let now : port ≡ record sender { number = port.number } =

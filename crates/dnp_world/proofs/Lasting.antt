@@ -7,11 +7,11 @@ use Rattle.std.proofs.lemmas.List.Elements.{All-head, All-tail, All-take}
 use Rattle.dnp_objects.specs.declared.row.Row.{Row}
 use Rattle.dnp_world.specs.BothSteady.{AreSteady, GoesOn, IsFateOfAll, Lasts}
 use Rattle.dnp_world.specs.Centres.{HappensToAll, may_stop}
-use Rattle.dnp_world.specs.Controls.{ControlEnds, IsControlFor, IsRefusedFor, AtCentre, AtConcentrator, IsRefusedOn, First, Second, Third, IsTold, next_below, station_in}
+use Rattle.dnp_world.specs.Controls.{ControlEnds, IsControlFor, IsRefusedFor, AtCentre, AtConcentrator, IsRefusedOn, First, Second, Third, IsTold, next_below, substation_in}
 use Rattle.dnp_world.specs.Kept.{report_of}
 use Rattle.dnp_world.specs.Reports.{IsFate, Report, happened}
 use Rattle.dnp_world.specs.Rounds.{IsRound, StopsInRound}
-use Rattle.dnp_world.specs.Stations.{HasSameCounts, of_station}
+use Rattle.dnp_world.specs.Stations.{HasSameCounts, of_substation}
 use Rattle.dnp_world.specs.Steady.{points_at, rows_made_at}
 use Rattle.dnp_world.specs.SystemRuns.{CountsFor, RunsTo, StopsAfter}
 use Rattle.dnp_world.specs.Systems.{System}
@@ -44,7 +44,7 @@ pub record LastingLaws : Type 0 where
   pub joined : (first second : ℕ → List Row) (a b c : Report) → IsFate first a b → IsFate second b c → IsFate (λ i. first i ++ second i) a c
 
 pub nothing_more : (r : Report) → IsFate (λ i. []) r r
-nothing_more r i = record { same = λ test. omega (arith, count_by-append test (of_station i (happened r)) []) }
+nothing_more r i = record { same = λ test. omega (arith, count_by-append test (of_substation i (happened r)) []) }
 
 pub rests : (old new : Whole) → AreSteady old → new ≡ old → GoesOn (λ i. []) old new
 rests old new s same = subst (GoesOn (λ i. []) old) (sym same) (record { steady = s; fate = λ centre low. nothing_more (report_of (seen_by centre old)) })
@@ -52,7 +52,7 @@ rests old new s same = subst (GoesOn (λ i. []) old) (sym same) (record { steady
 -- with the same rows, said otherwise
 pub fate_as : (made rows : ℕ → List Row) (old new : Report) → ((i : ℕ) → made i ≡ rows i) → IsFate made old new → IsFate rows old new
 fate_as made rows old new same fate i =
-    subst (λ (xs : List Row). HasSameCounts (of_station i (happened new)) (of_station i (happened old) ++ xs)) (same i) (fate i)
+    subst (λ (xs : List Row). HasSameCounts (of_substation i (happened new)) (of_substation i (happened old) ++ xs)) (same i) (fate i)
 
 pub goes_as : (made rows : ℕ → List Row) (old new : Whole) → ((i : ℕ) → made i ≡ rows i) → GoesOn made old new → GoesOn rows old new
 goes_as made rows old new same g = record {
@@ -198,19 +198,20 @@ ran_refused see on id status old new (Second selected back t) =
 ran_refused see on id status old new (Third selected operated first second t) =
     ran_both IsOfControl old operated new (ran_twice see on id old selected operated first second) (ran_told see on id status operated new t)
 
-ran_refused_for : (see : Whole → System) (centre : ℕ) (station : Option ℕ) (id status : ℕ) (old new : Whole)
-    → IsRefusedFor HappensToAll see centre station id status old new → Ran IsOfControl old new
-ran_refused_for see centre station id status old new (AtCentre r) = ran_refused see (Above centre) (Some id) status old new r
-ran_refused_for see centre station id status old new (AtConcentrator its above is accepted r) =
+ran_refused_for : (see : Whole → System) (centre : ℕ) (substation : Option ℕ) (id status : ℕ) (old new : Whole)
+    → IsRefusedFor HappensToAll see centre substation id status old new → Ran IsOfControl old new
+ran_refused_for see centre substation id status old new (AtCentre r) = ran_refused see (Above centre) (Some id) status old new r
+ran_refused_for see centre substation id status old new (AtConcentrator its above is accepted r) =
     ran_both IsOfControl old above new (ran_accepted see (Above centre) (Some id) old above accepted)
     (ran_refused see (Below its) (next_below (see above) its) status above new r)
 
-ran_control : (see : Whole → System) (centre : ℕ) (station : Option ℕ) (id : ℕ) (old new : Whole) → IsControlFor HappensToAll see centre station id old new
+ran_control : (see : Whole → System) (centre : ℕ) (substation : Option ℕ) (id : ℕ) (old new : Whole)
+    → IsControlFor HappensToAll see centre substation id old new
     → Ran IsOfControl old new
 ran_control see centre None id old new accepted = ran_accepted see (Above centre) (Some id) old new accepted
-ran_control see centre (Some station) id old new (above, first, second) =
+ran_control see centre (Some substation) id old new (above, first, second) =
     ran_both IsOfControl old above new (ran_accepted see (Above centre) (Some id) old above first)
-    (ran_accepted see (Below station) (next_below (see above) station) above new second)
+    (ran_accepted see (Below substation) (next_below (see above) substation) above new second)
 
 -- what a control leaves, by what is so where nothing happened, where its events happened, and where they stopped
 pub control_leaves : (Leaves : Whole → Whole → Type 0) → ((old new : Whole) → new ≡ old → Leaves old new)
@@ -218,14 +219,14 @@ pub control_leaves : (Leaves : Whole → Whole → Type 0) → ((old new : Whole
     → (see : Whole → System) (centre id : ℕ) (old new : Whole) (result : Result ⊤ ControlFault)
     → ControlEnds HappensToAll see may_stop centre id old result new → Leaves old new
 control_leaves Leaves rest ran stop see centre id old new (Ok done) (can, control) = ran old new
-    (ran_control see centre (station_in (see old) id) id old new control)
+    (ran_control see centre (substation_in (see old) id) id old new control)
 control_leaves Leaves rest ran stop see centre id old new (Err fault.NotQuiet) (loud, same) = rest old new same
 control_leaves Leaves rest ran stop see centre id old new (Err fault.NotNext) (quiet, waits, same) = rest old new same
 control_leaves Leaves rest ran stop see centre id old new (Err (fault.Refused status)) (can, refused) =
-    ran old new (ran_refused_for see centre (station_in (see old) id) id status old new refused)
+    ran old new (ran_refused_for see centre (substation_in (see old) id) id status old new refused)
 control_leaves Leaves rest ran stop see centre id old new (Err (fault.Fault cause)) (inl same) = rest old new same
 control_leaves Leaves rest ran stop see centre id old new (Err (fault.Fault cause)) (inr (can, stops)) =
-    stop old new (stops_for see centre (station_in (see old) id) id old new stops)
+    stop old new (stops_for see centre (substation_in (see old) id) id old new stops)
 
 pub calm_control : LastingLaws → (see : Whole → System) (centre id : ℕ) (old new : Whole) (result : Result ⊤ ControlFault) → AreSteady old
     → ControlEnds HappensToAll see may_stop centre id old result new → GoesOn (λ i. []) old new

@@ -19,13 +19,13 @@ same_map e used = refl
 -- a step of relaying says of an entry what becomes of it, and its command stays
 same_controls : (e : Ends) (used : Used e) → leaves_books used ≡ true
     → map order_of (after_used e used).controls.entries ≡ map order_of e.controls.entries
-same_controls e (LinkRelays station now) leaves = book_same order_of (λ (x : Entry) state. refl) e.controls (step_at e station)
+same_controls e (LinkRelays substation now) leaves = book_same order_of (λ (x : Entry) state. refl) e.controls (step_at e substation)
 same_controls e (Performs spans commands) leaves = absurd (cc)
 same_controls e used leaves = refl
 
 same_orders : (e : Ends) (used : Used e) → leaves_books used ≡ true → (after_used e used).orders.entries ≡ e.orders.entries
 same_orders e (CentreRelays now) leaves = absurd (cc)
-same_orders e (Issues station command above is fits) leaves = absurd (cc)
+same_orders e (Issues substation command above is fits) leaves = absurd (cc)
 same_orders e used leaves = refl
 
 pub left_books : (old new : System) (e : Event) → centre_at e ≡ None → Happens old e new → LeavesBooks old new

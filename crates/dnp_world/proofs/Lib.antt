@@ -59,7 +59,7 @@ mod CarriedRuns
 mod SystemSteps
 mod SystemReadings
 mod SystemCounts
-mod ByStations
+mod BySubstations
 mod Headline
 mod Turning
 mod SystemBeginning

@@ -14,7 +14,7 @@ use Rattle.dnp_master.specs.State as master
 use Rattle.dnp_master.specs.LinkCalls.{PassesOver, TakesResponse, TakesReport}
 use Rattle.dnp_concentrator.specs.declared.two.Two.{Two}
 use Rattle.dnp_world.specs.Channels.{ChannelState, GoDown, left_by}
-use Rattle.dnp_world.specs.MasterEnds.{ComesToMaster, ListsDropped, TakesBy, TakesIn, none_dropped}
+use Rattle.dnp_world.specs.MasterEnds.{AreFew, ComesToMaster, ListsDropped, TakesBy, TakesIn, none_dropped}
 use Rattle.dnp_world.specs.Octets.{rows_in}
 use Rattle.dnp_world.proofs.OneLinkArrivals.{events_first}
 
@@ -40,25 +40,26 @@ none_listed first second first' second' same same_too = record {
   to_second = same_too ∙ sym (append-nil second);
 }
 
--- the rows that are dropped to either centre are no more than the octets' events
+-- the rows that are dropped to either centre are as few as its stores drop for what comes
 pub few_dropped : {Station : Type 0} (honest : Station → Type 0) (takes : Taking → Type 0) (drops : Taking → Two (List Row)) (keeps stays : Type 0)
     (s : master.State) (octets : List ℕ) (r : Result Taking MasterFault) (old new : Station) (answer : Result (MasterActions × List Row) MasterFault)
-    (a : MasterActions × List Row) → IfOk r (λ t. PassesOver s t ⊎ (TakesResponse s octets t ⊎ TakesReport s octets t))
-    → TakesIn honest takes drops keeps stays r old new answer → answer ≡ Ok a → honest new
-    → (length a.0.dropped ≤ length (rows_in octets)) × (length a.1 ≤ length (rows_in octets))
-few_dropped honest takes drops keeps stays s octets (Err fault) old new answer a law call is well =
+    (a : MasterActions × List Row) (most : ℕ) → IfOk r (λ t. PassesOver s t ⊎ (TakesResponse s octets t ⊎ TakesReport s octets t))
+    → ((t : Taking) → length t.events ≤ length (rows_in octets) → AreFew (length t.events) (drops t) → AreFew most (drops t))
+    → TakesIn honest takes drops keeps stays r old new answer → answer ≡ Ok a → honest new → (length a.0.dropped ≤ most) × (length a.1 ≤ most)
+few_dropped honest takes drops keeps stays s octets (Err fault) old new answer a most law bound call is well =
     let refused : Result (MasterActions × List Row) MasterFault = Err fault in
     let never : refused ≡ Ok a = sym call.refused ∙ is in absurd (cc)
-few_dropped honest takes drops keeps stays s octets (Ok t) old new answer a law call is well =
+few_dropped honest takes drops keeps stays s octets (Ok t) old new answer a most law bound call is well =
     let of = subst (λ (x : Result (MasterActions × List Row) MasterFault). IfOk x (λ a. (a.0 ≡ actions_of t (drops t).first)
     × (a.1 ≡ (drops t).second) × takes t)) is (call.taken well) in
     let few : length t.events ≤ length (rows_in octets) = omega (
       arith,
       length-take (length t.events) (rows_in octets),
       ap (λ (rows : List Row). length rows) (events_first s octets t law),
-    ) in (
-      omega (arith, call.few.0, few, ap (λ (x : MasterActions). length x.dropped) of.0),
-      omega (arith, call.few.1, few, ap (λ (rows : List Row). length rows) of.1),
+    ) in
+    let both = bound t few call.few in (
+      omega (arith, both.0, ap (λ (x : MasterActions). length x.dropped) of.0),
+      omega (arith, both.1, ap (λ (rows : List Row). length rows) of.1),
     )
 
 -- what was taken

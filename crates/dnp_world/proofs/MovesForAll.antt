@@ -33,7 +33,8 @@ above_rests : (n : ℕ) (old new : System) → RoundMoves (Above n) old new
     → (new.concentrator.controls ≡ old.concentrator.controls) × (new.history.issued ≡ old.history.issued)
 above_rests n old new m = by (is_repeated_on old (Above n)) refl
   where
-    of : {portion : State → Portion} → MovesAbove portion old new → (new.concentrator.controls ≡ old.concentrator.controls) × (new.history.issued ≡ old.history.issued)
+    of : {portion : State → Portion} → MovesAbove portion old new → (new.concentrator.controls ≡ old.concentrator.controls)
+        × (new.history.issued ≡ old.history.issued)
     of x = (ap (λ c. c.controls) x.concentrator, ap (λ h. h.issued) x.history)
 
     by : (b : Bool) → is_repeated_on old (Above n) ≡ b
@@ -55,11 +56,11 @@ other_rests old new x book issued =
 
 pub moves_all : MovesLaw → (on : Link) (old new : Whole) → AreSteady old → all.is_quiet_on old on ≡ true
     → IsRound HappensToAll (seen_at (centre_of on)) on old new → RoundMovesAll on old new
-moves_all law (Below station) old new s quiet round =
-    for_both _ (law (Below station) (seen_by 0 old) (seen_by 0 new) s.first s.here quiet
-    (round_seen (seen_at (centre_of (Below station))) 0 (omega arith) (Below station) refl refl (λ w way. refl) old new round))
-    (law (Below station) (seen_by 1 old) (seen_by 1 new) s.second s.there quiet
-    (round_seen (seen_at (centre_of (Below station))) 1 (omega arith) (Below station) refl refl (λ w way. refl) old new round))
+moves_all law (Below substation) old new s quiet round =
+    for_both _ (law (Below substation) (seen_by 0 old) (seen_by 0 new) s.first s.here quiet
+    (round_seen (seen_at (centre_of (Below substation))) 0 (omega arith) (Below substation) refl refl (λ w way. refl) old new round))
+    (law (Below substation) (seen_by 1 old) (seen_by 1 new) s.second s.there quiet
+    (round_seen (seen_at (centre_of (Below substation))) 1 (omega arith) (Below substation) refl refl (λ w way. refl) old new round))
 moves_all law (Above zero) old new s quiet round =
     let m : RoundMoves (Above 0) (seen_by 0 old) (seen_by 0 new) =
     law (Above 0) (seen_by 0 old) (seen_by 0 new) s.first s.here quiet

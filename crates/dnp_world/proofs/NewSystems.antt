@@ -40,7 +40,7 @@ use Rattle.dnp_world.specs.NewSystems.{AreEmpty, CanBegin, HasAllLanes, nothing_
 use Rattle.dnp_world.specs.OutstationSeen.{Shows}
 use Rattle.dnp_world.specs.Standing.{IsFresh}
 use Rattle.dnp_world.specs.Stations.{listed_from}
-use Rattle.dnp_world.specs.Systems.{SubstationState, System, at_station}
+use Rattle.dnp_world.specs.Systems.{SubstationState, System, at_substation}
 use Rattle.dnp_world.specs.SystemStanding.{lists_of, points_asked, seen, IsJoinedBelow, IsOfPlan, IsStanding}
 use Rattle.dnp_world.proofs.BelowEvents.{shown_with}
 use Rattle.dnp_world.proofs.JoinedRuns.{Opened}
@@ -154,7 +154,7 @@ joined_in queue r (Some s) h = h
 none_listed : (times : Times) (n number : ℕ) (plans : List SubPlan) → listed_from lane_rows_of n (fresh_substations times number plans) ≡ []
 none_listed times n number [] = refl
 none_listed times n number (s ∷ plans) =
-    ap (λ (rows : List Row). at_station n rows ++ listed_from lane_rows_of (n + 1) (fresh_substations times (suc number) plans)) (none_in s.lanes)
+    ap (λ (rows : List Row). at_substation n rows ++ listed_from lane_rows_of (n + 1) (fresh_substations times (suc number) plans)) (none_in s.lanes)
     ∙ none_listed times (n + 1) (suc number) plans
 
 -- ---- the system

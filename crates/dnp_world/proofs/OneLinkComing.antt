@@ -52,7 +52,8 @@ comes follows panel repeats old state does answered lines released c some all = 
   came = come follows panel repeats old state does answered c.port lines released c.given c.came some all;
 }
 
-few_given : Laws → (follows : List Command → Type 0) (panel : Panel) (now : ℕ) (before after : State) (does : Actions) (answered : Bool) (old new : ChannelState) (given : List (List ℕ))
+few_given : Laws → (follows : List Command → Type 0) (panel : Panel) (now : ℕ) (before after : State) (does : Actions) (answered : Bool)
+    (old new : ChannelState) (given : List (List ℕ))
     → AnswersTo given follows panel now before after does answered old new → answered ≡ true
     → length does.discarded ≤ length (rows_in before.lanes)
 few_given laws follows panel now before after does answered old new [] (none, same, is, _) one = absurd (false≢true (sym none ∙ one))
@@ -60,14 +61,16 @@ few_given laws follows panel now before after does answered old new (fragment �
     subst (λ (step : Step). length step.does.discarded ≤ length (rows_in before.lanes)) is (few_released laws before panel now fragment)
 
 -- no more rows are released than waited
-pub few_came : Laws → (follows : List Command → Type 0) (panel : Panel) (now : ℕ) (before after : State) (does : Actions) (answered : Bool) (old new : ChannelState)
+pub few_came : Laws → (follows : List Command → Type 0) (panel : Panel) (now : ℕ) (before after : State) (does : Actions) (answered : Bool)
+    (old new : ChannelState)
     → ComesToOutstation follows panel now before after does answered old new → answered ≡ true
     → length does.discarded ≤ length (rows_in before.lanes)
 few_came laws follows panel now before after does answered old new c one =
     few_given laws follows panel now before after does answered (record old { outstation_port = c.port }) new c.given c.came one
 
 unfollowed_by : (follows : List Command → Type 0) (panel : Panel) (now : ℕ) (before after : State) (does : Actions) (answered : Bool) (old new : ChannelState)
-    (given : List (List ℕ)) → AnswersTo given follows panel now before after does answered old new → AnswersTo given (λ _. ⊤) panel now before after does answered old new
+    (given : List (List ℕ)) → AnswersTo given follows panel now before after does answered old new
+    → AnswersTo given (λ _. ⊤) panel now before after does answered old new
 unfollowed_by follows panel now before after does answered old new [] (none, same, is, _) = (none, same, is, tt)
 unfollowed_by follows panel now before after does answered old new (fragment ∷ others) (one, is, up, _) = (one, is, up, tt)
 

@@ -1,6 +1,6 @@
 -- Lists of rows, as a link keeps them.
 use Rattle.std.proofs.Common.{◌≡◌, ℕ, zero, suc, ◌+◌, ◌*◌, ◌^◌, ◌<◌, ◌≤◌, List, [], ◌∷◌, ◌++◌, length, map, take, ap, ◌∙◌, arith, length-append, true, cond, Bool, Ok, Err}
-use Rattle.std.specs.Prelude.{slice_index_or}
+use Rattle.std.specs.Prelude.{All, slice_index_or}
 use Rattle.std.proofs.lemmas.List.{take_all, length-map}
 use Rattle.dnp_objects.specs.declared.limits.TheConstants.{LANES}
 use Rattle.dnp_objects.specs.declared.row.Row.{Row}
@@ -70,6 +70,17 @@ read_rows octets answered e = ap answered_events e
 pub no_rows : (octets : List ℕ) (fault : AppFault) → Err fault ≡ response_at octets → [] ≡ rows_read octets
 unfolding rows_read
 no_rows octets fault e = ap answered_events e
+
+-- each octet of a slice is one, wherever it is read
+pub all_octets : (octets : List ℕ) → ((i : ℕ) → slice_index_or octets i 0 < 256) → All (λ octet. octet < 2 ^ 8) octets
+all_octets [] fits k d low = absurd (omega (arith, low))
+all_octets (x ∷ xs) fits zero d low = let first : x < 256 = fits 0 in first
+all_octets (x ∷ xs) fits (suc k) d low = all_octets xs (λ i. let next : slice_index_or xs i 0 < 256 = fits (suc i) in next) k d (omega (arith, low))
+
+-- how many they are at most
+pub rows_by : (octets : List ℕ) (most : ℕ) → length (answered_events (response_at octets)) ≤ most → length (rows_read octets) ≤ most
+unfolding rows_read
+rows_by octets most few = few
 
 -- ---- a list that has room
 

@@ -38,8 +38,11 @@ sent_length unit l =
       | inl broken ↦
           omega (arith, ap (λ (m : LineState). length m.units) (cond-true (is_broken l) l (line_of (l.units ++ unit ∷ []) l.lost) broken))
       | inr whole ↦
-          omega
-          (arith, ap (λ (m : LineState). length m.units) (cond-false (is_broken l) l (line_of (l.units ++ unit ∷ []) l.lost) whole), length-append l.units (unit ∷ []))
+          omega (
+            arith,
+            ap (λ (m : LineState). length m.units) (cond-false (is_broken l) l (line_of (l.units ++ unit ∷ []) l.lost) whole),
+            length-append l.units (unit ∷ []),
+          )
     ]
 
 all_sent_length : (units : List (List ℕ)) (l : LineState) → length (all_sent_on units l).units ≤ length l.units + length units

@@ -21,7 +21,7 @@ use Rattle.dnp_world.specs.Opening.{OpensQuiet, reports_at, reports_on}
 use Rattle.dnp_world.specs.Rounds.{is_quiet_at, is_quiet_on}
 use Rattle.dnp_world.specs.SystemEvents.{OpensOn, with_link, with_substation}
 use Rattle.dnp_world.specs.SystemRuns.{Happens, IfThere, RunsTo}
-use Rattle.dnp_world.specs.Systems.{SubstationState, System, has_link, has_station, link_at, middle_of, station_of}
+use Rattle.dnp_world.specs.Systems.{SubstationState, System, has_link, has_substation, link_at, middle_of, station_of}
 use Rattle.dnp_world.specs.Wholes.{Whole}
 use Rattle.dnp_world.specs.declared.event.Event.{Event}
 use Rattle.dnp_world.specs.declared.event.Event.TheVariants.{Open}
@@ -94,31 +94,32 @@ opened_quiet s now c lines core is off h =
 
 -- ---- a link of the plan
 
-opens_below : (station : ℕ) (old new : System) → has_station old station ≡ true → reports_on new (Below station) ≡ false
-    → OpensOn (Below station) old new → is_quiet_on new (Below station) ≡ true
-opens_below station old new has off e =
-    let link : Relaying = relaying.opened (link_at old.concentrator station) in
-    let set : System = with_link old station link in
-    let last : System = with_substation set station e.is in
-    let low : station < length old.concentrator.links =
-    ltb-true station (length old.concentrator.links)
-    ((and_parts (nat_lt station (length old.substations)) (nat_lt station (length old.concentrator.links)) has).1) in
-    let idle : is_idle (link_at last.concentrator station).master ≡ true =
-    ap (λ (r : Relaying). is_idle r.master) (link_here old.concentrator.links station link low) in
-    let there : slice_get last.substations station ≡ Some e.is = set_here old.substations station e.was e.is e.there in
-    let lists : System → ℕ → Bool = λ s count. nat_lt station (length s.substations) && nat_lt station count in
-    let has_last : has_station last station ≡ true =
-    has_set set station station e.is ∙ ap (λ (n : ℕ). lists old n) (length-set old.concentrator.links station link) ∙ has in
+opens_below : (substation : ℕ) (old new : System) → has_substation old substation ≡ true → reports_on new (Below substation) ≡ false
+    → OpensOn (Below substation) old new → is_quiet_on new (Below substation) ≡ true
+opens_below substation old new has off e =
+    let link : Relaying = relaying.opened (link_at old.concentrator substation) in
+    let set : System = with_link old substation link in
+    let last : System = with_substation set substation e.is in
+    let low : substation < length old.concentrator.links =
+    ltb-true substation (length old.concentrator.links)
+    ((and_parts (nat_lt substation (length old.substations)) (nat_lt substation (length old.concentrator.links)) has).1) in
+    let idle : is_idle (link_at last.concentrator substation).master ≡ true =
+    ap (λ (r : Relaying). is_idle r.master) (link_here old.concentrator.links substation link low) in
+    let there : slice_get last.substations substation ≡ Some e.is = set_here old.substations substation e.was e.is e.there in
+    let lists : System → ℕ → Bool = λ s count. nat_lt substation (length s.substations) && nat_lt substation count in
+    let has_last : has_substation last substation ≡ true =
+    has_set set substation substation e.is ∙ ap (λ (n : ℕ). lists old n) (length-set old.concentrator.links substation link) ∙ has in
     let off_last : e.is.core.times.unsolicited ≡ false =
-    sym (ap (λ (o : Option SubstationState). reports_at o) there) ∙ sym (ap (λ (s : System). reports_on s (Below station)) e.after) ∙ off in
+    sym (ap (λ (o : Option SubstationState). reports_at o) there) ∙ sym (ap (λ (s : System). reports_on s (Below substation)) e.after) ∙ off in
     let q : OpenedQuiet e.is.core e.is.channel =
     opened_quiet (station_of e.was) old.now e.was.channel e.is.channel e.is.core (ap (λ (s : SubstationState). s.core) e.changed.after) off_last
     e.changed.sent in
-    let quiet : is_quiet_at (slice_get last.substations station) ≡ true =
+    let quiet : is_quiet_at (slice_get last.substations substation) ≡ true =
     ap (λ (o : Option SubstationState). is_quiet_at o) there ∙ and_from (is_quiet e.is.core) (are_quiet e.is.channel) q.core_is q.lines_are in
-    ap (λ (s : System). is_quiet_on s (Below station)) e.after
-    ∙ and_from (has_station last station) (is_idle (link_at last.concentrator station).master && is_quiet_at (slice_get last.substations station)) has_last
-    (and_from (is_idle (link_at last.concentrator station).master) (is_quiet_at (slice_get last.substations station)) idle quiet)
+    ap (λ (s : System). is_quiet_on s (Below substation)) e.after
+    ∙ and_from (has_substation last substation)
+    (is_idle (link_at last.concentrator substation).master && is_quiet_at (slice_get last.substations substation)) has_last
+    (and_from (is_idle (link_at last.concentrator substation).master) (is_quiet_at (slice_get last.substations substation)) idle quiet)
 
 opens_above : (centre : ℕ) (old new : System) → reports_on new (Above centre) ≡ false → OpensOn (Above centre) old new → is_quiet_on new (Above centre) ≡ true
 opens_above centre old new off e =
@@ -131,8 +132,8 @@ opens_above centre old new off e =
 
 pub opens_quiet : (on : Link) (old new : System) → has_link old on ≡ true → reports_on new on ≡ false → Happens old (Open on) new
     → is_quiet_on new on ≡ true
-opens_quiet (Below station) old new has off h =
-    opens_below station old new has off (subst (λ (b : Bool). IfThere b (OpensOn (Below station)) old new) has h)
+opens_quiet (Below substation) old new has off h =
+    opens_below substation old new has off (subst (λ (b : Bool). IfThere b (OpensOn (Below substation)) old new) has h)
 opens_quiet (Above centre) old new has off h = opens_above centre old new off h
 
 -- ---- after a list of events of the whole
@@ -140,7 +141,7 @@ opens_quiet (Above centre) old new has off h = opens_above centre old new off h
 -- the event as the centre of the link sees it
 opened_there : (on : Link) (old new : Whole) → is_there (centre_of on) ≡ true → HappensToAll old (Open on) new
     → Happens (seen_at (centre_of on) old) (Open on) (seen_at (centre_of on) new)
-opened_there (Below station) old new there h = h 0 (omega arith)
+opened_there (Below substation) old new there h = h 0 (omega arith)
 opened_there (Above zero) old new there h = h 0 (omega arith)
 opened_there (Above (suc zero)) old new there h = h 1 (omega arith)
 opened_there (Above (suc (suc n))) old new there h = absurd (both_ways (nat_lt (suc (suc n)) CENTRES) (no_such n) there)

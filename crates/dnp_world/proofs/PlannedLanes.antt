@@ -43,38 +43,38 @@ use Rattle.dnp_world.proofs.TakenPlans.{IsMasterOf, master_there}
 
 -- what the crate of the index map promises
 pub record MapLaws : Type 0 where
-  pub above : (spans : List Spans) (kind : IndexKind) (station index above : ℕ) → index_below spans kind above ≡ Some (station, index)
-      → index_above spans station kind index ≡ Some above
-  pub queued : (plan : Plan) (station : ℕ) (substation : SubPlan) (event : Row) → KeepsLimits plan → IsMap (map_of plan)
-      → slice_get plan.substations station ≡ Some substation → is_reported (points_below substation) event ≡ true
-      → IsSome (queued_row (map_of plan) (points_above plan) station event)
+  pub above : (spans : List Spans) (kind : IndexKind) (substation index above : ℕ) → index_below spans kind above ≡ Some (substation, index)
+      → index_above spans substation kind index ≡ Some above
+  pub queued : (plan : Plan) (substation : ℕ) (planned : SubPlan) (event : Row) → KeepsLimits plan → IsMap (map_of plan)
+      → slice_get plan.substations substation ≡ Some planned → is_reported (points_below planned) event ≡ true
+      → IsSome (queued_row (map_of plan) (points_above plan) substation event)
 
 -- ---- below
 
-here : (plan : Plan) (s : System) (station : ℕ) (was : SubstationState) → HappenedAsPlanned plan s → slice_get s.substations station ≡ Some was
-    → All (λ row. IsPlanned plan (station, row)) (rows_in was.lanes)
-here plan s station was h there =
+here : (plan : Plan) (s : System) (substation : ℕ) (was : SubstationState) → HappenedAsPlanned plan s → slice_get s.substations substation ≡ Some was
+    → All (λ row. IsPlanned plan (substation, row)) (rows_in was.lanes)
+here plan s substation was h there =
     let buffered : List (ℕ × Row) = listed_from lane_rows_of 0 s.substations in
     let all : All (IsPlanned plan) buffered = all_left (IsPlanned plan) buffered _ h.rows in
-    subst (All (λ row. IsPlanned plan (station, row)))
-    (listed_at lane_rows_of station s.substations ∙ ap (things_at lane_rows_of) there) (all_at (IsPlanned plan) station buffered all)
+    subst (All (λ row. IsPlanned plan (substation, row)))
+    (listed_at lane_rows_of substation s.substations ∙ ap (things_at lane_rows_of) there) (all_at (IsPlanned plan) substation buffered all)
 
-of_master : (plan : Plan) (station : ℕ) (substation : SubPlan) (asks : points.Plan) → slice_get plan.substations station ≡ Some substation
-    → asks ≡ points_below substation → (row : Row) → IsPlanned plan (station, row) → is_reported asks row ≡ true
-of_master plan station substation asks there same row planned =
+of_master : (plan : Plan) (substation : ℕ) (its : SubPlan) (asks : points.Plan) → slice_get plan.substations substation ≡ Some its
+    → asks ≡ points_below its → (row : Row) → IsPlanned plan (substation, row) → is_reported asks row ≡ true
+of_master plan substation its asks there same row planned =
     subst (λ (p : points.Plan). is_reported p row ≡ true) (sym same)
     (subst (λ (o : Option SubPlan). IsSomeAnd o (λ x. is_reported (points_below x) row ≡ true)) there planned.1)
 
-pub all_below : (s : System) (station : ℕ) (was : SubstationState) → IsAsPlanned s → station < length s.concentrator.links
-    → slice_get s.substations station ≡ Some was
-    → All (λ row. is_reported (link_at s.concentrator station).master.plan row ≡ true) (rows_in was.lanes)
-all_below s station was h low there =
-    let m : IsMasterOf h.plan.substations station (link_in s.concentrator.links station) =
-    master_there s.concentrator.links h.plan.substations station low h.below in
-    All-weaker (λ (row : Row). IsPlanned h.plan (station, row))
-    (λ (row : Row). is_reported (link_at s.concentrator station).master.plan row ≡ true)
-    (of_master h.plan station m.substation (link_at s.concentrator station).master.plan m.there m.asks) (rows_in was.lanes)
-    (here h.plan s station was h.happened there)
+pub all_below : (s : System) (substation : ℕ) (was : SubstationState) → IsAsPlanned s → substation < length s.concentrator.links
+    → slice_get s.substations substation ≡ Some was
+    → All (λ row. is_reported (link_at s.concentrator substation).master.plan row ≡ true) (rows_in was.lanes)
+all_below s substation was h low there =
+    let m : IsMasterOf h.plan.substations substation (link_in s.concentrator.links substation) =
+    master_there s.concentrator.links h.plan.substations substation low h.below in
+    All-weaker (λ (row : Row). IsPlanned h.plan (substation, row))
+    (λ (row : Row). is_reported (link_at s.concentrator substation).master.plan row ≡ true)
+    (of_master h.plan substation m.planned (link_at s.concentrator substation).master.plan m.there m.asks) (rows_in was.lanes)
+    (here h.plan s substation was h.happened there)
 
 -- ---- above
 

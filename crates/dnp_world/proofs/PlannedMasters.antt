@@ -37,22 +37,23 @@ use_keeps r (LinkHears now fragment t is) =
 use_keeps r (LinkTicks now) = ticked_keeps r.master (master.is_timed_out r.master now)
 
 -- one master is another, that asks for the same
-below_keeps : (e : Ends) (station : ℕ) (r : Relaying) → points_asked r ≡ points_asked (link_in e.links station)
-    → asked_of (record e { links = slice_set e.links station r }) ≡ asked_of e
-below_keeps e station r same = ap (λ (ps : List points.Plan). record (asked_of e) { below = ps }) (asked_still e.links station r same)
+below_keeps : (e : Ends) (substation : ℕ) (r : Relaying) → points_asked r ≡ points_asked (link_in e.links substation)
+    → asked_of (record e { links = slice_set e.links substation r }) ≡ asked_of e
+below_keeps e substation r same = ap (λ (ps : List points.Plan). record (asked_of e) { below = ps }) (asked_still e.links substation r same)
 
 above_keeps : (e : Ends) (r : Relaying) → points_asked r ≡ points_asked e.centre → asked_of (record e { centre = r }) ≡ asked_of e
 above_keeps e r same = ap (λ (p : points.Plan). record (asked_of e) { above = p }) same
 
 used_keeps : (e : Ends) (used : Used e) → asked_of (after_used e used) ≡ asked_of e
 used_keeps e Nothing = refl
-used_keeps e (LinkUsed station call) = below_keeps e station (after_use (link_in e.links station) call) (use_keeps (link_in e.links station) call)
+used_keeps e (LinkUsed substation call) = below_keeps e substation (after_use (link_in e.links substation) call) (use_keeps (link_in e.links substation) call)
 used_keeps e (CentreUsed call) = above_keeps e (after_use e.centre call) (use_keeps e.centre call)
-used_keeps e (LinkRelays station now) =
-    below_keeps e station (relaying_after (link_in e.links station) now (step_at e station)) (step_points (link_in e.links station) now (step_at e station))
+used_keeps e (LinkRelays substation now) =
+    below_keeps e substation (relaying_after (link_in e.links substation) now (step_at e substation))
+    (step_points (link_in e.links substation) now (step_at e substation))
 used_keeps e (CentreRelays now) = above_keeps e (relaying_after e.centre now (step_above e)) (step_points e.centre now (step_above e))
 used_keeps e (Performs spans commands) = refl
-used_keeps e (Issues station command above is fits) = refl
+used_keeps e (Issues substation command above is fits) = refl
 used_keeps e AllHangUp = ap (λ (ps : List points.Plan). record (asked_of e) { below = ps }) (asked_of_map e.links)
 
 pub asked_keep : (old new : System) → Touched old new → asked_of (ends_of new) ≡ asked_of (ends_of old)

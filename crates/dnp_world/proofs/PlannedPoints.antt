@@ -118,8 +118,8 @@ calls_keep laws s Restarts = restarted_classes laws s.core.points
 -- so the points stay those of the plan
 pub planned_on : ClassLaws → (plan : Plan) (old new : System) → Touched old new → HavePlannedPoints plan old → HavePlannedPoints plan new
 planned_on laws plan old new touched planned =
-    each_keeps (λ station s. IsSomeAnd (slice_get plan.substations station) (λ x. HasClassesBelow x s.core.points)) old new
-    (λ station s call. moved s (after_call s call) (calls_keep laws s call) (slice_get plan.substations station)) touched planned
+    each_keeps (λ substation s. IsSomeAnd (slice_get plan.substations substation) (λ x. HasClassesBelow x s.core.points)) old new
+    (λ substation s call. moved s (after_call s call) (calls_keep laws s call) (slice_get plan.substations substation)) touched planned
   where
     moved : (was is : State) → SameClasses was.core.points is.core.points → (o : Option SubPlan)
         → IsSomeAnd o (λ x. HasClassesBelow x was.core.points) → IsSomeAnd o (λ x. HasClassesBelow x is.core.points)

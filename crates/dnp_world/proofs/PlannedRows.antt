@@ -159,11 +159,11 @@ classes_at planned deadbands Analog index =
     by true = same_class planned.analog planned.deadband (index - 0) deadbands
     by false = refl
 
-pub new_planned : HasItsClass → (times : Times) (number : ℕ) (plans : List SubPlan) → All KeepsSubLimits plans → (station : ℕ)
-    → IfSome (slice_get (fresh_substations times number plans) station) (λ substation.
-    IsSomeAnd (slice_get plans station) (λ planned. HasClassesBelow planned substation.core.points))
-new_planned law times number [] limits station = tt
+pub new_planned : HasItsClass → (times : Times) (number : ℕ) (plans : List SubPlan) → All KeepsSubLimits plans → (substation : ℕ)
+    → IfSome (slice_get (fresh_substations times number plans) substation) (λ was.
+    IsSomeAnd (slice_get plans substation) (λ planned. HasClassesBelow planned was.core.points))
+new_planned law times number [] limits substation = tt
 new_planned law times number (planned ∷ plans) limits zero =
     λ kind index. law (points_at planned) kind index ∙ classes_at planned (All-head KeepsSubLimits planned plans limits).deadbands kind index
-new_planned law times number (planned ∷ plans) limits (suc station) =
-    new_planned law times (suc number) plans (All-tail KeepsSubLimits planned plans limits) station
+new_planned law times number (planned ∷ plans) limits (suc substation) =
+    new_planned law times (suc number) plans (All-tail KeepsSubLimits planned plans limits) substation

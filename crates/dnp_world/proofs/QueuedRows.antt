@@ -16,8 +16,8 @@ use Rattle.dnp_pointdb.specs.declared.reading.Reading.{Reading}
 
 -- what the crate of the index map promises of rows that are queued
 abbrev pub QueuedCarried : Type 0
-QueuedCarried = (spans : List Spans) (plan : above.Plan) (station : ℕ) (events : List Row) → IsMap spans → All IsEvent events
-    → All IsCarried (queued_rows spans plan station events)
+QueuedCarried = (spans : List Spans) (plan : above.Plan) (substation : ℕ) (events : List Row) → IsMap spans → All IsEvent events
+    → All IsCarried (queued_rows spans plan substation events)
 
 -- ---- readings above
 
@@ -27,11 +27,11 @@ StaySound =
     (database : Database) (kind : Kind) (index : ℕ) (reading : Reading) → points.IsSound database
     → points.IsSound (set_of database kind index reading)
 
-pub readings_sound : StaySound → (spans : List Spans) (station : ℕ) (database : Database) (rows : List Row) → points.IsSound database
-    → points.IsSound (readings_set spans station database rows)
-readings_sound stay spans station database [] sound = sound
-readings_sound stay spans station database (row ∷ rows) sound =
-    readings_sound stay spans station (set_by database (row_above spans station row)) rows (by (row_above spans station row))
+pub readings_sound : StaySound → (spans : List Spans) (substation : ℕ) (database : Database) (rows : List Row) → points.IsSound database
+    → points.IsSound (readings_set spans substation database rows)
+readings_sound stay spans substation database [] sound = sound
+readings_sound stay spans substation database (row ∷ rows) sound =
+    readings_sound stay spans substation (set_by database (row_above spans substation row)) rows (by (row_above spans substation row))
   where
     by : (o : Option Row) → points.IsSound (set_by database o)
     by None = sound

@@ -16,7 +16,7 @@ use Rattle.dnp_world.specs.Kept.{command_of, order_of, used_commands}
 use Rattle.dnp_world.specs.Link.{Link}
 use Rattle.dnp_world.specs.SystemEvents.{RelaysOn, Refuses, Steps}
 use Rattle.dnp_world.specs.SystemStanding.{lists_of, seen_below, IsJoinedBelow, IsStanding, Keeps}
-use Rattle.dnp_world.specs.Systems.{SubstationState, System, has_station, link_at, middle_of, station_of}
+use Rattle.dnp_world.specs.Systems.{SubstationState, System, has_substation, link_at, middle_of, station_of}
 use Rattle.dnp_world.proofs.AboveEvents.{with_ends}
 use Rattle.dnp_world.proofs.AboveKeeps.{Above, above_follows, none_listed}
 use Rattle.dnp_world.proofs.BelowCalls.{has_link_to, link_keeps, with_link_to}
@@ -37,50 +37,51 @@ pub record RelayLaws : Type 0 where
   pub commands : CommandLaws
 
 -- each link goes with its book
-pub below_in_step : CommandLaws → (s : System) {el : Elsewhere} (station : ℕ) → IsStanding el s → InStep s
-    → IsInStep (link_at s.concentrator station) s.concentrator.controls station
-below_in_step laws s station h i = record { control = i.below station; sound = i.controls; widths = controls_fit laws s h i.widths }
+pub below_in_step : CommandLaws → (s : System) {el : Elsewhere} (substation : ℕ) → IsStanding el s → InStep s
+    → IsInStep (link_at s.concentrator substation) s.concentrator.controls substation
+below_in_step laws s substation h i = record { control = i.below substation; sound = i.controls; widths = controls_fit laws s h i.widths }
 
 pub above_in_step : (s : System) → InStep s → IsInStep s.centre.link s.centre.orders 0
 above_in_step s i = record { control = i.above; sound = i.orders; widths = i.widths }
 
-pub relays_below : RelayLaws → (old new : System) {el : Elsewhere} (station : ℕ) → has_station old station ≡ true → IsStanding el old → InStep old
-    → RelaysOn (link.Below station) old new → Keeps el station [] old new
-relays_below laws old new station has h i (Refuses refused same) = same_keeps station old new h same
-relays_below laws old new {el = el} station has h i (Steps pending sends) =
-    let r : Relaying = link_in old.concentrator.links station in
+pub relays_below : RelayLaws → (old new : System) {el : Elsewhere} (substation : ℕ) → has_substation old substation ≡ true → IsStanding el old → InStep old
+    → RelaysOn (link.Below substation) old new → Keeps el substation [] old new
+relays_below laws old new substation has h i (Refuses refused same) = same_keeps substation old new h same
+relays_below laws old new {el = el} substation has h i (Steps pending sends) =
+    let r : Relaying = link_in old.concentrator.links substation in
     let book : Ledger = old.concentrator.controls in
-    let step : Step = step_of r book.entries station in
+    let step : Step = step_of r book.entries substation in
     let next : Relaying = relaying_after r old.now step in
     let was : SubstationState = sends.was in
     let lines : ChannelState = sends.is.channel in
-    let l : Link = h.links.below station in
+    let l : Link = h.links.below substation in
     let is : SubstationState = record was { channel = lines } in
-    let middle : Middle = with_link_to old station next in
-    let inside : IsInStep r book station = below_in_step laws.commands old station h i in
+    let middle : Middle = with_link_to old substation next in
+    let inside : IsInStep r book substation = below_in_step laws.commands old substation h i in
     let before : IsJoinedBelow old.now r l was =
-    some_of (IsJoinedBelow old.now r l) (slice_get old.substations station) was sends.there (h.below station) in
+    some_of (IsJoinedBelow old.now r l) (slice_get old.substations substation) was sends.there (h.below substation) in
     let controls : Ledger = ledger_after book step in
-    subst (λ (x : System). Keeps el station [] old x)
-    (sym (sends.after ∙ ap (λ (x : SubstationState). with_controls controls (with_both old station x middle)) sends.changed.1
-    ∙ ap (with_controls controls) (both_as old station was is middle refl)))
-    (below_follows laws.turns old h station was is middle controls nothing_gone (lists_of l) [] (asked_in step) sends.there
-    (link_keeps old station next (step_points r old.now step)) before.shown (nothing_listed l)
+    subst (λ (x : System). Keeps el substation [] old x)
+    (sym (sends.after ∙ ap (λ (x : SubstationState). with_controls controls (with_both old substation x middle)) sends.changed.1
+    ∙ ap (with_controls controls) (both_as old substation was is middle refl)))
+    (below_follows laws.turns old h substation was is middle controls nothing_gone (lists_of l) [] (asked_in step) sends.there
+    (link_keeps old substation next (step_points r old.now step)) before.shown (nothing_listed l)
     (record {
-      used = book_used order_of (λ command. (station, command)) (λ e state. refl) r book station step refl
+      used = book_used order_of (λ command. (substation, command)) (λ e state. refl) r book substation step refl
           (λ e target. ap (λ (n : ℕ). (n, e.command)) target) inside.control pending;
       orders = book_same order_of (λ e state. refl) book step;
       shown = book_same (ordered old.concentrator.indices) (λ e state. refl) book step;
     })
     (subst (λ (x : Relaying). Follows [] [] (asked_in step) was.outputs.performed l (seen_below old.now x is (lists_of l)))
-    (sym (link_here old.concentrator.links station next (has_link_to old station has)))
-    (step_goes laws.requests (station_of was) (lists_of l) old.now r book.entries station was.channel lines l step refl
-    (step_widths r book station step refl inside) before.joined sends.changed.0)))
+    (sym (link_here old.concentrator.links substation next (has_link_to old substation has)))
+    (step_goes laws.requests (station_of was) (lists_of l) old.now r book.entries substation was.channel lines l step refl
+    (step_widths r book substation step refl inside) before.joined sends.changed.0)))
 
-pub relays_above : RelayLaws → (centre : ℕ) (old new : System) {el : Elsewhere} (station : ℕ) → IsStanding el old → InStep old → RelaysOn (link.Above centre) old new
-    → Keeps el station [] old new
-relays_above laws centre old new station h i (Refuses refused same) = same_keeps station old new h same
-relays_above laws centre old new {el = el} station h i (Steps pending sends) =
+pub relays_above : RelayLaws → (centre : ℕ) (old new : System) {el : Elsewhere} (substation : ℕ) → IsStanding el old → InStep old
+    → RelaysOn (link.Above centre) old new
+    → Keeps el substation [] old new
+relays_above laws centre old new substation h i (Refuses refused same) = same_keeps substation old new h same
+relays_above laws centre old new {el = el} substation h i (Steps pending sends) =
     let r : Relaying = old.centre.link in
     let book : Ledger = old.centre.orders in
     let step : Step = step_of r book.entries 0 in
@@ -89,8 +90,8 @@ relays_above laws centre old new {el = el} station h i (Steps pending sends) =
     let inside : IsInStep r book 0 = above_in_step old i in
     let orders : Ledger = ledger_after book step in
     let a : Above = with_ends old (middle_of old.concentrator) next new.above in
-    subst (λ (x : System). Keeps el station [] old x) (sym sends.1)
-    (above_follows laws.turns old h station a orders [] [] (asked_in step) (lists_of l)
+    subst (λ (x : System). Keeps el substation [] old x) (sym sends.1)
+    (above_follows laws.turns old h substation a orders [] [] (asked_in step) (lists_of l)
     (record {
       lost = refl;
       journal = none_behind _;

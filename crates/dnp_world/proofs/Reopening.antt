@@ -35,7 +35,7 @@ use Rattle.dnp_world.specs.Reopened.{CentreWritesOne, WriteOne, WritesOne}
 use Rattle.dnp_world.specs.SystemEvents as system
 use Rattle.dnp_world.specs.SystemEvents.{Refuses, Steps, AsksOn, ChangesAt, ComesOn, ComesUp, HangsUpOn, IssuesBy, LinesChange, MasterReceives, MasterTakes, MasterTicks, MiddleAnswers, OpensOn, OutstationTicks, ReadsBy, RelaysOn, SubstationRestarts, relaying_at, step_on, taken_on, told, with_link, with_lost, with_centre_link, with_relaying, concentrator_restarted}
 use Rattle.dnp_world.specs.SystemRuns.{Happens, IfThere}
-use Rattle.dnp_world.specs.Systems.{CentreState, ConcentratorState, SubstationState, System, has_link, has_station, link_at, middle_of, middle_panel}
+use Rattle.dnp_world.specs.Systems.{CentreState, ConcentratorState, SubstationState, System, has_link, has_substation, link_at, middle_of, middle_panel}
 use Rattle.dnp_world.specs.declared.event.Event.{Event}
 use Rattle.dnp_world.specs.declared.event.Event.TheVariants as event
 use Rattle.dnp_world.specs.declared.event.Link.{Link}
@@ -97,7 +97,7 @@ same_system old new same = after old old new (nothing_written old) (ap places_of
 
 -- the lines change alone
 lines_same : (on : Link) (Change : ChannelState → ChannelState → Type 0) (x new : System) → LinesChange on Change x new → places_of new ≡ places_of x
-lines_same (Below station) Change x new c = ap places_of c.after
+lines_same (Below substation) Change x new c = ap places_of c.after
 lines_same (Above centre) Change x new c = ap places_of c.1
 
 lines_after : (on : Link) (Change : ChannelState → ChannelState → Type 0) (old x new : System) → WriteOne old x → LinesChange on Change x new
@@ -105,10 +105,10 @@ lines_after : (on : Link) (Change : ChannelState → ChannelState → Type 0) (o
 lines_after on Change old x new w c = after old x new w (lines_same on Change x new c)
 
 -- a substation changes, and what its change makes of the rest
-changes_after : (station : ℕ) (Change : SubstationState → SubstationState → Type 0) (rest : SubstationState → SubstationState → System → System)
+changes_after : (substation : ℕ) (Change : SubstationState → SubstationState → Type 0) (rest : SubstationState → SubstationState → System → System)
     (old x new : System) → ((was is : SubstationState) (s : System) → places_of (rest was is s) ≡ places_of s)
-    → WriteOne old x → ChangesAt station Change rest x new → WriteOne old new
-changes_after station Change rest old x new same w h = after old x new w (ap places_of h.after ∙ same h.was h.is _)
+    → WriteOne old x → ChangesAt substation Change rest x new → WriteOne old new
+changes_after substation Change rest old x new same w h = after old x new w (ap places_of h.after ∙ same h.was h.is _)
 
 if_there : (b : Bool) (Change : System → System → Type 0) (old new : System) → (Change old new → WriteOne old new) → IfThere b Change old new
     → WriteOne old new
@@ -124,26 +124,26 @@ centre_only : (old : System) (c : CentreState) → CentreWritesOne old.centre c 
 centre_only old c w = record { concentrator = same_middle old.concentrator; centre = w }
 
 module _ (f : Forgets) where
-  link_one : (c : ConcentratorState) (station : ℕ) (r : Relaying) → hung_up r ≡ hung_up (link_at c station)
-      → WritesOne c (record c { links = slice_set c.links station r })
-  link_one c station r same =
-      record { above = refl; below = f.one_link c.links station r same; indices = refl; points = refl; one = inl refl }
+  link_one : (c : ConcentratorState) (substation : ℕ) (r : Relaying) → hung_up r ≡ hung_up (link_at c substation)
+      → WritesOne c (record c { links = slice_set c.links substation r })
+  link_one c substation r same =
+      record { above = refl; below = f.one_link c.links substation r same; indices = refl; points = refl; one = inl refl }
 
   -- and its readings above are lost
-  lost_one : (c : ConcentratorState) (station : ℕ) (r : Relaying) → hung_up r ≡ hung_up (link_at c station)
-      → WritesOne c (record c { core = without_link c.core station; links = slice_set c.links station r })
-  lost_one c station r same =
-      record { above = f.lost c.core station; below = f.one_link c.links station r same; indices = refl; points = refl; one = inl refl }
+  lost_one : (c : ConcentratorState) (substation : ℕ) (r : Relaying) → hung_up r ≡ hung_up (link_at c substation)
+      → WritesOne c (record c { core = without_link c.core substation; links = slice_set c.links substation r })
+  lost_one c substation r same =
+      record { above = f.lost c.core substation; below = f.one_link c.links substation r same; indices = refl; points = refl; one = inl refl }
 
-  with_link_one : (old : System) (station : ℕ) (r : Relaying) → hung_up r ≡ hung_up (link_at old.concentrator station)
-      → WriteOne old (with_link old station r)
-  with_link_one old station r same = middle_only old _ (link_one old.concentrator station r same)
+  with_link_one : (old : System) (substation : ℕ) (r : Relaying) → hung_up r ≡ hung_up (link_at old.concentrator substation)
+      → WriteOne old (with_link old substation r)
+  with_link_one old substation r same = middle_only old _ (link_one old.concentrator substation r same)
 
   with_centre_one : (old : System) (r : Relaying) → hung_up r ≡ hung_up old.centre.link → WriteOne old (with_centre_link old r)
   with_centre_one old r same = centre_only old (record old.centre { link = r }) (record { link = same; indices = refl; one = inl refl })
 
   on_link : (on : Link) (old : System) (r : Relaying) → hung_up r ≡ hung_up (relaying_at old on) → WriteOne old (with_relaying old on r)
-  on_link (Below station) old r same = with_link_one old station r same
+  on_link (Below substation) old r same = with_link_one old substation r same
   on_link (Above centre) old r same = with_centre_one old r same
 
   -- the outstation above takes a step, in which it changes its queue or performs commands
@@ -154,10 +154,10 @@ module _ (f : Forgets) where
   -- ---- events
 
   opens : (on : Link) (old new : System) → OpensOn on old new → WriteOne old new
-  opens (Below station) old new h =
-      let r : Relaying = link_at old.concentrator station in
-      changes_after station _ _ old (with_link old station (relaying.opened r)) new (λ was is s. refl)
-      (with_link_one old station (relaying.opened r) (f.link_opened r)) h
+  opens (Below substation) old new h =
+      let r : Relaying = link_at old.concentrator substation in
+      changes_after substation _ _ old (with_link old substation (relaying.opened r)) new (λ was is s. refl)
+      (with_link_one old substation (relaying.opened r) (f.link_opened r)) h
   opens (Above centre) old new h =
       let c : ConcentratorState = old.concentrator in
       after old (with_centre_link (record old { concentrator = _ }) (relaying.opened old.centre.link)) new (record {
@@ -166,11 +166,11 @@ module _ (f : Forgets) where
       }) (ap places_of h.after)
 
   hangs_up : (on : Link) (e : End) (old new : System) → HangsUpOn on e old new → WriteOne old new
-  hangs_up (Below station) end.Master old new h =
-      let r : Relaying = link_at old.concentrator station in
-      changes_after station _ _ old (with_lost (with_link old station (relaying.hung_up r)) station) new (λ was is s. refl)
-      (middle_only old _ (lost_one old.concentrator station (relaying.hung_up r) (f.link_again r))) h
-  hangs_up (Below station) end.Outstation old new h = changes_after station _ _ old old new (λ was is s. refl) (nothing_written old) h
+  hangs_up (Below substation) end.Master old new h =
+      let r : Relaying = link_at old.concentrator substation in
+      changes_after substation _ _ old (with_lost (with_link old substation (relaying.hung_up r)) substation) new (λ was is s. refl)
+      (middle_only old _ (lost_one old.concentrator substation (relaying.hung_up r) (f.link_again r))) h
+  hangs_up (Below substation) end.Outstation old new h = changes_after substation _ _ old old new (λ was is s. refl) (nothing_written old) h
   hangs_up (Above centre) end.Master old new h =
       after old (with_centre_link old (relaying.hung_up old.centre.link)) new
       (with_centre_one old (relaying.hung_up old.centre.link) (f.link_again old.centre.link)) (ap places_of h)
@@ -204,13 +204,13 @@ module _ (f : Forgets) where
 
   receives : (on : Link) (now : ℕ) (fragment : List ℕ) (r : Result Taking MasterFault) (old new : System)
       → receive_of (relaying_at old on).master now fragment ≡ r → MasterReceives on r old new → WriteOne old new
-  receives (Below station) now fragment (Ok t) old new is h =
+  receives (Below substation) now fragment (Ok t) old new is h =
       let c : ConcentratorState = old.concentrator in
-      let r : Relaying = link_at c station in
-      lines_after (Below station) _ old (taken_on old (Below station) t) new (record {
+      let r : Relaying = link_at c substation in
+      lines_after (Below substation) _ old (taken_on old (Below substation) t) new (record {
         concentrator = record {
-          above = f.read c.core c.indices station t.events t.statics;
-          below = f.one_link c.links station (relaying.received r t) (taken_link r now fragment t is);
+          above = f.read c.core c.indices substation t.events t.statics;
+          below = f.one_link c.links substation (relaying.received r t) (taken_link r now fragment t is);
           indices = refl;
           points = refl;
           one = inr refl;
@@ -233,17 +233,17 @@ module _ (f : Forgets) where
       from_same old c.between new (lines_same on _ old c.between c.heard) (takes on c.given c.between new c.came)
 
   comes : (left : LineState → LineState) (on : Link) (w : Way) (old new : System) → ComesOn left on w old new → WriteOne old new
-  comes left (Below station) way.Down old new c = changes_after station _ _ old old new (λ was is s. refl) (nothing_written old) c.came
+  comes left (Below substation) way.Down old new c = changes_after substation _ _ old old new (λ was is s. refl) (nothing_written old) c.came
   comes left (Above centre) way.Down old new c =
       from_same old (record old { above = record old.above { down = left old.above.down; outstation_port = c.port } }) new refl
       (middle_answers c.given (record old { above = record old.above { down = left old.above.down; outstation_port = c.port } }) new c.came)
-  comes left (Below station) way.Up old new c = comes_up left (Below station) old new c
+  comes left (Below substation) way.Up old new c = comes_up left (Below substation) old new c
   comes left (Above centre) way.Up old new c = comes_up left (Above centre) old new c
 
-  reads_by : (station : ℕ) (kind : Kind) (index : ℕ) (reading : Reading) (r : Result (Option LaneRow) ChangeFault) (was : SubstationState) (old new : System)
-      → ReadsBy r station kind index reading was old new → WriteOne old new
-  reads_by station kind index reading (Ok made) was old new h = changes_after station _ _ old old new (λ x is s. refl) (nothing_written old) h.1
-  reads_by station kind index reading (Err fault) was old new same = same_system old new same
+  reads_by : (substation : ℕ) (kind : Kind) (index : ℕ) (reading : Reading) (r : Result (Option LaneRow) ChangeFault) (was : SubstationState) (old new : System)
+      → ReadsBy r substation kind index reading was old new → WriteOne old new
+  reads_by substation kind index reading (Ok made) was old new h = changes_after substation _ _ old old new (λ x is s. refl) (nothing_written old) h.1
+  reads_by substation kind index reading (Err fault) was old new same = same_system old new same
 
   asks : (own : Bool) (on : Link) (task : Task) (old new : System) → AsksOn own on task old new → WriteOne old new
   asks true on task old new c =
@@ -252,21 +252,21 @@ module _ (f : Forgets) where
       (on_link on old (relaying.asking r old.now task) (f.link_asked r old.now task)) c
   asks false on task old new same = same_system old new same
 
-  issues : (o : Option Command) (station : ℕ) (command : Command) (old new : System) → IssuesBy o station command old new → WriteOne old new
-  issues None station command old new same = same_system old new same
-  issues (Some above) station command old new h =
+  issues : (o : Option Command) (substation : ℕ) (command : Command) (old new : System) → IssuesBy o substation command old new → WriteOne old new
+  issues None substation command old new same = same_system old new same
+  issues (Some above) substation command old new h =
       after old (record old { centre = record old.centre { orders = _ } }) new
       (centre_only old _ (record { link = refl; indices = refl; one = inl refl })) (ap places_of h.2)
 
   relays : (on : Link) (old new : System) → RelaysOn on old new → WriteOne old new
-  relays (Below station) old new (Steps granted sends) =
+  relays (Below substation) old new (Steps granted sends) =
       let c : ConcentratorState = old.concentrator in
-      let r : Relaying = link_at c station in
-      let step : relaying.Step = step_on old (Below station) in
-      lines_after (Below station) _ old (with_link (told old (Below station) step) station (relaying.relaying_after r old.now step)) new
+      let r : Relaying = link_at c substation in
+      let step : relaying.Step = step_on old (Below substation) in
+      lines_after (Below substation) _ old (with_link (told old (Below substation) step) substation (relaying.relaying_after r old.now step)) new
       (middle_only old _ (record {
         above = refl;
-        below = f.one_link c.links station (relaying.relaying_after r old.now step) (f.link_relayed r old.now step);
+        below = f.one_link c.links substation (relaying.relaying_after r old.now step) (f.link_relayed r old.now step);
         indices = refl;
         points = refl;
         one = inl refl;
@@ -280,26 +280,26 @@ module _ (f : Forgets) where
   relays on old new (Refuses refused same) = same_system old new same
 
   master_ticks : (on : Link) (old new : System) → MasterTicks on old new → WriteOne old new
-  master_ticks (Below station) old new h = by _ h
+  master_ticks (Below substation) old new h = by _ h
     where
       r : Relaying
-      r = link_at old.concentrator station
+      r = link_at old.concentrator substation
 
       ticked : System
-      ticked = with_link old station (relaying.ticked r old.now)
+      ticked = with_link old substation (relaying.ticked r old.now)
 
-      by : (b : Bool) → new ≡ (if b then with_lost ticked station else ticked) → WriteOne old new
+      by : (b : Bool) → new ≡ (if b then with_lost ticked substation else ticked) → WriteOne old new
       by true is =
-          after old (with_lost ticked station) new
-          (middle_only old _ (lost_one old.concentrator station (relaying.ticked r old.now) (f.link_ticked r old.now))) (ap places_of is)
-      by false is = after old ticked new (with_link_one old station (relaying.ticked r old.now) (f.link_ticked r old.now)) (ap places_of is)
+          after old (with_lost ticked substation) new
+          (middle_only old _ (lost_one old.concentrator substation (relaying.ticked r old.now) (f.link_ticked r old.now))) (ap places_of is)
+      by false is = after old ticked new (with_link_one old substation (relaying.ticked r old.now) (f.link_ticked r old.now)) (ap places_of is)
   master_ticks (Above centre) old new h =
       let r : Relaying = old.centre.link in
       after old (with_centre_link old (relaying.ticked r old.now)) new
       (with_centre_one old (relaying.ticked r old.now) (f.link_ticked r old.now)) (ap places_of h)
 
   ticks : (on : Link) (old new : System) → OutstationTicks on old new → WriteOne old new
-  ticks (Below station) old new h = changes_after station _ _ old old new (λ was is s. refl) (nothing_written old) h
+  ticks (Below substation) old new h = changes_after substation _ _ old old new (λ was is s. refl) (nothing_written old) h
   ticks (Above centre) old new m =
       let c : ConcentratorState = old.concentrator in
       after old (record old { concentrator = _ }) new
@@ -331,17 +331,17 @@ module _ (f : Forgets) where
   writes_one old new (event.Repeat on w) h = if_there (has_link old on) (ComesOn repeated_on on w) old new (comes repeated_on on w old new) h
   writes_one old new (event.Lose on w) h = if_there (has_link old on) _ old new (λ c. lines_after on _ old old new (nothing_written old) c) h
   writes_one old new (event.Damage on w octets) h = if_there (has_link old on) _ old new (λ c. lines_after on _ old old new (nothing_written old) c) h
-  writes_one old new (event.Change station kind index reading) h =
-      if_there (has_station old station) (system.Reads station kind index reading) old new
-      (λ c. reads_by station kind index reading (answer_of c.was.core.points kind index reading) c.was old new c.reads) h
+  writes_one old new (event.Change substation kind index reading) h =
+      if_there (has_substation old substation) (system.Reads substation kind index reading) old new
+      (λ c. reads_by substation kind index reading (answer_of c.was.core.points kind index reading) c.was old new c.reads) h
   writes_one old new (event.Ask on task) h = if_there (has_link old on) (AsksOn (is_own task) on task) old new (asks (is_own task) on task old new) h
-  writes_one old new (event.Issue centre station command) h = issues (command_above old.centre.indices station command) station command old new h
+  writes_one old new (event.Issue centre substation command) h = issues (command_above old.centre.indices substation command) substation command old new h
   writes_one old new (event.Relay on) h = if_there (has_link old on) (RelaysOn on) old new (relays on old new) h
   writes_one old new (event.Pass ms) h = after old old new (nothing_written old) (ap places_of h)
   writes_one old new (event.Tick on end.Master) h = if_there (has_link old on) (MasterTicks on) old new (master_ticks on old new) h
   writes_one old new (event.Tick on end.Outstation) h = if_there (has_link old on) (OutstationTicks on) old new (ticks on old new) h
   writes_one old new (event.Restart (place.Centre centre)) h = hangs_up (Above centre) end.Master old new h
   writes_one old new (event.Restart place.Concentrator) h = restarts old new h
-  writes_one old new (event.Restart (place.Substation station)) h =
-      if_there (has_station old station) (SubstationRestarts station) old new
-      (λ c. changes_after station _ _ old old new (λ was is s. refl) (nothing_written old) c) h
+  writes_one old new (event.Restart (place.Substation substation)) h =
+      if_there (has_substation old substation) (SubstationRestarts substation) old new
+      (λ c. changes_after substation _ _ old old new (λ was is s. refl) (nothing_written old) c) h

@@ -10,32 +10,32 @@ use Rattle.dnp_objects.specs.declared.row.Row.{Row}
 use Rattle.dnp_world.specs.Kept.{lane_rows_of}
 use Rattle.dnp_world.specs.Stations.{listed_from}
 use Rattle.dnp_world.specs.SystemParts.{substation_of}
-use Rattle.dnp_world.specs.Systems.{SubstationState, at_station}
+use Rattle.dnp_world.specs.Systems.{SubstationState, at_substation}
 use Rattle.dnp_world.specs.declared.substation.Substation.{Substation}
 
 -- ---- one substation more
 
 listed_further : {Station Thing : Type 0} (f : Station → List Thing) (first : ℕ) (stations : List Station) (k : ℕ) (d : Station) → k < length stations
-    → listed_from f first (take (suc k) stations) ≡ listed_from f first (take k stations) ++ at_station (first + k) (f (get_or stations k d))
+    → listed_from f first (take (suc k) stations) ≡ listed_from f first (take k stations) ++ at_substation (first + k) (f (get_or stations k d))
 listed_further f first [] k d low = absurd (omega (arith, low))
 listed_further {Station} {Thing} f first (s ∷ stations) zero d low =
-    append-nil (at_station first (f s)) ∙ ap (λ (n : ℕ). at_station n (f s)) (omega arith)
+    append-nil (at_substation first (f s)) ∙ ap (λ (n : ℕ). at_substation n (f s)) (omega arith)
 listed_further {Station} {Thing} f first (s ∷ stations) (suc k) d low =
-    let here : List (ℕ × Thing) = at_station first (f s) in
+    let here : List (ℕ × Thing) = at_substation first (f s) in
     let last : List Thing = f (get_or stations k d) in
     let next : (first + 1) + k ≡ first + suc k = omega arith in
     ap (λ (rows : List (ℕ × Thing)). here ++ rows) (listed_further f (first + 1) stations k d (omega (arith, low)))
-    ∙ ap (λ (n : ℕ). here ++ (listed_from f (first + 1) (take k stations) ++ at_station n last)) next
-    ∙ sym (append_assoc here (listed_from f (first + 1) (take k stations)) (at_station (first + suc k) last))
+    ∙ ap (λ (n : ℕ). here ++ (listed_from f (first + 1) (take k stations) ++ at_substation n last)) next
+    ∙ sym (append_assoc here (listed_from f (first + 1) (take k stations)) (at_substation (first + suc k) last))
 
 pub listed_more : {Station Thing : Type 0} (f : Station → List Thing) (stations : List Station) (k : ℕ) (d : Station) → k < length stations
-    → listed_from f 0 (take (k + 1) stations) ≡ listed_from f 0 (take k stations) ++ at_station k (f (get_or stations k d))
+    → listed_from f 0 (take (k + 1) stations) ≡ listed_from f 0 (take k stations) ++ at_substation k (f (get_or stations k d))
 listed_more {Station} {Thing} f stations k d low =
     let next : k + 1 ≡ suc k = omega arith in
     let here : 0 + k ≡ k = omega arith in
     ap (λ (n : ℕ). listed_from f 0 (take n stations)) next
     ∙ listed_further f 0 stations k d low
-    ∙ ap (λ (n : ℕ). listed_from f 0 (take k stations) ++ at_station n (f (get_or stations k d))) here
+    ∙ ap (λ (n : ℕ). listed_from f 0 (take k stations) ++ at_substation n (f (get_or stations k d))) here
 
 -- a substation was written that is what it was
 pub all_kept : (first : List SubstationState) (xs : List Substation) (i : ℕ) (d is : Substation) → map substation_of xs ≡ first
@@ -49,7 +49,7 @@ all_kept first xs i d is same low kept =
 -- one substation more was listed, and is what it was
 pub one_listed : (first : List SubstationState) (xs : List Substation) (i : ℕ) (d is : Substation) (list new : List (ℕ × Row)) → map substation_of xs ≡ first
     → i < length xs → substation_of is ≡ substation_of (get_or xs i d) → list ≡ listed_from lane_rows_of 0 (take i first)
-    → new ≡ list ++ at_station i (lane_rows_of (substation_of (get_or xs i d)))
+    → new ≡ list ++ at_substation i (lane_rows_of (substation_of (get_or xs i d)))
     → (map substation_of (set xs i is) ≡ first) × (new ≡ listed_from lane_rows_of 0 (take (i + 1) first))
 one_listed first xs i d is list new same low kept listed put =
     let there : substation_of (get_or xs i d) ≡ get_or first i (substation_of d) =
@@ -57,8 +57,8 @@ one_listed first xs i d is list new same low kept listed put =
     let long : length (map substation_of xs) ≡ length xs = length-map xs substation_of in
     let wide : length (map substation_of xs) ≡ length first = ap (λ (ys : List SubstationState). length ys) same in (
       all_kept first xs i d is same low kept,
-      put ∙ ap (λ (rows : List (ℕ × Row)). rows ++ at_station i (lane_rows_of (substation_of (get_or xs i d)))) listed
-          ∙ ap (λ (s : SubstationState). listed_from lane_rows_of 0 (take i first) ++ at_station i (lane_rows_of s)) there
+      put ∙ ap (λ (rows : List (ℕ × Row)). rows ++ at_substation i (lane_rows_of (substation_of (get_or xs i d)))) listed
+          ∙ ap (λ (s : SubstationState). listed_from lane_rows_of 0 (take i first) ++ at_substation i (lane_rows_of s)) there
           ∙ sym (listed_more lane_rows_of first i (substation_of d) (omega (arith, low, long, wide))),
     )
 

@@ -24,13 +24,13 @@ use Rattle.dnp_world.specs.Link.{Link}
 use Rattle.dnp_world.specs.OneLinkEvents.{LinkState}
 use Rattle.dnp_world.specs.Reports.{IsFate, happened}
 use Rattle.dnp_world.specs.Standing.{Stands}
-use Rattle.dnp_world.specs.Stations.{listed_from, of_station, HasSameCounts}
+use Rattle.dnp_world.specs.Stations.{listed_from, of_substation, HasSameCounts}
 use Rattle.dnp_world.specs.SystemEvents.{concentrator_restarted, master_gone}
 use Rattle.dnp_world.specs.SystemStanding.{lists_of, points_asked, seen_above, seen_below, IsJoinedBelow, IsStanding, Keeps}
-use Rattle.dnp_world.specs.Systems.{SubstationState, System, at_station, panel_of}
+use Rattle.dnp_world.specs.Systems.{SubstationState, System, at_substation, panel_of}
 use Rattle.dnp_world.proofs.BelowKeeps.{Grounds, lane_rows, none_more, relisted}
 use Rattle.dnp_world.proofs.Keeping.{moves_stand}
-use Rattle.dnp_world.proofs.SystemCounts.{same_filter_map, same_is, same_length, same_of_station, same_permutation, same_refl, same_sym, same_trans}
+use Rattle.dnp_world.proofs.SystemCounts.{same_filter_map, same_is, same_length, same_of_substation, same_permutation, same_refl, same_sym, same_trans}
 use Rattle.dnp_world.proofs.SystemPlans.{still_of_plan}
 
 -- what the crates below promise of a restart
@@ -81,25 +81,25 @@ still_behind : (indices : List Spans) {el : Elsewhere} (links new : Links) (k : 
 still_behind indices {el = el} links new k below above b = record {
   below_stands = λ i. (below i).stands;
   above_stands = above.stands;
-  buffered = λ i. same_trans (rows_of (new.below i).lanes) (rows_of (links.below i).lanes) (of_station i k.buffered) (below i).lanes (b.buffered i);
+  buffered = λ i. same_trans (rows_of (new.below i).lanes) (rows_of (links.below i).lanes) (of_substation i k.buffered) (below i).lanes (b.buffered i);
   confirmed = λ i.
-      same_trans (rows_of (new.below i).released) (rows_of (links.below i).released) (of_station i k.confirmed) (below i).released (b.confirmed i);
+      same_trans (rows_of (new.below i).released) (rows_of (links.below i).released) (of_substation i k.confirmed) (below i).released (b.confirmed i);
   left = λ i.
-      same_trans (rows_of (new.below i).left) (rows_of (links.below i).left) (of_station i (k.overwritten ++ k.gone)) (below i).left (b.left i);
+      same_trans (rows_of (new.below i).left) (rows_of (links.below i).left) (of_substation i (k.overwritten ++ k.gone)) (below i).left (b.left i);
   joined = λ i.
       let before : List (ℕ × Row) = rows_below indices (rows_of links.above.stood) in
       let now : List (ℕ × Row) = rows_below indices (rows_of new.above.stood) in
-      same_trans (rows_of (new.below i).took) (rows_of (links.below i).took) (of_station i now) (below i).took
-      (same_trans (rows_of (links.below i).took) (of_station i before) (of_station i now) (b.joined i)
-      (same_of_station i before now
+      same_trans (rows_of (new.below i).took) (rows_of (links.below i).took) (of_substation i now) (below i).took
+      (same_trans (rows_of (links.below i).took) (of_substation i before) (of_substation i now) (b.joined i)
+      (same_of_substation i before now
       (same_sym now before (same_filter_map _ (rows_of new.above.stood) (rows_of links.above.stood) above.stood))));
   mapped = still_mapped indices links.above new.above above b.mapped;
   queue = same_trans (rows_of new.above.lanes) (rows_of links.above.lanes) k.queue above.lanes b.queue;
   dropped = same_trans (rows_of new.above.left) (rows_of links.above.left) k.dropped above.left b.dropped;
   journal = same_trans (rows_of new.above.took) (rows_of links.above.took) k.journal above.took b.journal;
   lost = b.lost;
-  operated = λ i. subst (λ (xs : List Command). HasSameCounts xs (of_station i k.operated)) (sym (below i).performed) (b.operated i);
-  asked_below = λ i. subst (λ (xs : List Command). IsCoveredBy xs (of_station i (used_orders k.controls))) (sym (below i).asked) (b.asked_below i);
+  operated = λ i. subst (λ (xs : List Command). HasSameCounts xs (of_substation i k.operated)) (sym (below i).performed) (b.operated i);
+  asked_below = λ i. subst (λ (xs : List Command). IsCoveredBy xs (of_substation i (used_orders k.controls))) (sym (below i).asked) (b.asked_below i);
   relayed = subst (λ (xs : List Command). HasSameCounts (commands_below indices xs ++ commands_below indices el.performed) (orders_in k.controls))
       (sym above.performed) b.relayed;
   asked_above = subst (λ (xs : List Command). IsCoveredBy xs (used_commands k.orders)) (sym above.asked) b.asked_above;
@@ -155,7 +155,7 @@ gone_at (x ∷ xs) (suc i) = gone_at xs i
 
 listed_gone : (n : ℕ) (xs : List SubstationState) → listed_from lane_rows_of n (map master_gone xs) ≡ listed_from lane_rows_of n xs
 listed_gone n [] = refl
-listed_gone n (x ∷ xs) = ap (λ (rows : List (ℕ × Row)). at_station n (lane_rows_of x) ++ rows) (listed_gone (n + 1) xs)
+listed_gone n (x ∷ xs) = ap (λ (rows : List (ℕ × Row)). at_substation n (lane_rows_of x) ++ rows) (listed_gone (n + 1) xs)
 
 -- what becomes of a link below
 record Closes (now : ℕ) (r : Relaying) (l : Link) (o : Option SubstationState) : Type 0 where
@@ -178,9 +178,9 @@ closes grounds now r l (Some was) stands j =
 
 -- ---- the concentrator restarts
 
-pub concentrator_restarts : Grounds → RestartLaws → (old new : System) {el : Elsewhere} (station : ℕ) → IsStanding el old → new ≡ concentrator_restarted old
-    → Keeps el station [] old new
-concentrator_restarts grounds laws old new {el = el} station h after =
+pub concentrator_restarts : Grounds → RestartLaws → (old new : System) {el : Elsewhere} (substation : ℕ) → IsStanding el old → new ≡ concentrator_restarted old
+    → Keeps el substation [] old new
+concentrator_restarts grounds laws old new {el = el} substation h after =
     let next : System = concentrator_restarted old in
     let relays : List Relaying = old.concentrator.links in
     let each : (i : ℕ) → Closes old.now (link_in relays i) (h.links.below i) (slice_get old.substations i) = λ i.
@@ -193,7 +193,7 @@ concentrator_restarts grounds laws old new {el = el} station h after =
     let same : kept_in next ≡ kept_in old =
     ap (λ (rows : List (ℕ × Row)). record (kept_in old) { buffered = rows }) (listed_gone 0 old.substations) in
     let joined_as : (i : ℕ) → Relaying → Option SubstationState → Type 0 = λ i r o. IfSome o (IsJoinedBelow old.now r (each i).link) in
-    subst (λ (x : System). Keeps el station [] old x) (sym after)
+    subst (λ (x : System). Keeps el substation [] old x) (sym after)
     (record {
       standing = record {
         plan = h.plan;
@@ -207,6 +207,6 @@ concentrator_restarts grounds laws old new {el = el} station h after =
             (still_behind old.indices h.links links (kept_in old) (λ i. (each i).still)
             (still_of l s s' h.behind.above_stands h.above f refl refl refl refl refl) h.behind);
       };
-      fate = subst (λ (k : Kept). IsFate (made_at station []) (report_of old) (shown_of old.indices k)) (sym same)
-          (λ i. none_more (of_station i (happened (report_of old))));
+      fate = subst (λ (k : Kept). IsFate (made_at substation []) (report_of old) (shown_of old.indices k)) (sym same)
+          (λ i. none_more (of_substation i (happened (report_of old))));
     })

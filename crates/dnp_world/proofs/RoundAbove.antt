@@ -195,7 +195,8 @@ module _ (laws : StationLaws) (lines : LineLaws) (number : ℕ) (old new : Syste
         let d = lines.down on (octets ∷ []) [] round.taken new under_way round.confirms in
         let a : Arrives on Down octets d.0 round.taken new = one_arrives on Down octets d.0 round.taken new d.1 in
         let heard : IsNow c1 centre2 a.heard = ap still_lines a.hears.1 ∙ taken.is in
-        let r : Frees portion c0.queue (middle_of c1).performed (step_in c1 old.now octets) = x.frees octets is (middle_of c1).performed (middle_panel c1 old.now) in (
+        let r : Frees portion c0.queue (middle_of c1).performed (step_in c1 old.now octets) =
+        x.frees octets is (middle_of c1).performed (middle_panel c1 old.now) in (
           concentrator_after c1 old.now octets,
           record {
             left = Released x.released r.lanes;

@@ -40,9 +40,9 @@ use Rattle.dnp_world.proofs.RoundExchange.{Answer, AreFit, Exchanges, ReleaseLaw
 
 -- the rows in the lanes are asked for at the other end
 pub record LaneLaws : Type 0 where
-  pub below : (s : System) (station : ℕ) (was : SubstationState) → IsAsPlanned s → station < length s.concentrator.links
-      → slice_get s.substations station ≡ Some was
-      → All (λ row. is_reported (link_at s.concentrator station).master.plan row ≡ true) (rows_in was.lanes)
+  pub below : (s : System) (substation : ℕ) (was : SubstationState) → IsAsPlanned s → substation < length s.concentrator.links
+      → slice_get s.substations substation ≡ Some was
+      → All (λ row. is_reported (link_at s.concentrator substation).master.plan row ≡ true) (rows_in was.lanes)
   pub queued : QueuedLaw
   pub above : (s : System) {el : Elsewhere} → IsStanding el s → IsAsPlanned s
       → All (λ row. is_reported s.centre.link.master.plan row ≡ true) (rows_in s.concentrator.queue)
@@ -79,30 +79,30 @@ all_polled law P s sound all = all_reported law P s (true ∷ true ∷ true ∷ 
 -- ---- the link to a substation
 
 -- the substation has started what it may, so nothing moved
-pub record PassedBelow (station : ℕ) (old new : System) : Type 0 where
-  pub moves : MovesBelow station (passed_rows (Below station)) old new
-  pub busy : is_some (relaying_at new (Below station)).master.request ≡ true
+pub record PassedBelow (substation : ℕ) (old new : System) : Type 0 where
+  pub moves : MovesBelow substation (passed_rows (Below substation)) old new
+  pub busy : is_some (relaying_at new (Below substation)).master.request ≡ true
 
-module _ (stations : StationLaws) (lines : LineLaws) (lanes : LaneLaws) (station : ℕ) (old new : System) {el : Elsewhere} (steady : IsSteadyBeside el old)
-    (quiet : is_quiet_on old (Below station) ≡ true) (round : IsRound Happens itself (Below station) old new) where
-  begins : below.BeginsBelow station old
-  begins = below.begins_below station old quiet
+module _ (stations : StationLaws) (lines : LineLaws) (lanes : LaneLaws) (substation : ℕ) (old new : System) {el : Elsewhere} (steady : IsSteadyBeside el old)
+    (quiet : is_quiet_on old (Below substation) ≡ true) (round : IsRound Happens itself (Below substation) old new) where
+  begins : below.BeginsBelow substation old
+  begins = below.begins_below substation old quiet
 
   abbrev was : SubstationState
   was = begins.was
 
   abbrev m : master.State
-  m = (link_at old.concentrator station).master
+  m = (link_at old.concentrator substation).master
 
-  clear : IsClearOn (Below station) old
-  clear = lines.quiet (Below station) old steady.standing quiet
+  clear : IsClearOn (Below substation) old
+  clear = lines.quiet (Below substation) old steady.standing quiet
 
   -- what stands of the substation and of its master
-  joined : IsJoinedBelow old.now (link_at old.concentrator station) (steady.standing.links.below station) was
+  joined : IsJoinedBelow old.now (link_at old.concentrator substation) (steady.standing.links.below substation) was
   joined =
       subst
-      (λ (o : Option SubstationState). IfSome o (IsJoinedBelow old.now (link_at old.concentrator station) (steady.standing.links.below station)))
-      begins.there (steady.standing.below station)
+      (λ (o : Option SubstationState). IfSome o (IsJoinedBelow old.now (link_at old.concentrator substation) (steady.standing.links.below substation)))
+      begins.there (steady.standing.below substation)
 
   well : IsWell (station_of was)
   well = joined.joined.outstation.well
@@ -117,28 +117,28 @@ module _ (stations : StationLaws) (lines : LineLaws) (lanes : LaneLaws) (station
   }
 
   asked : All (λ row. is_reported m.plan row ≡ true) (rows_in was.lanes)
-  asked = lanes.below old station was steady.planned begins.low begins.there
+  asked = lanes.below old substation was steady.planned begins.low begins.there
 
-  again_is : is_last_request was.core.session (poll_octets m.seq) ≡ is_repeated_on old (Below station)
+  again_is : is_last_request was.core.session (poll_octets m.seq) ≡ is_repeated_on old (Below substation)
   again_is = ap (λ (o : Option SubstationState). is_repeated_at o (poll_octets m.seq)) (sym begins.there)
 
-  pub polled_below : is_repeated_on old (Below station) ≡ false → MovesBelow station first_rows old new
+  pub polled_below : is_repeated_on old (Below substation) ≡ false → MovesBelow substation first_rows old new
   polled_below other =
       let polled = all_polled stations.released (λ row. is_reported m.plan row ≡ true) was.lanes fit.sound asked in
-      (below.moves stations lines station old new begins clear first_rows round
-      (all_are_queued lanes.queued old station steady.standing begins.low (polled_rows was.lanes) polled)
+      (below.moves stations lines substation old new begins clear first_rows round
+      (all_are_queued lanes.queued old substation steady.standing begins.low (polled_rows was.lanes) polled)
       (Exchanges (polled_exchange stations m old.now (station_of was) (panel_of was) fit polled (again_is ∙ other)))).moves
 
-  pub repeated_below : ReportLaws → CaseLaw → is_repeated_on old (Below station) ≡ true → PassedBelow station old new
+  pub repeated_below : ReportLaws → CaseLaw → is_repeated_on old (Below substation) ≡ true → PassedBelow substation old new
   repeated_below reports cases again =
       let same : is_last_request was.core.session (poll_octets m.seq) ≡ true = again_is ∙ again in
       let went : WentOn (station_of was) =
-      went_on stations.again cases (station_of was) m (steady.standing.links.below station) joined.joined.outstation joined.joined.master
-      (steady.standing.behind.below_stands station) (and_parts was.core.is_open (is_free was.core) begins.quiet).0 fit.idle fit.seq same in
+      went_on stations.again cases (station_of was) m (steady.standing.links.below substation) joined.joined.outstation joined.joined.master
+      (steady.standing.behind.below_stands substation) (and_parts was.core.is_open (is_free was.core) begins.quiet).0 fit.idle fit.seq same in
       let r = repeated reports m old.now (station_of was) (panel_of was) fit well.order
       (all_reported stations.released (λ row. is_reported m.plan row ≡ true) was.lanes was.core.enabled fit.sound well.order.classes asked) same went in
       let settled : may_report (station_of was) ≡ false =
-      subst (λ (o : Option SubstationState). IfSome o IsSettled) begins.there (steady.settled station) in
+      subst (λ (o : Option SubstationState). IfSome o IsSettled) begins.there (steady.settled substation) in
       let none : first_reported (station_of was) ≡ no_rows =
       ap (λ (b : Bool). if b then reported was.lanes was.core.enabled else no_rows) settled in
       let Passes : Portion → Type 0 = λ x.
@@ -146,7 +146,7 @@ module _ (stations : StationLaws) (lines : LineLaws) (lanes : LaneLaws) (station
       × (is_some (master_after m old.now (station_of was) (panel_of was) x answer).request ≡ true)
       in
       let (answer, busy) = subst Passes none (r.answer, r.busy) in
-      let x = below.moves stations lines station old new begins clear (passed_rows (Below station)) round refl answer in
+      let x = below.moves stations lines substation old new begins clear (passed_rows (Below substation)) round refl answer in
       record { moves = x.moves; busy = ap (λ (a : master.State). is_some a.request) x.master_is ∙ busy }
 
 -- ---- the link between concentrator and centre

@@ -22,7 +22,7 @@ use Rattle.dnp_world.specs.Channels.{ChannelState, are_quiet}
 use Rattle.dnp_world.specs.Rounds.{events_polled, is_quiet_at}
 use Rattle.dnp_world.specs.SystemEvents.{AsksOn, LinesChange, SendsDown, concentrator_taken, dropped_for, request_of, relaying_at, taken_below, with_link}
 use Rattle.dnp_world.specs.SystemRuns.{IfThere}
-use Rattle.dnp_world.specs.Systems.{CentreState, ConcentratorState, History, SubstationState, System, at_station}
+use Rattle.dnp_world.specs.Systems.{CentreState, ConcentratorState, History, SubstationState, System, at_substation}
 use Rattle.dnp_world.specs.declared.event.Link.{Link}
 use Rattle.dnp_world.specs.declared.event.Link.TheVariants.{Below}
 use Rattle.dnp_world.specs.declared.link_event.Way.{Way}
@@ -83,52 +83,52 @@ rest_of s = record { others = λ i. slice_get s.substations i; centre = s.centre
 
 -- rows of the substation of this number were confirmed
 abbrev pub with_confirmed : ℕ → List Row → History → History
-with_confirmed station rows h = record h { confirmed = h.confirmed ++ at_station station rows }
+with_confirmed substation rows h = record h { confirmed = h.confirmed ++ at_substation substation rows }
 
 abbrev pub with_dropped : List Row → History → History
 with_dropped rows h = record h { dropped = h.dropped ++ rows }
 
 -- the substation of this number, the concentrator and the history are these, and all else but lines is as it was
-pub record IsNow (station : ℕ) (rest : Rest) (p : Parts) (c : ConcentratorState) (h : History) (s : System) : Type 0 where
-  pub parts : option_map parts_of (slice_get s.substations station) ≡ Some p
+pub record IsNow (substation : ℕ) (rest : Rest) (p : Parts) (c : ConcentratorState) (h : History) (s : System) : Type 0 where
+  pub parts : option_map parts_of (slice_get s.substations substation) ≡ Some p
   pub concentrator : s.concentrator ≡ c
   pub history : s.history ≡ h
-  pub others : (i : ℕ) → i ≢ station → slice_get s.substations i ≡ rest.others i
+  pub others : (i : ℕ) → i ≢ substation → slice_get s.substations i ≡ rest.others i
   pub centre : s.centre ≡ rest.centre
   pub now : s.now ≡ rest.now
 
 parts_same : (o : Option SubstationState) (was : SubstationState) (p : Parts) → o ≡ Some was → option_map parts_of o ≡ Some p → parts_of was ≡ p
 parts_same o was p there is = same_Some (parts_of was) p (ap (option_map parts_of) (sym there) ∙ is)
 
-module _ (station : ℕ) (rest : Rest) (p : Parts) (c : ConcentratorState) (h : History) where
+module _ (substation : ℕ) (rest : Rest) (p : Parts) (c : ConcentratorState) (h : History) where
   -- lines change
-  pub lines_change : (Change : ChannelState → ChannelState → Type 0) (old new : System) → LinesChange (Below station) Change old new
-      → IsNow station rest p c h old → IsNow station rest p c h new
+  pub lines_change : (Change : ChannelState → ChannelState → Type 0) (old new : System) → LinesChange (Below substation) Change old new
+      → IsNow substation rest p c h old → IsNow substation rest p c h new
   lines_change Change old new change n =
       let was : SubstationState = change.was in
       let is : SubstationState = change.is in
-      subst (IsNow station rest p c h) (sym change.after) record {
-        parts = ap (option_map parts_of) (set_here old.substations station was is change.there)
+      subst (IsNow substation rest p c h) (sym change.after) record {
+        parts = ap (option_map parts_of) (set_here old.substations substation was is change.there)
             ∙ ap (λ (s : SubstationState). Some (parts_of s)) change.changed.1
-            ∙ ap Some (parts_same (slice_get old.substations station) was p change.there n.parts);
+            ∙ ap Some (parts_same (slice_get old.substations substation) was p change.there n.parts);
         concentrator = n.concentrator;
         history = n.history;
-        others = λ i apart. set_there old.substations station i is apart ∙ n.others i apart;
+        others = λ i apart. set_there old.substations substation i is apart ∙ n.others i apart;
         centre = n.centre;
         now = n.now;
       }
 
   -- the substation answers, and performs nothing
-  pub substation_steps : (fragment : List ℕ) (old new : System) → SubstationTakes station fragment old new → IsNow station rest p c h old
+  pub substation_steps : (fragment : List ℕ) (old new : System) → SubstationTakes substation fragment old new → IsNow substation rest p c h old
       → (step_in p rest.now fragment).state.performed ≡ p.outputs.performed
-      → IsNow station rest (parts_after p (step_in p rest.now fragment)) c (with_confirmed station (step_in p rest.now fragment).does.discarded h) new
+      → IsNow substation rest (parts_after p (step_in p rest.now fragment)) c (with_confirmed substation (step_in p rest.now fragment).does.discarded h) new
   substation_steps fragment old new takes n kept =
       let change = takes.answers in
       let was : SubstationState = change.was in
       let is : SubstationState = change.is in
       let of : Parts → ℕ → Step = λ q k. step_in q k fragment in
       let step : Step = of p rest.now in
-      let same : parts_of was ≡ p = parts_same (slice_get old.substations station) was p change.there n.parts in
+      let same : parts_of was ≡ p = parts_same (slice_get old.substations substation) was p change.there n.parts in
       let step_is : of (parts_of was) old.now ≡ step = ap (λ (q : Parts). of q old.now) same ∙ ap (λ (k : ℕ). of p k) n.now in
       let performed : is.outputs.performed ≡ was.outputs.performed =
       ap (λ (s : SubstationState). s.outputs.performed) change.changed.1.after
@@ -139,12 +139,12 @@ module _ (station : ℕ) (rest : Rest) (p : Parts) (c : ConcentratorState) (h : 
       ∙ drop_all (length was.outputs.performed) was.outputs.performed (omega arith)
       in
       let made : History → List Row → List Command → History = λ x rows commands. record x {
-        confirmed = x.confirmed ++ at_station station rows;
-        operated = x.operated ++ at_station station commands;
+        confirmed = x.confirmed ++ at_substation substation rows;
+        operated = x.operated ++ at_substation substation commands;
       } in
       let commands : List Command = drop (length was.outputs.performed) is.outputs.performed in
-      subst (IsNow station rest (parts_after p step) c (with_confirmed station step.does.discarded h)) (sym change.after) record {
-        parts = ap (option_map parts_of) (set_here old.substations station was is change.there)
+      subst (IsNow substation rest (parts_after p step) c (with_confirmed substation step.does.discarded h)) (sym change.after) record {
+        parts = ap (option_map parts_of) (set_here old.substations substation was is change.there)
             ∙ ap (λ (s : SubstationState). Some (parts_of s)) change.changed.1.after
             ∙ ap (λ (q : Parts). Some (parts_after q (of q old.now))) same
             ∙ ap (λ (k : ℕ). Some (parts_after p (of p k))) n.now;
@@ -152,16 +152,16 @@ module _ (station : ℕ) (rest : Rest) (p : Parts) (c : ConcentratorState) (h : 
         history = ap (λ (x : History). made x takes.released commands) n.history
             ∙ ap (λ (rows : List Row). made h rows commands) (change.changed.0 ∙ ap (λ (x : Step). x.does.discarded) step_is)
             ∙ ap (λ (xs : List Command). made h step.does.discarded xs) none
-            ∙ ap (λ (xs : List (ℕ × Command)). record (with_confirmed station step.does.discarded h) { operated = xs }) (append-nil h.operated);
-        others = λ i apart. set_there old.substations station i is apart ∙ n.others i apart;
+            ∙ ap (λ (xs : List (ℕ × Command)). record (with_confirmed substation step.does.discarded h) { operated = xs }) (append-nil h.operated);
+        others = λ i apart. set_there old.substations substation i is apart ∙ n.others i apart;
         centre = n.centre;
         now = n.now;
       }
 
   -- what it sends back
-  pub substation_sends : (fragment : List ℕ) (s : System) → IsNow station rest p c h s
-      → answers_below (slice_get s.substations station) s.now fragment ≡ (step_in p rest.now fragment).does.send
-  substation_sends fragment s n = by (slice_get s.substations station) n.parts
+  pub substation_sends : (fragment : List ℕ) (s : System) → IsNow substation rest p c h s
+      → answers_below (slice_get s.substations substation) s.now fragment ≡ (step_in p rest.now fragment).does.send
+  substation_sends fragment s n = by (slice_get s.substations substation) n.parts
     where
       by : (o : Option SubstationState) → option_map parts_of o ≡ Some p
           → answers_below o s.now fragment ≡ (step_in p rest.now fragment).does.send
@@ -171,24 +171,24 @@ module _ (station : ℕ) (rest : Rest) (p : Parts) (c : ConcentratorState) (h : 
           ∙ ap (λ (k : ℕ). (step_in p k fragment).does.send) n.now
 
   -- the concentrator takes its rows
-  pub rows_taken : (t : Taking) (s : System) → IsNow station rest p c h s
-      → IsNow station rest p (concentrator_taken c station t) (with_dropped (dropped_for c station t) h) (taken_below s station t)
+  pub rows_taken : (t : Taking) (s : System) → IsNow substation rest p c h s
+      → IsNow substation rest p (concentrator_taken c substation t) (with_dropped (dropped_for c substation t) h) (taken_below s substation t)
   rows_taken t s n = record {
     parts = n.parts;
-    concentrator = ap (λ (x : ConcentratorState). concentrator_taken x station t) n.concentrator;
-    history = ap (with_dropped (dropped_for s.concentrator station t)) n.history
-        ∙ ap (λ (x : ConcentratorState). with_dropped (dropped_for x station t) h) n.concentrator;
+    concentrator = ap (λ (x : ConcentratorState). concentrator_taken x substation t) n.concentrator;
+    history = ap (with_dropped (dropped_for s.concentrator substation t)) n.history
+        ∙ ap (λ (x : ConcentratorState). with_dropped (dropped_for x substation t) h) n.concentrator;
     others = n.others;
     centre = n.centre;
     now = n.now;
   }
 
   -- the link's master is another
-  pub link_set : (r : Relaying) (s : System) → IsNow station rest p c h s
-      → IsNow station rest p (record c { links = slice_set c.links station r }) h (with_link s station r)
+  pub link_set : (r : Relaying) (s : System) → IsNow substation rest p c h s
+      → IsNow substation rest p (record c { links = slice_set c.links substation r }) h (with_link s substation r)
   link_set r s n = record {
     parts = n.parts;
-    concentrator = ap (λ (x : ConcentratorState). record x { links = slice_set x.links station r }) n.concentrator;
+    concentrator = ap (λ (x : ConcentratorState). record x { links = slice_set x.links substation r }) n.concentrator;
     history = n.history;
     others = n.others;
     centre = n.centre;

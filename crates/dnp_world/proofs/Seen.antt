@@ -8,7 +8,7 @@ use Rattle.dnp_controls.specs.Book.{Ledger}
 use Rattle.dnp_eventbuf.specs.declared.pair.TheConstants.{CENTRES}
 use Rattle.dnp_objects.specs.declared.command.Command.{Command}
 use Rattle.dnp_world.specs.Centres.{ChangesAll, HappensToAll, IsSeen, SeesElsewhere, centre_at, centre_of, is_elsewhere, is_there}
-use Rattle.dnp_world.specs.Controls.{AtCentre, AtConcentrator, First, IsAccepted, IsControl, IsControlFor, IsRefusedControl, IsRefusedOn, IsTold, Passes, PassesBack, Second, Third, next_below, station_in}
+use Rattle.dnp_world.specs.Controls.{AtCentre, AtConcentrator, First, IsAccepted, IsControl, IsControlFor, IsRefusedControl, IsRefusedOn, IsTold, Passes, PassesBack, Second, Third, next_below, substation_in}
 use Rattle.dnp_world.specs.Rounds.{Flushes, IsRound, deliveries, events_polled}
 use Rattle.dnp_world.specs.SystemRuns.{Happens, IfThere, RunsTo}
 use Rattle.dnp_world.specs.Systems.{System, itself, standing_on}
@@ -138,15 +138,15 @@ own_link centre = ap not (eq-eqb centre centre refl)
 
 pub control_seen : (centre : ℕ) → centre < CENTRES → (id : ℕ) (old new : Whole) → IsControl HappensToAll (seen_by centre) centre id old new
     → IsControl Happens itself centre id (seen_by centre old) (seen_by centre new)
-control_seen centre low id old new control = by (station_in (seen_by centre old) id) control
+control_seen centre low id old new control = by (substation_in (seen_by centre old) id) control
   where
-    by : (station : Option ℕ) → IsControlFor HappensToAll (seen_by centre) centre station id old new
-        → IsControlFor Happens itself centre station id (seen_by centre old) (seen_by centre new)
+    by : (substation : Option ℕ) → IsControlFor HappensToAll (seen_by centre) centre substation id old new
+        → IsControlFor Happens itself centre substation id (seen_by centre old) (seen_by centre new)
     by None accepted = accepted_seen centre low (Above centre) (own_there centre low) (own_link centre) (Some id) old new accepted
-    by (Some station) (above, first, second) = (
+    by (Some substation) (above, first, second) = (
       seen_by centre above,
       accepted_seen centre low (Above centre) (own_there centre low) (own_link centre) (Some id) old above first,
-      accepted_seen centre low (Below station) refl refl (next_below (seen_by centre above) station) above new second,
+      accepted_seen centre low (Below substation) refl refl (next_below (seen_by centre above) substation) above new second,
     )
 
 pub refused_seen : (centre : ℕ) → centre < CENTRES → (id status : ℕ) (old new : Whole)

@@ -94,11 +94,11 @@ call_settles s HangsUp settled = closed_settles (after_call s HangsUp) refl
 call_settles s Restarts settled = closed_settles (after_call s Restarts) refl
 
 pub all_settle : (old new : System) → Touched old new → AreSettled old → AreSettled new
-all_settle old new touched = each_keeps (λ station s. may_report s ≡ false) old new (λ station. call_settles) touched
+all_settle old new touched = each_keeps (λ substation s. may_report s ≡ false) old new (λ substation. call_settles) touched
 
 -- at first all are closed
-pub fresh_settled : (times : Times) (number : ℕ) (plans : List SubPlan) (station : ℕ)
-    → IfSome (slice_get (fresh_substations times number plans) station) IsSettled
-fresh_settled times number [] station = tt
+pub fresh_settled : (times : Times) (number : ℕ) (plans : List SubPlan) (substation : ℕ)
+    → IfSome (slice_get (fresh_substations times number plans) substation) IsSettled
+fresh_settled times number [] substation = tt
 fresh_settled times number (plan ∷ plans) zero = closed_settles (station_of (fresh_substation times number plan)) refl
-fresh_settled times number (plan ∷ plans) (suc station) = fresh_settled times (suc number) plans station
+fresh_settled times number (plan ∷ plans) (suc substation) = fresh_settled times (suc number) plans substation

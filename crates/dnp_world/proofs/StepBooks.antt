@@ -96,7 +96,8 @@ all_added_carries sound spans book (command ∷ commands) =
 -- ---- an entry comes into a state
 
 -- it has the command and the target that it had, and is pending no more
-put_entry : (entries : List Entry) (other : ℕ) (state : State) → is_pending state ≡ false → (target : ℕ) (p : Progress) → IfSome (entry_of entries p.id) (IsOfEntry target p)
+put_entry : (entries : List Entry) (other : ℕ) (state : State) → is_pending state ≡ false → (target : ℕ) (p : Progress)
+    → IfSome (entry_of entries p.id) (IsOfEntry target p)
     → IfSome (entry_of (in_state entries other state) p.id) (IsOfEntry target p)
 put_entry [] other state past target p h = h
 put_entry (e ∷ entries) other state past target p h = by (e.id == other) (put_entry entries other state past target p)

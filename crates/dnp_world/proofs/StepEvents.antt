@@ -21,7 +21,7 @@ use Rattle.dnp_world.proofs.Touches.{Ends, Use, LinkOpens, LinkHangsUp, LinkAsks
 -- ---- a system without its lines
 
 pub record AreInStep (e : Ends) : Type 0 where
-  pub below : (station : ℕ) → IfSome (link_in e.links station).progress (GoesWith e.controls station)
+  pub below : (substation : ℕ) → IfSome (link_in e.links substation).progress (GoesWith e.controls substation)
   pub above : IfSome e.centre.progress (GoesWith e.orders 0)
   pub controls : IsSound e.controls
   pub orders : IsSound e.orders
@@ -33,19 +33,19 @@ ends_in_step s h = record { below = h.below; above = h.above; controls = h.contr
 pub system_in_step : (s : System) → AreInStep (ends_of s) → InStep s
 system_in_step s h = record { below = h.below; above = h.above; controls = h.controls; orders = h.orders; widths = h.widths }
 
-set_all : (P : ℕ → Relaying → Type 0) (links : List Relaying) (station : ℕ) (r : Relaying) → P station r → ((i : ℕ) → P i (link_in links i))
-    → (i : ℕ) → P i (link_in (slice_set links station r) i)
-set_all P [] station r here all i = all i
+set_all : (P : ℕ → Relaying → Type 0) (links : List Relaying) (substation : ℕ) (r : Relaying) → P substation r → ((i : ℕ) → P i (link_in links i))
+    → (i : ℕ) → P i (link_in (slice_set links substation r) i)
+set_all P [] substation r here all i = all i
 set_all P (x ∷ links) zero r here all zero = here
 set_all P (x ∷ links) zero r here all (suc i) = all (suc i)
-set_all P (x ∷ links) (suc station) r here all zero = all zero
-set_all P (x ∷ links) (suc station) r here all (suc i) = set_all (λ (n : ℕ) (y : Relaying). P (suc n) y) links station r here (λ n. all (suc n)) i
+set_all P (x ∷ links) (suc substation) r here all zero = all zero
+set_all P (x ∷ links) (suc substation) r here all (suc i) = set_all (λ (n : ℕ) (y : Relaying). P (suc n) y) links substation r here (λ n. all (suc n)) i
 
 -- the control in progress over a link, and a book that carries the old one
-pub link_changes : (e : Ends) (station : ℕ) (r : Relaying) (book : Ledger) → Carries e.controls book → IfSome r.progress (GoesWith book station)
-    → AreInStep e → AreInStep (record e { links = slice_set e.links station r; controls = book })
-link_changes e station r book carries here h = record {
-  below = set_all (λ (i : ℕ) (x : Relaying). IfSome x.progress (GoesWith book i)) e.links station r here
+pub link_changes : (e : Ends) (substation : ℕ) (r : Relaying) (book : Ledger) → Carries e.controls book → IfSome r.progress (GoesWith book substation)
+    → AreInStep e → AreInStep (record e { links = slice_set e.links substation r; controls = book })
+link_changes e substation r book carries here h = record {
+  below = set_all (λ (i : ℕ) (x : Relaying). IfSome x.progress (GoesWith book i)) e.links substation r here
       (λ i. carried e.controls book i (link_in e.links i).progress carries (h.below i));
   above = h.above;
   controls = carries.sound h.controls;

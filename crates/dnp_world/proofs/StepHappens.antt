@@ -38,8 +38,8 @@ use Rattle.dnp_world.proofs.Touches.{Ends, Touched, Used, Nothing, LinkUsed, Cen
 -- what laws promise of books, of the index map, and of commands
 pub record StepLaws : Type 0 where
   pub sound : SoundLaw
-  pub low : (spans : List Spans) (kind : IndexKind) (station index above : ℕ) → IsMap spans
-      → index_above spans station kind index ≡ Some above → above < INDICES
+  pub low : (spans : List Spans) (kind : IndexKind) (substation index above : ℕ) → IsMap spans
+      → index_above spans substation kind index ≡ Some above → above < INDICES
   pub commands : CommandLaws
 
 -- ---- commands
@@ -49,16 +49,16 @@ with_index_fits (Block index code count on off) new (wide, codes, counts, ons, o
 with_index_fits (Set16 index value) new (wide, fits) low = (low, fits)
 with_index_fits (Set32 index value) new (wide, fits) low = (low, fits)
 
-above_fits : StepLaws → (spans : List Spans) (station : ℕ) (command above : Command) → IsMap spans → HasWidths command
-    → command_above spans station command ≡ Some above → HasWidths above
-above_fits laws spans station command above is_map widths is = by (index_above spans station (kind_of_command command) (index_of command)) refl is
+above_fits : StepLaws → (spans : List Spans) (substation : ℕ) (command above : Command) → IsMap spans → HasWidths command
+    → command_above spans substation command ≡ Some above → HasWidths above
+above_fits laws spans substation command above is_map widths is = by (index_above spans substation (kind_of_command command) (index_of command)) refl is
   where
-    by : (o : Option ℕ) → index_above spans station (kind_of_command command) (index_of command) ≡ o
+    by : (o : Option ℕ) → index_above spans substation (kind_of_command command) (index_of command) ≡ o
         → option_map (λ index. with_index command index) o ≡ Some above → HasWidths above
     by None found same = absurd (none-some above same)
     by (Some index) found same =
         subst HasWidths (same_Some (with_index command index) above same)
-        (with_index_fits command index widths (laws.low spans (kind_of_command command) station (index_of command) index is_map found))
+        (with_index_fits command index widths (laws.low spans (kind_of_command command) substation (index_of command) index is_map found))
 
 -- ---- what is touched
 
@@ -81,15 +81,15 @@ used_in_step laws old s i used = by used
 
     by : (x : Used e) → AreInStep (after_used e x)
     by Nothing = h
-    by (LinkUsed station call) =
-        link_changes e station (after_use (link_in e.links station) call) e.controls (carried_same e.controls)
-        (use_goes e.controls station (link_in e.links station) call (h.below station)) h
+    by (LinkUsed substation call) =
+        link_changes e substation (after_use (link_in e.links substation) call) e.controls (carried_same e.controls)
+        (use_goes e.controls substation (link_in e.links substation) call (h.below substation)) h
     by (CentreUsed call) = centre_changes e (after_use e.centre call) e.orders (use_goes e.orders 0 e.centre call h.above) h.orders h.widths h
-    by (LinkRelays station now) =
-        let step : Step = step_at e station in
-        link_changes e station (relaying_after (link_in e.links station) now step) (ledger_after e.controls step)
+    by (LinkRelays substation now) =
+        let step : Step = step_at e substation in
+        link_changes e substation (relaying_after (link_in e.links substation) now step) (ledger_after e.controls step)
         (step_carries laws.sound e.controls step)
-        (step_in_progress laws.sound (link_in e.links station) now e.controls station step refl (below_in_step laws.commands old station s i)) h
+        (step_in_progress laws.sound (link_in e.links substation) now e.controls substation step refl (below_in_step laws.commands old substation s i)) h
     by (CentreRelays now) =
         let step : Step = step_above e in
         centre_changes e (relaying_after e.centre now step) (ledger_after e.orders step)
@@ -104,7 +104,7 @@ used_in_step laws old s i used = by used
           orders = h.orders;
           widths = h.widths;
         }
-    by (Issues station command above is fits) =
+    by (Issues substation command above is fits) =
         let is_map : IsMap e.centre_indices = subst IsMap (sym s.of_plan.centre_indices) s.of_plan.is_map in
         let last : Entry = record { id = e.orders.last_id + 1; target = 0; command = above; state = Pending } in
         let carries = added_carries laws.sound e.orders 0 above in
@@ -113,7 +113,7 @@ used_in_step laws old s i used = by used
           above = carried e.orders (added e.orders 0 above) 0 e.centre.progress carries h.above;
           controls = h.controls;
           orders = carries.sound h.orders;
-          widths = All-push FitsEntry e.orders.entries last h.widths (above_fits laws e.centre_indices station command above is_map fits is);
+          widths = All-push FitsEntry e.orders.entries last h.widths (above_fits laws e.centre_indices substation command above is_map fits is);
         }
     by AllHangUp = record {
       below = λ n. none_in_progress relaying.hung_up (λ r. refl) e.controls e.links n n;

@@ -19,7 +19,7 @@ use Rattle.dnp_world.specs.Channels.{ChannelState, state_of}
 use Rattle.dnp_world.specs.MasterEnds.{ComesToMaster, ListsDropped, TakesBy, TakesGiven, none_dropped}
 use Rattle.dnp_world.specs.SystemEvents.{ComesUp, HasNumbers, MasterReceives, MasterTakes, centre_taken, concentrator_taken, dropped_for, taken_below, with_substation}
 use Rattle.dnp_world.specs.SystemParts.{centre_of, substation_of}
-use Rattle.dnp_world.specs.Systems.{CentreState, ConcentratorState, SubstationState, System, has_station, link_at}
+use Rattle.dnp_world.specs.Systems.{CentreState, ConcentratorState, SubstationState, System, has_substation, link_at}
 use Rattle.dnp_world.specs.Wholes.{Whole, WholeConcentrator, seen_by}
 use Rattle.dnp_world.specs.declared.channel.Channel.{Channel}
 use Rattle.dnp_world.specs.declared.event.Link.TheVariants.{Above, Below}
@@ -105,67 +105,68 @@ comes_to_centre archive orders n low left rest centres above before k lines_befo
 
 -- one substation's lines and what the concentrator holds
 abbrev with_below : System → ℕ → SubstationState → ConcentratorState → List Row → System
-with_below s station is middle dropped = record s {
-  substations = slice_set s.substations station is;
+with_below s substation is middle dropped = record s {
+  substations = slice_set s.substations substation is;
   concentrator = middle;
   history = record s.history { dropped = dropped };
 }
 
 abbrev MiddleTakes : System → ℕ → ConcentratorState → List Row → Taking → Type 0
-MiddleTakes old station middle dropped t =
-    (HasNumbers old.concentrator station t × (middle ≡ concentrator_taken old.concentrator station t))
-    × (dropped ≡ old.history.dropped ++ dropped_for old.concentrator station t)
+MiddleTakes old substation middle dropped t =
+    (HasNumbers old.concentrator substation t × (middle ≡ concentrator_taken old.concentrator substation t))
+    × (dropped ≡ old.history.dropped ++ dropped_for old.concentrator substation t)
 
 abbrev MiddleSame : System → ConcentratorState → List Row → Type 0
 MiddleSame old middle dropped = (middle ≡ old.concentrator) × (dropped ≡ old.history.dropped)
 
-below_same : (old : System) (station : ℕ) (was : SubstationState) (middle : ConcentratorState) (between lines : ChannelState) (dropped : List Row)
+below_same : (old : System) (substation : ℕ) (was : SubstationState) (middle : ConcentratorState) (between lines : ChannelState) (dropped : List Row)
     → lines ≡ between → MiddleSame old middle dropped
-    → with_below old station (record was { channel = lines }) middle dropped ≡ with_substation old station (record was { channel = between })
-below_same old station was middle between lines dropped is same =
+    → with_below old substation (record was { channel = lines }) middle dropped ≡ with_substation old substation (record was { channel = between })
+below_same old substation was middle between lines dropped is same =
     rw (is, same.0, same.1)
 
-below_by : (old : System) (station : ℕ) (was : SubstationState) (middle : ConcentratorState) (between lines : ChannelState) (dropped : List Row)
-    (r : Result Taking MasterFault) → slice_get old.substations station ≡ Some was
-    → TakesBy r (MiddleTakes old station middle dropped) (MiddleSame old middle dropped) between lines
-    → MasterReceives (Below station) r (with_substation old station (record was { channel = between }))
-    (with_below old station (record was { channel = lines }) middle dropped)
-below_by old station was middle between lines dropped (Err fault) at (is, same) = below_same old station was middle between lines dropped is same
-below_by old station was middle between lines dropped (Ok t) at (down, took) =
+below_by : (old : System) (substation : ℕ) (was : SubstationState) (middle : ConcentratorState) (between lines : ChannelState) (dropped : List Row)
+    (r : Result Taking MasterFault) → slice_get old.substations substation ≡ Some was
+    → TakesBy r (MiddleTakes old substation middle dropped) (MiddleSame old middle dropped) between lines
+    → MasterReceives (Below substation) r (with_substation old substation (record was { channel = between }))
+    (with_below old substation (record was { channel = lines }) middle dropped)
+below_by old substation was middle between lines dropped (Err fault) at (is, same) = below_same old substation was middle between lines dropped is same
+below_by old substation was middle between lines dropped (Ok t) at (down, took) =
     let mid : SubstationState = record was { channel = between } in
     let is : SubstationState = record was { channel = lines } in (
       took.0.0,
       record {
         was = mid;
         is = is;
-        there = set_here old.substations station was mid at;
+        there = set_here old.substations substation was mid at;
         changed = (down, refl);
         after =
-            ap (λ (k : ConcentratorState). with_below old station is k dropped) took.0.1
-            ∙ ap (λ (rows : List Row). with_below old station is (concentrator_taken old.concentrator station t) rows) took.1
-            ∙ ap (λ (xs : List SubstationState). record (taken_below old station t) { substations = xs }) (sym (set-set old.substations station mid is));
+            ap (λ (k : ConcentratorState). with_below old substation is k dropped) took.0.1
+            ∙ ap (λ (rows : List Row). with_below old substation is (concentrator_taken old.concentrator substation t) rows) took.1
+            ∙ ap (λ (xs : List SubstationState). record (taken_below old substation t) { substations = xs }) (sym (set-set old.substations substation mid is));
       },
     )
 
-below_given : (old : System) (station : ℕ) (was : SubstationState) (middle : ConcentratorState) (between lines : ChannelState) (dropped : List Row)
-    (given : List (List ℕ)) → slice_get old.substations station ≡ Some was
-    → TakesGiven given (link_at old.concentrator station).master old.now (MiddleTakes old station middle dropped) (MiddleSame old middle dropped) between lines
-    → MasterTakes (Below station) given (with_substation old station (record was { channel = between }))
-    (with_below old station (record was { channel = lines }) middle dropped)
-below_given old station was middle between lines dropped [] at (is, same) = below_same old station was middle between lines dropped is same
-below_given old station was middle between lines dropped (fragment ∷ others) at came =
-    below_by old station was middle between lines dropped (receive_of (link_at old.concentrator station).master old.now fragment) at came
+below_given : (old : System) (substation : ℕ) (was : SubstationState) (middle : ConcentratorState) (between lines : ChannelState) (dropped : List Row)
+    (given : List (List ℕ)) → slice_get old.substations substation ≡ Some was
+    → TakesGiven given (link_at old.concentrator substation).master old.now (MiddleTakes old substation middle dropped)
+    (MiddleSame old middle dropped) between lines
+    → MasterTakes (Below substation) given (with_substation old substation (record was { channel = between }))
+    (with_below old substation (record was { channel = lines }) middle dropped)
+below_given old substation was middle between lines dropped [] at (is, same) = below_same old substation was middle between lines dropped is same
+below_given old substation was middle between lines dropped (fragment ∷ others) at came =
+    below_by old substation was middle between lines dropped (receive_of (link_at old.concentrator substation).master old.now fragment) at came
 
-comes_at : (left : LineState → LineState) (old : System) (station : ℕ) (was : SubstationState) (middle : ConcentratorState) (lines : ChannelState)
-    (dropped : List Row) → slice_get old.substations station ≡ Some was
-    → ComesToMaster left (link_at old.concentrator station).master old.now (MiddleTakes old station middle dropped) (MiddleSame old middle dropped)
+comes_at : (left : LineState → LineState) (old : System) (substation : ℕ) (was : SubstationState) (middle : ConcentratorState) (lines : ChannelState)
+    (dropped : List Row) → slice_get old.substations substation ≡ Some was
+    → ComesToMaster left (link_at old.concentrator substation).master old.now (MiddleTakes old substation middle dropped) (MiddleSame old middle dropped)
     was.channel lines
-    → ComesUp left (Below station) old (with_below old station (record was { channel = lines }) middle dropped)
-comes_at left old station was middle lines dropped at came =
+    → ComesUp left (Below substation) old (with_below old substation (record was { channel = lines }) middle dropped)
+comes_at left old substation was middle lines dropped at came =
     let between : ChannelState = record was.channel { up = left was.channel.up; master_port = came.port } in
     record {
       given = came.given;
-      between = with_substation old station (record was { channel = between });
+      between = with_substation old substation (record was { channel = between });
       heard = record {
         was = was;
         is = record was { channel = between };
@@ -173,28 +174,29 @@ comes_at left old station was middle lines dropped at came =
         changed = (record { heard = came.heard; after = refl }, refl);
         after = refl;
       };
-      came = below_given old station was middle between lines dropped came.given at came.came;
+      came = below_given old substation was middle between lines dropped came.given at came.came;
     }
 
 -- what comes to the master's end of a substation's lines is what comes to the concentrator
-comes_below : (left : LineState → LineState) (old : System) (station i : ℕ) (xs : List Substation) (was : Substation) (middle : ConcentratorState)
-    (lines : Channel) (dropped : List Row) → old.substations ≡ map substation_of xs → i ≡ station → has_station old station ≡ true → was ≡ get_or xs i was
-    → ComesToMaster left (link_at old.concentrator station).master old.now (MiddleTakes old station middle dropped) (MiddleSame old middle dropped)
+comes_below : (left : LineState → LineState) (old : System) (substation i : ℕ) (xs : List Substation) (was : Substation) (middle : ConcentratorState)
+    (lines : Channel) (dropped : List Row) → old.substations ≡ map substation_of xs → i ≡ substation → has_substation old substation ≡ true
+    → was ≡ get_or xs i was
+    → ComesToMaster left (link_at old.concentrator substation).master old.now (MiddleTakes old substation middle dropped) (MiddleSame old middle dropped)
     (state_of was.channel) (state_of lines)
-    → ComesUp left (Below station) old (record old {
+    → ComesUp left (Below substation) old (record old {
       substations = map substation_of (slice_set xs i (record was { channel = lines }));
       concentrator = middle;
       history = record old.history { dropped = dropped };
     })
-comes_below left old station i xs was middle lines dropped list same has at came =
-    let low : i < length xs = rw same (is_there old xs station list has) in
-    let here : slice_get old.substations station ≡ Some (substation_of was) = rw (list, ← same) (there substation_of xs i was was low at) in
+comes_below left old substation i xs was middle lines dropped list same has at came =
+    let low : i < length xs = rw same (is_there old xs substation list has) in
+    let here : slice_get old.substations substation ≡ Some (substation_of was) = rw (list, ← same) (there substation_of xs i was was low at) in
     let is : Substation = record was { channel = lines } in
-    let written : map substation_of (slice_set xs i is) ≡ slice_set old.substations station (substation_of is) =
+    let written : map substation_of (slice_set xs i is) ≡ slice_set old.substations substation (substation_of is) =
     rw (list, ← same) (map-set substation_of xs i is) in
-    subst (λ (ys : List SubstationState). ComesUp left (Below station) old
+    subst (λ (ys : List SubstationState). ComesUp left (Below substation) old
     (record old { substations = ys; concentrator = middle; history = record old.history { dropped = dropped } })) (sym written)
-    (comes_at left old station (substation_of was) middle (state_of lines) dropped here came)
+    (comes_at left old substation (substation_of was) middle (state_of lines) dropped here came)
 
 -- ---- as all see it
 
@@ -223,33 +225,33 @@ comes_mapped left master now Takes Takes' Same Same' old new f g came = record {
 
 -- the concentrator takes a substation's rows, and both queues drop what they have no room for
 abbrev AllTake : Whole → ℕ → WholeConcentrator → List Row → List Row → Taking → Type 0
-AllTake old station middle first second t =
-    (HaveNumbers old.concentrator station t × (middle ≡ all.concentrator_taken old.concentrator station t))
-    × ListsDropped (all.dropped_for old.concentrator station t) old.history.dropped.first old.history.dropped.second first second
+AllTake old substation middle first second t =
+    (HaveNumbers old.concentrator substation t × (middle ≡ all.concentrator_taken old.concentrator substation t))
+    × ListsDropped (all.dropped_for old.concentrator substation t) old.history.dropped.first old.history.dropped.second first second
 
 abbrev AllSame : Whole → WholeConcentrator → List Row → List Row → Type 0
 AllSame old middle first second =
     (middle ≡ old.concentrator) × ListsDropped none_dropped old.history.dropped.first old.history.dropped.second first second
 
-pub comes_to_concentrator : (left : LineState → LineState) (old : Whole) (station i : ℕ) (xs : List Substation) (was : Substation)
-    (middle : WholeConcentrator) (lines : Channel) (first second : List Row) → old.substations ≡ map substation_of xs → i ≡ station
-    → has_link old (Below station) ≡ true → was ≡ get_or xs i was
-    → ComesToMaster left (link_in old.concentrator.links station).master old.now (AllTake old station middle first second)
+pub comes_to_concentrator : (left : LineState → LineState) (old : Whole) (substation i : ℕ) (xs : List Substation) (was : Substation)
+    (middle : WholeConcentrator) (lines : Channel) (first second : List Row) → old.substations ≡ map substation_of xs → i ≡ substation
+    → has_link old (Below substation) ≡ true → was ≡ get_or xs i was
+    → ComesToMaster left (link_in old.concentrator.links substation).master old.now (AllTake old substation middle first second)
     (AllSame old middle first second) (state_of was.channel) (state_of lines)
-    → ChangesAll None (ComesUp left (Below station)) old (record old {
+    → ChangesAll None (ComesUp left (Below substation)) old (record old {
       substations = map substation_of (slice_set xs i (record was { channel = lines }));
       concentrator = middle;
       history = record old.history { dropped = record { first = first; second = second } };
     })
-comes_to_concentrator left old station i xs was middle lines first second list same has at came =
-    let master : MasterState = (link_in old.concentrator.links station).master in
+comes_to_concentrator left old substation i xs was middle lines first second list same has at came =
+    let master : MasterState = (link_in old.concentrator.links substation).master in
     let seen : ℕ → WholeConcentrator → ConcentratorState = λ n c. (seen_by n (record old { concentrator = c })).concentrator in
     for_both _
-    (comes_below left (seen_by 0 old) station i xs was (seen 0 middle) lines first list same has at
+    (comes_below left (seen_by 0 old) substation i xs was (seen 0 middle) lines first list same has at
     (comes_mapped left master old.now _ _ _ _ (state_of was.channel) (state_of lines)
     (λ t took. ((λ some. took.0.0 some 0 (omega arith), ap (seen 0) took.0.1), took.1.to_first))
     (λ kept. (ap (seen 0) kept.0, kept.1.to_first ∙ append-nil old.history.dropped.first)) came))
-    (comes_below left (seen_by 1 old) station i xs was (seen 1 middle) lines second list same has at
+    (comes_below left (seen_by 1 old) substation i xs was (seen 1 middle) lines second list same has at
     (comes_mapped left master old.now _ _ _ _ (state_of was.channel) (state_of lines)
     (λ t took. ((λ some. took.0.0 some 1 (omega arith), ap (seen 1) took.0.1), took.1.to_second))
     (λ kept. (ap (seen 1) kept.0, kept.1.to_second ∙ append-nil old.history.dropped.second)) came))

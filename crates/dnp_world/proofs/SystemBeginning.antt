@@ -10,7 +10,7 @@ use Rattle.dnp_world.specs.CommandWidths.{HasWidths}
 use Rattle.dnp_world.specs.Kept.{nothing_kept, rows_below, commands_below}
 use Rattle.dnp_world.specs.Link.{Link}
 use Rattle.dnp_world.specs.Standing.{Stands, IsFresh}
-use Rattle.dnp_world.specs.Stations.{of_station, HasSameCounts}
+use Rattle.dnp_world.specs.Stations.{of_substation, HasSameCounts}
 use Rattle.dnp_world.proofs.Counting.{covered_nil}
 use Rattle.dnp_world.proofs.SystemCounts.{same_refl, same_is}
 
@@ -28,7 +28,7 @@ fresh_behind starts indices links below above =
       buffered = λ i. no_rows (links.below i).lanes (below i).lanes;
       confirmed = λ i. no_rows (links.below i).released (below i).fresh.released;
       left = λ i. no_rows (links.below i).left (below i).fresh.left;
-      joined = λ i. subst (λ (xs : List Buffered). HasSameCounts (rows_of (links.below i).took) (of_station i (rows_below indices (rows_of xs)))) (sym stood)
+      joined = λ i. subst (λ (xs : List Buffered). HasSameCounts (rows_of (links.below i).took) (of_substation i (rows_below indices (rows_of xs)))) (sym stood)
           (no_rows (links.below i).took (below i).fresh.took);
       mapped = subst (λ (xs : List Buffered). length (rows_below indices (rows_of xs)) ≡ length xs) (sym stood) refl;
       queue = no_rows links.above.lanes above.lanes;

@@ -162,31 +162,31 @@ restarts_all {Q} {A} stock ledger rest c d substations above first second first_
 
 -- its master of a substation looks at its timer
 abbrev ticked_below : ℕ → Whole → Bool → WholeConcentrator
-ticked_below station old timed_out = record old.concentrator {
-  cores = of_both (λ core. if timed_out then without_link core station else core) old.concentrator.cores;
-  links = slice_set old.concentrator.links station (relaying.ticked (link_in old.concentrator.links station) old.now);
+ticked_below substation old timed_out = record old.concentrator {
+  cores = of_both (λ core. if timed_out then without_link core substation else core) old.concentrator.cores;
+  links = slice_set old.concentrator.links substation (relaying.ticked (link_in old.concentrator.links substation) old.now);
 }
 
 abbrev ticked_seen : ℕ → ℕ → Whole → Bool → System
-ticked_seen n station old timed_out =
+ticked_seen n substation old timed_out =
     let s = seen_by n old in
-    let ticked = with_link s station (relaying.ticked (link_at s.concentrator station) s.now) in
-    if timed_out then with_lost ticked station else ticked
+    let ticked = with_link s substation (relaying.ticked (link_at s.concentrator substation) s.now) in
+    if timed_out then with_lost ticked substation else ticked
 
-pub ticks_below : (station : ℕ) (old : Whole) (middle : WholeConcentrator) (timed_out : Bool)
-    → timed_out ≡ master.is_timed_out (link_in old.concentrator.links station).master old.now → middle ≡ ticked_below station old timed_out
-    → ChangesAll None (MasterTicks (Below station)) old (record old { concentrator = middle })
-ticks_below station old middle timed_out closes is =
-    for_both _ (subst (λ (b : Bool). new 0 ≡ ticked_seen 0 station old b) closes (first timed_out is))
-    (subst (λ (b : Bool). new 1 ≡ ticked_seen 1 station old b) closes (second timed_out is))
+pub ticks_below : (substation : ℕ) (old : Whole) (middle : WholeConcentrator) (timed_out : Bool)
+    → timed_out ≡ master.is_timed_out (link_in old.concentrator.links substation).master old.now → middle ≡ ticked_below substation old timed_out
+    → ChangesAll None (MasterTicks (Below substation)) old (record old { concentrator = middle })
+ticks_below substation old middle timed_out closes is =
+    for_both _ (subst (λ (b : Bool). new 0 ≡ ticked_seen 0 substation old b) closes (first timed_out is))
+    (subst (λ (b : Bool). new 1 ≡ ticked_seen 1 substation old b) closes (second timed_out is))
   where
     new : ℕ → System
     new n = seen_by n (record old { concentrator = middle })
 
-    first : (b : Bool) → middle ≡ ticked_below station old b → new 0 ≡ ticked_seen 0 station old b
+    first : (b : Bool) → middle ≡ ticked_below substation old b → new 0 ≡ ticked_seen 0 substation old b
     first true is = ap (λ (k : WholeConcentrator). seen_by 0 (record old { concentrator = k })) is
     first false is = ap (λ (k : WholeConcentrator). seen_by 0 (record old { concentrator = k })) is
 
-    second : (b : Bool) → middle ≡ ticked_below station old b → new 1 ≡ ticked_seen 1 station old b
+    second : (b : Bool) → middle ≡ ticked_below substation old b → new 1 ≡ ticked_seen 1 substation old b
     second true is = ap (λ (k : WholeConcentrator). seen_by 1 (record old { concentrator = k })) is
     second false is = ap (λ (k : WholeConcentrator). seen_by 1 (record old { concentrator = k })) is

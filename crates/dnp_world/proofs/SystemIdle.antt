@@ -11,7 +11,7 @@ use Rattle.dnp_world.specs.Channels.{ChannelState, left_by}
 use Rattle.dnp_world.specs.Centres as all
 use Rattle.dnp_world.specs.Centres.{ChangesAll, centre_of, is_there}
 use Rattle.dnp_world.specs.SystemEvents.{ComesDownBelow, ComesOn, IsHeardUp}
-use Rattle.dnp_world.specs.Systems.{SubstationState, System, at_station, front_at, front_on, has_link, has_station}
+use Rattle.dnp_world.specs.Systems.{SubstationState, System, at_substation, front_at, front_on, has_link, has_substation}
 use Rattle.dnp_world.specs.Wholes.{Whole, seen_by}
 use Rattle.dnp_world.specs.declared.event.Link.{Link}
 use Rattle.dnp_world.specs.declared.event.Link.TheVariants.{Above, Below}
@@ -40,15 +40,15 @@ same_at [] i s is = refl
 same_at (x ∷ xs) zero s is = ap (λ (o : Option SubstationState). elim o as (λ _. List SubstationState) [ None ↦ x ∷ xs | Some y ↦ y ∷ xs ]) (sym is)
 same_at (x ∷ xs) (suc i) s is = ap (λ (ys : List SubstationState). x ∷ ys) (same_at xs i s is)
 
-pub same_system : (s : System) (station : ℕ) (was : SubstationState) → slice_get s.substations station ≡ Some was
-    → s ≡ record s { substations = slice_set s.substations station was }
-same_system s station was is = ap (λ (xs : List SubstationState). record s { substations = xs }) (sym (same_at s.substations station was is))
+pub same_system : (s : System) (substation : ℕ) (was : SubstationState) → slice_get s.substations substation ≡ Some was
+    → s ≡ record s { substations = slice_set s.substations substation was }
+same_system s substation was is = ap (λ (xs : List SubstationState). record s { substations = xs }) (sym (same_at s.substations substation was is))
 
-idle_below_down : (repeats : Bool) (station : ℕ) (s : System) (was : SubstationState) → slice_get s.substations station ≡ Some was
-    → front_of was.channel.down ≡ None → ComesDownBelow (left_by repeats) station s s
-idle_below_down repeats station s was is none =
+idle_below_down : (repeats : Bool) (substation : ℕ) (s : System) (was : SubstationState) → slice_get s.substations substation ≡ Some was
+    → front_of was.channel.down ≡ None → ComesDownBelow (left_by repeats) substation s s
+idle_below_down repeats substation s was is none =
     let performed : List Command = was.outputs.performed in
-    let listed : List (ℕ × Command) = at_station station (drop (length performed) performed) in
+    let listed : List (ℕ × Command) = at_substation substation (drop (length performed) performed) in
     record {
       released = [];
       came = record {
@@ -61,50 +61,50 @@ idle_below_down repeats station s was is none =
           heard = idle_port was.channel.down was.channel.outstation_port none;
           came = (refl, sym (ap (λ (l : LineState). record was { channel = record was.channel { down = l } }) (idle_line repeats was.channel.down none)));
         };
-        after = same_system s station was is
+        after = same_system s substation was is
             ∙ sym (
             ap (λ (rows : List (ℕ × Row)). record s {
-              substations = slice_set s.substations station was;
+              substations = slice_set s.substations substation was;
               history = record s.history { confirmed = rows; operated = s.history.operated ++ listed };
             }) (append-nil s.history.confirmed)
             ∙ ap (λ (commands : List Command). record s {
-              substations = slice_set s.substations station was;
-              history = record s.history { operated = s.history.operated ++ at_station station commands };
+              substations = slice_set s.substations substation was;
+              history = record s.history { operated = s.history.operated ++ at_substation substation commands };
             }) (drop_all (length performed) performed (omega arith))
             ∙ ap (λ (commands : List (ℕ × Command)). record s {
-              substations = slice_set s.substations station was;
+              substations = slice_set s.substations substation was;
               history = record s.history { operated = commands };
             }) (append-nil s.history.operated)
             );
       };
     }
 
-idle_below : (repeats : Bool) (way : Way) (station : ℕ) (s : System) (was : SubstationState) → slice_get s.substations station ≡ Some was
-    → front_at way (Some was) ≡ None → ComesOn (left_by repeats) (Below station) way s s
-idle_below repeats Down station s was is none = idle_below_down repeats station s was is none
-idle_below repeats Up station s was is none = record {
+idle_below : (repeats : Bool) (way : Way) (substation : ℕ) (s : System) (was : SubstationState) → slice_get s.substations substation ≡ Some was
+    → front_at way (Some was) ≡ None → ComesOn (left_by repeats) (Below substation) way s s
+idle_below repeats Down substation s was is none = idle_below_down repeats substation s was is none
+idle_below repeats Up substation s was is none = record {
   given = [];
   between = s;
-  heard = record { was = was; is = was; there = is; changed = (idle_up repeats was.channel none, refl); after = same_system s station was is };
+  heard = record { was = was; is = was; there = is; changed = (idle_up repeats was.channel none, refl); after = same_system s substation was is };
   came = refl;
 }
 
 -- ---- a link
 
-pub is_under : (s : System) (station : ℕ) → has_station s station ≡ true → station < length s.substations
-is_under s station has =
-    let low : nat_lt station (length s.substations) ≡ true =
-    (and_parts (nat_lt station (length s.substations)) (nat_lt station (length s.concentrator.links)) has).0 in
+pub is_under : (s : System) (substation : ℕ) → has_substation s substation ≡ true → substation < length s.substations
+is_under s substation has =
+    let low : nat_lt substation (length s.substations) ≡ true =
+    (and_parts (nat_lt substation (length s.substations)) (nat_lt substation (length s.concentrator.links)) has).0 in
     grind (arith, nat_tests, low)
 
 pub comes_idle : (repeats : Bool) (on : Link) (way : Way) (s : System) → has_link s on ≡ true → front_on s on way ≡ None
     → ComesOn (left_by repeats) on way s s
-comes_idle repeats (Below station) way s has none =
-    let low : station < length s.substations = is_under s station has in
-    let found = member s.substations station low in
-    idle_below repeats way station s found.0 found.1
+comes_idle repeats (Below substation) way s has none =
+    let low : substation < length s.substations = is_under s substation has in
+    let found = member s.substations substation low in
+    idle_below repeats way substation s found.0 found.1
     (subst (λ (o : Option SubstationState). front_at way o ≡ None) found.1
-    (subst (λ (b : Bool). (if b then front_at way (slice_get s.substations station) else None) ≡ None) has none))
+    (subst (λ (b : Bool). (if b then front_at way (slice_get s.substations substation) else None) ≡ None) has none))
 comes_idle repeats (Above centre) Down s has none = record {
   port = s.above.outstation_port;
   given = [];
@@ -117,7 +117,7 @@ comes_idle repeats (Above centre) Up s has none =
 -- as all see it
 pub all_idle : (repeats : Bool) (on : Link) (way : Way) (w : Whole) → all.has_link w on ≡ true → all.front_on w on way ≡ None
     → ChangesAll (centre_of on) (ComesOn (left_by repeats) on way) w w
-all_idle repeats (Below station) way w has none = λ centre low. comes_idle repeats (Below station) way (seen_by centre w) has none
+all_idle repeats (Below substation) way w has none = λ centre low. comes_idle repeats (Below substation) way (seen_by centre w) has none
 all_idle repeats (Above n) way w has none =
     rests_there n (low_of n w has) (ComesOn (left_by repeats) (Above n) way) w
     (comes_idle repeats (Above n) way (seen_by n w) refl

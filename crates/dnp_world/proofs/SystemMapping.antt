@@ -17,14 +17,14 @@ use Rattle.dnp_concentrator.specs.IndexMap.{IsMap}
 use Rattle.dnp_concentrator.specs.Mapped.{row_above, row_below, lane_row, queued_row, queued_rows, command_below}
 use Rattle.dnp_concentrator.specs.BookOutputs.{added_for, all_added}
 use Rattle.dnp_world.specs.Kept.{rows_below, commands_below, orders_in, used_orders, order_of}
-use Rattle.dnp_world.specs.Systems.{at_station}
+use Rattle.dnp_world.specs.Systems.{at_substation}
 use Rattle.dnp_world.proofs.Books.{pending_last}
 use Rattle.dnp_world.proofs.SystemCounts.{counted_all, count_by-filter_map, given, given_first, passes}
 
 -- what the crate of the index map promises of rows
 abbrev pub RowsBack : Type 0
-RowsBack = (spans : List Spans) (station : ℕ) (row above : Row) → IsMap spans → row_above spans station row ≡ Some above
-    → row_below spans above ≡ Some (station, row)
+RowsBack = (spans : List Spans) (substation : ℕ) (row above : Row) → IsMap spans → row_above spans substation row ≡ Some above
+    → row_below spans above ≡ Some (substation, row)
 
 -- ---- rows that are queued
 
@@ -32,11 +32,11 @@ RowsBack = (spans : List Spans) (station : ℕ) (row above : Row) → IsMap span
 lane_keeps : (plan : points.Plan) (above : Row) (q : LaneRow) → lane_row plan above ≡ Some q → above ≡ q.row
 lane_keeps plan above q e = grind (arith, e)
 
-queued_is : (spans : List Spans) (plan : points.Plan) (station : ℕ) (row : Row) (q : LaneRow) → queued_row spans plan station row ≡ Some q
-    → row_above spans station row ≡ Some q.row
-queued_is spans plan station row q e = by (row_above spans station row) refl e
+queued_is : (spans : List Spans) (plan : points.Plan) (substation : ℕ) (row : Row) (q : LaneRow) → queued_row spans plan substation row ≡ Some q
+    → row_above spans substation row ≡ Some q.row
+queued_is spans plan substation row q e = by (row_above spans substation row) refl e
   where
-    by : (o : Option Row) → row_above spans station row ≡ o → option_and_then (lane_row plan) o ≡ Some q → row_above spans station row ≡ Some q.row
+    by : (o : Option Row) → row_above spans substation row ≡ o → option_and_then (lane_row plan) o ≡ Some q → row_above spans substation row ≡ Some q.row
     by None is h = absurd (grind (arith, h))
     by (Some above) is h = is ∙ ap Some (lane_keeps plan above q h)
 
@@ -45,38 +45,38 @@ no_more f xs =
     omega (arith, sym (counted_all (filter_map f xs)), count_by-filter_map (λ _. true) f xs, count_by-le-length (λ x. passes (λ _. true) (f x)) xs)
 
 -- where none of a substation's rows is passed over, those that are queued are undone to them
-pub queued_undone : RowsBack → (spans : List Spans) → IsMap spans → (plan : points.Plan) (station : ℕ) (rows : List Row)
-    → length (queued_rows spans plan station rows) ≡ length rows
-    → rows_below spans (arriving (queued_rows spans plan station rows)) ≡ at_station station rows
-queued_undone laws spans m plan station [] all = refl
-queued_undone laws spans m plan station (row ∷ rows) all =
-    by (queued_row spans plan station row) refl (queued_undone laws spans m plan station rows)
-    (subst (λ (xs : List LaneRow). length xs ≡ length (row ∷ rows)) (given_first (queued_row spans plan station) row rows) all)
+pub queued_undone : RowsBack → (spans : List Spans) → IsMap spans → (plan : points.Plan) (substation : ℕ) (rows : List Row)
+    → length (queued_rows spans plan substation rows) ≡ length rows
+    → rows_below spans (arriving (queued_rows spans plan substation rows)) ≡ at_substation substation rows
+queued_undone laws spans m plan substation [] all = refl
+queued_undone laws spans m plan substation (row ∷ rows) all =
+    by (queued_row spans plan substation row) refl (queued_undone laws spans m plan substation rows)
+    (subst (λ (xs : List LaneRow). length xs ≡ length (row ∷ rows)) (given_first (queued_row spans plan substation) row rows) all)
     ∙ refl
   where
     rest : List LaneRow
-    rest = queued_rows spans plan station rows
+    rest = queued_rows spans plan substation rows
 
     first : List (ℕ × Row)
-    first = rows_below spans (arriving (queued_rows spans plan station (row ∷ rows)))
+    first = rows_below spans (arriving (queued_rows spans plan substation (row ∷ rows)))
 
-    turned : (o : Option LaneRow) → queued_row spans plan station row ≡ o → first ≡ rows_below spans (arriving (given o rest))
+    turned : (o : Option LaneRow) → queued_row spans plan substation row ≡ o → first ≡ rows_below spans (arriving (given o rest))
     turned o e =
         ap (λ (xs : List LaneRow). rows_below spans (arriving xs))
-        (given_first (queued_row spans plan station) row rows ∙ ap (λ (p : Option LaneRow). given p rest) e)
+        (given_first (queued_row spans plan substation) row rows ∙ ap (λ (p : Option LaneRow). given p rest) e)
 
-    by : (o : Option LaneRow) → queued_row spans plan station row ≡ o
-        → (length rest ≡ length rows → rows_below spans (arriving rest) ≡ at_station station rows)
-        → length (given (queued_row spans plan station row) rest) ≡ length (row ∷ rows) → first ≡ at_station station (row ∷ rows)
+    by : (o : Option LaneRow) → queued_row spans plan substation row ≡ o
+        → (length rest ≡ length rows → rows_below spans (arriving rest) ≡ at_substation substation rows)
+        → length (given (queued_row spans plan substation row) rest) ≡ length (row ∷ rows) → first ≡ at_substation substation (row ∷ rows)
     by None e later all =
-        let same : length (given (queued_row spans plan station row) rest) ≡ length rest = ap (λ (p : Option LaneRow). length (given p rest)) e in
-        absurd (omega (arith, all, same, no_more (queued_row spans plan station) rows))
+        let same : length (given (queued_row spans plan substation row) rest) ≡ length rest = ap (λ (p : Option LaneRow). length (given p rest)) e in
+        absurd (omega (arith, all, same, no_more (queued_row spans plan substation) rows))
     by (Some q) e later all =
-        let same : length (given (queued_row spans plan station row) rest) ≡ length (q ∷ rest) = ap (λ (p : Option LaneRow). length (given p rest)) e in
-        let undone : row_below spans q.row ≡ Some (station, row) = laws spans station row q.row m (queued_is spans plan station row q e) in
+        let same : length (given (queued_row spans plan substation row) rest) ≡ length (q ∷ rest) = ap (λ (p : Option LaneRow). length (given p rest)) e in
+        let undone : row_below spans q.row ≡ Some (substation, row) = laws spans substation row q.row m (queued_is spans plan substation row q e) in
         turned (Some q) e ∙ given_first (row_below spans) q.row (arriving rest)
         ∙ ap (λ (p : Option (ℕ × Row)). given p (rows_below spans (arriving rest))) undone
-        ∙ ap (λ (xs : List (ℕ × Row)). (station, row) ∷ xs) (later (omega (arith, all, same)))
+        ∙ ap (λ (xs : List (ℕ × Row)). (substation, row) ∷ xs) (later (omega (arith, all, same)))
 
 -- ---- commands that are added to a book
 

@@ -19,7 +19,7 @@ use Rattle.dnp_world.specs.Channels.{ChannelState, GoDown, state_of}
 use Rattle.dnp_concentrator.specs.Concentrator.{without_link}
 use Rattle.dnp_world.specs.SystemEvents.{ChangesAt, HangsUpOn, LinesChange, master_gone, same_rest, with_link, with_lost}
 use Rattle.dnp_world.specs.SystemParts.{substation_of, concentrator_of}
-use Rattle.dnp_world.specs.Systems.{SubstationState, ConcentratorState, System, has_station, link_at}
+use Rattle.dnp_world.specs.Systems.{SubstationState, ConcentratorState, System, has_substation, link_at}
 use Rattle.dnp_world.specs.Wholes.{Whole, WholeConcentrator, seen_by}
 use Rattle.dnp_world.specs.declared.channel.Channel.{Channel}
 use Rattle.dnp_world.specs.declared.event.Link.TheVariants.{Below}
@@ -36,15 +36,15 @@ abbrev pub viewed : {V : Type 0} {view value : V} → view ≡ value → V
 viewed {view = view} is = view
 
 -- one substation was written, and the rest of the system is as `rest` says
-pub changes_at : (station i : ℕ) (Change : SubstationState → SubstationState → Type 0) (rest : SubstationState → SubstationState → System → System)
-    (old new : System) (xs : List Substation) (was is : Substation) → old.substations ≡ map substation_of xs → i ≡ station → i < length xs
+pub changes_at : (substation i : ℕ) (Change : SubstationState → SubstationState → Type 0) (rest : SubstationState → SubstationState → System → System)
+    (old new : System) (xs : List Substation) (was is : Substation) → old.substations ≡ map substation_of xs → i ≡ substation → i < length xs
     → was ≡ get_or xs i was → Change (substation_of was) (substation_of is)
     → new ≡ rest (substation_of was) (substation_of is) (record old { substations = map substation_of (slice_set xs i is) })
-    → ChangesAt station Change rest old new
-changes_at station i Change rest old new xs was is list same low at changed after = record {
+    → ChangesAt substation Change rest old new
+changes_at substation i Change rest old new xs was is list same low at changed after = record {
   was = substation_of was;
   is = substation_of is;
-  there = subst (λ (ys : List SubstationState). slice_get ys station ≡ Some (substation_of was)) (sym list)
+  there = subst (λ (ys : List SubstationState). slice_get ys substation ≡ Some (substation_of was)) (sym list)
       (subst (λ (n : ℕ). slice_get (map substation_of xs) n ≡ Some (substation_of was)) same (there substation_of xs i was was low at));
   changed = changed;
   after = after ∙ ap (λ (ys : List SubstationState). rest (substation_of was) (substation_of is) (record old { substations = ys }))
@@ -53,12 +53,13 @@ changes_at station i Change rest old new xs was is list same low at changed afte
 }
 
 -- there is such a substation
-pub is_there : (s : System) (xs : List Substation) (station : ℕ) → s.substations ≡ map substation_of xs → has_station s station ≡ true → station < length xs
-is_there s xs station list has =
-    let low : nat_lt station (length s.substations) ≡ true =
-    (and_parts (nat_lt station (length s.substations)) (nat_lt station (length s.concentrator.links)) has).0 in
+pub is_there : (s : System) (xs : List Substation) (substation : ℕ) → s.substations ≡ map substation_of xs → has_substation s substation ≡ true
+    → substation < length xs
+is_there s xs substation list has =
+    let low : nat_lt substation (length s.substations) ≡ true =
+    (and_parts (nat_lt substation (length s.substations)) (nat_lt substation (length s.concentrator.links)) has).0 in
     let same : length s.substations ≡ length xs = ap (λ (ys : List SubstationState). length ys) list ∙ length-map xs substation_of in
-    let under : station < length s.substations = grind (arith, nat_tests, low) in
+    let under : substation < length s.substations = grind (arith, nat_tests, low) in
     omega (arith, under, same)
 
 -- ---- the concentrator
@@ -73,35 +74,36 @@ concentrator_with stock ledger old new cores links first_is second_is links_is s
 -- ---- lines
 
 -- the lines of a substation's link were written
-pub lines_change_at : (station i : ℕ) (Change : ChannelState → ChannelState → Type 0) (old : System) (xs : List Substation) (was : Substation) (lines : Channel)
-    → old.substations ≡ map substation_of xs → i ≡ station → has_station old station ≡ true → was ≡ get_or xs i was
+pub lines_change_at : (substation i : ℕ) (Change : ChannelState → ChannelState → Type 0) (old : System) (xs : List Substation)
+    (was : Substation) (lines : Channel)
+    → old.substations ≡ map substation_of xs → i ≡ substation → has_substation old substation ≡ true → was ≡ get_or xs i was
     → Change (state_of was.channel) (state_of lines)
-    → LinesChange (Below station) Change old (record old { substations = map substation_of (slice_set xs i (record was { channel = lines })) })
-lines_change_at station i Change old xs was lines list same has at changed =
-    changes_at station i (λ was is. Change was.channel is.channel × (is ≡ record was { channel = is.channel })) same_rest old _ xs was
-    (record was { channel = lines }) list same (rw same (is_there old xs station list has)) at (changed, refl) refl
+    → LinesChange (Below substation) Change old (record old { substations = map substation_of (slice_set xs i (record was { channel = lines })) })
+lines_change_at substation i Change old xs was lines list same has at changed =
+    changes_at substation i (λ was is. Change was.channel is.channel × (is ≡ record was { channel = is.channel })) same_rest old _ xs was
+    (record was { channel = lines }) list same (rw same (is_there old xs substation list has)) at (changed, refl) refl
 
 pub read_there : {A B : Type 0} (f : A → B) (xs : List A) (i : ℕ) (x d : A) → i < length xs → x ≡ get_or xs i d → f x ≡ get_or (map f xs) i (f x)
 read_there f xs i x d low is = ap f is ∙ sym (get_or-map f xs i d (f x) low)
 
 -- a substation that is what it was
-pub unchanged_at : (old : Whole) (xs : List Substation) (station i : ℕ) (was is : Substation) → old.substations ≡ map substation_of xs
-    → i ≡ station → has_link old (Below station) ≡ true → was ≡ get_or xs i was → substation_of is ≡ substation_of was
+pub unchanged_at : (old : Whole) (xs : List Substation) (substation i : ℕ) (was is : Substation) → old.substations ≡ map substation_of xs
+    → i ≡ substation → has_link old (Below substation) ≡ true → was ≡ get_or xs i was → substation_of is ≡ substation_of was
     → record old { substations = map substation_of (slice_set xs i is) } ≡ old
-unchanged_at old xs station i was is list at has read same =
-    let low : i < length xs = rw at (is_there (seen_by 0 old) xs station list has) in
+unchanged_at old xs substation i was is list at has read same =
+    let low : i < length xs = rw at (is_there (seen_by 0 old) xs substation list has) in
     ap (λ (ys : List SubstationState). record old { substations = ys })
     (map-set substation_of xs i is ∙ ap (λ (s : SubstationState). slice_set (map substation_of xs) i s) (same ∙ read_there substation_of xs i was was low read)
     ∙ set-get_or (map substation_of xs) i (substation_of was) ∙ sym list)
 
 -- fragments went down to a substation, and the concentrator is this
-pub sends_at : (station i : ℕ) (fragments : List (List ℕ)) (first : System) (middle : ConcentratorState) (xs : List Substation) (was : Substation)
-    (lines : Channel) → first.substations ≡ map substation_of xs → middle ≡ first.concentrator → i ≡ station → i < length xs → was ≡ get_or xs i was
+pub sends_at : (substation i : ℕ) (fragments : List (List ℕ)) (first : System) (middle : ConcentratorState) (xs : List Substation) (was : Substation)
+    (lines : Channel) → first.substations ≡ map substation_of xs → middle ≡ first.concentrator → i ≡ substation → i < length xs → was ≡ get_or xs i was
     → GoDown fragments (state_of was.channel) (state_of lines)
-    → LinesChange (Below station) (GoDown fragments) first
+    → LinesChange (Below substation) (GoDown fragments) first
     (record first { substations = map substation_of (slice_set xs i (record was { channel = lines })); concentrator = middle })
-sends_at station i fragments first middle xs was lines list same_middle same low at changed =
-    changes_at station i (λ was is. GoDown fragments was.channel is.channel × (is ≡ record was { channel = is.channel })) same_rest first _ xs was
+sends_at substation i fragments first middle xs was lines list same_middle same low at changed =
+    changes_at substation i (λ was is. GoDown fragments was.channel is.channel × (is ≡ record was { channel = is.channel })) same_rest first _ xs was
     (record was { channel = lines }) list same low at (changed, refl)
     (ap (λ (k : ConcentratorState). record first {
       substations = map substation_of (slice_set xs i (record was { channel = lines }));
@@ -113,19 +115,19 @@ pub down_from : (fragments : List (List ℕ)) (old mid new : ChannelState) → m
 down_from fragments old mid new same down = subst (λ (c : ChannelState). GoDown fragments c new) same down
 
 -- the master's end of a substation's link hung up
-pub hangs_up_below : (old : Whole) (station i : ℕ) (xs : List Substation) (was is : Substation) (middle : WholeConcentrator)
-    → old.substations ≡ map substation_of xs → i ≡ station → has_link old (Below station) ≡ true → was ≡ get_or xs i was
+pub hangs_up_below : (old : Whole) (substation i : ℕ) (xs : List Substation) (was is : Substation) (middle : WholeConcentrator)
+    → old.substations ≡ map substation_of xs → i ≡ substation → has_link old (Below substation) ≡ true → was ≡ get_or xs i was
     → substation_of is ≡ master_gone (substation_of was)
     → middle ≡ record old.concentrator {
-      cores = of_both (λ core. without_link core station) old.concentrator.cores;
-      links = slice_set old.concentrator.links station (hung_up (link_in old.concentrator.links station));
+      cores = of_both (λ core. without_link core substation) old.concentrator.cores;
+      links = slice_set old.concentrator.links substation (hung_up (link_in old.concentrator.links substation));
     }
-    → ChangesAll None (HangsUpOn (Below station) Master) old (record old { substations = map substation_of (slice_set xs i is); concentrator = middle })
-hangs_up_below old station i xs was is middle list same has at gone middle_is =
-    let low : i < length xs = rw same (is_there (seen_by 0 old) xs station list has) in
-    let hung : ℕ → System = λ n. let s = seen_by n old in with_lost (with_link s station (hung_up (link_at s.concentrator station))) station in
+    → ChangesAll None (HangsUpOn (Below substation) Master) old (record old { substations = map substation_of (slice_set xs i is); concentrator = middle })
+hangs_up_below old substation i xs was is middle list same has at gone middle_is =
+    let low : i < length xs = rw same (is_there (seen_by 0 old) xs substation list has) in
+    let hung : ℕ → System = λ n. let s = seen_by n old in with_lost (with_link s substation (hung_up (link_at s.concentrator substation))) substation in
     let new : ℕ → WholeConcentrator → System = λ n c. seen_by n (record old { substations = map substation_of (slice_set xs i is); concentrator = c }) in
     let Gone : SubstationState → SubstationState → Type 0 = λ before after. after ≡ master_gone before in
     for_both _
-    (changes_at station i Gone same_rest (hung 0) (new 0 middle) xs was is list same low at gone (ap (new 0) middle_is))
-    (changes_at station i Gone same_rest (hung 1) (new 1 middle) xs was is list same low at gone (ap (new 1) middle_is))
+    (changes_at substation i Gone same_rest (hung 0) (new 0 middle) xs was is list same low at gone (ap (new 0) middle_is))
+    (changes_at substation i Gone same_rest (hung 1) (new 1 middle) xs was is list same low at gone (ap (new 1) middle_is))

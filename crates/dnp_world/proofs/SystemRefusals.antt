@@ -28,17 +28,17 @@ none_down c = record { sent = (refl, refl); after = refl }
 
 still : (on : Link) (s : System) → has_link s on ≡ true → SendsDown on [] (relaying_at s on) s s
 still (Above centre) s has = (none_down s.above, refl)
-still (Below station) s has =
-    let found = member s.substations station (is_under s station has) in
-    let same : with_relaying s (Below station) (relaying_at s (Below station)) ≡ s =
-    ap (λ (links : List Relaying). record s { concentrator = record s.concentrator { links = links } }) (set-get_or s.concentrator.links station no_link) in
-    subst (λ (first : System). LinesChange (Below station) (GoDown []) first s) (sym same)
+still (Below substation) s has =
+    let found = member s.substations substation (is_under s substation has) in
+    let same : with_relaying s (Below substation) (relaying_at s (Below substation)) ≡ s =
+    ap (λ (links : List Relaying). record s { concentrator = record s.concentrator { links = links } }) (set-get_or s.concentrator.links substation no_link) in
+    subst (λ (first : System). LinesChange (Below substation) (GoDown []) first s) (sym same)
     (record {
       was = found.0;
       is = found.0;
       there = found.1;
       changed = (none_down found.0.channel, refl);
-      after = same_system s station found.0 found.1;
+      after = same_system s substation found.0 found.1;
     })
 
 sends_nothing : (on : Link) (task : Task) (s : System) → has_link s on ≡ true → (answer : Result (List ℕ) AskFault) → is_ok answer ≡ false
@@ -57,7 +57,7 @@ asks_nothing true answer on task s has answers none =
 
 told_none : (on : Link) (s : System) → told s on Waits ≡ s
 told_none (Above centre) s = refl
-told_none (Below station) s = refl
+told_none (Below substation) s = refl
 
 waits_by : (on : Link) (s : System) → has_link s on ≡ true → (step : Step) → step ≡ Waits
     → IsGranted (entries_on s on) step
@@ -71,9 +71,9 @@ waits_by on s has step is =
 
 -- a master that isn't idle waits
 step_waits : (on : Link) (s : System) → is_idle (relaying_at s on).master ≡ false → step_on s on ≡ Waits
-step_waits (Below station) s busy =
-    let r : Relaying = link_at s.concentrator station in
-    ap (λ (idle : Bool). if idle then step_by r.progress r.master.selected s.concentrator.controls.entries station else Waits) busy
+step_waits (Below substation) s busy =
+    let r : Relaying = link_at s.concentrator substation in
+    ap (λ (idle : Bool). if idle then step_by r.progress r.master.selected s.concentrator.controls.entries substation else Waits) busy
 step_waits (Above centre) s busy =
     let r : Relaying = s.centre.link in
     ap (λ (idle : Bool). if idle then step_by r.progress r.master.selected s.centre.orders.entries 0 else Waits) busy
@@ -88,12 +88,12 @@ waits on s has busy =
 pub all_ask_nothing : (own answer : Bool) (on : Link) (task : Task) (w : Whole) → all.has_link w on ≡ true
     → (own ≡ true → answer ≡ is_ok (ask_answer (relaying_at (seen_at (centre_of on) w) on).master task)) → answer ≡ false
     → ChangesAll (centre_of on) (AsksOn own on task) w w
-all_ask_nothing own answer (Below station) task w has answers none =
-    λ centre low. asks_nothing own answer (Below station) task (seen_by centre w) has answers none
+all_ask_nothing own answer (Below substation) task w has answers none =
+    λ centre low. asks_nothing own answer (Below substation) task (seen_by centre w) has answers none
 all_ask_nothing own answer (Above n) task w has answers none =
     rests_there n (low_of n w has) (AsksOn own (Above n) task) w (asks_nothing own answer (Above n) task (seen_by n w) refl answers none)
 
 pub all_wait : (on : Link) (w : Whole) → all.has_link w on ≡ true → is_idle (relaying_at (seen_at (centre_of on) w) on).master ≡ false
     → ChangesAll (centre_of on) (RelaysOn on) w w
-all_wait (Below station) w has busy = λ centre low. waits (Below station) (seen_by centre w) has busy
+all_wait (Below substation) w has busy = λ centre low. waits (Below substation) (seen_by centre w) has busy
 all_wait (Above n) w has busy = rests_there n (low_of n w has) (RelaysOn (Above n)) w (waits (Above n) (seen_by n w) refl busy)

@@ -53,7 +53,8 @@ answers was is now port does answered repeats lines (fragment ∷ others) (one, 
     let last : ChannelState = record lines { down = left_by repeats lines.down } in
     let first : ChannelState = record was.channel { down = left_by repeats was.channel.down; outstation_port = port } in
     let commands : List Command = performed_in was.core (panel_of was) now fragment in
-    subst (λ (step : Step). (released_by answered does ≡ step.does.discarded) × SubstationSteps step first (record was { channel = first }) (record is { channel = last })) (sym step_is) (
+    subst (λ (step : Step). (released_by answered does ≡ step.does.discarded)
+    × SubstationSteps step first (record was { channel = first }) (record is { channel = last })) (sym step_is) (
       ap (λ (b : Bool). released_by b does) one,
       record {
         sent = subst (λ (l : LineState). GoUp does.send (record was.channel { down = left_by repeats l; outstation_port = port }) last) down
@@ -64,7 +65,8 @@ answers was is now port does answered repeats lines (fragment ∷ others) (one, 
 
 -- what comes to the outstation's end of the lines is what comes to the substation
 pub comes : (was is : SubstationState) (now : ℕ) (does : Actions) (answered repeats : Bool) (lines : ChannelState)
-    → ComesToOutstation (λ commands. HavePerformed Performs commands was.outputs is.outputs) (panel_of was) now (station_of was) (station_of is) does answered was.channel lines
+    → ComesToOutstation (λ commands. HavePerformed Performs commands was.outputs is.outputs) (panel_of was) now (station_of was) (station_of is) does
+    answered was.channel lines
     → ComesToSubstation (left_by repeats) now (released_by answered does) was (record is { channel = record lines { down = left_by repeats lines.down } })
 comes was is now does answered repeats lines came = record {
   port = came.port;
@@ -112,7 +114,8 @@ since_is a b p q a_is b_is =
 
 -- ---- outputs that show the same
 
-answers_alike : (b c : Bool) → (if b then status.success else status.not_supported) ≡ (if c then status.success else status.not_supported) → c ≡ false → b ≡ false
+answers_alike : (b c : Bool) → (if b then status.success else status.not_supported) ≡ (if c then status.success else status.not_supported)
+    → c ≡ false → b ≡ false
 answers_alike false c h none = refl
 answers_alike true true h none = absurd (cc)
 answers_alike true false h none = absurd (omega (arith, h))

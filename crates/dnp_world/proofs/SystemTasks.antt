@@ -161,51 +161,53 @@ abbrev pub below : {Q A : Type 0} → (Q → ℕ → Stock) → (A → Ledger) �
 below stock ledger rest k xs = record rest { concentrator = concentrator_of stock ledger k; substations = map substation_of xs }
 
 -- what a step of relaying to a substation makes of the system, by what went down, as a centre sees it
-pub sends_below : {Q A R : Type 0} (stock : Q → ℕ → Stock) (ledger : A → Ledger) (rest : Whole) (k d : Concentrator Q A) (station i : ℕ)
-    (xs : List Substation) (was : Substation) (lines : Channel) (answer : Result R BookFault) (number : ℕ) → i ≡ station
-    → has_link (below stock ledger rest k xs) (Below station) ≡ true → was ≡ get_or xs i was
-    → OnOk answer (SetsLink k station (relaying_after (link_at k station) rest.now (step_of (link_at k station) (ledger (book_of k)).entries station)) d)
-    → OnOk answer (ledger (book_of d) ≡ ledger_after (ledger (book_of k)) (step_of (link_at k station) (ledger (book_of k)).entries station))
+pub sends_below : {Q A R : Type 0} (stock : Q → ℕ → Stock) (ledger : A → Ledger) (rest : Whole) (k d : Concentrator Q A) (substation i : ℕ)
+    (xs : List Substation) (was : Substation) (lines : Channel) (answer : Result R BookFault) (number : ℕ) → i ≡ substation
+    → has_link (below stock ledger rest k xs) (Below substation) ≡ true → was ≡ get_or xs i was
+    → OnOk answer (SetsLink k substation (relaying_after (link_at k substation) rest.now
+    (step_of (link_at k substation) (ledger (book_of k)).entries substation)) d)
+    → OnOk answer (ledger (book_of d) ≡ ledger_after (ledger (book_of k)) (step_of (link_at k substation) (ledger (book_of k)).entries substation))
     → ForEach (λ centre. core_of centre d ≡ core_of centre k) → queue_of d ≡ queue_of k → indices_of d ≡ indices_of k → plan_above d ≡ plan_above k
-    → OnOk answer (GoDown (requests_of (step_of (link_at k station) (ledger (book_of k)).entries station) (link_at k station).master.seq)
+    → OnOk answer (GoDown (requests_of (step_of (link_at k substation) (ledger (book_of k)).entries substation) (link_at k substation).master.seq)
     (state_of was.channel) (state_of lines))
-    → OnOk answer (Sends (Below station) (seen_by number (below stock ledger rest k xs))
+    → OnOk answer (Sends (Below substation) (seen_by number (below stock ledger rest k xs))
     (seen_by number (below stock ledger rest d (slice_set xs i (record was { channel = lines })))))
-sends_below stock ledger rest k d station i xs was lines (Err fault) number same has at link book cores queue indices plan down = tt
-sends_below stock ledger rest k d station i xs was lines (Ok answer) number same has at link book cores queue indices plan down =
+sends_below stock ledger rest k d substation i xs was lines (Err fault) number same has at link book cores queue indices plan down = tt
+sends_below stock ledger rest k d substation i xs was lines (Ok answer) number same has at link book cores queue indices plan down =
     let old : System = seen_by number (below stock ledger rest k xs) in
-    let step : Step = step_on old (Below station) in
-    let first : System = with_relaying (told old (Below station) step) (Below station) (relaying_after (relaying_at old (Below station)) old.now step) in
-    sends_at station i (requests_of step (relaying_at old (Below station)).master.seq) first (seen_by number (below stock ledger rest d xs)).concentrator
+    let step : Step = step_on old (Below substation) in
+    let first : System = with_relaying (told old (Below substation) step) (Below substation)
+    (relaying_after (relaying_at old (Below substation)) old.now step) in
+    sends_at substation i (requests_of step (relaying_at old (Below substation)).master.seq) first (seen_by number (below stock ledger rest d xs)).concentrator
     xs was lines refl
     (ap (λ (m : WholeConcentrator). (seen_by number (record rest { concentrator = m })).concentrator)
     (concentrator_told stock ledger k d first.concentrator.links first.concentrator.controls link book cores queue indices plan)) same
-    (rw same (is_there old xs station refl has)) at down
+    (rw same (is_there old xs substation refl has)) at down
 
 -- nothing was relayed, and nothing went down
-pub unmoved_below : {Q A R : Type 0} (stock : Q → ℕ → Stock) (ledger : A → Ledger) (rest : Whole) (k d : Concentrator Q A) (station i : ℕ)
-    (xs : List Substation) (was : Substation) (lines : Channel) (answer : Result R BookFault) → i ≡ station
-    → has_link (below stock ledger rest k xs) (Below station) ≡ true → was ≡ get_or xs i was → OnErr answer (links_of d ≡ links_of k)
+pub unmoved_below : {Q A R : Type 0} (stock : Q → ℕ → Stock) (ledger : A → Ledger) (rest : Whole) (k d : Concentrator Q A) (substation i : ℕ)
+    (xs : List Substation) (was : Substation) (lines : Channel) (answer : Result R BookFault) → i ≡ substation
+    → has_link (below stock ledger rest k xs) (Below substation) ≡ true → was ≡ get_or xs i was → OnErr answer (links_of d ≡ links_of k)
     → OnErr answer (ledger (book_of d) ≡ ledger (book_of k)) → ForEach (λ centre. core_of centre d ≡ core_of centre k) → queue_of d ≡ queue_of k
     → indices_of d ≡ indices_of k → plan_above d ≡ plan_above k → OnErr answer (state_of lines ≡ state_of was.channel)
     → OnErr answer (below stock ledger rest d (slice_set xs i (record was { channel = lines })) ≡ below stock ledger rest k xs)
-unmoved_below stock ledger rest k d station i xs was lines (Ok answer) same has at links book cores queue indices plan lines_same = tt
-unmoved_below stock ledger rest k d station i xs was lines (Err fault) same has at links book cores queue indices plan lines_same =
+unmoved_below stock ledger rest k d substation i xs was lines (Ok answer) same has at links book cores queue indices plan lines_same = tt
+unmoved_below stock ledger rest k d substation i xs was lines (Err fault) same has at links book cores queue indices plan lines_same =
     let is : Substation = record was { channel = lines } in
     ap (λ (m : WholeConcentrator). record rest { concentrator = m; substations = map substation_of (slice_set xs i is) })
     (concentrator_told stock ledger k d (links_of k) (ledger (book_of k)) links book cores queue indices plan)
-    ∙ unchanged_at (below stock ledger rest k xs) xs station i was is refl same has at
+    ∙ unchanged_at (below stock ledger rest k xs) xs substation i was is refl same has at
     (ap (λ (c : ChannelState). record (substation_of was) { channel = c }) lines_same)
 
 -- a step of relaying to a substation, as all see it, by what was answered
-pub relays_below : {A : Type 0} (station : ℕ) (old new : Whole) (answer : Result A BookFault) (result : Result (Unit {0}) Cause)
-    → OnOk answer (IsGranted (entries_on (seen_by 0 old) (Below station)) (step_on (seen_by 0 old) (Below station)))
-    → ((number : ℕ) → OnOk answer (Sends (Below station) (seen_by number old) (seen_by number new))) → OnErr answer (new ≡ old)
-    → OnOk result (OnErr answer (IsRefused (entries_on (seen_by 0 old) (Below station)) (step_on (seen_by 0 old) (Below station))))
-    → OnOk result (ChangesAll None (RelaysOn (Below station)) old new)
-relays_below station old new answer (Err cause) granted sends unmoved refused = tt
-relays_below station old new answer (Ok done) granted sends unmoved refused = λ number low.
-    relays_by (Below station) (seen_by number old) (seen_by number new) answer (Ok done) granted (sends number)
+pub relays_below : {A : Type 0} (substation : ℕ) (old new : Whole) (answer : Result A BookFault) (result : Result (Unit {0}) Cause)
+    → OnOk answer (IsGranted (entries_on (seen_by 0 old) (Below substation)) (step_on (seen_by 0 old) (Below substation)))
+    → ((number : ℕ) → OnOk answer (Sends (Below substation) (seen_by number old) (seen_by number new))) → OnErr answer (new ≡ old)
+    → OnOk result (OnErr answer (IsRefused (entries_on (seen_by 0 old) (Below substation)) (step_on (seen_by 0 old) (Below substation))))
+    → OnOk result (ChangesAll None (RelaysOn (Below substation)) old new)
+relays_below substation old new answer (Err cause) granted sends unmoved refused = tt
+relays_below substation old new answer (Ok done) granted sends unmoved refused = λ number low.
+    relays_by (Below substation) (seen_by number old) (seen_by number new) answer (Ok done) granted (sends number)
     (on_err_weaker answer (λ same. ap (seen_by number) same) unmoved) refused
 
 -- what follows of a call's answer does where it is Ok
@@ -220,13 +222,15 @@ pub sends_above : {J B R : Type 0} (archive : J → Archive) (ledger : B → Led
     → OnOk answer (ledger (centre.book_of d) ≡ ledger_after (ledger (centre.book_of k)) (step_of (centre.link_of k) (ledger (centre.book_of k)).entries 0))
     → centre.journal_of d ≡ centre.journal_of k → centre.indices_of d ≡ centre.indices_of k
     → OnOk answer (GoDown (requests_of (step_of (centre.link_of k) (ledger (centre.book_of k)).entries 0) (centre.link_of k).master.seq) rest.above lines)
-    → OnOk answer (Sends (Above number) (record rest { centre = centre_of archive ledger k }) (record rest { centre = centre_of archive ledger d; above = lines }))
+    → OnOk answer (Sends (Above number) (record rest { centre = centre_of archive ledger k })
+    (record rest { centre = centre_of archive ledger d; above = lines }))
 sends_above archive ledger number rest k d lines (Err fault) link book journal indices down = tt
 sends_above archive ledger number rest k d lines (Ok answer) link book journal indices down =
     let step : Step = step_of (centre.link_of k) (ledger (centre.book_of k)).entries 0 in (
       down,
       ap (λ (m : CentreState). record rest { centre = m; above = lines })
-          (centre_with archive ledger k d (relaying_after (centre.link_of k) rest.now step) (ledger_after (ledger (centre.book_of k)) step) link book journal indices),
+          (centre_with archive ledger k d (relaying_after (centre.link_of k) rest.now step) (ledger_after (ledger (centre.book_of k)) step) link
+          book journal indices),
     )
 
 pub unmoved_above : {J B R : Type 0} (archive : J → Archive) (ledger : B → Ledger) (rest : System) (k d : Centre J B) (lines : ChannelState)

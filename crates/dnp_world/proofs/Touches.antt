@@ -73,17 +73,17 @@ after_call s (Ticks now) = (tick_of s now).state
 after_call s HangsUp = record s { core = closed s.core }
 after_call s Restarts = record s { core = restarted_core s.core; lanes = without_all s.lanes }
 
--- none of them is called, or the one at a station that was so, or that one refused a reading
+-- none of them is called, or the one at a substation that was so, or that one refused a reading
 pub data Called (outstations : List State) : Type 0 where
   Nobody : Called outstations
-  Outstation : (station : ℕ) (was : State) (call : Call) → slice_get outstations station ≡ Some was → Called outstations
-  Refused : (station : ℕ) (was : State) (kind : Kind) (index : ℕ) (reading : Reading) (fault : ChangeFault)
-      → slice_get outstations station ≡ Some was → answer_of was.core.points kind index reading ≡ Err fault → Called outstations
+  Outstation : (substation : ℕ) (was : State) (call : Call) → slice_get outstations substation ≡ Some was → Called outstations
+  Refused : (substation : ℕ) (was : State) (kind : Kind) (index : ℕ) (reading : Reading) (fault : ChangeFault)
+      → slice_get outstations substation ≡ Some was → answer_of was.core.points kind index reading ≡ Err fault → Called outstations
 
 abbrev pub after_called : (outstations : List State) → Called outstations → List State
 after_called outstations Nobody = outstations
-after_called outstations (Outstation station was call there) = slice_set outstations station (after_call was call)
-after_called outstations (Refused station was kind index reading fault there refused) = outstations
+after_called outstations (Outstation substation was call there) = slice_set outstations substation (after_call was call)
+after_called outstations (Refused substation was kind index reading fault there refused) = outstations
 
 -- what a call is to the points
 abbrev pub moves_of : Call → List Move
@@ -92,12 +92,12 @@ moves_of Restarts = Restart ∷ []
 moves_of call = []
 
 abbrev pub at_only : ℕ → List Move → ℕ → List Move
-at_only station moves i = if station == i then moves else []
+at_only substation moves i = if substation == i then moves else []
 
 abbrev pub moves_in : {outstations : List State} → Called outstations → ℕ → List Move
 moves_in Nobody i = []
-moves_in (Outstation station was call there) i = at_only station (moves_of call) i
-moves_in (Refused station was kind index reading fault there refused) i = at_only station (Change kind index reading ∷ []) i
+moves_in (Outstation substation was call there) i = at_only substation (moves_of call) i
+moves_in (Refused substation was kind index reading fault there refused) i = at_only substation (Change kind index reading ∷ []) i
 
 -- ---- calls of a master
 
@@ -120,42 +120,42 @@ after_use r (LinkTicks now) = relaying.ticked r now
 -- is issued at the centre, or the concentrator restarts.
 pub data Used (e : Ends) : Type 0 where
   Nothing : Used e
-  LinkUsed : (station : ℕ) → Use (link_in e.links station) → Used e
+  LinkUsed : (substation : ℕ) → Use (link_in e.links substation) → Used e
   CentreUsed : Use e.centre → Used e
-  LinkRelays : (station now : ℕ) → Used e
+  LinkRelays : (substation now : ℕ) → Used e
   CentreRelays : (now : ℕ) → Used e
   Performs : (spans : List Spans) (commands : List Command) → Used e
-  Issues : (station : ℕ) (command above : Command) → command_above e.centre_indices station command ≡ Some above → HasWidths command → Used e
+  Issues : (substation : ℕ) (command above : Command) → command_above e.centre_indices substation command ≡ Some above → HasWidths command → Used e
   AllHangUp : Used e
 
--- a step of relaying over a link to a station, by its book
+-- a step of relaying over a link to a substation, by its book
 abbrev pub step_at : Ends → ℕ → relaying.Step
-step_at e station = relaying.step_of (link_in e.links station) e.controls.entries station
+step_at e substation = relaying.step_of (link_in e.links substation) e.controls.entries substation
 
 abbrev pub step_above : Ends → relaying.Step
 step_above e = relaying.step_of e.centre e.orders.entries 0
 
 abbrev pub after_used : (e : Ends) → Used e → Ends
 after_used e Nothing = e
-after_used e (LinkUsed station call) = record e { links = slice_set e.links station (after_use (link_in e.links station) call) }
+after_used e (LinkUsed substation call) = record e { links = slice_set e.links substation (after_use (link_in e.links substation) call) }
 after_used e (CentreUsed call) = record e { centre = after_use e.centre call }
-after_used e (LinkRelays station now) = record e {
-  links = slice_set e.links station (relaying.relaying_after (link_in e.links station) now (step_at e station));
-  controls = relaying.ledger_after e.controls (step_at e station);
+after_used e (LinkRelays substation now) = record e {
+  links = slice_set e.links substation (relaying.relaying_after (link_in e.links substation) now (step_at e substation));
+  controls = relaying.ledger_after e.controls (step_at e substation);
 }
 after_used e (CentreRelays now) = record e {
   centre = relaying.relaying_after e.centre now (step_above e);
   orders = relaying.ledger_after e.orders (step_above e);
 }
 after_used e (Performs spans commands) = record e { controls = all_added spans e.controls commands }
-after_used e (Issues station command above is fits) = record e {
+after_used e (Issues substation command above is fits) = record e {
   orders = added e.orders 0 above;
-  issued = e.issued ++ (station, command) ∷ [];
+  issued = e.issued ++ (substation, command) ∷ [];
 }
 after_used e AllHangUp = record e { links = map relaying.hung_up e.links }
 
 abbrev pub issued_in : {e : Ends} → Used e → List (ℕ × Command)
-issued_in (Issues station command above is fits) = (station, command) ∷ []
+issued_in (Issues substation command above is fits) = (substation, command) ∷ []
 issued_in used = []
 
 -- ---- what an event touches
@@ -168,10 +168,10 @@ pub record Touches (old new : Ends) : Type 0 where
 abbrev pub Touched : System → System → Type 0
 Touched old new = Touches (ends_of old) (ends_of new)
 
--- ---- what each outstation has at its station
+-- ---- what each outstation has at its substation
 
 abbrev pub EachHas : (ℕ → State → Type 0) → List State → Type 0
-EachHas Has xs = (station : ℕ) → IfSome (slice_get xs station) (Has station)
+EachHas Has xs = (substation : ℕ) → IfSome (slice_get xs substation) (Has substation)
 
 set_has : (Has : ℕ → State → Type 0) (xs : List State) (n : ℕ) (is : State) → EachHas Has xs → Has n is → EachHas Has (slice_set xs n is)
 set_has Has [] n is all here i = all i
@@ -189,13 +189,14 @@ mapped Has None h = h
 mapped Has (Some s) h = h
 
 -- what each call keeps, each substation has after the event
-pub each_keeps : (Has : ℕ → State → Type 0) (old new : System) → ((station : ℕ) (s : State) (call : Call) → Has station s → Has station (after_call s call))
-    → Touched old new → ((station : ℕ) → IfSome (slice_get old.substations station) (λ s. Has station (station_of s)))
-    → (station : ℕ) → IfSome (slice_get new.substations station) (λ s. Has station (station_of s))
-each_keeps Has old new keeps t all station =
-    of_mapped (Has station) (slice_get new.substations station)
-    (subst (λ (o : Option State). IfSome o (Has station)) (slice_get-map station_of new.substations station)
-    (subst (λ (e : Ends). EachHas Has e.outstations) (sym t.after) (by t.called) station))
+pub each_keeps : (Has : ℕ → State → Type 0) (old new : System)
+    → ((substation : ℕ) (s : State) (call : Call) → Has substation s → Has substation (after_call s call))
+    → Touched old new → ((substation : ℕ) → IfSome (slice_get old.substations substation) (λ s. Has substation (station_of s)))
+    → (substation : ℕ) → IfSome (slice_get new.substations substation) (λ s. Has substation (station_of s))
+each_keeps Has old new keeps t all substation =
+    of_mapped (Has substation) (slice_get new.substations substation)
+    (subst (λ (o : Option State). IfSome o (Has substation)) (slice_get-map station_of new.substations substation)
+    (subst (λ (e : Ends). EachHas Has e.outstations) (sym t.after) (by t.called) substation))
   where
     before : EachHas Has (map station_of old.substations)
     before i =

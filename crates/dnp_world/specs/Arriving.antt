@@ -13,7 +13,7 @@ use Rattle.dnp_master.specs.declared.fault.MasterFault.{MasterFault}
 use Rattle.dnp_outstation.specs.Calls.{connection_after}
 use Rattle.dnp_world.specs.Channels.{ChannelState}
 use Rattle.dnp_world.specs.SystemEvents.{ChangesAt, LinesChange, MasterTakes, MiddleAnswers, SubstationAnswers, relaying_at}
-use Rattle.dnp_world.specs.Systems.{SubstationState, System, at_station, has_station, middle_of, middle_panel, panel_of, station_of}
+use Rattle.dnp_world.specs.Systems.{SubstationState, System, at_substation, has_substation, middle_of, middle_panel, panel_of, station_of}
 use Rattle.dnp_world.specs.declared.event.Link.{Link}
 use Rattle.dnp_world.specs.declared.event.Link.TheVariants.{Below, Above}
 use Rattle.dnp_world.specs.declared.link_event.Way.{Way}
@@ -51,14 +51,14 @@ channel_at (Some s) = Some s.channel
 
 -- the lines of a link of the plan
 abbrev pub channel_on : System → Link → Option ChannelState
-channel_on s (Below station) = if has_station s station then channel_at (slice_get s.substations station) else None
+channel_on s (Below substation) = if has_substation s substation then channel_at (slice_get s.substations substation) else None
 channel_on s (Above centre) = Some s.above
 
 -- two links that are not one: there is one above, that of the centre that sees the system
 abbrev pub AreApart : Link → Link → Type 0
-AreApart (Below station) (Below other) = station ≢ other
-AreApart (Below station) (Above centre) = ⊤
-AreApart (Above centre) (Below station) = ⊤
+AreApart (Below substation) (Below other) = substation ≢ other
+AreApart (Below substation) (Above centre) = ⊤
+AreApart (Above centre) (Below substation) = ⊤
 AreApart (Above centre) (Above other) = ⊥
 
 -- these fragments are under way down and up the link, and nothing else is
@@ -80,19 +80,19 @@ HearsAt way.Down was is = is ≡ record was { down = is.down; outstation_port = 
 HearsAt way.Up was is = is ≡ record was { up = is.up; master_port = is.master_port }
 
 -- a substation answers a fragment; what is released is listed as confirmed, and what is performed as operated
-pub record SubstationTakes (station : ℕ) (fragment : List ℕ) (old new : System) : Type 0 where
+pub record SubstationTakes (substation : ℕ) (fragment : List ℕ) (old new : System) : Type 0 where
   pub released : List Row
-  pub answers : ChangesAt station (SubstationAnswers (fragment ∷ []) old.now released)
+  pub answers : ChangesAt substation (SubstationAnswers (fragment ∷ []) old.now released)
       (λ was is s. record s {
         history = record s.history {
-          confirmed = s.history.confirmed ++ at_station station released;
-          operated = s.history.operated ++ at_station station (drop (length was.outputs.performed) is.outputs.performed);
+          confirmed = s.history.confirmed ++ at_substation substation released;
+          operated = s.history.operated ++ at_substation substation (drop (length was.outputs.performed) is.outputs.performed);
         };
       }) old new
 
 -- the station at the end of the way takes a fragment, and answers it
 abbrev pub TakesOn : Link → Way → List ℕ → System → System → Type 0
-TakesOn (Below station) way.Down fragment old new = SubstationTakes station fragment old new
+TakesOn (Below substation) way.Down fragment old new = SubstationTakes substation fragment old new
 TakesOn (Above centre) way.Down fragment old new = MiddleAnswers (fragment ∷ []) old new
 TakesOn on way.Up fragment old new = MasterTakes on (fragment ∷ []) old new
 
@@ -106,7 +106,7 @@ confirms_of (Err fault) = []
 
 -- what it sends back for a fragment
 abbrev pub answers_on : System → Link → Way → List ℕ → List (List ℕ)
-answers_on s (Below station) way.Down fragment = answers_below (slice_get s.substations station) s.now fragment
+answers_on s (Below substation) way.Down fragment = answers_below (slice_get s.substations substation) s.now fragment
 answers_on s (Above centre) way.Down fragment =
     (connection_after (middle_of s.concentrator) (middle_panel s.concentrator s.now) s.now fragment).does.send
 answers_on s on way.Up fragment = confirms_of (receive_of (relaying_at s on).master s.now fragment)

@@ -12,8 +12,8 @@ use Rattle.dnp_world.specs.Kept.{Kept, rows_below, commands_below, orders_in, us
 use Rattle.dnp_world.specs.Link.{Link}
 use Rattle.dnp_world.specs.Moves.{Moves}
 use Rattle.dnp_world.specs.Standing.{Stands, IsFresh}
-use Rattle.dnp_world.specs.Stations.{of_station, HasSameCounts}
-use Rattle.dnp_world.specs.Systems.{at_station}
+use Rattle.dnp_world.specs.Stations.{of_substation, HasSameCounts}
+use Rattle.dnp_world.specs.Systems.{at_substation}
 
 abbrev pub rows_of : List Buffered → List Row
 rows_of events = map buffered_row events
@@ -27,7 +27,7 @@ pub record Links : Type 0 where
 
 -- the link to this substation, and the one above, have become these
 abbrev pub with_links : Links → ℕ → Link → Link → Links
-with_links links station below above = record { below = λ i. if i == station then below else links.below i; above = above }
+with_links links substation below above = record { below = λ i. if i == substation then below else links.below i; above = above }
 
 -- ---- what comes from elsewhere
 
@@ -54,11 +54,11 @@ pub record IsBehind (indices : List Spans) (el : Elsewhere) (links : Links) (k :
   pub below_stands : (i : ℕ) → Stands (links.below i)
   pub above_stands : Stands links.above
   -- the rows of each substation
-  pub buffered : (i : ℕ) → HasSameCounts (rows_of (links.below i).lanes) (of_station i k.buffered)
-  pub confirmed : (i : ℕ) → HasSameCounts (rows_of (links.below i).released) (of_station i k.confirmed)
-  pub left : (i : ℕ) → HasSameCounts (rows_of (links.below i).left) (of_station i (k.overwritten ++ k.gone))
+  pub buffered : (i : ℕ) → HasSameCounts (rows_of (links.below i).lanes) (of_substation i k.buffered)
+  pub confirmed : (i : ℕ) → HasSameCounts (rows_of (links.below i).released) (of_substation i k.confirmed)
+  pub left : (i : ℕ) → HasSameCounts (rows_of (links.below i).left) (of_substation i (k.overwritten ++ k.gone))
   -- what the concentrator took of a substation has stood in the queue, and nothing else has
-  pub joined : (i : ℕ) → HasSameCounts (rows_of (links.below i).took) (of_station i (rows_below indices (rows_of links.above.stood)))
+  pub joined : (i : ℕ) → HasSameCounts (rows_of (links.below i).took) (of_substation i (rows_below indices (rows_of links.above.stood)))
   pub mapped : length (rows_below indices (rows_of links.above.stood)) ≡ length links.above.stood
   -- the rows above
   pub queue : HasSameCounts (rows_of links.above.lanes) k.queue
@@ -67,8 +67,8 @@ pub record IsBehind (indices : List Spans) (el : Elsewhere) (links : Links) (k :
   pub lost : k.lost ≡ length k.dropped
   -- commands: what is asked for below, the concentrator's book says to be used, and that book has what was performed above and
   -- elsewhere
-  pub operated : (i : ℕ) → HasSameCounts (links.below i).performed (of_station i k.operated)
-  pub asked_below : (i : ℕ) → IsCoveredBy (links.below i).asked (of_station i (used_orders k.controls))
+  pub operated : (i : ℕ) → HasSameCounts (links.below i).performed (of_substation i k.operated)
+  pub asked_below : (i : ℕ) → IsCoveredBy (links.below i).asked (of_substation i (used_orders k.controls))
   pub relayed : HasSameCounts (commands_below indices links.above.performed ++ commands_below indices el.performed) (orders_in k.controls)
   -- what is asked for above, the centre's book says to be used, and that book and those elsewhere have what was issued
   pub asked_above : IsCoveredBy links.above.asked (used_commands k.orders)
@@ -107,29 +107,29 @@ pub record Grows (old new : Link) (d : Does) : Type 0 where
   pub performed : HasSameCounts new.performed (old.performed ++ d.performed)
 
 -- One event: at most the link to this substation moves, and the link above, and each list gets what they did.
-pub record Turn (indices : List Spans) (station : ℕ) (links : Links) (old new : Kept) : Type 0 where
+pub record Turn (indices : List Spans) (substation : ℕ) (links : Links) (old new : Kept) : Type 0 where
   pub below : Link
   pub above : Link
   pub here : Does
   pub there : Does
-  pub below_grows : Grows (links.below station) below here
+  pub below_grows : Grows (links.below substation) below here
   pub above_grows : Grows links.above above there
   -- what was taken below came into the queue
-  pub joined : rows_below indices there.made ≡ at_station station here.taken
+  pub joined : rows_below indices there.made ≡ at_substation substation here.taken
   pub mapped : length there.made ≡ length here.taken
   -- the rows below
-  pub buffered : HasSameCounts (rows_of below.lanes) (of_station station new.buffered)
-  pub others : (i : ℕ) → i ≢ station → HasSameCounts (of_station i new.buffered) (of_station i old.buffered)
-  pub confirmed : HasSameCounts new.confirmed (old.confirmed ++ at_station station here.discarded)
-  pub left : HasSameCounts (new.overwritten ++ new.gone) ((old.overwritten ++ old.gone) ++ at_station station here.left)
+  pub buffered : HasSameCounts (rows_of below.lanes) (of_substation substation new.buffered)
+  pub others : (i : ℕ) → i ≢ substation → HasSameCounts (of_substation i new.buffered) (of_substation i old.buffered)
+  pub confirmed : HasSameCounts new.confirmed (old.confirmed ++ at_substation substation here.discarded)
+  pub left : HasSameCounts (new.overwritten ++ new.gone) ((old.overwritten ++ old.gone) ++ at_substation substation here.left)
   -- the rows above
   pub queue : HasSameCounts (rows_of above.lanes) new.queue
   pub dropped : HasSameCounts new.dropped (old.dropped ++ there.left)
   pub lost : new.lost ≡ old.lost + length there.left
   pub journal : HasSameCounts new.journal (old.journal ++ there.taken)
   -- commands below and the concentrator's book
-  pub operated : HasSameCounts new.operated (old.operated ++ at_station station here.performed)
-  pub used : IsCoveredBy (used_orders old.controls ++ at_station station here.asked) (used_orders new.controls)
+  pub operated : HasSameCounts new.operated (old.operated ++ at_substation substation here.performed)
+  pub used : IsCoveredBy (used_orders old.controls ++ at_substation substation here.asked) (used_orders new.controls)
   pub added : HasSameCounts (orders_in new.controls) (orders_in old.controls ++ commands_below indices there.performed)
   -- commands above and the centre's book
   pub used_above : IsCoveredBy (used_commands old.orders ++ there.asked) (used_commands new.orders)
@@ -139,4 +139,4 @@ pub record Turn (indices : List Spans) (station : ℕ) (links : Links) (old new 
 
 -- of rows that an event made at one substation those of each
 abbrev pub made_at : ℕ → List Row → ℕ → List Row
-made_at station rows i = of_station i (at_station station rows)
+made_at substation rows i = of_substation i (at_substation substation rows)

@@ -23,13 +23,13 @@ use Rattle.dnp_world.specs.declared.link_event.Way.{Way}
 
 -- the centre that a link is to
 abbrev pub centre_of : Link → Option ℕ
-centre_of (Below station) = None
+centre_of (Below substation) = None
 centre_of (Above centre) = Some centre
 
 abbrev pub centre_in : Place → Option ℕ
 centre_in (place.Centre centre) = Some centre
 centre_in place.Concentrator = None
-centre_in (place.Substation station) = None
+centre_in (place.Substation substation) = None
 
 -- the centre at which an event is, or on the link to it; none where it is of the concentrator and the substations
 abbrev pub centre_at : Event → Option ℕ
@@ -39,9 +39,9 @@ centre_at (event.Deliver on way) = centre_of on
 centre_at (event.Repeat on way) = centre_of on
 centre_at (event.Lose on way) = centre_of on
 centre_at (event.Damage on way octets) = centre_of on
-centre_at (event.Change station kind index reading) = None
+centre_at (event.Change substation kind index reading) = None
 centre_at (event.Ask on task) = centre_of on
-centre_at (event.Issue centre station command) = Some centre
+centre_at (event.Issue centre substation command) = Some centre
 centre_at (event.Relay on) = centre_of on
 centre_at (event.Pass ms) = None
 centre_at (event.Tick on end) = centre_of on
@@ -55,15 +55,15 @@ link_of (event.Deliver on way) = Some on
 link_of (event.Repeat on way) = Some on
 link_of (event.Lose on way) = Some on
 link_of (event.Damage on way octets) = Some on
-link_of (event.Change station kind index reading) = Some (Below station)
+link_of (event.Change substation kind index reading) = Some (Below substation)
 link_of (event.Ask on task) = Some on
-link_of (event.Issue centre station command) = Some (Above centre)
+link_of (event.Issue centre substation command) = Some (Above centre)
 link_of (event.Relay on) = Some on
 link_of (event.Pass ms) = None
 link_of (event.Tick on end) = Some on
 link_of (event.Restart (place.Centre centre)) = Some (Above centre)
 link_of (event.Restart place.Concentrator) = None
-link_of (event.Restart (place.Substation station)) = Some (Below station)
+link_of (event.Restart (place.Substation substation)) = Some (Below substation)
 
 -- there is such a centre, or none is named
 abbrev pub is_there : Option ℕ → Bool

@@ -128,6 +128,10 @@ pub record TakesStep {Station Answer Fault : Type 0} (honest : Station → Type 
   pub unchanged : honest new → OnErr answer (state new ≡ state old)
   pub kept : honest new → OnErr answer (keeps old new)
 
+-- the outstation takes this step, and what it sends goes up
+abbrev pub StepsUp : Step → State → Actions → ChannelState → ChannelState → Type 0
+StepsUp step after does old new = (step ≡ record { state = after; does = does }) × GoUp does.send old new
+
 -- what the port gives, one fragment or none, is answered, and its commands are performed
 abbrev pub AnswersTo : List (List ℕ) → (List Command → Type 0) → Panel → ℕ → State → State → Actions → Bool → ChannelState → ChannelState → Type 0
 AnswersTo [] follows panel now before after does answered old new = (answered ≡ false) × (after ≡ before) × (new ≡ old) × follows []

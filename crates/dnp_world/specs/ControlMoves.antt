@@ -15,9 +15,9 @@ ordered_below s id = option_and_then (λ entry. command_below s.indices entry.co
 -- The control of this id in the centre's book is for a substation. That has performed its command, once, and no substation any other.
 -- Of it both books say SUCCESS: the centre's under this id, and the concentrator's under the id that it gave out next.
 pub record ControlMoves (id : ℕ) (old new : System) : Type 0 where
-  pub station : ℕ
+  pub substation : ℕ
   pub command : Command
-  pub ordered : ordered_below old id ≡ Some (station, command)
-  pub operated : new.history.operated ≡ old.history.operated ++ (station, command) ∷ []
+  pub ordered : ordered_below old id ≡ Some (substation, command)
+  pub operated : new.history.operated ≡ old.history.operated ++ (substation, command) ∷ []
   pub above : status_of new.centre.orders.entries id ≡ Some success
   pub below : status_of new.concentrator.controls.entries (old.concentrator.controls.last_id + 1) ≡ Some success

@@ -33,8 +33,8 @@ abbrev pub found_in : List Entry → ℕ → Option Entry
 found_in entries id = first_with id (rows_of entries (id - 1) 1)
 
 -- the substation that a control of the centre's book is for
-abbrev pub station_in : System → ℕ → Option ℕ
-station_in s id = option_and_then (λ entry. option_map (λ p. p.0) (command_below s.indices entry.command)) (found_in s.centre.orders.entries id)
+abbrev pub substation_in : System → ℕ → Option ℕ
+substation_in s id = option_and_then (λ entry. option_map (λ p. p.0) (command_below s.indices entry.command)) (found_in s.centre.orders.entries id)
 
 abbrev pub status_in : State → Option ℕ
 status_in Pending = None
@@ -52,14 +52,14 @@ status_on s on (Some id) = status_of (entries_on s on) id
 
 -- the id of the control that the concentrator sends to the substation next
 abbrev pub next_below : System → ℕ → Option ℕ
-next_below s station = option_map (λ entry. entry.id) (next_of s.concentrator.controls.entries station)
+next_below s substation = option_map (λ entry. entry.id) (next_of s.concentrator.controls.entries substation)
 
 -- ---- a control that can go at once
 
 -- both links on its way are quiet
 abbrev pub are_quiet_for : System → Option ℕ → Bool
 are_quiet_for s None = is_quiet_above s
-are_quiet_for s (Some station) = is_quiet_above s && is_quiet_below s station
+are_quiet_for s (Some substation) = is_quiet_above s && is_quiet_below s substation
 
 abbrev pub is_entry : ℕ → Option Entry → Bool
 is_entry id None = false
@@ -73,17 +73,17 @@ is_free_for id (Some p) = p.id == id
 -- the concentrator has none pending or in progress for the substation
 abbrev pub is_free_below : System → Option ℕ → Bool
 is_free_below s None = true
-is_free_below s (Some station) = is_none (next_below s station) && is_none (link_at s.concentrator station).progress
+is_free_below s (Some substation) = is_none (next_below s substation) && is_none (link_at s.concentrator substation).progress
 
--- a control for this station is the centre's next one, and no other is before it
+-- a control for this substation is the centre's next one, and no other is before it
 abbrev pub is_next_for : System → ℕ → Option ℕ → Bool
-is_next_for s id station = is_entry id (next_of s.centre.orders.entries 0) && (is_free_for id s.centre.link.progress && is_free_below s station)
+is_next_for s id substation = is_entry id (next_of s.centre.orders.entries 0) && (is_free_for id s.centre.link.progress && is_free_below s substation)
 
 abbrev pub is_next : System → ℕ → Bool
-is_next s id = is_next_for s id (station_in s id)
+is_next s id = is_next_for s id (substation_in s id)
 
 abbrev pub CanGo : ℕ → System → Type 0
-CanGo id s = (are_quiet_for s (station_in s id) ≡ true) × (is_next s id ≡ true)
+CanGo id s = (are_quiet_for s (substation_in s id) ≡ true) × (is_next s id ≡ true)
 
 -- ---- by what an event makes of a system, and how the centre of the control sees that
 
@@ -115,11 +115,11 @@ module _ {World : Type 0} (Makes : World → Event → World → Type 0) (see : 
   -- of its own
   abbrev pub IsControlFor : ℕ → Option ℕ → ℕ → World → World → Type 0
   IsControlFor centre None id old new = IsAccepted (Above centre) (Some id) old new
-  IsControlFor centre (Some station) id old new =
-      (above : World) × IsAccepted (Above centre) (Some id) old above × IsAccepted (Below station) (next_below (see above) station) above new
+  IsControlFor centre (Some substation) id old new =
+      (above : World) × IsAccepted (Above centre) (Some id) old above × IsAccepted (Below substation) (next_below (see above) substation) above new
 
   abbrev pub IsControl : ℕ → ℕ → World → World → Type 0
-  IsControl centre id old new = IsControlFor centre (station_in (see old) id) id old new
+  IsControl centre id old new = IsControlFor centre (substation_in (see old) id) id old new
 
   -- ---- a control that a status ends
 
@@ -137,13 +137,13 @@ module _ {World : Type 0} (Makes : World → Event → World → Type 0) (see : 
         → IsTold on id status operated new → IsRefusedOn on id status old new
 
   -- over the link to this centre, or else over the one to its substation
-  pub data IsRefusedFor (centre : ℕ) (station : Option ℕ) (id status : ℕ) (old new : World) : Type 0 where
-    AtCentre : IsRefusedOn (Above centre) (Some id) status old new → IsRefusedFor centre station id status old new
-    AtConcentrator : (its : ℕ) (above : World) → station ≡ Some its → IsAccepted (Above centre) (Some id) old above
-        → IsRefusedOn (Below its) (next_below (see above) its) status above new → IsRefusedFor centre station id status old new
+  pub data IsRefusedFor (centre : ℕ) (substation : Option ℕ) (id status : ℕ) (old new : World) : Type 0 where
+    AtCentre : IsRefusedOn (Above centre) (Some id) status old new → IsRefusedFor centre substation id status old new
+    AtConcentrator : (its : ℕ) (above : World) → substation ≡ Some its → IsAccepted (Above centre) (Some id) old above
+        → IsRefusedOn (Below its) (next_below (see above) its) status above new → IsRefusedFor centre substation id status old new
 
   abbrev pub IsRefusedControl : ℕ → ℕ → ℕ → World → World → Type 0
-  IsRefusedControl centre id status old new = IsRefusedFor centre (station_in (see old) id) id status old new
+  IsRefusedControl centre id status old new = IsRefusedFor centre (substation_in (see old) id) id status old new
 
   -- ---- where a control stops, by the events at which a list may
 
@@ -164,9 +164,9 @@ module _ {World : Type 0} (Makes : World → Event → World → Type 0) (see : 
     -- over the link to this centre, or else over the one to its substation
     abbrev pub StopsFor : ℕ → Option ℕ → ℕ → World → World → Type 0
     StopsFor centre None id old new = StopsOn (Above centre) (Some id) old new
-    StopsFor centre (Some station) id old new =
+    StopsFor centre (Some substation) id old new =
         StopsInTurn (StopsOn (Above centre) (Some id)) (IsAccepted (Above centre) (Some id))
-        (λ (above new : World). StopsOn (Below station) (next_below (see above) station) above new) old new
+        (λ (above new : World). StopsOn (Below substation) (next_below (see above) substation) above new) old new
 
     -- ---- how a call ends
 
@@ -175,9 +175,9 @@ module _ {World : Type 0} (Makes : World → Event → World → Type 0) (see : 
     -- go, and then nothing has happened.
     abbrev pub ControlEnds : ℕ → ℕ → World → Result ⊤ ControlFault → World → Type 0
     ControlEnds centre id old (Ok done) new = CanGo id (see old) × IsControl centre id old new
-    ControlEnds centre id old (Err control.NotQuiet) new = (are_quiet_for (see old) (station_in (see old) id) ≡ false) × (new ≡ old)
+    ControlEnds centre id old (Err control.NotQuiet) new = (are_quiet_for (see old) (substation_in (see old) id) ≡ false) × (new ≡ old)
     ControlEnds centre id old (Err control.NotNext) new =
-        (are_quiet_for (see old) (station_in (see old) id) ≡ true) × (is_next (see old) id ≡ false) × (new ≡ old)
+        (are_quiet_for (see old) (substation_in (see old) id) ≡ true) × (is_next (see old) id ≡ false) × (new ≡ old)
     ControlEnds centre id old (Err (control.Refused status)) new = CanGo id (see old) × IsRefusedControl centre id status old new
     ControlEnds centre id old (Err (control.Fault cause)) new =
-        (new ≡ old) ⊎ (CanGo id (see old) × StopsFor centre (station_in (see old) id) id old new)
+        (new ≡ old) ⊎ (CanGo id (see old) × StopsFor centre (substation_in (see old) id) id old new)

@@ -31,7 +31,7 @@ pub record GoesWith (book : Ledger) (target : ℕ) (p : Progress) : Type 0 where
 -- Those below have the substations for targets, and the one above has 0. What is issued can be sent; so can what comes down to the
 -- concentrator's book, where links of the law stand behind the system.
 pub record InStep (s : System) : Type 0 where
-  pub below : (station : ℕ) → IfSome (link_at s.concentrator station).progress (GoesWith s.concentrator.controls station)
+  pub below : (substation : ℕ) → IfSome (link_at s.concentrator substation).progress (GoesWith s.concentrator.controls substation)
   pub above : IfSome s.centre.link.progress (GoesWith s.centre.orders 0)
   pub controls : IsSound s.concentrator.controls
   pub orders : IsSound s.centre.orders

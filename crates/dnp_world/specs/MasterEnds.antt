@@ -13,6 +13,10 @@ use Rattle.dnp_master.specs.Sinks.{IsSinkFault}
 use Rattle.dnp_master.specs.State.{State}
 use Rattle.dnp_world.specs.Channels.{ChannelState, GoDown}
 
+-- at most so many rows for each centre
+abbrev pub AreFew : ℕ → Two (List Row) → Type 0
+AreFew most rows = (length rows.first ≤ most) × (length rows.second ≤ most)
+
 -- A call of the station at the master's end with octets of which its master makes this, by the station before and after it
 -- and its answer: it takes them, and its stores drop these rows for them, to the first centre and to the second. A refusal changes
 -- nothing.
@@ -21,7 +25,7 @@ pub record TakesIn {Station : Type 0} (honest : Station → Type 0) (takes : Tak
   pub held : honest new → honest old
   pub taken : honest new → IfOk answer (λ a. IfOk made (λ t. (a.0 ≡ actions_of t (drops t).first) × (a.1 ≡ (drops t).second) × takes t))
   -- no more rows are dropped than come
-  pub few : IfOk made (λ t. (length (drops t).first ≤ length t.events) × (length (drops t).second ≤ length t.events))
+  pub few : IfOk made (λ t. AreFew (length t.events) (drops t))
   pub kept : honest new → OnErr answer keeps
   -- what the master refuses for itself is refused, and no store is asked; and else what the stores refuse
   pub refused : IfErr made (λ fault. answer ≡ Err fault)

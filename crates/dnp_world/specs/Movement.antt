@@ -11,7 +11,7 @@ use Rattle.dnp_outstation.specs.Polled.{Portion, no_rows, poll_octets, polled, r
 use Rattle.dnp_outstation.specs.State.{State}
 use Rattle.dnp_world.specs.Settled.{may_report}
 use Rattle.dnp_world.specs.SystemEvents.{relaying_at}
-use Rattle.dnp_world.specs.Systems.{ConcentratorState, SubstationState, System, at_station, middle_of, station_of}
+use Rattle.dnp_world.specs.Systems.{ConcentratorState, SubstationState, System, at_substation, middle_of, station_of}
 use Rattle.dnp_world.specs.declared.event.Link.{Link}
 use Rattle.dnp_world.specs.declared.event.Link.TheVariants.{Below, Above}
 
@@ -26,29 +26,29 @@ pub data Leave (portion : Portion) (old new : Stock) : Type 0 where
 
 -- how rows of a substation stand in the concentrator's queue
 abbrev pub rows_queued : ConcentratorState → ℕ → List Row → List LaneRow
-rows_queued c station rows = queued_rows c.indices c.points station rows
+rows_queued c substation rows = queued_rows c.indices c.points substation rows
 
 -- The rows left the substation's lanes, confirmed, and came into the queue after all others, in their order, as many as left: the
 -- index map leaves none of them out. What full lanes of the queue dropped for them is listed. The substation's outputs, the other
 -- substations, the concentrator's book and the centre are as they were, so no other row moved, and no command.
-pub record MovesBelow (station : ℕ) (portion_in : State → Portion) (old new : System) : Type 0 where
+pub record MovesBelow (substation : ℕ) (portion_in : State → Portion) (old new : System) : Type 0 where
   pub was : SubstationState
   pub is : SubstationState
-  pub was_there : slice_get old.substations station ≡ Some was
-  pub is_there : slice_get new.substations station ≡ Some is
+  pub was_there : slice_get old.substations substation ≡ Some was
+  pub is_there : slice_get new.substations substation ≡ Some is
   pub left : Leave (portion_in (station_of was)) was.lanes is.lanes
   pub outputs : is.outputs ≡ was.outputs
-  pub all_queued : length (rows_queued old.concentrator station (portion_in (station_of was)).rows) ≡ length (portion_in (station_of was)).rows
+  pub all_queued : length (rows_queued old.concentrator substation (portion_in (station_of was)).rows) ≡ length (portion_in (station_of was)).rows
   pub concentrator : new.concentrator ≡ record old.concentrator {
     core = new.concentrator.core;
-    queue = with_rows old.concentrator.queue (rows_queued old.concentrator station (portion_in (station_of was)).rows);
+    queue = with_rows old.concentrator.queue (rows_queued old.concentrator substation (portion_in (station_of was)).rows);
     links = new.concentrator.links;
   }
   pub history : new.history ≡ record old.history {
-    confirmed = old.history.confirmed ++ at_station station (portion_in (station_of was)).rows;
-    dropped = old.history.dropped ++ dropped_by old.concentrator.queue (rows_queued old.concentrator station (portion_in (station_of was)).rows);
+    confirmed = old.history.confirmed ++ at_substation substation (portion_in (station_of was)).rows;
+    dropped = old.history.dropped ++ dropped_by old.concentrator.queue (rows_queued old.concentrator substation (portion_in (station_of was)).rows);
   }
-  pub others : (i : ℕ) → i ≢ station → slice_get new.substations i ≡ slice_get old.substations i
+  pub others : (i : ℕ) → i ≢ substation → slice_get new.substations i ≡ slice_get old.substations i
   pub centre : new.centre ≡ old.centre
 
 -- ---- over the link between concentrator and centre
@@ -68,7 +68,7 @@ pub record MovesAbove (portion_in : State → Portion) (old new : System) : Type
 -- ---- a round
 
 abbrev pub MovesOn : Link → (State → Portion) → System → System → Type 0
-MovesOn (Below station) portion_in old new = MovesBelow station portion_in old new
+MovesOn (Below substation) portion_in old new = MovesBelow substation portion_in old new
 MovesOn (Above centre) portion_in old new = MovesAbove portion_in old new
 
 -- the first rows of the lanes
@@ -81,7 +81,7 @@ first_reported s = if may_report s then reported s.lanes s.core.enabled else no_
 
 -- what moves where the READ is passed over: below nothing, and above the rows of an unsolicited response that the concentrator starts
 abbrev pub passed_rows : Link → State → Portion
-passed_rows (Below station) s = no_rows
+passed_rows (Below substation) s = no_rows
 passed_rows (Above centre) s = first_reported s
 
 -- the READ is, octet for octet, the last request that the outstation remembers of the connection, as it can be where the response to
@@ -91,7 +91,7 @@ is_repeated_at None octets = false
 is_repeated_at (Some s) octets = is_last_request s.core.session octets
 
 abbrev pub is_repeated_on : System → Link → Bool
-is_repeated_on s (Below station) = is_repeated_at (slice_get s.substations station) (poll_octets (relaying_at s (Below station)).master.seq)
+is_repeated_on s (Below substation) = is_repeated_at (slice_get s.substations substation) (poll_octets (relaying_at s (Below substation)).master.seq)
 is_repeated_on s (Above centre) = is_last_request s.concentrator.core.session (poll_octets s.centre.link.master.seq)
 
 -- What a round moves. A READ that is taken for the last request is passed over, and the master goes on waiting for its answer.

@@ -15,7 +15,7 @@ reports_at (Some s) = s.core.times.unsolicited
 
 -- the outstation of the link sends unsolicited responses
 abbrev pub reports_on : System → Link → Bool
-reports_on s (Below station) = reports_at (slice_get s.substations station)
+reports_on s (Below substation) = reports_at (slice_get s.substations substation)
 reports_on s (Above centre) = s.concentrator.core.times.unsolicited
 
 -- where the last of the events opened a link of the plan whose outstation sends none, that link is quiet

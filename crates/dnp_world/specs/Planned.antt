@@ -29,8 +29,8 @@ HasClassesBelow planned points = (kind : Kind) (index : ℕ) → class_of points
 -- those of each substation
 abbrev pub HavePlannedPoints : Plan → System → Type 0
 HavePlannedPoints plan s =
-    (station : ℕ) → IfSome (slice_get s.substations station) (λ substation.
-    IsSomeAnd (slice_get plan.substations station) (λ planned. HasClassesBelow planned substation.core.points))
+    (substation : ℕ) → IfSome (slice_get s.substations substation) (λ was.
+    IsSomeAnd (slice_get plan.substations substation) (λ planned. HasClassesBelow planned was.core.points))
 
 -- the plan has the row's point at this substation, with a class that has events, and the row can be written as an event
 abbrev pub IsPlanned : Plan → ℕ × Row → Type 0

@@ -5,7 +5,7 @@ use Rattle.dnp_objects.specs.declared.row.Row.{Row}
 use Rattle.dnp_objects.specs.declared.command.Command.{Command}
 use Rattle.dnp_objects.specs.Counts.{count, IsCoveredBy}
 use Rattle.dnp_objects.specs.Equality.{row_eq, pair_eq}
-use Rattle.dnp_world.specs.Stations.{of_station, HasSameCounts}
+use Rattle.dnp_world.specs.Stations.{of_substation, HasSameCounts}
 
 -- Rows and commands beside their substations' numbers, with the substations' own indices.
 pub record Report : Type 0 where
@@ -48,4 +48,4 @@ pub record Holds (r : Report) : Type 0 where
 -- what had happened at a substation, and then these rows, is what has happened there now
 abbrev pub IsFate : (ℕ → List Row) → Report → Report → Type 0
 IsFate came old new =
-    (station : ℕ) → HasSameCounts (of_station station (happened new)) (of_station station (happened old) ++ came station)
+    (substation : ℕ) → HasSameCounts (of_substation substation (happened new)) (of_substation substation (happened old) ++ came substation)

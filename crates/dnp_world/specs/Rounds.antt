@@ -7,7 +7,7 @@ use Rattle.dnp_master.specs.declared.task.Task.TheVariants.{Poll}
 use Rattle.dnp_outstation.specs.State.{is_quiet}
 use Rattle.dnp_world.specs.Channels.{are_quiet}
 use Rattle.dnp_world.specs.SystemRuns.{CountsFor, RunsTo, StopsAfter}
-use Rattle.dnp_world.specs.Systems.{SubstationState, System, has_station, link_at, standing_on}
+use Rattle.dnp_world.specs.Systems.{SubstationState, System, has_substation, link_at, standing_on}
 use Rattle.dnp_world.specs.declared.event.Event.{Event}
 use Rattle.dnp_world.specs.declared.event.Event.TheVariants.{Ask, Deliver}
 use Rattle.dnp_world.specs.declared.event.Link.{Link}
@@ -24,14 +24,14 @@ is_quiet_at (Some s) = is_quiet s.core && are_quiet s.channel
 
 -- and the master is open and awaits no response
 abbrev pub is_quiet_below : System → ℕ → Bool
-is_quiet_below s station =
-    has_station s station && (is_idle (link_at s.concentrator station).master && is_quiet_at (slice_get s.substations station))
+is_quiet_below s substation =
+    has_substation s substation && (is_idle (link_at s.concentrator substation).master && is_quiet_at (slice_get s.substations substation))
 
 abbrev pub is_quiet_above : System → Bool
 is_quiet_above s = is_idle s.centre.link.master && (is_quiet s.concentrator.core && are_quiet s.above)
 
 abbrev pub is_quiet_on : System → Link → Bool
-is_quiet_on s (Below station) = is_quiet_below s station
+is_quiet_on s (Below substation) = is_quiet_below s substation
 is_quiet_on s (Above centre) = is_quiet_above s
 
 -- ---- polls

@@ -14,4 +14,4 @@ IsSettled s = may_report (station_of s) ≡ false
 
 -- No substation would: readings and fragments that come are calls of it, and nothing else puts rows into its lanes.
 abbrev pub AreSettled : System → Type 0
-AreSettled s = (station : ℕ) → IfSome (slice_get s.substations station) IsSettled
+AreSettled s = (substation : ℕ) → IfSome (slice_get s.substations substation) IsSettled

@@ -16,7 +16,7 @@ use Rattle.dnp_world.specs.Planned.{IsAsPlanned}
 use Rattle.dnp_world.specs.Reports.{IsFate}
 use Rattle.dnp_world.specs.Settled.{AreSettled}
 use Rattle.dnp_world.specs.SystemStanding.{IsStanding}
-use Rattle.dnp_world.specs.Systems.{System, has_station}
+use Rattle.dnp_world.specs.Systems.{System, has_substation}
 use Rattle.dnp_world.specs.declared.event.Event.{Event}
 use Rattle.dnp_world.specs.declared.event.Event.TheVariants as event
 use Rattle.dnp_world.specs.declared.event.Place.TheVariants as place
@@ -34,8 +34,8 @@ pub record IsSteadyBeside (el : Elsewhere) (s : System) : Type 0 where
 
 -- what an event is to the points of each substation of the plan: its readings, and its restarts
 abbrev pub moves_at : System → Event → ℕ → List Move
-moves_at s (event.Change station kind index reading) i = if has_station s station && station == i then Change kind index reading ∷ [] else []
-moves_at s (event.Restart (place.Substation station)) i = if has_station s station && station == i then Restart ∷ [] else []
+moves_at s (event.Change substation kind index reading) i = if has_substation s substation && substation == i then Change kind index reading ∷ [] else []
+moves_at s (event.Restart (place.Substation substation)) i = if has_substation s substation && substation == i then Restart ∷ [] else []
 moves_at s event i = []
 
 abbrev pub points_at : System → ℕ → Option Database
@@ -59,7 +59,7 @@ pub record Goes (el : Elsewhere) (made : ℕ → List Row) (old new : System) : 
 
 -- the command that an event issues, where the plan has its output
 abbrev pub issued_by : System → Event → List (ℕ × Command)
-issued_by s (event.Issue centre station command) = if is_some (command_above s.centre.indices station command) then (station, command) ∷ [] else []
+issued_by s (event.Issue centre substation command) = if is_some (command_above s.centre.indices substation command) then (substation, command) ∷ [] else []
 issued_by s event = []
 
 -- The list of what was issued is what it was, and the commands of these events.

@@ -37,7 +37,7 @@ use Rattle.dnp_concentrator.specs.Relaying as relaying
 use Rattle.dnp_concentrator.specs.Relaying.{Relaying}
 use Rattle.dnp_world.specs.Channels.{ChannelState, GoDown, GoUp, cleared, hung_up_at, lost_at}
 use Rattle.dnp_world.specs.CommandWidths.{HasWidths}
-use Rattle.dnp_world.specs.Systems.{SubstationState, CentreState, ConcentratorState, System, station_of, panel_of, in_state, middle_of, middle_panel, link_at, at_station}
+use Rattle.dnp_world.specs.Systems.{SubstationState, CentreState, ConcentratorState, System, station_of, panel_of, in_state, middle_of, middle_panel, link_at, at_substation}
 use Rattle.dnp_world.specs.declared.event.Link.{Link}
 use Rattle.dnp_world.specs.declared.event.Link.TheVariants.{Below, Above}
 use Rattle.dnp_world.specs.declared.link_event.End.{End}
@@ -48,30 +48,30 @@ use Rattle.dnp_world.specs.declared.link_event.Way.TheVariants as way
 -- ---- parts that change
 
 abbrev pub with_substation : System → ℕ → SubstationState → System
-with_substation s station substation = record s { substations = slice_set s.substations station substation }
+with_substation s substation is = record s { substations = slice_set s.substations substation is }
 
 abbrev pub with_middle : System → ConcentratorState → System
 with_middle s concentrator = record s { concentrator = concentrator }
 
 -- the concentrator's link to a substation
 abbrev pub with_link : System → ℕ → Relaying → System
-with_link s station link = with_middle s (record s.concentrator { links = slice_set s.concentrator.links station link })
+with_link s substation link = with_middle s (record s.concentrator { links = slice_set s.concentrator.links substation link })
 
 abbrev pub with_centre_link : System → Relaying → System
 with_centre_link s link = record s { centre = record s.centre { link = link } }
 
 -- the readings above of a substation that can't be reached any more
 abbrev pub with_lost : System → ℕ → System
-with_lost s station = with_middle s (record s.concentrator { core = without_link s.concentrator.core station })
+with_lost s substation = with_middle s (record s.concentrator { core = without_link s.concentrator.core substation })
 
 -- One substation changes so, and no other; by what it was and is, `rest` says what else becomes of the system.
-pub record ChangesAt (station : ℕ) (Change : SubstationState → SubstationState → Type 0)
+pub record ChangesAt (substation : ℕ) (Change : SubstationState → SubstationState → Type 0)
     (rest : SubstationState → SubstationState → System → System) (old new : System) : Type 0 where
   pub was : SubstationState
   pub is : SubstationState
-  pub there : slice_get old.substations station ≡ Some was
+  pub there : slice_get old.substations substation ≡ Some was
   pub changed : Change was is
-  pub after : new ≡ rest was is (with_substation old station is)
+  pub after : new ≡ rest was is (with_substation old substation is)
 
 -- nothing else
 abbrev pub same_rest : SubstationState → SubstationState → System → System
@@ -79,17 +79,17 @@ same_rest was is s = s
 
 -- the lines of a link change so, and nothing else
 abbrev pub LinesChange : Link → (ChannelState → ChannelState → Type 0) → System → System → Type 0
-LinesChange (Below station) Change old new =
-    ChangesAt station (λ was is. Change was.channel is.channel × (is ≡ record was { channel = is.channel })) same_rest old new
+LinesChange (Below substation) Change old new =
+    ChangesAt substation (λ was is. Change was.channel is.channel × (is ≡ record was { channel = is.channel })) same_rest old new
 LinesChange (Above centre) Change old new = Change old.above new.above × (new ≡ record old { above = new.above })
 
 -- the master of a link, with the control in progress there
 abbrev pub relaying_at : System → Link → Relaying
-relaying_at s (Below station) = link_at s.concentrator station
+relaying_at s (Below substation) = link_at s.concentrator substation
 relaying_at s (Above centre) = s.centre.link
 
 abbrev pub with_relaying : System → Link → Relaying → System
-with_relaying s (Below station) link = with_link s station link
+with_relaying s (Below substation) link = with_link s substation link
 with_relaying s (Above centre) link = with_centre_link s link
 
 -- the master of a link becomes this, and these fragments go down
@@ -118,9 +118,9 @@ pub record MiddleSteps (step : Step) (commands : List Command) (lines : ChannelS
 -- ---- opening, hanging up and restarts
 
 abbrev pub OpensOn : Link → System → System → Type 0
-OpensOn (Below station) old new =
-    ChangesAt station (λ was is. SubstationSteps (opened_of (station_of was) old.now) (cleared was.channel) was is) same_rest
-    (with_link old station (relaying.opened (link_at old.concentrator station))) new
+OpensOn (Below substation) old new =
+    ChangesAt substation (λ was is. SubstationSteps (opened_of (station_of was) old.now) (cleared was.channel) was is) same_rest
+    (with_link old substation (relaying.opened (link_at old.concentrator substation))) new
 OpensOn (Above centre) old new =
     MiddleSteps (opened_of (middle_of old.concentrator) old.now) [] (cleared old.above)
     (with_centre_link old (relaying.opened old.centre.link)) new
@@ -130,11 +130,11 @@ abbrev pub master_gone : SubstationState → SubstationState
 master_gone s = record s { channel = hung_up_at end.Master s.channel }
 
 abbrev pub HangsUpOn : Link → End → System → System → Type 0
-HangsUpOn (Below station) end.Master old new =
-    ChangesAt station (λ was is. is ≡ master_gone was) same_rest
-    (with_lost (with_link old station (relaying.hung_up (link_at old.concentrator station))) station) new
-HangsUpOn (Below station) end.Outstation old new =
-    ChangesAt station (λ was is. is ≡ record was { core = closed was.core; channel = hung_up_at end.Outstation was.channel }) same_rest old new
+HangsUpOn (Below substation) end.Master old new =
+    ChangesAt substation (λ was is. is ≡ master_gone was) same_rest
+    (with_lost (with_link old substation (relaying.hung_up (link_at old.concentrator substation))) substation) new
+HangsUpOn (Below substation) end.Outstation old new =
+    ChangesAt substation (λ was is. is ≡ record was { core = closed was.core; channel = hung_up_at end.Outstation was.channel }) same_rest old new
 HangsUpOn (Above centre) end.Master old new =
     new ≡ record (with_centre_link old (relaying.hung_up old.centre.link)) { above = hung_up_at end.Master old.above }
 HangsUpOn (Above centre) end.Outstation old new =
@@ -156,14 +156,14 @@ concentrator_restarted s = record s {
 
 -- its lanes are emptied, and what was in them is listed
 abbrev pub SubstationRestarts : ℕ → System → System → Type 0
-SubstationRestarts station old new =
-    ChangesAt station
+SubstationRestarts substation old new =
+    ChangesAt substation
     (λ was is. is ≡ record was {
       core = restarted_core was.core;
       lanes = without_all was.lanes;
       channel = hung_up_at end.Outstation was.channel;
     })
-    (λ was is s. record s { history = record s.history { gone = s.history.gone ++ at_station station (rows_in was.lanes) } }) old new
+    (λ was is s. record s { history = record s.history { gone = s.history.gone ++ at_substation substation (rows_in was.lanes) } }) old new
 
 -- ---- what comes over the lines
 
@@ -183,13 +183,13 @@ pub record ComesToSubstation (left : LineState → LineState) (now : ℕ) (relea
       (record was { channel = record was.channel { down = left was.channel.down; outstation_port = port } }) is
 
 -- what is released is listed as confirmed, and what is performed as operated
-pub record ComesDownBelow (left : LineState → LineState) (station : ℕ) (old new : System) : Type 0 where
+pub record ComesDownBelow (left : LineState → LineState) (substation : ℕ) (old new : System) : Type 0 where
   pub released : List Row
-  pub came : ChangesAt station (ComesToSubstation left old.now released)
+  pub came : ChangesAt substation (ComesToSubstation left old.now released)
       (λ was is s. record s {
         history = record s.history {
-          confirmed = s.history.confirmed ++ at_station station released;
-          operated = s.history.operated ++ at_station station (drop (length was.outputs.performed) is.outputs.performed);
+          confirmed = s.history.confirmed ++ at_substation substation released;
+          operated = s.history.operated ++ at_substation substation (drop (length was.outputs.performed) is.outputs.performed);
         };
       }) old new
 
@@ -209,20 +209,20 @@ pub record ComesDownAbove (left : LineState → LineState) (old new : System) : 
 
 -- a substation's rows are taken: its events are queued, readings above are set, and the link goes on
 abbrev pub concentrator_taken : ConcentratorState → ℕ → Taking → ConcentratorState
-concentrator_taken c station t = record c {
-  core = with_points c.core (readings_set c.indices station (readings_set c.indices station c.core.points t.events) t.statics);
-  queue = with_rows c.queue (queued_rows c.indices c.points station t.events);
-  links = slice_set c.links station (relaying.received (link_at c station) t);
+concentrator_taken c substation t = record c {
+  core = with_points c.core (readings_set c.indices substation (readings_set c.indices substation c.core.points t.events) t.statics);
+  queue = with_rows c.queue (queued_rows c.indices c.points substation t.events);
+  links = slice_set c.links substation (relaying.received (link_at c substation) t);
 }
 
 -- the rows that full lanes of the queue drop for the events
 abbrev pub dropped_for : ConcentratorState → ℕ → Taking → List Row
-dropped_for c station t = dropped_by c.queue (queued_rows c.indices c.points station t.events)
+dropped_for c substation t = dropped_by c.queue (queued_rows c.indices c.points substation t.events)
 
 abbrev pub taken_below : System → ℕ → Taking → System
-taken_below s station t = record s {
-  concentrator = concentrator_taken s.concentrator station t;
-  history = record s.history { dropped = s.history.dropped ++ dropped_for s.concentrator station t };
+taken_below s substation t = record s {
+  concentrator = concentrator_taken s.concentrator substation t;
+  history = record s.history { dropped = s.history.dropped ++ dropped_for s.concentrator substation t };
 }
 
 -- the centre puts the events into its journal
@@ -233,15 +233,15 @@ abbrev pub taken_above : System → Taking → System
 taken_above s t = record s { centre = centre_taken s.centre t }
 
 abbrev pub taken_on : System → Link → Taking → System
-taken_on s (Below station) t = taken_below s station t
+taken_on s (Below substation) t = taken_below s substation t
 taken_on s (Above centre) t = taken_above s t
 
 -- the queue has numbers left for a substation's events
 abbrev pub HasNumbers : ConcentratorState → ℕ → Taking → Type 0
-HasNumbers c station t = t.events ≢ [] → exhausts c.queue (queued_rows c.indices c.points station t.events) ≡ false
+HasNumbers c substation t = t.events ≢ [] → exhausts c.queue (queued_rows c.indices c.points substation t.events) ≡ false
 
 abbrev pub HasNumbersOn : System → Link → Taking → Type 0
-HasNumbersOn s (Below station) t = HasNumbers s.concentrator station t
+HasNumbersOn s (Below substation) t = HasNumbers s.concentrator substation t
 HasNumbersOn s (Above centre) t = ⊤
 
 -- the confirm goes down; what the master refuses for itself is lost
@@ -266,7 +266,7 @@ pub record ComesUp (left : LineState → LineState) (on : Link) (old new : Syste
   pub came : MasterTakes on given between new
 
 abbrev pub ComesOn : (LineState → LineState) → Link → Way → System → System → Type 0
-ComesOn left (Below station) way.Down old new = ComesDownBelow left station old new
+ComesOn left (Below substation) way.Down old new = ComesDownBelow left substation old new
 ComesOn left (Above centre) way.Down old new = ComesDownAbove left old new
 ComesOn left on way.Up old new = ComesUp left on old new
 
@@ -279,18 +279,18 @@ LosesOn on way old new = LinesChange on (λ was is. is ≡ lost_at way was) old 
 
 -- what a full lane dropped for the row that the change makes is listed; a reading that the points refuse does nothing
 abbrev pub ReadsBy : Result (Option LaneRow) ChangeFault → ℕ → Kind → ℕ → Reading → SubstationState → System → System → Type 0
-ReadsBy (Ok made) station kind index reading was old new =
+ReadsBy (Ok made) substation kind index reading was old new =
     let step = change_of (station_of was) old.now kind index reading made in
     IfSome made (λ row. exhausts was.lanes (row ∷ []) ≡ false)
-    × ChangesAt station (SubstationSteps step was.channel)
-    (λ was is s. record s { history = record s.history { overwritten = s.history.overwritten ++ at_station station step.does.overwritten } })
+    × ChangesAt substation (SubstationSteps step was.channel)
+    (λ was is s. record s { history = record s.history { overwritten = s.history.overwritten ++ at_substation substation step.does.overwritten } })
     old new
-ReadsBy (Err fault) station kind index reading was old new = new ≡ old
+ReadsBy (Err fault) substation kind index reading was old new = new ≡ old
 
-pub record Reads (station : ℕ) (kind : Kind) (index : ℕ) (reading : Reading) (old new : System) : Type 0 where
+pub record Reads (substation : ℕ) (kind : Kind) (index : ℕ) (reading : Reading) (old new : System) : Type 0 where
   pub was : SubstationState
-  pub there : slice_get old.substations station ≡ Some was
-  pub reads : ReadsBy (answer_of was.core.points kind index reading) station kind index reading was old new
+  pub there : slice_get old.substations substation ≡ Some was
+  pub reads : ReadsBy (answer_of was.core.points kind index reading) substation kind index reading was old new
 
 abbrev pub request_of : Result (List ℕ) AskFault → List (List ℕ)
 request_of (Ok octets) = octets ∷ []
@@ -312,17 +312,17 @@ requests_of (relaying.Finishes id status) seq = []
 -- the step over a link by the book that keeps its controls: that of the concentrator below, and that of the centre above, whose
 -- one target is the station below
 abbrev pub step_on : System → Link → relaying.Step
-step_on s (Below station) = relaying.step_of (link_at s.concentrator station) s.concentrator.controls.entries station
+step_on s (Below substation) = relaying.step_of (link_at s.concentrator substation) s.concentrator.controls.entries substation
 step_on s (Above centre) = relaying.step_of s.centre.link s.centre.orders.entries 0
 
 abbrev pub told : System → Link → relaying.Step → System
-told s (Below station) step =
+told s (Below substation) step =
     with_middle s (record s.concentrator { controls = relaying.ledger_after s.concentrator.controls step })
 told s (Above centre) step = record s { centre = record s.centre { orders = relaying.ledger_after s.centre.orders step } }
 
 -- the entries of the book that keeps the link's controls
 abbrev pub entries_on : System → Link → List Entry
-entries_on s (Below station) = s.concentrator.controls.entries
+entries_on s (Below substation) = s.concentrator.controls.entries
 entries_on s (Above centre) = s.centre.orders.entries
 
 -- The book grants the step: an OPERATE for a control that is pending, what becomes of a control for one that isn't finished, and what
@@ -353,25 +353,25 @@ pub data RelaysOn (on : Link) (old new : System) : Type 0 where
 
 -- a command to no output does nothing; what is issued is a command of a program, so its fields have their widths
 abbrev pub IssuesBy : Option Command → ℕ → Command → System → System → Type 0
-IssuesBy None station command old new = new ≡ old
-IssuesBy (Some above) station command old new =
+IssuesBy None substation command old new = new ≡ old
+IssuesBy (Some above) substation command old new =
     (old.centre.orders.last_id < MAX_ID)
     × HasWidths command
     × (new ≡ record old {
       centre = record old.centre { orders = added old.centre.orders 0 above };
-      history = record old.history { issued = old.history.issued ++ (station, command) ∷ [] };
+      history = record old.history { issued = old.history.issued ++ (substation, command) ∷ [] };
     })
 
 -- ---- time
 
 abbrev pub MasterTicks : Link → System → System → Type 0
-MasterTicks (Below station) old new =
-    let link = link_at old.concentrator station in
-    let ticked = with_link old station (relaying.ticked link old.now) in
-    new ≡ (if master.is_timed_out link.master old.now then with_lost ticked station else ticked)
+MasterTicks (Below substation) old new =
+    let link = link_at old.concentrator substation in
+    let ticked = with_link old substation (relaying.ticked link old.now) in
+    new ≡ (if master.is_timed_out link.master old.now then with_lost ticked substation else ticked)
 MasterTicks (Above centre) old new = new ≡ with_centre_link old (relaying.ticked old.centre.link old.now)
 
 abbrev pub OutstationTicks : Link → System → System → Type 0
-OutstationTicks (Below station) old new =
-    ChangesAt station (λ was is. SubstationSteps (tick_of (station_of was) old.now) was.channel was is) same_rest old new
+OutstationTicks (Below substation) old new =
+    ChangesAt substation (λ was is. SubstationSteps (tick_of (station_of was) old.now) was.channel was is) same_rest old new
 OutstationTicks (Above centre) old new = MiddleSteps (tick_of (middle_of old.concentrator) old.now) [] old.above old new

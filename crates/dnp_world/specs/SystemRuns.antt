@@ -10,7 +10,7 @@ use Rattle.dnp_master.specs.State.{is_idle}
 use Rattle.dnp_concentrator.specs.Mapped.{command_above}
 use Rattle.dnp_world.specs.Channels.{DamagesAt}
 use Rattle.dnp_world.specs.OneLinkEvents.{is_own}
-use Rattle.dnp_world.specs.Systems.{SubstationState, System, front_on, has_station, has_link}
+use Rattle.dnp_world.specs.Systems.{SubstationState, System, front_on, has_substation, has_link}
 use Rattle.dnp_world.specs.SystemEvents.{LinesChange, OpensOn, HangsUpOn, concentrator_restarted, SubstationRestarts, ComesOn, LosesOn, Reads, AsksOn, RelaysOn, IssuesBy, MasterTicks, OutstationTicks, relaying_at}
 use Rattle.dnp_world.specs.declared.event.Event.{Event}
 use Rattle.dnp_world.specs.declared.event.Event.TheVariants as event
@@ -34,17 +34,17 @@ Happens old (event.Deliver on way) new = IfThere (has_link old on) (ComesOn deli
 Happens old (event.Repeat on way) new = IfThere (has_link old on) (ComesOn repeated_on on way) old new
 Happens old (event.Lose on way) new = IfThere (has_link old on) (LosesOn on way) old new
 Happens old (event.Damage on way octets) new = IfThere (has_link old on) (LinesChange on (DamagesAt way octets)) old new
-Happens old (event.Change station kind index reading) new = IfThere (has_station old station) (Reads station kind index reading) old new
+Happens old (event.Change substation kind index reading) new = IfThere (has_substation old substation) (Reads substation kind index reading) old new
 Happens old (event.Ask on task) new = IfThere (has_link old on) (AsksOn (is_own task) on task) old new
-Happens old (event.Issue centre station command) new =
-    IssuesBy (command_above old.centre.indices station command) station command old new
+Happens old (event.Issue centre substation command) new =
+    IssuesBy (command_above old.centre.indices substation command) substation command old new
 Happens old (event.Relay on) new = IfThere (has_link old on) (RelaysOn on) old new
 Happens old (event.Pass ms) new = new ≡ record old { now = min (old.now + ms) (2 ^ 64 - 1) }
 Happens old (event.Tick on end.Master) new = IfThere (has_link old on) (MasterTicks on) old new
 Happens old (event.Tick on end.Outstation) new = IfThere (has_link old on) (OutstationTicks on) old new
 Happens old (event.Restart (place.Centre centre)) new = HangsUpOn (Above centre) end.Master old new
 Happens old (event.Restart place.Concentrator) new = new ≡ concentrator_restarted old
-Happens old (event.Restart (place.Substation station)) new = IfThere (has_station old station) (SubstationRestarts station) old new
+Happens old (event.Restart (place.Substation substation)) new = IfThere (has_substation old substation) (SubstationRestarts substation) old new
 
 -- ---- where a list of events may stop
 
@@ -62,17 +62,17 @@ may_stop s (event.Deliver on way) = is_some (front_on s on way)
 may_stop s (event.Repeat on way) = is_some (front_on s on way)
 may_stop s (event.Lose on way) = false
 may_stop s (event.Damage on way octets) = false
-may_stop s (event.Change station kind index reading) =
-    has_station s station && takes_reading (slice_get s.substations station) kind index reading
+may_stop s (event.Change substation kind index reading) =
+    has_substation s substation && takes_reading (slice_get s.substations substation) kind index reading
 may_stop s (event.Ask on task) = has_link s on && (is_own task && is_ok (ask_answer (relaying_at s on).master task))
-may_stop s (event.Issue centre station command) = is_some (command_above s.centre.indices station command)
+may_stop s (event.Issue centre substation command) = is_some (command_above s.centre.indices substation command)
 may_stop s (event.Relay on) = has_link s on && is_idle (relaying_at s on).master
 may_stop s (event.Pass ms) = false
 may_stop s (event.Tick on end.Master) = false
 may_stop s (event.Tick on end.Outstation) = has_link s on
 may_stop s (event.Restart (place.Centre centre)) = false
 may_stop s (event.Restart place.Concentrator) = false
-may_stop s (event.Restart (place.Substation station)) = has_station s station
+may_stop s (event.Restart (place.Substation substation)) = has_substation s substation
 
 -- ---- lists of events, by what one event makes of a system
 

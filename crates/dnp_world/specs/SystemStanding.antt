@@ -80,11 +80,11 @@ pub record IsStanding (el : Elsewhere) (s : System) : Type 0 where
   pub plan : Plan
   pub of_plan : IsOfPlan plan s
   pub links : Links
-  pub below : (station : ℕ) → IfSome (slice_get s.substations station) (IsJoinedBelow s.now (link_at s.concentrator station) (links.below station))
+  pub below : (substation : ℕ) → IfSome (slice_get s.substations substation) (IsJoinedBelow s.now (link_at s.concentrator substation) (links.below substation))
   pub above : Joined [] (seen_above s (lists_of links.above)) links.above
   pub behind : IsBehind s.indices el links (kept_in s)
 
 -- After an event something stands behind the system again, and what happened is what had happened and these rows of a substation.
-pub record Keeps (el : Elsewhere) (station : ℕ) (made : List Row) (old new : System) : Type 0 where
+pub record Keeps (el : Elsewhere) (substation : ℕ) (made : List Row) (old new : System) : Type 0 where
   pub standing : IsStanding el new
-  pub fate : IsFate (made_at station made) (report_of old) (report_of new)
+  pub fate : IsFate (made_at substation made) (report_of old) (report_of new)

@@ -63,7 +63,7 @@ abbrev pub middle_of : ConcentratorState → State
 middle_of c = state_of c.core c.queue (book_panel c.indices None c.controls)
 
 abbrev pub link_at : ConcentratorState → ℕ → Relaying
-link_at c station = link_in c.links station
+link_at c substation = link_in c.links substation
 
 pub record CentreState : Type 0 where
   pub indices : List Spans
@@ -88,8 +88,8 @@ pub record History : Type 0 where
   pub operated : List (ℕ × Command)
 
 -- things of one substation
-abbrev pub at_station : {Thing : Type 0} → ℕ → List Thing → List (ℕ × Thing)
-at_station station things = map (λ thing. (station, thing)) things
+abbrev pub at_substation : {Thing : Type 0} → ℕ → List Thing → List (ℕ × Thing)
+at_substation substation things = map (λ thing. (substation, thing)) things
 
 -- ---- the system
 
@@ -109,12 +109,12 @@ abbrev pub itself : System → System
 itself s = s
 
 -- there is a substation of this number, and a link to it
-abbrev pub has_station : System → ℕ → Bool
-has_station s station = nat_lt station (length s.substations) && nat_lt station (length s.concentrator.links)
+abbrev pub has_substation : System → ℕ → Bool
+has_substation s substation = nat_lt substation (length s.substations) && nat_lt substation (length s.concentrator.links)
 
 -- a link above is the one of this centre: what happens on another centre's is elsewhere
 abbrev pub has_link : System → Link → Bool
-has_link s (Below station) = has_station s station
+has_link s (Below substation) = has_substation s substation
 has_link s (Above centre) = true
 
 -- ---- what stands on the lines
@@ -125,7 +125,7 @@ units_at way (Some s) = length (line_of way s.channel).units
 
 -- how many units stand on the line of a link, none on one outside the plan
 abbrev pub standing_on : System → Link → Way → ℕ
-standing_on s (Below station) way = if has_station s station then units_at way (slice_get s.substations station) else 0
+standing_on s (Below substation) way = if has_substation s substation then units_at way (slice_get s.substations substation) else 0
 standing_on s (Above centre) way = length (line_of way s.above).units
 
 -- ---- the next unit of a line
@@ -136,5 +136,5 @@ front_at way (Some s) = front_of (line_of way s.channel)
 
 -- the octets of the unit that a line of a link gives next, if one stands there; none on one outside the plan
 abbrev pub front_on : System → Link → Way → Option (List ℕ)
-front_on s (Below station) way = if has_station s station then front_at way (slice_get s.substations station) else None
+front_on s (Below substation) way = if has_substation s substation then front_at way (slice_get s.substations substation) else None
 front_on s (Above centre) way = front_of (line_of way s.above)

@@ -7,7 +7,7 @@ ghost use Rattle.dnp_world.specs.declared.event.Link.TheVariants as link;
 ghost use Rattle.dnp_world.specs.Happened.{HappenedAsEvents};
 ghost use Rattle.dnp_world.specs.SystemEvents.{ComesUp};
 ghost use Rattle.dnp_world.specs.SystemStanding.{IsStanding, Keeps};
-ghost use Rattle.dnp_world.specs.Systems.{System, has_station};
+ghost use Rattle.dnp_world.specs.Systems.{System, has_substation};
 
 use crate::happened_laws::what_happened_is_what_stood;
 use crate::joined_laws::events_without_a_sink_are_moves;
@@ -26,10 +26,10 @@ use dnp_pointdb::laws::points_stay_sound;
 /// stays there: the events that the concentrator takes come into its queue, all of them, and full lanes there drop what is listed.
 /// Each of them happened, so it is an event.
 pub fn what_comes_from_a_substation_keeps_what_stands()
-    ensures delivered { (old new : System) (el : Elsewhere) (station : ℕ) → has_station old station ≡ true → IsStanding el old → HappenedAsEvents old
-        → ComesUp delivered_on (link.Below station) old new → Keeps el station [] old new }
-    ensures repeated { (old new : System) (el : Elsewhere) (station : ℕ) → has_station old station ≡ true → IsStanding el old → HappenedAsEvents old
-        → ComesUp repeated_on (link.Below station) old new → Keeps el station [] old new }
+    ensures delivered { (old new : System) (el : Elsewhere) (substation : ℕ) → has_substation old substation ≡ true → IsStanding el old → HappenedAsEvents old
+        → ComesUp delivered_on (link.Below substation) old new → Keeps el substation [] old new }
+    ensures repeated { (old new : System) (el : Elsewhere) (substation : ℕ) → has_substation old substation ≡ true → IsStanding el old → HappenedAsEvents old
+        → ComesUp repeated_on (link.Below substation) old new → Keeps el substation [] old new }
 {
     lists_are_of_links();
     events_without_a_sink_are_moves();

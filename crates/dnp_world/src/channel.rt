@@ -8,13 +8,13 @@ ghost use Rattle.dnp_master.specs.Calls.{receive_of};
 ghost use Rattle.dnp_outstation.specs.Calls.{connection_after, opened_of, performed_in, tick_of};
 ghost use Rattle.dnp_outstation.specs.Station.{actions_of};
 ghost use Rattle.dnp_world.specs.Causes.{TellsDevice};
-ghost use Rattle.dnp_world.specs.Channels.{state_of, are_quiet, cleared, fresh_channel, hung_up_at, left_at, left_by, line_of, lost_at, DamagesAt, GoUp, ComesToOutstation};
+ghost use Rattle.dnp_world.specs.Channels.{state_of, are_quiet, cleared, fresh_channel, hung_up_at, left_at, left_by, line_of, lost_at, DamagesAt, GoUp, StepsUp, ComesToOutstation};
 ghost use Rattle.dnp_world.specs.MasterEnds.{ComesToMaster, ListsDropped, TakesBy, none_dropped};
 
 use crate::ends::{MasterEnd, OutstationEnd};
 use crate::event::Damaged;
 use crate::link_event::{End, Way};
-use crate::listing::count_events;
+use crate::listing::most_dropped;
 use crate::room::reserve_for_events;
 use crate::sending::{FRAGMENT_UNITS, hear, send_all, shows};
 use crate::stopped::stops_for;
@@ -185,9 +185,7 @@ impl Channel {
     ) -> Result<(), Cause>
         requires { E.has number }
         ensures held { E.honest end.new → E.honest end.old }
-        ensures opened { E.honest end.new → OnOk result (
-            (opened_of (E.state end.old number) now ≡ record { state = E.state end.new number; does = actions_of actions.new })
-            × GoUp (actions_of actions.new).send (cleared (state_of self.old)) (state_of self.new)) }
+        ensures opened { E.honest end.new → OnOk result (StepsUp (opened_of (E.state end.old number) now) (E.state end.new number) (actions_of actions.new) (cleared (state_of self.old)) (state_of self.new)) }
         ensures beside { E.follows number end.old [] end.new }
         ensures unchanged { E.honest end.new → OnErr result (E.state end.new number ≡ E.state end.old number) }
         ensures lines { OnErr result (state_of self.new ≡ state_of self.old) }
@@ -214,9 +212,7 @@ impl Channel {
     ) -> Result<(), Cause>
         requires { E.has number }
         ensures held { E.honest end.new → E.honest end.old }
-        ensures ticked { E.honest end.new → OnOk result (
-            (tick_of (E.state end.old number) now ≡ record { state = E.state end.new number; does = actions_of actions.new })
-            × GoUp (actions_of actions.new).send (state_of self.old) (state_of self.new)) }
+        ensures ticked { E.honest end.new → OnOk result (StepsUp (tick_of (E.state end.old number) now) (E.state end.new number) (actions_of actions.new) (state_of self.old) (state_of self.new)) }
         ensures beside { E.follows number end.old [] end.new }
         ensures unchanged { E.honest end.new → OnErr result (E.state end.new number ≡ E.state end.old number) }
         ensures lines { OnErr result (state_of self.new ≡ state_of self.old) }
@@ -335,7 +331,7 @@ impl Channel {
         ensures before { self.new.before ≡ self.old.before }
     {
         let fragment = self.master_port.fragment();
-        reserve_for_events(&mut self.down, count_events(fragment), dropped)?;
+        reserve_for_events(&mut self.down, most_dropped(end, fragment), dropped)?;
         match end.take_in(alloc, link, now, fragment) {
             Ok((actions, other)) => {
                 what_comes_is_taken_or_passed_over();

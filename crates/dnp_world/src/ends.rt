@@ -256,6 +256,10 @@ pub trait MasterEnd {
     /// It is what it was.
     ghost stays: { Self → Self → Type 0 };
 
+    /// Whether its stores may drop rows for what it takes.
+    fn may_drop(&self) -> bool
+        ensures { result ≡ false → (link : ℕ) (t : Taking) → drops self.now link t ≡ none_dropped };
+
     /// A fragment came on the link. What the master refuses for itself is asked of no store. Rows that were dropped to the second centre
     /// stand beside the actions.
     fn take_in(
@@ -297,6 +301,10 @@ impl<Q: PairLanes, B: Book> MasterEnd for Concentrator<Q, B> {
 
     ghost stays_itself = { λ c. refl };
 
+    fn may_drop(&self) -> bool {
+        true
+    }
+
     fn take_in(
         &mut self,
         alloc: Global,
@@ -328,6 +336,10 @@ impl<J: JournalStore, B: Book> MasterEnd for Centre<J, B> {
     ghost keeps_itself = { λ c. refl };
 
     ghost stays_itself = { λ c. refl };
+
+    fn may_drop(&self) -> bool {
+        false
+    }
 
     fn take_in(
         &mut self,

@@ -15,7 +15,7 @@ ghost use Rattle.dnp_world.specs.Happened.{HappenedAsEvents};
 ghost use Rattle.dnp_world.specs.Joined.{rows_made_by};
 ghost use Rattle.dnp_world.specs.Kept.{report_of};
 ghost use Rattle.dnp_world.specs.Reports.{IsFate, happened};
-ghost use Rattle.dnp_world.specs.Stations.{HasSameCounts, of_station};
+ghost use Rattle.dnp_world.specs.Stations.{HasSameCounts, of_substation};
 ghost use Rattle.dnp_world.specs.SystemStanding.{IsStanding, Keeps};
 ghost use Rattle.dnp_world.specs.Systems.{System};
 
@@ -26,8 +26,8 @@ use dnp_pointdb::laws::a_change_makes_what_its_lane_takes;
 
 /// What happened at a substation is what ever stood in its lanes, as the link of the law behind it has it.
 pub fn what_happened_is_what_stood()
-    ensures { (s : System) (el : Elsewhere) (h : IsStanding el s) (station : ℕ)
-        → HasSameCounts (rows_of (h.links.below station).stood) (of_station station (happened (report_of s))) }
+    ensures { (s : System) (el : Elsewhere) (h : IsStanding el s) (substation : ℕ)
+        → HasSameCounts (rows_of (h.links.below substation).stood) (of_substation substation (happened (report_of s))) }
 {
     link_law();
     equality_is_decided::<u64, Row>();
@@ -42,11 +42,11 @@ pub fn what_happened_can_be_reported()
     ensures at_first { (plan : Plan) (centre : ℕ) (queue : Stock) (journal : Archive) (controls orders : Ledger)
         → HappenedAsEvents (fresh_system plan centre queue journal controls orders) }
     ensures made { (points : Database) (events : List LinkEvent) → All IsEvent (rows_made_by points events) }
-    ensures goes_on { (old new : System) (came : ℕ → List RowValue) → HappenedAsEvents old → ((station : ℕ) → All IsEvent (came station))
+    ensures goes_on { (old new : System) (came : ℕ → List RowValue) → HappenedAsEvents old → ((substation : ℕ) → All IsEvent (came substation))
         → IsFate came (report_of old) (report_of new) → HappenedAsEvents new }
-    ensures kept { (old new : System) (el : Elsewhere) (station : ℕ) → HappenedAsEvents old → Keeps el station [] old new → HappenedAsEvents new }
-    ensures read { (old new : System) (el : Elsewhere) (station : ℕ) (points : Database) (events : List LinkEvent) → HappenedAsEvents old
-        → Keeps el station (rows_made_by points events) old new → HappenedAsEvents new }
+    ensures kept { (old new : System) (el : Elsewhere) (substation : ℕ) → HappenedAsEvents old → Keeps el substation [] old new → HappenedAsEvents new }
+    ensures read { (old new : System) (el : Elsewhere) (substation : ℕ) (points : Database) (events : List LinkEvent) → HappenedAsEvents old
+        → Keeps el substation (rows_made_by points events) old new → HappenedAsEvents new }
 {
     equality_is_decided::<u64, Row>();
     a_change_makes_what_its_lane_takes();

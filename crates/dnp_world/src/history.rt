@@ -3,7 +3,7 @@
 ghost use Rattle.std.specs.Prelude.{◌≡◌, []};
 ghost use Rattle.dnp_world.specs.SystemParts.{history_of};
 
-use crate::station_list::StationList;
+use crate::substation_list::SubstationList;
 use dnp_concentrator::Two;
 use dnp_objects::{Command, Row};
 use std::alloc::Global;
@@ -12,17 +12,17 @@ use std::alloc::Global;
 #[derive(Drop)]
 pub(crate) struct History {
     /// The rows that confirms released.
-    pub confirmed: StationList<Row>,
+    pub confirmed: SubstationList<Row>,
     /// The rows that full lanes of substations dropped.
-    pub overwritten: StationList<Row>,
+    pub overwritten: SubstationList<Row>,
     /// The rows that restarts of substations emptied from their lanes.
-    pub gone: StationList<Row>,
+    pub gone: SubstationList<Row>,
     /// The rows that full lanes of the queue for each centre dropped, as they stand above.
     pub dropped: Two<Vec<Row>>,
     /// The commands that were issued, as they stand at their substations.
-    pub issued: StationList<Command>,
+    pub issued: SubstationList<Command>,
     /// The commands that were performed.
-    pub operated: StationList<Command>,
+    pub operated: SubstationList<Command>,
 }
 
 impl History {
@@ -31,15 +31,15 @@ impl History {
         ensures { history_of result ≡ record { confirmed = []; overwritten = []; gone = []; dropped = record { first = []; second = [] }; issued = []; operated = [] } }
     {
         History {
-            confirmed: StationList::new(alloc),
-            overwritten: StationList::new(alloc),
-            gone: StationList::new(alloc),
+            confirmed: SubstationList::new(alloc),
+            overwritten: SubstationList::new(alloc),
+            gone: SubstationList::new(alloc),
             dropped: Two {
                 first: Vec::new(alloc),
                 second: Vec::new(alloc),
             },
-            issued: StationList::new(alloc),
-            operated: StationList::new(alloc),
+            issued: SubstationList::new(alloc),
+            operated: SubstationList::new(alloc),
         }
     }
 }

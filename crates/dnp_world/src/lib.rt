@@ -35,11 +35,11 @@ mod round_fault;
 mod sending;
 pub mod settled_laws;
 pub mod standing_laws;
-mod station_list;
 mod stopped;
 pub mod stopped_laws;
 mod stored;
 mod substation;
+mod substation_list;
 pub mod system_laws;
 mod world;
 

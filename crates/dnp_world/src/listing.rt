@@ -1,10 +1,13 @@
-//! How many rows wait, and how many come.
+//! How many rows wait, and how many may leave.
 
-ghost use Rattle.std.specs.Prelude.{◌≡◌, length};
+ghost use Rattle.std.specs.Prelude.{◌≡◌, ◌≤◌, ℕ, length};
 ghost use Rattle.dnp_eventbuf.specs.Stock.{rows_in};
+ghost use Rattle.dnp_master.specs.Calls.{Taking};
+ghost use Rattle.dnp_world.specs.MasterEnds.{AreFew};
 ghost use Rattle.dnp_world.specs.Octets as read;
 
-use dnp_appfragment::read_response;
+use crate::ends::MasterEnd;
+use dnp_appfragment::laws::events_have_octets;
 use dnp_eventbuf::Lanes;
 use dnp_objects::{LANES, Lane};
 
@@ -22,12 +25,17 @@ pub(crate) fn rows_waiting<L: Lanes>(lanes: &mut L) -> usize
     count
 }
 
-/// How many events the response has that the octets are; octets that are no response have none.
-pub(crate) fn count_events(octets: &[u8]) -> usize
-    ensures { result ≡ length (read.rows_in octets.now) }
+/// The most rows that the stores under a master's end may drop to either centre for a fragment that comes: by its length
+/// alone, since each event has an octet after the first four.
+pub(crate) fn most_dropped<E: MasterEnd>(end: &E, octets: &[u8]) -> usize
+    ensures { (link : ℕ) (t : Taking) → length t.events ≤ length (read.rows_in octets.now)
+        → AreFew (length t.events) (E.drops end.now link t) → AreFew result (E.drops end.now link t) }
 {
-    match read_response(octets) {
-        Ok(response) => response.headers.count_events(),
-        Err(_) => 0,
+    // (a law, for the proof: it does nothing)
+    events_have_octets();
+    if end.may_drop() {
+        octets.len().saturating_sub(4)
+    } else {
+        0
     }
 }

@@ -69,9 +69,9 @@ impl<Q: PairLanes, J: JournalStore, A: Book, B: Book> Parts<Q, J, A, B> {
         ensures { result ≡ has_link self.now.system on }
     {
         match on {
-            Link::Below(station) => {
-                usize::from(station) < self.substations.len()
-                    && usize::from(station) < self.concentrator.substations()
+            Link::Below(substation) => {
+                usize::from(substation) < self.substations.len()
+                    && usize::from(substation) < self.concentrator.substations()
             }
             Link::Above(centre) => centre < CENTRES,
         }
@@ -85,7 +85,9 @@ impl<Q: PairLanes, J: JournalStore, A: Book, B: Book> Parts<Q, J, A, B> {
             return 0;
         }
         match on {
-            Link::Below(station) => self.substations[usize::from(station)].channel.standing(way),
+            Link::Below(substation) => self.substations[usize::from(substation)]
+                .channel
+                .standing(way),
             Link::Above(centre) => self.above.at(centre).standing(way),
         }
     }
@@ -98,7 +100,7 @@ impl<Q: PairLanes, J: JournalStore, A: Book, B: Book> Parts<Q, J, A, B> {
             return None;
         }
         match on {
-            Link::Below(station) => self.substations[usize::from(station)].channel.front(way),
+            Link::Below(substation) => self.substations[usize::from(substation)].channel.front(way),
             Link::Above(centre) => self.above.at(centre).front(way),
         }
     }
@@ -110,14 +112,14 @@ impl<Q: PairLanes, J: JournalStore, A: Book, B: Book> Parts<Q, J, A, B> {
         ensures done { ChangesAll (centre_of on) (HangsUpOn on end) self.old.system self.new.system }
     {
         match (on, end) {
-            (Link::Below(station), End::Master) => {
-                self.concentrator.hung_up_below(station);
-                self.substations[usize::from(station)]
+            (Link::Below(substation), End::Master) => {
+                self.concentrator.hung_up_below(substation);
+                self.substations[usize::from(substation)]
                     .channel
                     .hang_up(End::Master);
             }
-            (Link::Below(station), End::Outstation) => {
-                self.substations[usize::from(station)].hang_up();
+            (Link::Below(substation), End::Outstation) => {
+                self.substations[usize::from(substation)].hang_up();
             }
             (Link::Above(centre), End::Master) => {
                 self.centres.at_mut(centre).hung_up();
@@ -137,7 +139,7 @@ impl<Q: PairLanes, J: JournalStore, A: Book, B: Book> Parts<Q, J, A, B> {
         ensures done { ChangesAll (centre_of on) (LosesOn on way) self.old.system self.new.system }
     {
         match on {
-            Link::Below(station) => self.substations[usize::from(station)].channel.lose(way),
+            Link::Below(substation) => self.substations[usize::from(substation)].channel.lose(way),
             Link::Above(centre) => self.above.at_mut(centre).lose(way),
         }
     }
@@ -149,8 +151,8 @@ impl<Q: PairLanes, J: JournalStore, A: Book, B: Book> Parts<Q, J, A, B> {
         ensures done { ChangesAll (centre_of on) (LinesChange on (DamagesAt way octets.now)) self.old.system self.new.system }
     {
         match on {
-            Link::Below(station) => {
-                self.substations[usize::from(station)]
+            Link::Below(substation) => {
+                self.substations[usize::from(substation)]
                     .channel
                     .damage(way, octets)
             }
@@ -175,8 +177,8 @@ impl<Q: PairLanes, J: JournalStore, A: Book, B: Book> Parts<Q, J, A, B> {
         ensures done { ChangesAll (centre_of on) (MasterTicks on) self.old.system self.new.system }
     {
         match on {
-            Link::Below(station) => {
-                let _ = self.concentrator.tick_below(station, self.moment);
+            Link::Below(substation) => {
+                let _ = self.concentrator.tick_below(substation, self.moment);
             }
             Link::Above(centre) => {
                 let _ = self.centres.at_mut(centre).tick(self.moment);

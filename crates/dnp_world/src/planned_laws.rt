@@ -46,11 +46,11 @@ pub fn substations_keep_their_points()
 pub fn what_happens_is_of_the_plan()
     ensures at_first { (plan : Plan) (centre : ℕ) (queue : Stock) (journal : Archive) (controls orders : Ledger) → KeepsLimits plan
         → HappenedAsPlanned plan (fresh_system plan centre queue journal controls orders) }
-    ensures kept { (plan : Plan) (old new : System) (el : Elsewhere) (station : ℕ) (event : Event) → HappenedAsPlanned plan old → Happens old event new
-        → Keeps el station [] old new → HappenedAsPlanned plan new }
-    ensures read { (plan : Plan) (old new : System) (el : Elsewhere) (station : ℕ) (kind : Kind) (index : ℕ) (reading : Reading) → HappenedAsPlanned plan old
-        → (reads : Reads station kind index reading old new)
-        → Keeps el station (rows_made_by reads.was.core.points (event.Change kind index reading ∷ [])) old new → HappenedAsPlanned plan new }
+    ensures kept { (plan : Plan) (old new : System) (el : Elsewhere) (substation : ℕ) (event : Event) → HappenedAsPlanned plan old → Happens old event new
+        → Keeps el substation [] old new → HappenedAsPlanned plan new }
+    ensures read { (plan : Plan) (old new : System) (el : Elsewhere) (substation : ℕ) (kind : Kind) (index : ℕ) (reading : Reading) → HappenedAsPlanned plan old
+        → (reads : Reads substation kind index reading old new)
+        → Keeps el substation (rows_made_by reads.was.core.points (event.Change kind index reading ∷ [])) old new → HappenedAsPlanned plan new }
     ensures events { (plan : Plan) (s : System) → HappenedAsPlanned plan s → HappenedAsEvents s }
 {
     substations_keep_their_points();
@@ -67,11 +67,11 @@ pub fn what_happens_is_of_the_plan()
 pub fn systems_stay_as_planned()
     ensures at_first { (plan : Plan) (centre : ℕ) (queue : Stock) (journal : Archive) (controls orders : Ledger) → KeepsLimits plan
         → IsAsPlanned (fresh_system plan centre queue journal controls orders) }
-    ensures kept { (old new : System) (el : Elsewhere) (station : ℕ) (event : Event) → IsAsPlanned old → Happens old event new
-        → Keeps el station [] old new → IsAsPlanned new }
-    ensures read { (old new : System) (el : Elsewhere) (station : ℕ) (kind : Kind) (index : ℕ) (reading : Reading) → IsAsPlanned old
-        → Happens old (happening.Change station kind index reading) new → (reads : Reads station kind index reading old new)
-        → Keeps el station (rows_made_by reads.was.core.points (event.Change kind index reading ∷ [])) old new → IsAsPlanned new }
+    ensures kept { (old new : System) (el : Elsewhere) (substation : ℕ) (event : Event) → IsAsPlanned old → Happens old event new
+        → Keeps el substation [] old new → IsAsPlanned new }
+    ensures read { (old new : System) (el : Elsewhere) (substation : ℕ) (kind : Kind) (index : ℕ) (reading : Reading) → IsAsPlanned old
+        → Happens old (happening.Change substation kind index reading) new → (reads : Reads substation kind index reading old new)
+        → Keeps el substation (rows_made_by reads.was.core.points (event.Change kind index reading ∷ [])) old new → IsAsPlanned new }
 {
     what_happens_is_of_the_plan();
 }
@@ -79,9 +79,9 @@ pub fn systems_stay_as_planned()
 /// Each row in the lanes of a substation, and in the queue, is of a point that the master at the other end asks for, with a class that
 /// has events: so that master takes it.
 pub fn rows_in_lanes_are_asked_for()
-    ensures below { (s : System) (station : ℕ) (was : SubstationState) → IsAsPlanned s → station < length s.concentrator.links
-        → slice_get s.substations station ≡ Some was
-        → All (λ row. is_reported (link_at s.concentrator station).master.plan row ≡ true) (rows_in was.lanes) }
+    ensures below { (s : System) (substation : ℕ) (was : SubstationState) → IsAsPlanned s → substation < length s.concentrator.links
+        → slice_get s.substations substation ≡ Some was
+        → All (λ row. is_reported (link_at s.concentrator substation).master.plan row ≡ true) (rows_in was.lanes) }
     ensures above { (s : System) (el : Elsewhere) → IsStanding el s → IsAsPlanned s
         → All (λ row. is_reported s.centre.link.master.plan row ≡ true) (rows_in s.concentrator.queue) }
 {

@@ -9,7 +9,7 @@ ghost use Rattle.dnp_objects.specs.Lanes.{lane_number};
 ghost use Rattle.dnp_world.specs.Causes.{TellsDevice};
 ghost use Rattle.dnp_world.specs.Kept as kept;
 ghost use Rattle.dnp_world.specs.ReportShown.{AreById, all_in};
-ghost use Rattle.dnp_world.specs.Systems.{at_station};
+ghost use Rattle.dnp_world.specs.Systems.{at_substation};
 
 use dnp_concentrator::{Cause, IndexMap};
 use dnp_eventbuf::{CENTRES, JournalStore, Lanes, Numbered, PairLanes, Side};
@@ -157,13 +157,13 @@ pub(crate) fn queue_lost<Q: PairLanes>(queue: &mut Q, centre: u8) -> u64
 /// Puts rows of a substation after the list. An error says that it ran out of memory.
 pub(crate) fn put_rows_of(
     list: &mut Vec<(u8, Row)>,
-    station: u8,
+    substation: u8,
     rows: &[Numbered],
 ) -> Result<(), AllocError>
-    ensures { OnOk result (list.new.items ≡ list.old.items ++ at_station station (all_of row_of rows.now)) }
+    ensures { OnOk result (list.new.items ≡ list.old.items ++ at_substation substation (all_of row_of rows.now)) }
 {
     for row in rows {
-        list.push((station, row.row))?;
+        list.push((substation, row.row))?;
     }
     Ok(())
 }

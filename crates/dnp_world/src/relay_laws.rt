@@ -27,7 +27,7 @@ ghost use Rattle.dnp_world.specs.OneLinkEvents.{IsAsked, LinkState};
 ghost use Rattle.dnp_world.specs.SystemEvents.{IsGranted, IsRefused, RelaysOn};
 ghost use Rattle.dnp_world.specs.SystemRuns.{Happens};
 ghost use Rattle.dnp_world.specs.SystemStanding.{IsStanding, Keeps};
-ghost use Rattle.dnp_world.specs.Systems.{System, has_station};
+ghost use Rattle.dnp_world.specs.Systems.{System, has_substation};
 
 use crate::laws::link_law;
 use crate::master_laws::{
@@ -89,11 +89,11 @@ pub fn a_request_goes_by_a_move()
 /// A step of relaying keeps what stands behind the system, where the controls in progress are in step with their books: an
 /// OPERATE asks for the command of its control, which is spent with it.
 pub fn relaying_keeps_what_stands()
-    ensures below { (old new : System) (el : Elsewhere) (station : ℕ) → has_station old station ≡ true → IsStanding el old → InStep old
-        → RelaysOn (link.Below station) old new → Keeps el station [] old new }
-    ensures above { (centre : ℕ) (old new : System) (el : Elsewhere) (station : ℕ) → IsStanding el old → InStep old
+    ensures below { (old new : System) (el : Elsewhere) (substation : ℕ) → has_substation old substation ≡ true → IsStanding el old → InStep old
+        → RelaysOn (link.Below substation) old new → Keeps el substation [] old new }
+    ensures above { (centre : ℕ) (old new : System) (el : Elsewhere) (substation : ℕ) → IsStanding el old → InStep old
         → RelaysOn (link.Above centre) old new
-        → Keeps el station [] old new }
+        → Keeps el substation [] old new }
 {
     lists_are_of_links();
     a_command_is_asked_for_as_it_is();

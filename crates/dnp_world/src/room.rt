@@ -4,7 +4,7 @@ ghost use Rattle.std.specs.Prelude.{◌≡◌, ◌+◌, ◌*◌, ◌≤◌, IfEr
 ghost use Rattle.dnp_line.specs.Lines.{room_of};
 
 use crate::sending::FRAGMENT_UNITS;
-use crate::station_list::StationList;
+use crate::substation_list::SubstationList;
 use dnp_concentrator::{Cause, Two};
 use dnp_controls::MAX_COMMANDS;
 use dnp_line::Line;
@@ -13,7 +13,7 @@ use dnp_objects::{Command, Row};
 /// Reserves room for what a substation makes of a reading: one row more on the list, and two fragments more on the line.
 pub(crate) fn reserve_for_reading(
     up: &mut Line,
-    overwritten: &mut StationList<Row>,
+    overwritten: &mut SubstationList<Row>,
 ) -> Result<(), Cause>
     ensures line { up.new.state ≡ up.old.state }
     ensures list { overwritten.new.items ≡ overwritten.old.items }
@@ -43,8 +43,8 @@ pub(crate) fn reserve_for_left(up: &mut Line, left: &mut Vec<Row>) -> Result<(),
 /// the other.
 pub(crate) fn reserve_for_unit(
     waiting: usize,
-    confirmed: &mut StationList<Row>,
-    operated: &mut StationList<Command>,
+    confirmed: &mut SubstationList<Row>,
+    operated: &mut SubstationList<Command>,
 ) -> Result<(), Cause>
     ensures confirmed { confirmed.new.items ≡ confirmed.old.items }
     ensures operated { operated.new.items ≡ operated.old.items }

@@ -35,10 +35,10 @@ use dnp_pointdb::laws::points_stay_sound;
 /// there: the rows that a confirm releases leave the queue, which counts none of them as lost, and the commands that are performed
 /// come into the book.
 pub fn what_comes_to_the_concentrator_keeps_what_stands()
-    ensures delivered { (old new : System) (el : Elsewhere) (station : ℕ) → IsStanding el old
-        → ComesDownAbove delivered_on old new → Keeps el station [] old new }
-    ensures repeated { (old new : System) (el : Elsewhere) (station : ℕ) → IsStanding el old
-        → ComesDownAbove repeated_on old new → Keeps el station [] old new }
+    ensures delivered { (old new : System) (el : Elsewhere) (substation : ℕ) → IsStanding el old
+        → ComesDownAbove delivered_on old new → Keeps el substation [] old new }
+    ensures repeated { (old new : System) (el : Elsewhere) (substation : ℕ) → IsStanding el old
+        → ComesDownAbove repeated_on old new → Keeps el substation [] old new }
 {
     lists_are_of_links();
     events_without_a_sink_are_moves();

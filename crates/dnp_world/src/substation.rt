@@ -11,7 +11,7 @@ ghost use Rattle.dnp_outstation.specs.State.{is_quiet};
 ghost use Rattle.dnp_world.specs.Channels.{are_quiet, cleared, hung_up_at, left_by};
 ghost use Rattle.dnp_world.specs.SystemEvents.{ComesToSubstation, SubstationSteps, master_gone};
 ghost use Rattle.dnp_world.specs.SystemParts.{history_of, substation_of};
-ghost use Rattle.dnp_world.specs.Systems.{at_station, station_of};
+ghost use Rattle.dnp_world.specs.Systems.{at_substation, station_of};
 ghost use Rattle.dnp_world.specs.declared.link_event.End.TheVariants as end;
 
 use crate::channel::Channel;
@@ -20,7 +20,7 @@ use crate::link_event::{End, Way};
 use crate::listing::rows_waiting;
 use crate::room::{reserve_for_reading, reserve_for_unit};
 use crate::sending::{FRAGMENT_UNITS, send_all};
-use crate::station_list::StationList;
+use crate::substation_list::SubstationList;
 use dnp_concentrator::Cause;
 use dnp_controls::PlainOutputs;
 use dnp_eventbuf::RingLanes;
@@ -97,11 +97,11 @@ impl Substation {
         actions: &mut Actions,
         alloc: Global,
         now: u64,
-        station: u8,
+        substation: u8,
         kind: Kind,
         index: u16,
         reading: Reading,
-        overwritten: &mut StationList<Row>,
+        overwritten: &mut SubstationList<Row>,
     ) -> Result<(), Cause>
         ensures refused { OnOk result (IfErr (answer_of (substation_of self.old).core.points kind index reading) (λ _.
             (substation_of self.new ≡ substation_of self.old) × (overwritten.new.items ≡ overwritten.old.items))) }
@@ -112,7 +112,7 @@ impl Substation {
             (substation_of self.old) (substation_of self.new))) }
         ensures listed { OnOk result (IfOk (answer_of (substation_of self.old).core.points kind index reading) (λ made.
             overwritten.new.items ≡ overwritten.old.items
-            ++ at_station station (change_of (station_of (substation_of self.old)) now kind index reading made).does.overwritten)) }
+            ++ at_substation substation (change_of (station_of (substation_of self.old)) now kind index reading made).does.overwritten)) }
         ensures stopped { OnErr result (substation_of self.new ≡ substation_of self.old) }
         ensures unlisted { OnErr result (overwritten.new.items ≡ overwritten.old.items) }
         ensures named { OnErr result (is_ok (answer_of (substation_of self.old).core.points kind index reading) ≡ true) }
@@ -138,7 +138,7 @@ impl Substation {
         self.outstation
             .change_into(actions, alloc, now, kind, index, reading)?;
         send_all(up, outstation_port, &actions.send);
-        overwritten.put_all(station, actions.overwritten.as_slice());
+        overwritten.put_all(substation, actions.overwritten.as_slice());
         Ok(())
     }
 
@@ -149,15 +149,15 @@ impl Substation {
         actions: &mut Actions,
         alloc: Global,
         now: u64,
-        station: u8,
+        substation: u8,
         repeats: bool,
         history: &mut History,
     ) -> Result<(), Cause>
         ensures done { OnOk result ((released : List RowValue) × ComesToSubstation (left_by repeats) now released (substation_of self.old) (substation_of self.new)
             × (history_of history.new ≡ record (history_of history.old) {
-              confirmed = (history_of history.old).confirmed ++ at_station station released;
+              confirmed = (history_of history.old).confirmed ++ at_substation substation released;
               operated = (history_of history.old).operated
-                  ++ at_station station (drop (length (substation_of self.old).outputs.performed) (substation_of self.new).outputs.performed);
+                  ++ at_substation substation (drop (length (substation_of self.old).outputs.performed) (substation_of self.new).outputs.performed);
             })) }
         ensures stopped { OnErr result (substation_of self.new ≡ substation_of self.old) }
         ensures unlisted { OnErr result (history_of history.new ≡ history_of history.old) }
@@ -176,9 +176,9 @@ impl Substation {
             commands_are_performed_as_they_are_asked();
             history
                 .confirmed
-                .put_all(station, actions.discarded.as_slice());
+                .put_all(substation, actions.discarded.as_slice());
             let operated = self.outstation.outputs().operated();
-            history.operated.put_all(station, &operated[before..]);
+            history.operated.put_all(substation, &operated[before..]);
         }
         Ok(())
     }
@@ -188,15 +188,15 @@ impl Substation {
     pub fn restart(
         &mut self,
         alloc: Global,
-        station: u8,
-        gone: &mut StationList<Row>,
+        substation: u8,
+        gone: &mut SubstationList<Row>,
     ) -> Result<(), Cause>
         ensures done { OnOk result (substation_of self.new ≡ record (substation_of self.old) {
           core = restarted_core (substation_of self.old).core;
           lanes = without_all (substation_of self.old).lanes;
           channel = hung_up_at end.Outstation (substation_of self.old).channel;
         }) }
-        ensures listed { OnOk result (gone.new.items ≡ gone.old.items ++ at_station station (rows_in (substation_of self.old).lanes)) }
+        ensures listed { OnOk result (gone.new.items ≡ gone.old.items ++ at_substation substation (rows_in (substation_of self.old).lanes)) }
         ensures stopped { OnErr result (substation_of self.new ≡ substation_of self.old) }
         ensures unlisted { OnErr result (gone.new.items ≡ gone.old.items) }
         ensures device { result ≢ Err Cause.Device }
@@ -207,7 +207,7 @@ impl Substation {
         };
         let rows = self.outstation.restart(alloc, false)?;
         self.channel.hang_up(End::Outstation);
-        gone.put_all(station, rows.as_slice());
+        gone.put_all(substation, rows.as_slice());
         Ok(())
     }
 }

@@ -35,7 +35,7 @@ ghost use Rattle.dnp_world.specs.Reports.{Holds, IsFate, Report as ReportValue};
 ghost use Rattle.dnp_world.specs.Steady.{IsSteadyBeside};
 ghost use Rattle.dnp_world.specs.SystemStanding.{IsStanding, Keeps};
 ghost use Rattle.dnp_world.specs.SystemEvents.{AsksOn, ComesDownBelow, ComesUp, HangsUpOn, IssuesBy, LinesChange, LosesOn, MasterTicks, OpensOn, OutstationTicks, Reads, SubstationRestarts, concentrator_restarted};
-ghost use Rattle.dnp_world.specs.Systems.{System, at_station, has_station};
+ghost use Rattle.dnp_world.specs.Systems.{System, at_substation, has_substation};
 
 use crate::joined_laws::events_without_a_sink_are_moves;
 use crate::laws::link_law;
@@ -56,11 +56,11 @@ pub fn lists_are_of_links()
     ensures mapped { (indices : List Spans) (el : Elsewhere) (links : Links) (k : Kept) → IsBehind indices el links k → AreMapped indices k }
     ensures at_first { (indices : List Spans) (links : Links) → ((i : ℕ) → IsUntouched (links.below i))
         → IsUntouched links.above → IsBehind indices alone links nothing_kept }
-    ensures kept { (indices : List Spans) (el : Elsewhere) (station : ℕ) (links : Links) (old new : Kept) → IsBehind indices el links old
-        → (turn : Turn indices station links old new) → IsBehind indices el (with_links links station turn.below turn.above) new }
-    ensures fate { (indices : List Spans) (el : Elsewhere) (station : ℕ) (links : Links) (old new : Kept) → IsBehind indices el links old
-        → (turn : Turn indices station links old new)
-        → IsFate (made_at station turn.here.made) (shown_of indices old) (shown_of indices new) }
+    ensures kept { (indices : List Spans) (el : Elsewhere) (substation : ℕ) (links : Links) (old new : Kept) → IsBehind indices el links old
+        → (turn : Turn indices substation links old new) → IsBehind indices el (with_links links substation turn.below turn.above) new }
+    ensures fate { (indices : List Spans) (el : Elsewhere) (substation : ℕ) (links : Links) (old new : Kept) → IsBehind indices el links old
+        → (turn : Turn indices substation links old new)
+        → IsFate (made_at substation turn.here.made) (shown_of indices old) (shown_of indices new) }
     ensures joined { (first second : ℕ → List RowValue) (a b c : ReportValue) → IsFate first a b → IsFate second b c
         → IsFate (λ i. first i ++ second i) a c }
     ensures reordered { (r : ReportValue) (queue : List (ℕ × RowValue)) → IsPermutation queue r.queue → Holds r → Holds (record r { queue = queue }) }
@@ -97,21 +97,21 @@ pub fn what_a_report_shows_is_kept()
 /// Events on the link to a substation at which its master takes no rows: something stands behind the system again, and at
 /// the substation happened what had happened, and the rows that a reading makes.
 pub fn events_below_keep_what_stands()
-    ensures lost { (old new : System) (el : Elsewhere) (station : ℕ) (way : Way) → IsStanding el old
-        → LosesOn (link.Below station) way old new → Keeps el station [] old new }
-    ensures hung_up { (old new : System) (el : Elsewhere) (station : ℕ) → IsStanding el old
-        → HangsUpOn (link.Below station) end.Outstation old new → Keeps el station [] old new }
-    ensures restarted { (old new : System) (el : Elsewhere) (station : ℕ) → IsStanding el old
-        → SubstationRestarts station old new → Keeps el station [] old new }
-    ensures delivered { (old new : System) (el : Elsewhere) (station : ℕ) → IsStanding el old
-        → ComesDownBelow delivered_on station old new → Keeps el station [] old new }
-    ensures repeated { (old new : System) (el : Elsewhere) (station : ℕ) → IsStanding el old
-        → ComesDownBelow repeated_on station old new → Keeps el station [] old new }
-    ensures ticked { (old new : System) (el : Elsewhere) (station : ℕ) → IsStanding el old
-        → OutstationTicks (link.Below station) old new → Keeps el station [] old new }
-    ensures read { (old new : System) (el : Elsewhere) (station : ℕ) (kind : Kind) (index : ℕ) (reading : Reading) → IsStanding el old
-        → (reads : Reads station kind index reading old new)
-        → Keeps el station (rows_made_by reads.was.core.points (event.Change kind index reading ∷ [])) old new }
+    ensures lost { (old new : System) (el : Elsewhere) (substation : ℕ) (way : Way) → IsStanding el old
+        → LosesOn (link.Below substation) way old new → Keeps el substation [] old new }
+    ensures hung_up { (old new : System) (el : Elsewhere) (substation : ℕ) → IsStanding el old
+        → HangsUpOn (link.Below substation) end.Outstation old new → Keeps el substation [] old new }
+    ensures restarted { (old new : System) (el : Elsewhere) (substation : ℕ) → IsStanding el old
+        → SubstationRestarts substation old new → Keeps el substation [] old new }
+    ensures delivered { (old new : System) (el : Elsewhere) (substation : ℕ) → IsStanding el old
+        → ComesDownBelow delivered_on substation old new → Keeps el substation [] old new }
+    ensures repeated { (old new : System) (el : Elsewhere) (substation : ℕ) → IsStanding el old
+        → ComesDownBelow repeated_on substation old new → Keeps el substation [] old new }
+    ensures ticked { (old new : System) (el : Elsewhere) (substation : ℕ) → IsStanding el old
+        → OutstationTicks (link.Below substation) old new → Keeps el substation [] old new }
+    ensures read { (old new : System) (el : Elsewhere) (substation : ℕ) (kind : Kind) (index : ℕ) (reading : Reading) → IsStanding el old
+        → (reads : Reads substation kind index reading old new)
+        → Keeps el substation (rows_made_by reads.was.core.points (event.Change kind index reading ∷ [])) old new }
 {
     lists_are_of_links();
     events_without_a_sink_are_moves();
@@ -122,16 +122,16 @@ pub fn events_below_keep_what_stands()
 /// The same of events at which its lines are damaged, both its ends are opened, or its master asks a task of its own, hangs up or
 /// looks at its timer: a substation whose master hung up can't be reached any more, and its readings above say so.
 pub fn calls_below_keep_what_stands()
-    ensures damaged { (old new : System) (el : Elsewhere) (station : ℕ) (way : Way) (octets : List ℕ) → IsStanding el old
-        → LinesChange (link.Below station) (DamagesAt way octets) old new → Keeps el station [] old new }
-    ensures opened { (old new : System) (el : Elsewhere) (station : ℕ) → has_station old station ≡ true → IsStanding el old
-        → OpensOn (link.Below station) old new → Keeps el station [] old new }
-    ensures asked { (old new : System) (el : Elsewhere) (station : ℕ) (task : Task) → has_station old station ≡ true → IsStanding el old
-        → AsksOn (is_own task) (link.Below station) task old new → Keeps el station [] old new }
-    ensures hung_up { (old new : System) (el : Elsewhere) (station : ℕ) → has_station old station ≡ true → IsStanding el old
-        → HangsUpOn (link.Below station) end.Master old new → Keeps el station [] old new }
-    ensures ticked { (old new : System) (el : Elsewhere) (station : ℕ) → has_station old station ≡ true → IsStanding el old
-        → MasterTicks (link.Below station) old new → Keeps el station [] old new }
+    ensures damaged { (old new : System) (el : Elsewhere) (substation : ℕ) (way : Way) (octets : List ℕ) → IsStanding el old
+        → LinesChange (link.Below substation) (DamagesAt way octets) old new → Keeps el substation [] old new }
+    ensures opened { (old new : System) (el : Elsewhere) (substation : ℕ) → has_substation old substation ≡ true → IsStanding el old
+        → OpensOn (link.Below substation) old new → Keeps el substation [] old new }
+    ensures asked { (old new : System) (el : Elsewhere) (substation : ℕ) (task : Task) → has_substation old substation ≡ true → IsStanding el old
+        → AsksOn (is_own task) (link.Below substation) task old new → Keeps el substation [] old new }
+    ensures hung_up { (old new : System) (el : Elsewhere) (substation : ℕ) → has_substation old substation ≡ true → IsStanding el old
+        → HangsUpOn (link.Below substation) end.Master old new → Keeps el substation [] old new }
+    ensures ticked { (old new : System) (el : Elsewhere) (substation : ℕ) → has_substation old substation ≡ true → IsStanding el old
+        → MasterTicks (link.Below substation) old new → Keeps el substation [] old new }
 {
     lists_are_of_links();
     events_without_a_sink_are_moves();
@@ -143,21 +143,21 @@ pub fn calls_below_keep_what_stands()
 /// Events on the link between concentrator and centre at which no row is taken and no fragment comes to the concentrator: a line
 /// loses its front unit or is damaged, an end hangs up or looks at its timer, both are opened, or the centre asks a task of its own.
 pub fn events_above_keep_what_stands()
-    ensures lost { (centre : ℕ) (old new : System) (el : Elsewhere) (station : ℕ) (way : Way) → IsStanding el old
-        → LosesOn (link.Above centre) way old new → Keeps el station [] old new }
-    ensures damaged { (centre : ℕ) (old new : System) (el : Elsewhere) (station : ℕ) (way : Way) (octets : List ℕ) → IsStanding el old
-        → LinesChange (link.Above centre) (DamagesAt way octets) old new → Keeps el station [] old new }
-    ensures centre_hung_up { (centre : ℕ) (old new : System) (el : Elsewhere) (station : ℕ) → IsStanding el old
-        → HangsUpOn (link.Above centre) end.Master old new → Keeps el station [] old new }
-    ensures concentrator_hung_up { (centre : ℕ) (old new : System) (el : Elsewhere) (station : ℕ) → IsStanding el old
-        → HangsUpOn (link.Above centre) end.Outstation old new → Keeps el station [] old new }
-    ensures opened { (centre : ℕ) (old new : System) (el : Elsewhere) (station : ℕ) → IsStanding el old → OpensOn (link.Above centre) old new → Keeps el station [] old new }
-    ensures centre_ticked { (centre : ℕ) (old new : System) (el : Elsewhere) (station : ℕ) → IsStanding el old → MasterTicks (link.Above centre) old new
-        → Keeps el station [] old new }
-    ensures concentrator_ticked { (centre : ℕ) (old new : System) (el : Elsewhere) (station : ℕ) → IsStanding el old
-        → OutstationTicks (link.Above centre) old new → Keeps el station [] old new }
-    ensures asked { (centre : ℕ) (old new : System) (el : Elsewhere) (station : ℕ) (task : Task) → IsStanding el old
-        → AsksOn (is_own task) (link.Above centre) task old new → Keeps el station [] old new }
+    ensures lost { (centre : ℕ) (old new : System) (el : Elsewhere) (substation : ℕ) (way : Way) → IsStanding el old
+        → LosesOn (link.Above centre) way old new → Keeps el substation [] old new }
+    ensures damaged { (centre : ℕ) (old new : System) (el : Elsewhere) (substation : ℕ) (way : Way) (octets : List ℕ) → IsStanding el old
+        → LinesChange (link.Above centre) (DamagesAt way octets) old new → Keeps el substation [] old new }
+    ensures centre_hung_up { (centre : ℕ) (old new : System) (el : Elsewhere) (substation : ℕ) → IsStanding el old
+        → HangsUpOn (link.Above centre) end.Master old new → Keeps el substation [] old new }
+    ensures concentrator_hung_up { (centre : ℕ) (old new : System) (el : Elsewhere) (substation : ℕ) → IsStanding el old
+        → HangsUpOn (link.Above centre) end.Outstation old new → Keeps el substation [] old new }
+    ensures opened { (centre : ℕ) (old new : System) (el : Elsewhere) (substation : ℕ) → IsStanding el old → OpensOn (link.Above centre) old new → Keeps el substation [] old new }
+    ensures centre_ticked { (centre : ℕ) (old new : System) (el : Elsewhere) (substation : ℕ) → IsStanding el old → MasterTicks (link.Above centre) old new
+        → Keeps el substation [] old new }
+    ensures concentrator_ticked { (centre : ℕ) (old new : System) (el : Elsewhere) (substation : ℕ) → IsStanding el old
+        → OutstationTicks (link.Above centre) old new → Keeps el substation [] old new }
+    ensures asked { (centre : ℕ) (old new : System) (el : Elsewhere) (substation : ℕ) (task : Task) → IsStanding el old
+        → AsksOn (is_own task) (link.Above centre) task old new → Keeps el substation [] old new }
 {
     lists_are_of_links();
     events_without_a_sink_are_moves();
@@ -168,10 +168,10 @@ pub fn events_above_keep_what_stands()
 /// So does what comes to the centre, where the unit leaves the line and where it stays there: the rows that the centre takes come into
 /// its journal.
 pub fn what_comes_to_the_centre_keeps_what_stands()
-    ensures delivered { (centre : ℕ) (old new : System) (el : Elsewhere) (station : ℕ) → IsStanding el old
-        → ComesUp delivered_on (link.Above centre) old new → Keeps el station [] old new }
-    ensures repeated { (centre : ℕ) (old new : System) (el : Elsewhere) (station : ℕ) → IsStanding el old
-        → ComesUp repeated_on (link.Above centre) old new → Keeps el station [] old new }
+    ensures delivered { (centre : ℕ) (old new : System) (el : Elsewhere) (substation : ℕ) → IsStanding el old
+        → ComesUp delivered_on (link.Above centre) old new → Keeps el substation [] old new }
+    ensures repeated { (centre : ℕ) (old new : System) (el : Elsewhere) (substation : ℕ) → IsStanding el old
+        → ComesUp repeated_on (link.Above centre) old new → Keeps el substation [] old new }
 {
     lists_are_of_links();
     events_without_a_sink_are_moves();
@@ -179,7 +179,7 @@ pub fn what_comes_to_the_centre_keeps_what_stands()
 
 /// So does a restart of the concentrator, which hangs up all its ends at once and keeps its queue and its book.
 pub fn a_restart_of_the_concentrator_keeps_what_stands()
-    ensures { (old new : System) (el : Elsewhere) (station : ℕ) → IsStanding el old → new ≡ concentrator_restarted old → Keeps el station [] old new }
+    ensures { (old new : System) (el : Elsewhere) (substation : ℕ) → IsStanding el old → new ≡ concentrator_restarted old → Keeps el substation [] old new }
 {
     lists_are_of_links();
     events_without_a_sink_are_moves();
@@ -187,10 +187,10 @@ pub fn a_restart_of_the_concentrator_keeps_what_stands()
 
 /// Events at which no link moves keep what stands behind the system: a command is issued at the centre, and time passes.
 pub fn other_events_keep_what_stands()
-    ensures issued { (old new : System) (el : Elsewhere) (station : ℕ) (command : CommandValue) → IsStanding el old
-        → IssuesBy (command_above old.centre.indices station command) station command old new → Keeps el station [] old new }
-    ensures passed { (old new : System) (el : Elsewhere) (now : ℕ) (station : ℕ) → IsStanding el old → new ≡ record old { now = now }
-        → Keeps el station [] old new }
+    ensures issued { (old new : System) (el : Elsewhere) (substation : ℕ) (command : CommandValue) → IsStanding el old
+        → IssuesBy (command_above old.centre.indices substation command) substation command old new → Keeps el substation [] old new }
+    ensures passed { (old new : System) (el : Elsewhere) (now : ℕ) (substation : ℕ) → IsStanding el old → new ≡ record old { now = now }
+        → Keeps el substation [] old new }
 {
     lists_are_of_links();
     commands_are_undone();
@@ -199,9 +199,9 @@ pub fn other_events_keep_what_stands()
 /// What calls make of the queue and of the books, as the lists of a system see them: rows that are queued stand below as they
 /// came, commands that are performed come into the book as they go down, unused, and one that was pending is used once it is spent.
 pub fn stores_show_what_moves()
-    ensures queued { (indices : List Spans) (plan : points.Plan) (station : ℕ) (rows : List RowValue) → IsMap indices
-        → length (queued_rows indices plan station rows) ≡ length rows
-        → rows_below indices (arriving (queued_rows indices plan station rows)) ≡ at_station station rows }
+    ensures queued { (indices : List Spans) (plan : points.Plan) (substation : ℕ) (rows : List RowValue) → IsMap indices
+        → length (queued_rows indices plan substation rows) ≡ length rows
+        → rows_below indices (arriving (queued_rows indices plan substation rows)) ≡ at_substation substation rows }
     ensures added { (indices : List Spans) (book : Ledger) (commands : List CommandValue)
         → (orders_in (all_added indices book commands).entries ≡ orders_in book.entries ++ commands_below indices commands)
         × (used_orders (all_added indices book commands).entries ≡ used_orders book.entries) }

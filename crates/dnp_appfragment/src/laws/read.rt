@@ -1,10 +1,11 @@
 //! Laws of what is read: the functions of octets say what the grammar says.
-ghost use Rattle.std.specs.Prelude.{◌≡◌, ◌<◌, ◌^◌, ◌↔◌, ℕ, List, Ok, Err, Some, IsSome, slice_index};
+ghost use Rattle.std.specs.Prelude.{◌≡◌, ◌<◌, ◌≤◌, ◌-◌, ◌^◌, ◌↔◌, ℕ, List, Ok, Err, Some, IsSome, length, slice_index};
 ghost use Rattle.std.specs.List.{All};
 ghost use Rattle.dnp_objects.specs.Events.{IsEvent};
 ghost use Rattle.dnp_objects.specs.declared.row.Row.{Row};
 ghost use Rattle.dnp_objects.specs.declared.command.Command.{Command};
 ghost use Rattle.dnp_appfragment.specs.declared.fault.AppFault.{AppFault};
+ghost use Rattle.dnp_appfragment.specs.EventRows.{answered_events};
 ghost use Rattle.dnp_appfragment.specs.Control.{ControlBits, IsControl, control_octet};
 ghost use Rattle.dnp_appfragment.specs.Fragments.{Asked, Answered, IsRequest, IsResponse};
 ghost use Rattle.dnp_appfragment.specs.Faults.{IsRequestFault, IsResponseFault};
@@ -75,3 +76,10 @@ pub fn rows_are_events()
     a_read_row_is_an_event();
     a_relative_row_is_read();
 }
+
+/// A response has no more event rows than octets after its first four, since each has an octet of flags at least; octets that
+/// are no response have none.
+pub fn events_have_octets()
+    ensures { (octets : List ℕ) → All (λ octet. octet < 2 ^ 8) octets
+        → length (answered_events (response_at octets)) ≤ length octets - 4 }
+{}

@@ -1,5 +1,5 @@
 -- Words of private steps: how a store begins on a connection that it was lent.
-use Rattle.std.specs.Prelude.{◌≡◌, ◌≢◌, ◌⊎◌, ◌↔◌, Bool, false, Err, IfErr, IfOk, IsOk, IsTrue, OnErr, OnOk, List, ℕ, Result}
+use Rattle.std.specs.Prelude.{◌≡◌, ◌≢◌, ◌⊎◌, ◌↔◌, Bool, false, Ok, Err, IfErr, IfOk, IsOk, IsTrue, OnErr, OnOk, List, ℕ, Result}
 use Rattle.sqlite_trees.specs.declared.store.Store.{Ghosts}
 use Rattle.sqlite.specs.Effect.{Database}
 use Rattle.sqlite.specs.Held.{Held, state}
@@ -9,6 +9,7 @@ use Rattle.sqlite.specs.Tree.{Trees}
 use Rattle.sqlite.specs.declared.error.Error.{Error}
 use Rattle.dnp_eventbuf.specs.Sound.{IsSound}
 use Rattle.dnp_eventbuf.specs.Stock.{Stock, empty_stock}
+use Rattle.dnp_store.specs.declared.fault.Unread.{Unread}
 use Rattle.dnp_store.specs.declared.open.OpenFault.{OpenFault}
 use Rattle.dnp_store.specs.declared.open.OpenFault.TheVariants.{Device, OldForm, WrongForm}
 use Rattle.dnp_store.specs.declared.store_kind.StoreKind.{StoreKind}
@@ -40,6 +41,18 @@ pub record IsTold {S : Type 0} (g : Ghosts S) (old new : Held S) (done : Result 
       → IsTrue (state g old).is_open × ((state g new).committed ≡ (state g old).committed)
   pub survives : Survives (state g old) (state g new) (λ _. ⊥)
 
+-- ---- what answers where a store was read
+
+-- what was read is handed on where the connection serves still; nothing is written in any case
+pub record IsServed {S A : Type 0} (g : Ghosts S) (old new : Held S) (read : Result A Unread) (result : Result A OpenFault) : Type 0 where
+  pub idle : new.in_transaction ≡ false
+  pub handed : IfOk result (λ found. read ≡ Ok found)
+  pub opened : HasCleanDisk (state g new) → OnOk result (IsTrue (state g new).is_open)
+  pub current : IfErr result (λ fault. fault ≢ OldForm)
+  pub same : HasCleanDisk (state g new) → IsTrue (state g new).is_open
+      → IsTrue (state g old).is_open × ((state g new).committed ≡ (state g old).committed)
+  pub survives : Survives (state g old) (state g new) (λ _. ⊥)
+
 -- ---- how a store begins
 
 -- Inside a transaction nothing is done, and the answer is WrongForm. After a refusal the last commit stands, and a crash
@@ -50,6 +63,12 @@ pub record Begins {S A : Type 0} (g : Ghosts S) (Makes : Trees → Type 0) (old 
   pub idle : OnOk result (new.in_transaction ≡ false)
   pub same : HasCleanDisk (state g new) → IsTrue (state g new).is_open → OnErr result ((state g new).committed ≡ (state g old).committed)
   pub survives : Survives (state g old) (state g new) Makes
+
+-- it was found, and nothing is written; what was found is so of the last commit as it was and of the connection as it is
+pub record IsFound {S A : Type 0} (g : Ghosts S) (Finds : Database → State → A → Type 0) (old new : Held S) (result : Result A OpenFault) : Type 0 where
+  pub begins : Begins g (λ _. ⊥) old new result
+  pub current : IfErr result (λ fault. fault ≢ OldForm)
+  pub found : HasCleanDisk (state g new) → IfOk result (Finds (state g old).committed (state g new))
 
 -- its tables are made where there were no others, and the answer tells whether there were
 pub record IsMade {S A : Type 0} (g : Ghosts S) (kind : StoreKind) (Fresh : Trees → Type 0) (Made : State → Type 0) (owned : A → Bool) (old new : Held S)

@@ -5,12 +5,14 @@ use Rattle.sqlite.specs.declared.types.Value.TheVariants.{Int}
 use Rattle.sqlite.specs.Order.{Row as SqlRow, column}
 use Rattle.sqlite.specs.Tree.{Trees}
 use Rattle.sqlite.specs.Effect.{Database}
+use Rattle.sqlite.specs.State.{State}
 use Rattle.dnp_objects.specs.declared.command.Command.{Command}
 use Rattle.dnp_objects.specs.declared.command.Command.TheVariants.{Set16}
 use Rattle.dnp_objects.specs.Commands.{index_of}
 use Rattle.dnp_controls.specs.declared.book.Entry.{Entry}
 use Rattle.dnp_controls.specs.declared.book.State.{State as Control}
 use Rattle.dnp_controls.specs.declared.book.State.TheVariants.{Pending}
+use Rattle.dnp_store.specs.BookKept.{Stands}
 use Rattle.dnp_store.specs.BookTables.{IsBook, entry_row, kind_of, code_of, count_of, on_of, off_of, value_of, state_of, status_of}
 
 -- a row that a query shows of `control`: its command
@@ -54,3 +56,8 @@ HoldsEntries db entries = IsPermutation (map entry_row entries) (db 1)
 -- what an open finds: the tables hold these entries, and this is the last id used
 abbrev pub FindsBook : Database → List Entry → ℕ → Type 0
 FindsBook db entries last = IsBook db (record { entries = entries; last_id = last })
+
+-- what an open hands on: a database held these entries, and they stand in this one, which serves
+pub record IsBookFound (old : Database) (new : State) (entries : List Entry) (last : ℕ) : Type 0 where
+  pub found : IsBook old (record { entries = entries; last_id = last })
+  pub stands : Stands new (record { entries = entries; last_id = last })

@@ -6,13 +6,15 @@ use Rattle.sqlite.specs.declared.types.Value.TheVariants.{Int}
 use Rattle.sqlite.specs.Order.{Row as SqlRow, column}
 use Rattle.sqlite.specs.Tree.{Trees, IsAscending}
 use Rattle.sqlite.specs.Effect.{Database}
+use Rattle.sqlite.specs.State.{State}
 use Rattle.dnp_objects.specs.declared.row.Kind.TheVariants.{Binary}
 use Rattle.dnp_objects.specs.Lanes.{kind_number}
 use Rattle.dnp_objects.specs.declared.limits.TheConstants.{MAX_ID, MAX_TIME}
 use Rattle.dnp_eventbuf.specs.declared.numbered.Numbered.{Numbered}
 use Rattle.dnp_eventbuf.specs.Archive.{Archive, rows_over}
 use Rattle.dnp_store.specs.Tables.{or_null}
-use Rattle.dnp_store.specs.JournalTables.{IsJournal, IsLogged}
+use Rattle.dnp_store.specs.JournalKept.{Stands}
+use Rattle.dnp_store.specs.JournalTables.{IsJournal, IsLogged, archive_in}
 use Rattle.dnp_store.specs.QueueTables.{Queued, queued_row, event_of}
 
 -- a row that a query shows of `journal`
@@ -86,3 +88,9 @@ pub record LogsMany (db : Trees) (count last : ℕ) : Type 0 where
   pub events : List Numbered
   pub many : length events ≡ count
   pub logs : Logs db events last
+
+-- what an open hands on: a database held the rows that stand in this one, which serves, and so many
+pub record IsJournalFound (old : Database) (new : State) (last count : ℕ) : Type 0 where
+  pub found : IsJournal old (archive_in new.committed.trees last)
+  pub stands : Stands new (archive_in new.committed.trees last)
+  pub many : count ≡ length (archive_in new.committed.trees last).rows

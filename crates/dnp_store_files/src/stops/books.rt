@@ -18,6 +18,9 @@ pub(crate) enum BookCall {
 }
 
 impl BookCall {
+    /// Each of them.
+    pub(crate) const ALL: [BookCall; 3] = [BookCall::Add, BookCall::Spend, BookCall::Finish];
+
     /// The state of the first control before the call, and how many there are.
     fn before(self) -> (State, usize) {
         match self {

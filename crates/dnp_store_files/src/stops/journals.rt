@@ -1,6 +1,7 @@
 //! The writing call of a journal.
 
 use crate::journals::{append, event};
+use crate::queues::are_numbered;
 use crate::stops::{Content, Outcome, WritingCall};
 use dnp_eventbuf::JournalStore;
 use dnp_objects::Kind;
@@ -16,11 +17,7 @@ pub(crate) enum JournalCall {
 /// Whether the journal holds rows of these ids and indices.
 fn holds<J: JournalStore>(journal: &mut J, alloc: Global, wanted: &[(u64, u16)]) -> Option<bool> {
     let rows = journal.rows(alloc, 0, 9).ok()?;
-    Some(
-        rows.iter()
-            .map(|x| (x.id, x.row.index))
-            .eq(wanted.iter().copied()),
-    )
+    Some(are_numbered(&rows, wanted))
 }
 
 impl<J: JournalStore> WritingCall<J> for JournalCall {

@@ -50,6 +50,9 @@ fn both_hold<P: PairLanes>(
 }
 
 impl PairCall {
+    /// Each of them.
+    pub(crate) const ALL: [PairCall; 2] = [PairCall::Both, PairCall::Release];
+
     /// What the first centre's lane and the second's hold after the call.
     fn after(self) -> (Held, Held) {
         match self {

@@ -1,6 +1,6 @@
 //! The writing calls of a queue.
 
-use crate::queues::{append, event};
+use crate::queues::{append, are_numbered, event};
 use crate::stops::{Content, Outcome, WritingCall};
 use dnp_eventbuf::{Lane, Lanes, StoreFault};
 use std::alloc::Global;
@@ -30,6 +30,14 @@ pub(crate) struct Held {
 }
 
 impl QueueCall {
+    /// Each of them.
+    pub(crate) const ALL: [QueueCall; 4] = [
+        QueueCall::Append,
+        QueueCall::Overflow,
+        QueueCall::Release,
+        QueueCall::Empty,
+    ];
+
     /// The indices of the rows that are appended before the call.
     fn indices(self) -> &'static [u16] {
         match self {
@@ -105,11 +113,11 @@ impl QueueCall {
 pub(crate) fn holds<L: Lanes>(lanes: &mut L, alloc: Global, held: &Held) -> Option<bool> {
     let lane = Lane::numbered(0)?;
     let offered = lanes.offer(alloc, lane, 0, 9).ok()?;
-    let is_same = offered
-        .iter()
-        .map(|x| (x.id, x.row.index))
-        .eq(held.rows.iter().copied());
-    Some(is_same && lanes.lost(lane) == held.lost && lanes.raised() == held.raised)
+    Some(
+        are_numbered(&offered, held.rows)
+            && lanes.lost(lane) == held.lost
+            && lanes.raised() == held.raised,
+    )
 }
 
 impl<L: Lanes> WritingCall<L> for QueueCall {

@@ -15,11 +15,14 @@ use Rattle.dnp_streams.specs.declared.stream.session.Session.{Session}
 use Rattle.dnp_streams.specs.declared.writing.NotWritten.{NotWritten}
 use Rattle.dnp_streams.specs.streams.Counts.{none_served}
 use Rattle.dnp_streams.specs.streams.Lives.{Life}
-use Rattle.dnp_streams.specs.streams.Living.{Stage, Idle, Standing, standing_of, first_stage, NoneIsDue, IsIdle, EndsLive, Lives, frames_in}
-use Rattle.dnp_streams.specs.streams.Spelled.{AreSpelled}
+use Rattle.dnp_streams.specs.streams.Living.{Stage, Idle, Standing, standing_of, first_stage, NoneIsDue, IsIdle, EndsLive, Lives}
+use Rattle.dnp_streams.specs.streams.Exchanges.{Output}
+use Rattle.dnp_streams.specs.streams.Serving.{Traffic}
 use Rattle.dnp_streams.specs.streams.Stations.{Opening, Receiving, Endpoint}
+use Rattle.dnp_streams.specs.steps.Hearing.{ArePartlyWritten}
 use Rattle.dnp_streams.specs.steps.Living.{Brings, GoesThrough, HasRead, IsFramesNoted}
 use Rattle.dnp_streams.proofs.streams.Going.{gives_none}
+use Rattle.dnp_streams.proofs.streams.Hearing.{in_parts}
 use Rattle.dnp_streams.proofs.streams.Living.{brings_then, still_open}
 
 -- So many reads brought these octets, of which these wait; the frames that they gave came, nothing is owed, and all was written.
@@ -48,26 +51,45 @@ pub begun_at : {S : Type 0} (opens : Opening S) (receives : Receiving S) (life :
 begun_at opens receives life old new session to served served' held held' result from is b =
     subst (λ (stage : Stage). Brings opens receives life [] 0 old (standing_of stage session) served held result new to served' held') (sym is) b
 
+abbrev pub traffic_of : (octets refused : List ℕ) (output : Output) (unheard : List Frame) (held held' : Option (List ℕ)) → ArePartlyWritten held held' output.frames
+    → Traffic
+traffic_of octets refused output unheard held held' parts =
+    record { octets = octets; refused = refused; output = output; unheard = unheard; written = parts.written; unwritten = parts.unwritten }
+
+-- what became of steps is told
+pub lives_over : {S : Type 0} (opens : Opening S) (receives : Receiving S) (life : Life S) (reads : ℕ) (old new : Endpoint S) (session session' : Session)
+    (left left' held held' : Option (List ℕ)) (heard unheard : List Frame) (turns : ℕ) (stage : Stage) (waiting octets refused : List ℕ) (served : Served)
+    (result : Result ⊤ NotWritten) (told : Result ⊤ ServeFault)
+    → (b : Brings opens receives life heard turns old (standing_of (first_stage session) session) none_served held result new (standing_of stage session') served held')
+    → Consumes left left' (octets ++ refused) → Gives octets (heard ++ unheard) waiting → reads ≤ turns + 1 → (parts : ArePartlyWritten held held' b.output.frames)
+    → EndsLive (traffic_of octets refused b.output unheard held held' parts) (IsAtEnd left') (standing_of stage session') told
+    → Lives opens receives life reads old session session' left left' held held' served told new
+lives_over opens receives life reads old new session session' left left' held held' heard unheard turns stage waiting octets refused served result told b read gives few parts
+    ends =
+    record {
+      traffic = traffic_of octets refused b.output unheard held held' parts;
+      steps = b.steps;
+      stage = stage;
+      waiting = waiting;
+      read = read;
+      gives = subst (λ (fs : List Frame). Gives octets (fs ++ unheard) waiting) (sym b.frames) gives;
+      each_read = let often = b.often in omega (arith, often, few);
+      follows = b.follows;
+      sends = b.sends;
+      spelled = parts.spelled;
+      appended = parts.appended;
+      counted = b.counted;
+      ends = ends;
+    }
+
 -- what the opening brings could not be written
 pub fails_first : {S : Type 0} (opens : Opening S) (receives : Receiving S) (life : Life S) (reads : ℕ) (old new : Endpoint S) (session session' : Session)
     (left held held' : Option (List ℕ)) (served : Served) (fault : NotWritten) → reads ≡ 0
     → Brings opens receives life [] 0 old (standing_of (first_stage session) session) none_served held (Err fault) new (standing_of Idle session') served held'
     → Lives opens receives life reads old session session' left left held held' served (Err WriteFailed) new
-fails_first opens receives life reads old new session session' left held held' served fault none b = record {
-  traffic = record { octets = []; refused = []; output = b.output; unheard = []; written = b.written.written; unwritten = b.written.unwritten };
-  steps = b.steps;
-  stage = Idle;
-  waiting = [];
-  read = Consumes-nil left;
-  gives = subst (λ (fs : List Frame). Gives [] fs []) (sym (append-nil (frames_in b.steps) ∙ b.frames)) gives_none;
-  each_read = omega (arith, none);
-  follows = b.follows;
-  sends = b.sends;
-  spelled = b.written.spelled;
-  appended = b.written.appended;
-  counted = b.counted;
-  ends = refl;
-}
+fails_first opens receives life reads old new session session' left held held' served fault none b =
+    lives_over opens receives life reads old new session session' left left held held' [] [] 0 Idle [] [] [] served (Err fault) (Err WriteFailed) b (Consumes-nil left)
+    gives_none (omega (arith, none)) b.written refl
 
 -- what the opening brings closed the connection
 pub closes_first : {S : Type 0} (opens : Opening S) (receives : Receiving S) (life : Life S) (reads : ℕ) (old new : Endpoint S) (session session' : Session)
@@ -76,51 +98,34 @@ pub closes_first : {S : Type 0} (opens : Opening S) (receives : Receiving S) (li
     → Lives opens receives life reads old session session' left left held held' served (Ok tt) new
 closes_first opens receives life reads old new session session' left held held' served none b closed =
     let output_closed : b.output.closed ≡ true = sym b.counted.closed ∙ closed in
-    record {
-      traffic = record { octets = []; refused = []; output = b.output; unheard = []; written = b.written.octets; unwritten = [] };
-      steps = b.steps;
-      stage = Idle;
-      waiting = [];
-      read = Consumes-nil left;
-      gives = subst (λ (fs : List Frame). Gives [] fs []) (sym (append-nil (frames_in b.steps) ∙ b.frames)) gives_none;
-      each_read = omega (arith, none);
-      follows = b.follows;
-      sends = b.sends;
-      spelled = subst (λ (t : List ℕ). AreSpelled b.output.frames t) (sym (append-nil b.written.octets)) b.written.spelled;
-      appended = b.written.appended;
-      counted = b.counted;
-      ends = (refl, refl, λ open_still. absurd (false≢true (sym open_still ∙ output_closed)));
-    }
+    lives_over opens receives life reads old new session session' left left held held' [] [] 0 Idle [] [] [] served (Ok tt) (Ok tt) b (Consumes-nil left)
+    gives_none (omega (arith, none)) (in_parts held held' b.output.frames b.written)
+    (refl, refl, λ open_still. absurd (false≢true (sym open_still ∙ output_closed)))
 
 -- It ends here, with nothing owed; memory may have been refused for octets that were read last.
 pub alive_ends : {S : Type 0} (opens : Opening S) (receives : Receiving S) (life : Life S) (reads reads' : ℕ) (old new : Endpoint S) (session session' : Session)
     (left left' left'' held held' : Option (List ℕ)) (waiting refused : List ℕ) (served : Served) (result : Result ⊤ ServeFault)
     → (i : Alive opens receives life reads old session session' left left' held held' waiting served new) → Consumes left' left'' refused → reads' ≤ reads + 1
-    → EndsLive (record { octets = i.octets; refused = refused; output = i.brings.output; unheard = []; written = i.brings.written.octets; unwritten = [] })
+    → EndsLive (traffic_of i.octets refused i.brings.output [] held held' (in_parts held held' i.brings.output.frames i.brings.written))
     (IsAtEnd left'') (standing_of Idle session') result
     → Lives opens receives life reads' old session session' left left'' held held' served result new
-alive_ends opens receives life reads reads' old new session session' left left' left'' held held' waiting refused served result i last few ends = record {
-  traffic = record { octets = i.octets; refused = refused; output = i.brings.output; unheard = []; written = i.brings.written.octets; unwritten = [] };
-  steps = i.brings.steps;
-  stage = Idle;
-  waiting = waiting;
-  read = Consumes-trans left left' left'' i.octets refused i.read last;
-  gives = subst (λ (fs : List Frame). Gives i.octets fs waiting) (sym (append-nil (frames_in i.brings.steps) ∙ i.brings.frames)) i.gives;
-  each_read = let often = i.often in let turns = i.brings.often in omega (arith, often, turns, few);
-  follows = i.brings.follows;
-  sends = i.brings.sends;
-  spelled = subst (λ (t : List ℕ). AreSpelled i.brings.output.frames t) (sym (append-nil i.brings.written.octets)) i.brings.written.spelled;
-  appended = i.brings.written.appended;
-  counted = i.brings.counted;
-  ends = ends;
-}
+alive_ends opens receives life reads reads' old new session session' left left' left'' held held' waiting refused served result i last few ends =
+    lives_over opens receives life reads' old new session session' left left'' held held' i.heard [] i.turns Idle waiting i.octets refused served (Ok tt) result i.brings
+    (Consumes-trans left left' left'' i.octets refused i.read last) (subst (λ (fs : List Frame). Gives i.octets fs waiting) (sym (append-nil i.heard)) i.gives)
+    (let often = i.often in omega (arith, often, few)) (in_parts held held' i.brings.output.frames i.brings.written) ends
 
 -- the frames that came, with those that didn't, are those that were read
-came : (octets piece : List ℕ) (before heard unheard frames given : List Frame) (waiting : List ℕ) → Gives (octets ++ piece) (before ++ frames) waiting
-    → frames ≡ heard ++ unheard → given ≡ before ++ heard → Gives (octets ++ piece) (given ++ unheard) waiting
-came octets piece before heard unheard frames given waiting gives split are =
+came : (octets piece : List ℕ) (before heard unheard frames : List Frame) (waiting : List ℕ) → Gives (octets ++ piece) (before ++ frames) waiting
+    → frames ≡ heard ++ unheard → Gives (octets ++ piece) ((before ++ heard) ++ unheard) waiting
+came octets piece before heard unheard frames waiting gives split =
     subst (λ (fs : List Frame). Gives (octets ++ piece) fs waiting)
-    (ap (λ (fs : List Frame). before ++ fs) split ∙ sym (append_assoc before heard unheard) ∙ sym (ap (λ (fs : List Frame). fs ++ unheard) are)) gives
+    (ap (λ (fs : List Frame). before ++ fs) split ∙ sym (append_assoc before heard unheard)) gives
+
+-- the octets of one read more
+read_more : (left left' left'' : Option (List ℕ)) (octets piece : List ℕ) → Consumes left left' octets → Consumes left' left'' piece
+    → Consumes left left'' ((octets ++ piece) ++ [])
+read_more left left' left'' octets piece read last =
+    subst (λ (t : List ℕ). Consumes left left'' t) (sym (append-nil (octets ++ piece))) (Consumes-trans left left' left'' octets piece read last)
 
 -- a write failed
 pub alive_fails : {S : Type 0} (opens : Opening S) (receives : Receiving S) (life : Life S) (reads reads' : ℕ) (old mid new : Endpoint S) (session at session' : Session)
@@ -134,30 +139,9 @@ alive_fails opens receives life reads reads' old mid new session at session' lef
     let b =
     brings_then opens receives life i.heard goes.heard i.turns goes.turns old mid new (standing_of (first_stage session) session) (standing_of Idle at)
     (standing_of goes.stage session') none_served served served' held held' held'' tt (Err fault) i.brings open_still goes.brings in
-    record {
-      traffic = record {
-        octets = i.octets ++ piece;
-        refused = [];
-        output = b.output;
-        unheard = goes.unheard;
-        written = b.written.written;
-        unwritten = b.written.unwritten;
-      };
-      steps = b.steps;
-      stage = goes.stage;
-      waiting = waiting';
-      read =
-          subst (λ (t : List ℕ). Consumes left left'' t) (sym (append-nil (i.octets ++ piece)))
-          (Consumes-trans left left' left'' i.octets piece i.read last);
-      gives = came i.octets piece i.heard goes.heard goes.unheard frames (frames_in b.steps) waiting' gives goes.split b.frames;
-      each_read = let often = i.often in let turns = b.often in omega (arith, often, turns, few);
-      follows = b.follows;
-      sends = b.sends;
-      spelled = b.written.spelled;
-      appended = b.written.appended;
-      counted = b.counted;
-      ends = refl;
-    }
+    lives_over opens receives life reads' old new session session' left left'' held held'' (i.heard ++ goes.heard) goes.unheard (i.turns + goes.turns) goes.stage waiting'
+    (i.octets ++ piece) [] served' (Err fault) (Err WriteFailed) b (read_more left left' left'' i.octets piece i.read last)
+    (came i.octets piece i.heard goes.heard goes.unheard frames waiting' gives goes.split) (let often = i.often in omega (arith, often, few)) b.written refl
 
 -- a step closed the connection
 pub alive_closes : {S : Type 0} (opens : Opening S) (receives : Receiving S) (life : Life S) (reads reads' : ℕ) (old mid new : Endpoint S) (session at session' : Session)
@@ -172,23 +156,10 @@ alive_closes opens receives life reads reads' old mid new session at session' le
     brings_then opens receives life i.heard goes.heard i.turns goes.turns old mid new (standing_of (first_stage session) session) (standing_of Idle at)
     (standing_of goes.stage session') none_served served served' held held' held'' tt (Ok tt) i.brings open_still goes.brings in
     let output_closed : b.output.closed ≡ true = sym b.counted.closed ∙ closed in
-    record {
-      traffic = record { octets = i.octets ++ piece; refused = []; output = b.output; unheard = goes.unheard; written = b.written.octets; unwritten = [] };
-      steps = b.steps;
-      stage = goes.stage;
-      waiting = waiting';
-      read =
-          subst (λ (t : List ℕ). Consumes left left'' t) (sym (append-nil (i.octets ++ piece)))
-          (Consumes-trans left left' left'' i.octets piece i.read last);
-      gives = came i.octets piece i.heard goes.heard goes.unheard frames (frames_in b.steps) waiting' gives goes.split b.frames;
-      each_read = let often = i.often in let turns = b.often in omega (arith, often, turns, few);
-      follows = b.follows;
-      sends = b.sends;
-      spelled = subst (λ (t : List ℕ). AreSpelled b.output.frames t) (sym (append-nil b.written.octets)) b.written.spelled;
-      appended = b.written.appended;
-      counted = b.counted;
-      ends = (refl, refl, λ still. absurd (false≢true (sym still ∙ output_closed)));
-    }
+    lives_over opens receives life reads' old new session session' left left'' held held'' (i.heard ++ goes.heard) goes.unheard (i.turns + goes.turns) goes.stage waiting'
+    (i.octets ++ piece) [] served' (Ok tt) (Ok tt) b (read_more left left' left'' i.octets piece i.read last)
+    (came i.octets piece i.heard goes.heard goes.unheard frames waiting' gives goes.split) (let often = i.often in omega (arith, often, few))
+    (in_parts held held'' b.output.frames b.written) (refl, refl, λ still. absurd (false≢true (sym still ∙ output_closed)))
 
 -- it goes on
 pub alive_on : {S : Type 0} (opens : Opening S) (receives : Receiving S) (life : Life S) (reads : ℕ) (old mid new : Endpoint S) (session at session' : Session)

@@ -1,20 +1,22 @@
 -- Steps of a dialogue, one after the other, and what they wrote.
-use Rattle.std.proofs.Common.{◌≡◌, inl, inr, ℕ, ◌+◌, Bool, true, false, List, [], ◌∷◌, ◌++◌, length, Option, Result, Ok, Err}
+use Rattle.std.proofs.Common.{◌≡◌, ◌⊎◌, inl, inr, ℕ, ◌+◌, ◌≤◌, Bool, true, false, List, [], ◌∷◌, ◌++◌, length, Option, Result, Ok, Err}
 use Rattle.std.proofs.Common.{◌<◌, take, get_or, refl, sym, ap, ◌∙◌, subst, append_assoc, append-nil, length-append, arith}
 use Rattle.std.proofs.lemmas.List.{take_more}
 use Rattle.std.specs.Io.KnownBytes.{Appends}
+use Rattle.std.proofs.KnownBytes.{Appends-nil}
 use Rattle.dnp_linkframe.specs.declared.frame.Frame.{Frame}
 use Rattle.dnp_line.specs.Ports.{PortState}
 use Rattle.dnp_master.specs.declared.outcome.Outcome.{Outcome}
 use Rattle.dnp_master.specs.declared.task.Task.{Task}
 use Rattle.dnp_streams.specs.declared.stream.serve.ServeFault.{ServeFault}
 use Rattle.dnp_streams.specs.declared.stream.serve.ServeFault.TheVariants.{ReadFailed, WriteFailed, TurnsSpent, Memory}
+use Rattle.dnp_streams.specs.streams.Counts.{most}
 use Rattle.dnp_streams.specs.streams.Dialogues.{Asking, Dialogue, Step, Beginning, Going, Hearing, Begins, Goes, Hears, Makes, MakesAll, heard_in}
-use Rattle.dnp_streams.specs.streams.Spelled.{AreSpelled}
 use Rattle.dnp_streams.specs.streams.Stations.{Opening, Receiving}
 use Rattle.dnp_streams.specs.steps.Hearing.{AreWritten}
-use Rattle.dnp_streams.specs.steps.Talking.{Puts, StepsEnd, Turns}
-use Rattle.dnp_streams.proofs.streams.Hearing.{written_more, written_part}
+use Rattle.dnp_streams.specs.steps.Talking.{Puts, StepsEnd, Turns, WritesOn, Whole, Cut}
+use Rattle.dnp_streams.proofs.streams.Hearing.{part_of, whole_of, written_more, written_part}
+use Rattle.dnp_streams.proofs.streams.Spelling.{spelled_none}
 
 -- a dialogue is as its parts are
 pub dialogue_is : {S : Type 0} (station station' : S) (port port' : PortState) (left left' : List Task) (rows rows' : ℕ) (outcomes outcomes' : List Outcome)
@@ -98,43 +100,52 @@ next_is frames n frame low is = take_more frames n frame low ∙ ap (λ (f : Fra
 
 -- ---- turns
 
+-- nothing was sent
+pub written_none : (held : Option (List ℕ)) → AreWritten held held []
+written_none held = record { octets = []; spelled = spelled_none; appended = Appends-nil held }
+
+-- no step yet
+abbrev pub turns_none : {S : Type 0} (opens : Opening S) (receives : Receiving S) (asking : Asking S) (now : ℕ) (old : Dialogue S) (held : Option (List ℕ))
+    → Turns opens receives asking now old [] (Ok false) held held old
+turns_none opens receives asking now old held =
+    record { steps = []; sent = []; makes = (refl, refl); unheard = []; split = refl; ends = (written_none held, refl) }
+
 -- one step is made
 pub makes_one : {S : Type 0} (opens : Opening S) (receives : Receiving S) (asking : Asking S) (now : ℕ) (old new : Dialogue S) (step : Step) (sent : List Frame)
     → old.is_over ≡ false → Makes opens receives asking now old step sent new → MakesAll opens receives asking now old (step ∷ []) sent new
 makes_one opens receives asking now old new step sent goes_on here = (sent, new, [], goes_on, here, (refl, refl), sym (append-nil sent))
 
--- one step, and what it sent was written
+-- one step, and what became of what it sent
+abbrev pub turns_step : {S : Type 0} (opens : Opening S) (receives : Receiving S) (asking : Asking S) (now : ℕ) (old new : Dialogue S) (step : Step) (sent : List Frame)
+    (result : Result Bool ServeFault) (held held' : Option (List ℕ))
+    → old.is_over ≡ false → Makes opens receives asking now old step sent new → StepsEnd (step ∷ []) new [] sent held held' result
+    → Turns opens receives asking now old (heard_in (step ∷ [])) result held held' new
+turns_step opens receives asking now old new step sent result held held' goes_on here ends = record {
+  steps = step ∷ [];
+  sent = sent;
+  makes = makes_one opens receives asking now old new step sent goes_on here;
+  unheard = [];
+  split = sym (append-nil (heard_in (step ∷ [])));
+  ends = ends;
+}
+
+-- it was written
 abbrev pub turns_one : {S : Type 0} (opens : Opening S) (receives : Receiving S) (asking : Asking S) (now : ℕ) (old new : Dialogue S) (step : Step) (octets given : List ℕ)
     (held held' : Option (List ℕ))
     → old.is_over ≡ false → Puts (λ sent. Makes opens receives asking now old step sent new) octets → given ≡ octets → Appends held held' given
     → Turns opens receives asking now old (heard_in (step ∷ [])) (Ok false) held held' new
-turns_one opens receives asking now old new step octets given held held' goes_on puts same appended = record {
-  steps = step ∷ [];
-  sent = puts.sent;
-  makes = makes_one opens receives asking now old new step puts.sent goes_on puts.sends;
-  unheard = [];
-  split = sym (append-nil (heard_in (step ∷ [])));
-  ends = (record { octets = octets; spelled = puts.spelled; appended = subst (λ (t : List ℕ). Appends held held' t) same appended }, refl);
-}
+turns_one opens receives asking now old new step octets given held held' goes_on puts same appended =
+    turns_step opens receives asking now old new step puts.sent (Ok false) held held' goes_on puts.sends
+    (whole_of puts.sent octets given held held' puts.spelled same appended, refl)
 
--- one step, and a beginning of what it sent was written
+-- a beginning of it was written
 pub turns_cut : {S : Type 0} (opens : Opening S) (receives : Receiving S) (asking : Asking S) (now : ℕ) (old new : Dialogue S) (step : Step) (octets given part rest : List ℕ)
     (held held' : Option (List ℕ))
     → old.is_over ≡ false → Puts (λ sent. Makes opens receives asking now old step sent new) octets → given ≡ octets → given ≡ part ++ rest → Appends held held' part
     → Turns opens receives asking now old (heard_in (step ∷ [])) (Err WriteFailed) held held' new
-turns_cut opens receives asking now old new step octets given part rest held held' goes_on puts same split appended = record {
-  steps = step ∷ [];
-  sent = puts.sent;
-  makes = makes_one opens receives asking now old new step puts.sent goes_on puts.sends;
-  unheard = [];
-  split = sym (append-nil (heard_in (step ∷ [])));
-  ends = record {
-    written = part;
-    unwritten = rest;
-    spelled = subst (λ (t : List ℕ). AreSpelled puts.sent t) (sym same ∙ split) puts.spelled;
-    appended = appended;
-  };
-}
+turns_cut opens receives asking now old new step octets given part rest held held' goes_on puts same split appended =
+    turns_step opens receives asking now old new step puts.sent (Err WriteFailed) held held' goes_on puts.sends
+    (part_of puts.sent octets given part rest held held' puts.spelled same split appended)
 
 -- turns, and then others
 abbrev pub turns_then : {S : Type 0} (opens : Opening S) (receives : Receiving S) (asking : Asking S) (now : ℕ) (old mid new : Dialogue S) (frames others all : List Frame)
@@ -151,6 +162,33 @@ turns_then opens receives asking now old mid new frames others all result u v w 
       ∙ ap (λ (t : List Frame). heard_in first.steps ++ t) second.split ∙ sym (append_assoc (heard_in first.steps) (heard_in second.steps) second.unheard)
       ∙ ap (λ (t : List Frame). t ++ second.unheard) (sym (heard_then first.steps second.steps));
   ends = ends_then first.steps second.steps new second.unheard first.sent second.sent u v w result first.ends.0 second.ends;
+}
+
+-- a step, what it sent, and turns after it
+pub turns_on : {S : Type 0} (opens : Opening S) (receives : Receiving S) (asking : Asking S) (now : ℕ) (before old new : Dialogue S) (step : Step) (octets : List ℕ)
+    (result : Result Bool ServeFault) (held held' : Option (List ℕ))
+    → before.is_over ≡ false → Puts (λ sent. Makes opens receives asking now before step sent old) octets
+    → WritesOn opens receives asking now octets old result held held' new
+    → Turns opens receives asking now before (heard_in (step ∷ [])) result held held' new
+turns_on opens receives asking now before old new step octets result held held' goes_on puts (Whole between appended turns) =
+    turns_then opens receives asking now before old new (heard_in (step ∷ [])) [] (heard_in (step ∷ [])) result held between held'
+    (turns_one opens receives asking now before old step octets octets held between goes_on puts refl appended) turns (sym (append-nil (heard_in (step ∷ []))))
+turns_on {S} opens receives asking now before old new step octets result held held' goes_on puts (Cut part rest split appended failed same) =
+    subst (λ (r : Result Bool ServeFault). Turns opens receives asking now before (heard_in (step ∷ [])) r held held' new) (sym failed)
+    (subst (λ (d : Dialogue S). Turns opens receives asking now before (heard_in (step ∷ [])) (Err WriteFailed) held held' d) (sym same)
+    (turns_cut opens receives asking now before old step octets octets part rest held held' goes_on puts refl split appended))
+
+-- where it stops, which it does where all is over or after the largest number of steps
+pub turns_stop : {S : Type 0} (opens : Opening S) (receives : Receiving S) (asking : Asking S) (now : ℕ) (old new : Dialogue S) (held held' : Option (List ℕ))
+    (turns : Turns opens receives asking now old [] (Ok false) held held' new) → (new.is_over ≡ true) ⊎ (most ≤ length turns.steps)
+    → Turns opens receives asking now old [] (Ok true) held held' new
+turns_stop opens receives asking now old new held held' turns stops = record {
+  steps = turns.steps;
+  sent = turns.sent;
+  makes = turns.makes;
+  unheard = turns.unheard;
+  split = turns.split;
+  ends = (turns.ends.0, stops);
 }
 
 -- turns that stop before some frames

@@ -193,16 +193,35 @@ has_heard_part receives now old mid new frames all frame s t u brought a b c oct
       record { written = part; unwritten = rest; spelled = subst (λ (t : List ℕ). AreSpelled one.output.frames t) split one.spelled; appended = written };
 }
 
--- what a write of spelled frames leaves, whole or not
-pub whole_or_part : (result : Result (Unit {0}) NotWritten) (frames : List Frame) (octets given : List ℕ) (held held' : Option (List ℕ))
-    → AreSpelled frames octets → given ≡ octets
-    → OnOk result (Appends held held' given) → OnErr result ((part : List ℕ) × (rest : List ℕ) × (given ≡ part ++ rest) × Appends held held' part)
-    → MatchResult result (λ _. AreWritten held held' frames) (λ _. ArePartlyWritten held held' frames)
-whole_or_part (Ok done) frames octets given held held' spelled same whole part =
+-- what a write of spelled frames leaves: all of it
+pub whole_of : (frames : List Frame) (octets given : List ℕ) (held held' : Option (List ℕ)) → AreSpelled frames octets → given ≡ octets → Appends held held' given
+    → AreWritten held held' frames
+whole_of frames octets given held held' spelled same whole =
     record { octets = octets; spelled = spelled; appended = subst (λ (t : List ℕ). Appends held held' t) same whole }
-whole_or_part (Err fault) frames octets given held held' spelled same whole (part, rest, split, appended) = record {
+
+-- or a beginning
+pub part_of : (frames : List Frame) (octets given part rest : List ℕ) (held held' : Option (List ℕ)) → AreSpelled frames octets → given ≡ octets → given ≡ part ++ rest
+    → Appends held held' part → ArePartlyWritten held held' frames
+part_of frames octets given part rest held held' spelled same split appended = record {
   written = part;
   unwritten = rest;
   spelled = subst (λ (t : List ℕ). AreSpelled frames t) (sym same ∙ split) spelled;
   appended = appended;
+}
+
+pub whole_or_part : (result : Result (Unit {0}) NotWritten) (frames : List Frame) (octets given : List ℕ) (held held' : Option (List ℕ))
+    → AreSpelled frames octets → given ≡ octets
+    → OnOk result (Appends held held' given) → OnErr result ((part : List ℕ) × (rest : List ℕ) × (given ≡ part ++ rest) × Appends held held' part)
+    → MatchResult result (λ _. AreWritten held held' frames) (λ _. ArePartlyWritten held held' frames)
+whole_or_part (Ok done) frames octets given held held' spelled same whole part = whole_of frames octets given held held' spelled same whole
+whole_or_part (Err fault) frames octets given held held' spelled same whole (part, rest, split, appended) =
+    part_of frames octets given part rest held held' spelled same split appended
+
+-- what was written whole, as a part of it after which nothing is left
+abbrev pub in_parts : (held held' : Option (List ℕ)) (sent : List Frame) → AreWritten held held' sent → ArePartlyWritten held held' sent
+in_parts held held' sent all = record {
+  written = all.octets;
+  unwritten = [];
+  spelled = subst (λ (r : List ℕ). AreSpelled sent r) (sym (append-nil all.octets)) all.spelled;
+  appended = all.appended;
 }

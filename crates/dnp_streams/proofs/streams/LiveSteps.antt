@@ -4,8 +4,6 @@ use Rattle.std.proofs.Common.{refl, sym, ap, ◌∙◌, subst, append_assoc, app
 use Rattle.std.proofs.Common.{◌<◌, drop, get_or}
 use Rattle.std.proofs.lemmas.Bool.{false≢true}
 use Rattle.std.proofs.lemmas.List.{drop_more}
-use Rattle.std.specs.Io.KnownBytes.{Appends}
-use Rattle.std.proofs.KnownBytes.{Appends-nil}
 use Rattle.dnp_linkframe.specs.declared.frame.Frame.{Frame}
 use Rattle.dnp_streams.specs.declared.stream.serve.ServeFault.{ServeFault}
 use Rattle.dnp_streams.specs.declared.stream.serve.ServeFault.TheVariants.{ReadFailed, WriteFailed, TurnsSpent, Memory}
@@ -13,13 +11,11 @@ use Rattle.dnp_streams.specs.streams.Dialogues.{Asking, Dialogue, Step, Beginnin
 use Rattle.dnp_streams.specs.streams.Lives.{Life}
 use Rattle.dnp_streams.specs.streams.LiveTalking.{LiveStep, Made, Came, Ticked, Stage, Settled, Owing, Standing, MakesAllLive, FollowsAll}
 use Rattle.dnp_streams.specs.streams.LiveTalking.{frames_in, made_in, reads_in}
-use Rattle.dnp_streams.specs.streams.Spelled.{AreSpelled}
 use Rattle.dnp_streams.specs.streams.Stations.{Opening, Receiving}
-use Rattle.dnp_streams.specs.steps.Hearing.{AreWritten}
 use Rattle.dnp_streams.specs.steps.LiveTalking.{LiveTurns, standing}
-use Rattle.dnp_streams.specs.steps.Talking.{Puts, StepsEnd, Turns}
-use Rattle.dnp_streams.proofs.streams.Dialogues.{ends_then}
-use Rattle.dnp_streams.proofs.streams.Spelling.{spelled_none}
+use Rattle.dnp_streams.specs.steps.Talking.{Puts, StepsEnd, Turns, WritesOn, Whole, Cut}
+use Rattle.dnp_streams.proofs.streams.Dialogues.{ends_then, written_none}
+use Rattle.dnp_streams.proofs.streams.Hearing.{part_of, whole_of}
 
 -- ---- steps, and then others
 
@@ -224,16 +220,16 @@ live_hears opens receives asking life from now old new frame later result held h
 }
 
 -- the next frame is heard, after others
-pub hears_next : {S : Type 0} (opens : Opening S) (receives : Receiving S) (asking : Asking S) (life : Life S) (start between : ℕ) (now : ℕ) (old mid new : Dialogue S)
-    (frames owed later : List Frame) (frame : Frame) (result : Result Bool ServeFault) (u v w : Option (List ℕ)) (to : Standing)
-    → LiveTurns opens receives asking life [] 0 old (standing (Owing frames) start) (Ok false) u v mid (standing (Owing owed) between)
+pub hears_next : {S : Type 0} (opens : Opening S) (receives : Receiving S) (asking : Asking S) (life : Life S) (heard : List Frame) (reads : ℕ) (from : Standing)
+    (between now : ℕ) (old mid new : Dialogue S) (owed later : List Frame) (frame : Frame) (result : Result Bool ServeFault) (u v w : Option (List ℕ)) (to : Standing)
+    → LiveTurns opens receives asking life heard reads old from (Ok false) u v mid (standing (Owing owed) between)
     → owed ≡ frame ∷ later → between ≤ now → Turns opens receives asking now mid (frame ∷ []) result v w new → now ≤ to.now
     → (result ≡ Ok false → standing (Owing later) now ≡ to)
-    → LiveTurns opens receives asking life [] 0 old (standing (Owing frames) start) result u w new to
-hears_next opens receives asking life start between now old mid new frames owed later frame result u v w to first is low turns high on =
-    live_then opens receives asking life [] [] [] 0 0 0 old mid new (standing (Owing frames) start) (standing (Owing owed) between) to result u v w first
+    → LiveTurns opens receives asking life heard reads old from result u w new to
+hears_next opens receives asking life heard reads from between now old mid new owed later frame result u v w to first is low turns high on =
+    live_then opens receives asking life heard [] heard reads 0 reads old mid new from (standing (Owing owed) between) to result u v w first
     (subst (λ (fs : List Frame). LiveTurns opens receives asking life [] 0 mid (standing (Owing fs) between) result v w new to) (sym is)
-    (live_hears opens receives asking life between now mid new frame later result v w to low turns high on)) refl refl
+    (live_hears opens receives asking life between now mid new frame later result v w to low turns high on)) (sym (append-nil heard)) (omega arith)
 
 -- the frames from one on
 pub left_is : (frames : List Frame) (n : ℕ) (frame : Frame) → n < length frames → frame ≡ get_or frames n frame → drop n frames ≡ frame ∷ drop (n + 1) frames
@@ -285,9 +281,6 @@ live_begins opens receives asking life from now old new result held held' low tu
 
 -- ---- reads, and time that passes
 
-written_none : (held : Option (List ℕ)) → AreWritten held held []
-written_none held = record { octets = []; spelled = spelled_none; appended = Appends-nil held }
-
 -- no step yet
 pub live_none : {S : Type 0} (opens : Opening S) (receives : Receiving S) (asking : Asking S) (life : Life S) (old : Dialogue S) (from : Standing)
     (held : Option (List ℕ)) → LiveTurns opens receives asking life [] 0 old from (Ok false) held held old from
@@ -338,45 +331,39 @@ live_came opens receives asking life frames old from now held low begun goes_on 
   ends = (written_none held, refl);
 }
 
--- time passes, and what that sent was written
-pub live_ticks : {S : Type 0} (opens : Opening S) (receives : Receiving S) (asking : Asking S) (life : Life S) (now : ℕ) (old new : Dialogue S) (octets given : List ℕ)
-    (held held' : Option (List ℕ))
+-- time passes, and what became of what that sent
+live_tick : {S : Type 0} (opens : Opening S) (receives : Receiving S) (asking : Asking S) (life : Life S) (now : ℕ) (old new : Dialogue S) (sent : List Frame)
+    (result : Result Bool ServeFault) (held held' : Option (List ℕ))
     → old.is_begun ≡ true → old.is_over ≡ false → asking.is_idle old.station ≡ false
-    → Puts (λ sent. Begins life.ticks now old sent new) octets → given ≡ octets → Appends held held' given
-    → LiveTurns opens receives asking life [] 0 old (standing (Owing []) now) (Ok false) held held' new (standing Settled now)
-live_ticks opens receives asking life now old new octets given held held' begun goes_on busy puts same appended = record {
+    → Begins life.ticks now old sent new → StepsEnd [] new [] sent held held' result
+    → LiveTurns opens receives asking life [] 0 old (standing (Owing []) now) result held held' new (standing Settled now)
+live_tick opens receives asking life now old new sent result held held' begun goes_on busy ticked ends = record {
   steps = Ticked now ∷ [];
-  sent = puts.sent;
+  sent = sent;
   stood = standing Settled now;
   came = refl;
   often = omega arith;
   follows = (standing Settled now, (refl, refl, refl), refl);
   until = omega arith;
   goes_on = λ on. refl;
-  makes = (puts.sent, new, [], goes_on, (begun, busy, puts.sends), (refl, refl), sym (append-nil puts.sent));
-  ends = (record { octets = octets; spelled = puts.spelled; appended = subst (λ (t : List ℕ). Appends held held' t) same appended }, refl);
+  makes = (sent, new, [], goes_on, (begun, busy, ticked), (refl, refl), sym (append-nil sent));
+  ends = ends;
 }
 
--- time passes, and a beginning of what that sent was written
-pub live_cut : {S : Type 0} (opens : Opening S) (receives : Receiving S) (asking : Asking S) (life : Life S) (now : ℕ) (old new : Dialogue S)
-    (octets given part rest : List ℕ) (held held' : Option (List ℕ))
-    → old.is_begun ≡ true → old.is_over ≡ false → asking.is_idle old.station ≡ false
-    → Puts (λ sent. Begins life.ticks now old sent new) octets → given ≡ octets → given ≡ part ++ rest → Appends held held' part
-    → LiveTurns opens receives asking life [] 0 old (standing (Owing []) now) (Err WriteFailed) held held' new (standing Settled now)
-live_cut opens receives asking life now old new octets given part rest held held' begun goes_on busy puts same split appended = record {
-  steps = Ticked now ∷ [];
-  sent = puts.sent;
-  stood = standing Settled now;
-  came = refl;
-  often = omega arith;
-  follows = (standing Settled now, (refl, refl, refl), refl);
-  until = omega arith;
-  goes_on = λ on. refl;
-  makes = (puts.sent, new, [], goes_on, (begun, busy, puts.sends), (refl, refl), sym (append-nil puts.sent));
-  ends = record {
-    written = part;
-    unwritten = rest;
-    spelled = subst (λ (t : List ℕ). AreSpelled puts.sent t) (sym same ∙ split) puts.spelled;
-    appended = appended;
-  };
-}
+-- time passes, what that sent, and turns after it
+pub live_on : {S : Type 0} (opens : Opening S) (receives : Receiving S) (asking : Asking S) (life : Life S) (now : ℕ) (before old new : Dialogue S) (octets : List ℕ)
+    (result : Result Bool ServeFault) (held held' : Option (List ℕ))
+    → before.is_begun ≡ true → before.is_over ≡ false → asking.is_idle before.station ≡ false
+    → Puts (λ sent. Begins life.ticks now before sent old) octets → WritesOn opens receives asking now octets old result held held' new
+    → LiveTurns opens receives asking life [] 0 before (standing (Owing []) now) result held held' new (standing Settled now)
+live_on opens receives asking life now before old new octets result held held' begun goes_on busy puts (Whole between appended turns) =
+    live_then opens receives asking life [] [] [] 0 0 0 before old new (standing (Owing []) now) (standing Settled now) (standing Settled now) result held between held'
+    (live_tick opens receives asking life now before old puts.sent (Ok false) held between begun goes_on busy puts.sends
+    (whole_of puts.sent octets octets held between puts.spelled refl appended, refl))
+    (live_rests opens receives asking life Settled now old new result between held' turns) refl refl
+live_on {S} opens receives asking life now before old new octets result held held' begun goes_on busy puts (Cut part rest split appended failed same) =
+    let to = standing Settled now in
+    subst (λ (r : Result Bool ServeFault). LiveTurns opens receives asking life [] 0 before (standing (Owing []) now) r held held' new to) (sym failed)
+    (subst (λ (d : Dialogue S). LiveTurns opens receives asking life [] 0 before (standing (Owing []) now) (Err WriteFailed) held held' d to) (sym same)
+    (live_tick opens receives asking life now before old puts.sent (Err WriteFailed) held held' begun goes_on busy puts.sends
+    (part_of puts.sent octets octets part rest held held' puts.spelled refl split appended)))

@@ -1,7 +1,6 @@
 -- A stream on which tasks are asked while time passes, as it goes on, and how it ends.
-use Rattle.std.proofs.Common.{◌≡◌, inl, inr, ℕ, ◌+◌, ◌≤◌, Bool, true, false, List, [], ◌++◌, length, Option, Result, Ok, Err}
-use Rattle.std.proofs.Common.{refl, sym, ap, ◌∙◌, subst, append-nil, arith}
-use Rattle.std.proofs.lemmas.Bool.{false≢true}
+use Rattle.std.proofs.Common.{◌≡◌, inl, inr, ℕ, ◌+◌, ◌≤◌, Bool, true, false, List, [], ◌++◌, Option, Result, Ok, Err}
+use Rattle.std.proofs.Common.{refl, sym, ap, subst, arith}
 use Rattle.std.specs.Io.KnownBytes.{Consumes, IsAtEnd}
 use Rattle.std.proofs.KnownBytes.{Consumes-nil, Consumes-trans}
 use Rattle.dnp_linkframe.specs.declared.frame.Frame.{Frame}
@@ -17,14 +16,15 @@ use Rattle.dnp_streams.specs.streams.Dialogues.{Asking, Dialogue, unbegun}
 use Rattle.dnp_streams.specs.streams.Lives.{Life}
 use Rattle.dnp_streams.specs.streams.LiveTalking.{Settled, Standing, FollowsAll, TalksLive, EndsLive, unheard_at, made_in}
 use Rattle.dnp_streams.specs.streams.Logs.{new_log}
-use Rattle.dnp_streams.specs.streams.Spelled.{AreSpelled}
 use Rattle.dnp_streams.specs.streams.Stations.{Opening, Receiving, Endpoint, endpoint}
-use Rattle.dnp_streams.specs.streams.Talking.{Talk, IsAsked, IsWaiting}
+use Rattle.dnp_streams.specs.streams.Talking.{Talk, IsWaiting}
+use Rattle.dnp_streams.specs.steps.Hearing.{ArePartlyWritten}
 use Rattle.dnp_streams.specs.steps.LiveTalking.{LiveTurns, standing}
 use Rattle.dnp_streams.specs.steps.Living.{HasRead}
 use Rattle.dnp_streams.specs.steps.Talking.{AreNoted, IsFresh, Listens, dialogue_of}
+use Rattle.dnp_streams.proofs.streams.Hearing.{in_parts}
 use Rattle.dnp_streams.proofs.streams.LiveSteps.{live_then}
-use Rattle.dnp_streams.proofs.streams.Talking.{is_unbegun}
+use Rattle.dnp_streams.proofs.streams.Talking.{asked_all, awaits, is_unbegun, talk_of}
 
 -- Steps were made, in which at least so many reads brought these octets, of which these wait.
 pub record HasTalked {S : Type 0} (opens : Opening S) (receives : Receiving S) (asking : Asking S) (life : Life S) (reads : ℕ) (old : Dialogue S) (from : ℕ)
@@ -72,6 +72,39 @@ has_more opens receives asking life reads old mid new from between now left left
 
 -- ---- how it ends
 
+-- what became of turns is told; memory may have been refused for octets that were read last
+pub live_over : {S : Type 0} (opens : Opening S) (receives : Receiving S) (asking : Asking S) (life : Life S) (reads reads' : ℕ) (old : Endpoint S)
+    (tasks : List Task) (from now : ℕ) (station : S) (port : PortState) (p : Progress) (left left' left'' held held' : Option (List ℕ)) (waiting refused : List ℕ)
+    (result : Result Bool ServeFault) (told : Result Asked ServeFault) (stood : Standing)
+    → (m : HasTalked opens receives asking life reads (unbegun old tasks) from left left' held held' waiting result (dialogue_of station port p) now)
+    → FollowsAll (standing Settled from) m.turns.steps stood → stood.now ≤ now → Consumes left' left'' refused → reads' ≤ reads + 1
+    → (parts : ArePartlyWritten held held' m.turns.sent)
+    → EndsLive asking.is_idle
+    (talk_of m.octets refused (made_in m.turns.steps) m.turns.sent (dialogue_of station port p) (unheard_at stood.stage) held held' parts)
+    (IsAtEnd left'') stood.stage told
+    → TalksLive opens receives asking life reads' old tasks from now left left'' held held' told (endpoint station port)
+live_over opens receives asking life reads reads' old tasks from now station port p left left' left'' held held' waiting refused result told stood m follows until last few parts
+    ends =
+    let t = m.turns in
+    record {
+      talk = talk_of m.octets refused (made_in t.steps) t.sent (dialogue_of station port p) (unheard_at stood.stage) held held' parts;
+      steps = t.steps;
+      stood = stood;
+      waiting = waiting;
+      read = Consumes-trans left left' left'' m.octets refused m.read last;
+      gives = subst (λ (fs : List Frame). Gives m.octets fs waiting) (sym t.came) m.gives;
+      each_read = omega (arith, few, t.often);
+      made = refl;
+      follows = follows;
+      unheard = refl;
+      until = until;
+      makes = t.makes;
+      spelled = parts.spelled;
+      appended = parts.appended;
+      ends = ends;
+      came_to = refl;
+    }
+
 -- all was over
 pub live_stops : {S : Type 0} (opens : Opening S) (receives : Receiving S) (asking : Asking S) (life : Life S) (reads reads' : ℕ) (old : Endpoint S)
     (tasks : List Task) (from now : ℕ) (station : S) (port : PortState) (p : Progress) (left left' held held' : Option (List ℕ)) (waiting : List ℕ)
@@ -79,41 +112,9 @@ pub live_stops : {S : Type 0} (opens : Opening S) (receives : Receiving S) (aski
     → TalksLive opens receives asking life reads' old tasks from now left left' held held' (Ok p.asked) (endpoint station port)
 live_stops opens receives asking life reads reads' old tasks from now station port p left left' held held' waiting m few =
     let t = m.turns in
-    let written = t.ends.0 in
-    record {
-      talk = record {
-        octets = m.octets;
-        refused = [];
-        steps = made_in t.steps;
-        sent = t.sent;
-        ended = dialogue_of station port p;
-        unheard = unheard_at t.stood.stage;
-        written = written.octets;
-        unwritten = [];
-      };
-      steps = t.steps;
-      stood = t.stood;
-      waiting = waiting;
-      read = subst (λ (r : List ℕ). Consumes left left' r) (sym (append-nil m.octets)) m.read;
-      gives = subst (λ (fs : List Frame). Gives m.octets fs waiting) (sym t.came) m.gives;
-      each_read = omega (arith, few, t.often);
-      made = refl;
-      follows = t.follows;
-      unheard = refl;
-      until = t.until;
-      makes = t.makes;
-      spelled = subst (λ (r : List ℕ). AreSpelled t.sent r) (sym (append-nil written.octets)) written.spelled;
-      appended = written.appended;
-      ends = record {
-        rows = refl;
-        outcomes = refl;
-        faults = refl;
-        looked_at = refl;
-        answered = refl;
-        ended = λ goes_on. elim t.ends.1 [ inl over ↦ absurd (false≢true (sym goes_on ∙ over)) | inr many ↦ inr many ];
-      };
-      came_to = refl;
-    }
+    live_over opens receives asking life reads reads' old tasks from now station port p left left' left' held held' waiting [] (Ok true) (Ok p.asked) t.stood m t.follows
+    t.until (Consumes-nil left') few (in_parts held held' t.sent t.ends.0)
+    (asked_all asking.is_idle m.octets (made_in t.steps) t.sent station port p (unheard_at t.stood.stage) held held' t.ends.0 (IsAtEnd left' × (t.stood.stage ≡ Settled)) t.ends.1)
 
 -- a write failed, or memory for an outcome was refused
 pub live_faults : {S : Type 0} (opens : Opening S) (receives : Receiving S) (asking : Asking S) (life : Life S) (reads reads' : ℕ) (old : Endpoint S)
@@ -121,64 +122,12 @@ pub live_faults : {S : Type 0} (opens : Opening S) (receives : Receiving S) (ask
     → HasTalked opens receives asking life reads (unbegun old tasks) from left left' held held' waiting (Err fault) (dialogue_of station port p) now → reads' ≤ reads + 1
     → TalksLive opens receives asking life reads' old tasks from now left left' held held' (Err fault) (endpoint station port)
 live_faults opens receives asking life reads reads' old tasks from now station port p left left' held held' waiting WriteFailed m few =
-    let t = m.turns in
-    record {
-      talk = record {
-        octets = m.octets;
-        refused = [];
-        steps = made_in t.steps;
-        sent = t.sent;
-        ended = dialogue_of station port p;
-        unheard = unheard_at t.stood.stage;
-        written = t.ends.written;
-        unwritten = t.ends.unwritten;
-      };
-      steps = t.steps;
-      stood = t.stood;
-      waiting = waiting;
-      read = subst (λ (r : List ℕ). Consumes left left' r) (sym (append-nil m.octets)) m.read;
-      gives = subst (λ (fs : List Frame). Gives m.octets fs waiting) (sym t.came) m.gives;
-      each_read = omega (arith, few, t.often);
-      made = refl;
-      follows = t.follows;
-      unheard = refl;
-      until = t.until;
-      makes = t.makes;
-      spelled = t.ends.spelled;
-      appended = t.ends.appended;
-      ends = refl;
-      came_to = refl;
-    }
+    live_over opens receives asking life reads reads' old tasks from now station port p left left' left' held held' waiting [] (Err WriteFailed) (Err WriteFailed)
+    m.turns.stood m m.turns.follows m.turns.until (Consumes-nil left') few m.turns.ends refl
 live_faults opens receives asking life reads reads' old tasks from now station port p left left' held held' waiting Memory m few =
-    let t = m.turns in
-    let written = t.ends.0 in
-    record {
-      talk = record {
-        octets = m.octets;
-        refused = [];
-        steps = made_in t.steps;
-        sent = t.sent;
-        ended = dialogue_of station port p;
-        unheard = unheard_at t.stood.stage;
-        written = written.octets;
-        unwritten = [];
-      };
-      steps = t.steps;
-      stood = t.stood;
-      waiting = waiting;
-      read = subst (λ (r : List ℕ). Consumes left left' r) (sym (append-nil m.octets)) m.read;
-      gives = subst (λ (fs : List Frame). Gives m.octets fs waiting) (sym t.came) m.gives;
-      each_read = omega (arith, few, t.often);
-      made = refl;
-      follows = t.follows;
-      unheard = refl;
-      until = t.until;
-      makes = t.makes;
-      spelled = subst (λ (r : List ℕ). AreSpelled t.sent r) (sym (append-nil written.octets)) written.spelled;
-      appended = written.appended;
-      ends = (record { goes_on = t.ends.1; answered = refl; short = inr refl }, inr refl);
-      came_to = refl;
-    }
+    live_over opens receives asking life reads reads' old tasks from now station port p left left' left' held held' waiting [] (Err Memory) (Err Memory)
+    m.turns.stood m m.turns.follows m.turns.until (Consumes-nil left') few (in_parts held held' m.turns.sent m.turns.ends.0)
+    (record { goes_on = m.turns.ends.1; answered = refl; short = inr refl }, inr refl)
 live_faults opens receives asking life reads reads' old tasks from now station port p left left' held held' waiting ReadFailed m few = absurd m.turns.ends
 live_faults opens receives asking life reads reads' old tasks from now station port p left left' held held' waiting TurnsSpent m few = absurd m.turns.ends
 
@@ -186,16 +135,8 @@ live_faults opens receives asking life reads reads' old tasks from now station p
 abbrev pub talked : {S : Type 0} (opens : Opening S) (receives : Receiving S) (asking : Asking S) (life : Life S) (reads : ℕ) (old : Dialogue S) (from now : ℕ)
     (left left' held held' : Option (List ℕ)) (waiting : List ℕ) (new : Dialogue S)
     → HasTalked opens receives asking life reads old from left left' held held' waiting (Ok false) new now → List ℕ → Talk S
-talked opens receives asking life reads old from now left left' held held' waiting new i refused = record {
-  octets = i.octets;
-  refused = refused;
-  steps = made_in i.turns.steps;
-  sent = i.turns.sent;
-  ended = new;
-  unheard = [];
-  written = i.turns.ends.0.octets;
-  unwritten = [];
-}
+talked opens receives asking life reads old from now left left' held held' waiting new i refused =
+    talk_of i.octets refused (made_in i.turns.steps) i.turns.sent new [] held held' (in_parts held held' i.turns.sent i.turns.ends.0)
 
 -- it ends here, with all that came heard and answered; memory may have been refused for octets that were read last
 pub live_ends : {S : Type 0} (opens : Opening S) (receives : Receiving S) (asking : Asking S) (life : Life S) (reads reads' : ℕ) (old : Endpoint S)
@@ -208,25 +149,8 @@ pub live_ends : {S : Type 0} (opens : Opening S) (receives : Receiving S) (askin
     → TalksLive opens receives asking life reads' old tasks from now left left'' held held' result (endpoint station port)
 live_ends opens receives asking life reads reads' old tasks from now station port p left left' left'' held held' waiting refused result i last few ends =
     let t = i.turns in
-    let written = t.ends.0 in
-    record {
-      talk = talked opens receives asking life reads (unbegun old tasks) from now left left' held held' waiting (dialogue_of station port p) i refused;
-      steps = t.steps;
-      stood = standing Settled now;
-      waiting = waiting;
-      read = Consumes-trans left left' left'' i.octets refused i.read last;
-      gives = subst (λ (fs : List Frame). Gives i.octets fs waiting) (sym t.came) i.gives;
-      each_read = omega (arith, few, t.often);
-      made = refl;
-      follows = subst (λ (s : Standing). FollowsAll (standing Settled from) t.steps s) (t.goes_on refl) t.follows;
-      unheard = refl;
-      until = omega arith;
-      makes = t.makes;
-      spelled = subst (λ (r : List ℕ). AreSpelled t.sent r) (sym (append-nil written.octets)) written.spelled;
-      appended = written.appended;
-      ends = ends;
-      came_to = refl;
-    }
+    live_over opens receives asking life reads reads' old tasks from now station port p left left' left'' held held' waiting refused (Ok false) result (standing Settled now) i
+    (subst (λ (s : Standing). FollowsAll (standing Settled from) t.steps s) (t.goes_on refl) t.follows) (omega arith) last few (in_parts held held' t.sent t.ends.0) ends
 
 -- it was waiting
 pub live_waits : {S : Type 0} (opens : Opening S) (receives : Receiving S) (asking : Asking S) (life : Life S) (reads : ℕ) (old : Dialogue S) (from now : ℕ)
@@ -234,7 +158,7 @@ pub live_waits : {S : Type 0} (opens : Opening S) (receives : Receiving S) (aski
     → (i : HasTalked opens receives asking life reads old from left left' held held' waiting (Ok false) (dialogue_of station port p) now) → Listens asking.is_idle station p
     → IsWaiting asking.is_idle (talked opens receives asking life reads old from now left left' held held' waiting (dialogue_of station port p) i [])
 live_waits opens receives asking life reads old from now station port p left left' held held' waiting i listens =
-    record { begun = listens.begun; goes_on = listens.goes_on; busy = listens.busy; looked_at = refl; heard = refl; answered = refl }
+    awaits asking.is_idle i.octets (made_in i.turns.steps) i.turns.sent station port p [] held held' i.turns.ends.0 refl listens
 
 -- no more could be read
 pub live_unread : {S : Type 0} (opens : Opening S) (receives : Receiving S) (asking : Asking S) (life : Life S) (reads reads' : ℕ) (old : Endpoint S)

@@ -1,6 +1,6 @@
 -- Why stations refuse what comes.
 use Rattle.std.specs.Prelude.{◌≡◌, ◌≢◌, ◌⊎◌, ℕ, Bool, true, false, cond, IsOk, IsOkAnd, IsTrue, List, Option, Some, None, Result, Ok, Err, IfErr, IfOk}
-use Rattle.std.proofs.Common.{inl, inr, refl, sym, ◌∙◌}
+use Rattle.std.proofs.Common.{inl, inr, refl, sym, subst, ◌∙◌}
 use Rattle.dnp_appfragment.specs.Fragments.{Answered}
 use Rattle.dnp_appfragment.specs.Meaning.{response_at}
 use Rattle.dnp_appfragment.specs.declared.fault.AppFault.{AppFault}
@@ -17,13 +17,16 @@ use Rattle.dnp_master.specs.declared.fault.MasterFault.TheVariants.{Malformed, S
 use Rattle.dnp_master.specs.declared.request.OpenRequest.{OpenRequest}
 use Rattle.dnp_objects.specs.declared.store.StoreFault.{StoreFault}
 use Rattle.dnp_objects.specs.declared.store.StoreFault.TheVariants as lanes
+use Rattle.dnp_outstation.specs.Connection.{has_enabled_rows, solicited_timer}
+use Rattle.dnp_outstation.specs.State.{is_ready}
 use Rattle.dnp_outstation.specs.Station.{fault_of}
 use Rattle.dnp_outstation.specs.declared.fault.Fault as outstation
 use Rattle.dnp_outstation.specs.declared.fault.Fault.TheVariants as store
 use Rattle.dnp_streams.specs.declared.stream.station.StationFault.{StationFault}
 use Rattle.dnp_streams.specs.declared.stream.station.StationFault.TheVariants.{Message, Cause}
 use Rattle.dnp_streams.specs.streams.Masters.{RefusesRows, fault_told}
-use Rattle.dnp_streams.specs.streams.Outstations.{cause_told}
+use Rattle.dnp_streams.specs.streams.Lives.{RefusesTick}
+use Rattle.dnp_streams.specs.streams.Outstations.{Seen, cause_told}
 
 -- ---- masters
 
@@ -129,6 +132,18 @@ pub passed_on : (e : StoreFault) (f : outstation.Fault) → f ≡ fault_of e →
 passed_on lanes.Exhausted f is none same = none refl
 passed_on lanes.Memory f is none same = absurd (cc)
 passed_on lanes.Device f is none same = absurd (cc)
+
+-- the outstation towards a centre refuses time that passes
+pub refused_tick : (seen : ℕ → Seen) (now centre centre' : ℕ) (told : StationFault) (f : outstation.Fault) (e : StoreFault) → centre ≡ centre'
+    → is_ready (solicited_timer (seen centre).whole.core now) ≡ true → has_enabled_rows (seen centre).whole ≡ true
+    → told ≡ cause_told f → f ≡ fault_of e → e ≢ lanes.Exhausted → RefusesTick (seen centre') now told
+refused_tick seen now centre centre' told f e same ready rows is from named =
+    subst (λ (n : ℕ). RefusesTick (seen n) now told) same (record {
+      ready = ready;
+      rows = rows;
+      message = no_message_above told f is;
+      exhausted = no_number_above told f is (passed_on e f from named);
+    })
 
 -- ---- relaying
 

@@ -1,6 +1,6 @@
 -- A stream on which tasks are asked, as it goes on, and how it ends.
-use Rattle.std.proofs.Common.{◌≡◌, inl, inr, ℕ, ◌+◌, ◌≤◌, ◌<◌, Bool, true, false, List, [], ◌++◌, length, Option, Result, Ok, Err}
-use Rattle.std.proofs.Common.{refl, sym, ap, ◌∙◌, subst, append-nil, length-append, arith}
+use Rattle.std.proofs.Common.{◌≡◌, ◌⊎◌, inl, inr, ℕ, ◌+◌, ◌≤◌, ◌<◌, Bool, true, false, List, [], ◌++◌, length, Option, Result, Ok, Err}
+use Rattle.std.proofs.Common.{refl, sym, ◌∙◌, subst, length-append, arith}
 use Rattle.std.proofs.lemmas.Bool.{false≢true}
 use Rattle.std.specs.Io.KnownBytes.{Consumes, IsAtEnd}
 use Rattle.std.proofs.KnownBytes.{Consumes-nil, Consumes-trans}
@@ -12,12 +12,14 @@ use Rattle.dnp_streams.specs.declared.stream.asked.Asked.{Asked}
 use Rattle.dnp_streams.specs.declared.stream.progress.Progress.{Progress}
 use Rattle.dnp_streams.specs.declared.stream.serve.ServeFault.{ServeFault}
 use Rattle.dnp_streams.specs.declared.stream.serve.ServeFault.TheVariants.{ReadFailed, WriteFailed, TurnsSpent, Memory}
-use Rattle.dnp_streams.specs.streams.Dialogues.{Asking, Dialogue, heard_in, unbegun}
-use Rattle.dnp_streams.specs.streams.Spelled.{AreSpelled}
+use Rattle.dnp_streams.specs.streams.Counts.{most}
+use Rattle.dnp_streams.specs.streams.Dialogues.{Asking, Dialogue, Step, unbegun}
 use Rattle.dnp_streams.specs.streams.Stations.{Opening, Receiving, Endpoint, endpoint}
-use Rattle.dnp_streams.specs.streams.Talking.{Talk, Talks, TalkEnds, IsWaiting}
+use Rattle.dnp_streams.specs.streams.Talking.{Talk, Talks, TalkEnds, IsAsked, IsWaiting}
+use Rattle.dnp_streams.specs.steps.Hearing.{AreWritten, ArePartlyWritten}
 use Rattle.dnp_streams.specs.steps.Talking.{IsFresh, Listens, Turns, dialogue_of}
 use Rattle.dnp_streams.proofs.streams.Dialogues.{dialogue_is, turns_then}
+use Rattle.dnp_streams.proofs.streams.Hearing.{in_parts}
 
 -- ---- the beginning
 
@@ -75,7 +77,64 @@ pub from_unbegun : {S : Type 0} (opens : Opening S) (receives : Receiving S) (as
 from_unbegun {S} opens receives asking now station port p frames result held held' new fresh turns =
     subst (λ (d : Dialogue S). Turns opens receives asking now d frames result held held' new) (is_unbegun station port p fresh) turns
 
+-- ---- what was talked, whether time passes or not
+
+abbrev pub talk_of : {S : Type 0} (octets refused : List ℕ) (steps : List Step) (sent : List Frame) (ended : Dialogue S) (unheard : List Frame)
+    (held held' : Option (List ℕ)) → ArePartlyWritten held held' sent → Talk S
+talk_of octets refused steps sent ended unheard held held' parts = record {
+  octets = octets;
+  refused = refused;
+  steps = steps;
+  sent = sent;
+  ended = ended;
+  unheard = unheard;
+  written = parts.written;
+  unwritten = parts.unwritten;
+}
+
+-- it was waiting
+pub awaits : {S : Type 0} (is_idle : S → Bool) (octets : List ℕ) (steps : List Step) (sent : List Frame) (station : S) (port : PortState) (p : Progress)
+    (unheard : List Frame) (held held' : Option (List ℕ)) (all : AreWritten held held' sent) → unheard ≡ [] → Listens is_idle station p
+    → IsWaiting is_idle (talk_of octets [] steps sent (dialogue_of station port p) unheard held held' (in_parts held held' sent all))
+awaits is_idle octets steps sent station port p unheard held held' all none listens =
+    record { begun = listens.begun; goes_on = listens.goes_on; busy = listens.busy; looked_at = refl; heard = none; answered = refl }
+
+-- all was over
+pub asked_all : {S : Type 0} (is_idle : S → Bool) (octets : List ℕ) (steps : List Step) (sent : List Frame) (station : S) (port : PortState) (p : Progress)
+    (unheard : List Frame) (held held' : Option (List ℕ)) (all : AreWritten held held' sent) (at_end : Type 0)
+    → (p.is_over ≡ true) ⊎ (most ≤ length steps)
+    → IsAsked is_idle (talk_of octets [] steps sent (dialogue_of station port p) unheard held held' (in_parts held held' sent all)) at_end p.asked
+asked_all is_idle octets steps sent station port p unheard held held' all at_end ended = record {
+  rows = refl;
+  outcomes = refl;
+  faults = refl;
+  looked_at = refl;
+  answered = refl;
+  ended = λ goes_on. elim ended [ inl over ↦ absurd (false≢true (sym goes_on ∙ over)) | inr many ↦ inr many ];
+}
+
 -- ---- how it ends
+
+-- what became of turns is told; memory may have been refused for octets that were read last
+pub talks_over : {S : Type 0} (opens : Opening S) (receives : Receiving S) (asking : Asking S) (now turns : ℕ) (old : Endpoint S) (tasks : List Task)
+    (station : S) (port : PortState) (p : Progress) (frames : List Frame) (octets waiting refused : List ℕ) (left left' left'' held held' : Option (List ℕ))
+    (result : Result Bool ServeFault) (told : Result Asked ServeFault)
+    → (t : Turns opens receives asking now (unbegun old tasks) frames result held held' (dialogue_of station port p))
+    → Gives octets frames waiting → Consumes left left' octets → Consumes left' left'' refused → (parts : ArePartlyWritten held held' t.sent)
+    → TalkEnds asking.is_idle turns (talk_of octets refused t.steps t.sent (dialogue_of station port p) t.unheard held held' parts) (IsAtEnd left'') told
+    → Talks opens receives asking now turns old tasks left left'' held held' told (endpoint station port)
+talks_over opens receives asking now turns old tasks station port p frames octets waiting refused left left' left'' held held' result told t gives read last parts ends =
+    record {
+      talk = talk_of octets refused t.steps t.sent (dialogue_of station port p) t.unheard held held' parts;
+      read = Consumes-trans left left' left'' octets refused read last;
+      waiting = waiting;
+      gives = subst (λ (fs : List Frame). Gives octets fs waiting) t.split gives;
+      makes = t.makes;
+      spelled = parts.spelled;
+      appended = parts.appended;
+      ends = ends;
+      came_to = refl;
+    }
 
 -- all was over
 pub talks_stop : {S : Type 0} (opens : Opening S) (receives : Receiving S) (asking : Asking S) (now turns : ℕ) (old : Endpoint S) (tasks : List Task)
@@ -84,34 +143,9 @@ pub talks_stop : {S : Type 0} (opens : Opening S) (receives : Receiving S) (aski
     → Gives octets frames waiting → Consumes left left' octets
     → Talks opens receives asking now turns old tasks left left' held held' (Ok p.asked) (endpoint station port)
 talks_stop opens receives asking now turns old tasks station port p frames octets waiting left left' held held' t gives read =
-    let written = t.ends.0 in
-    record {
-      talk = record {
-        octets = octets;
-        refused = [];
-        steps = t.steps;
-        sent = t.sent;
-        ended = dialogue_of station port p;
-        unheard = t.unheard;
-        written = written.octets;
-        unwritten = [];
-      };
-      read = subst (λ (r : List ℕ). Consumes left left' r) (sym (append-nil octets)) read;
-      waiting = waiting;
-      gives = subst (λ (fs : List Frame). Gives octets fs waiting) t.split gives;
-      makes = t.makes;
-      spelled = subst (λ (r : List ℕ). AreSpelled t.sent r) (sym (append-nil written.octets)) written.spelled;
-      appended = written.appended;
-      ends = record {
-        rows = refl;
-        outcomes = refl;
-        faults = refl;
-        looked_at = refl;
-        answered = refl;
-        ended = λ goes_on. elim t.ends.1 [ inl over ↦ absurd (false≢true (sym goes_on ∙ over)) | inr many ↦ inr many ];
-      };
-      came_to = refl;
-    }
+    talks_over opens receives asking now turns old tasks station port p frames octets waiting [] left left' left' held held' (Ok true) (Ok p.asked) t gives read
+    (Consumes-nil left') (in_parts held held' t.sent t.ends.0)
+    (asked_all asking.is_idle octets t.steps t.sent station port p t.unheard held held' t.ends.0 (IsAtEnd left') t.ends.1)
 
 -- a write failed, or memory for an outcome was refused
 pub talks_fault : {S : Type 0} (opens : Opening S) (receives : Receiving S) (asking : Asking S) (now turns : ℕ) (old : Endpoint S) (tasks : List Task)
@@ -119,48 +153,12 @@ pub talks_fault : {S : Type 0} (opens : Opening S) (receives : Receiving S) (ask
     → Turns opens receives asking now (unbegun old tasks) frames (Err fault) held held' (dialogue_of station port p)
     → Gives octets frames waiting → Consumes left left' octets
     → Talks opens receives asking now turns old tasks left left' held held' (Err fault) (endpoint station port)
-talks_fault opens receives asking now turns old tasks station port p frames octets waiting left left' held held' WriteFailed t gives read = record {
-  talk = record {
-    octets = octets;
-    refused = [];
-    steps = t.steps;
-    sent = t.sent;
-    ended = dialogue_of station port p;
-    unheard = t.unheard;
-    written = t.ends.written;
-    unwritten = t.ends.unwritten;
-  };
-  read = subst (λ (r : List ℕ). Consumes left left' r) (sym (append-nil octets)) read;
-  waiting = waiting;
-  gives = subst (λ (fs : List Frame). Gives octets fs waiting) t.split gives;
-  makes = t.makes;
-  spelled = t.ends.spelled;
-  appended = t.ends.appended;
-  ends = refl;
-  came_to = refl;
-}
+talks_fault opens receives asking now turns old tasks station port p frames octets waiting left left' held held' WriteFailed t gives read =
+    talks_over opens receives asking now turns old tasks station port p frames octets waiting [] left left' left' held held' (Err WriteFailed) (Err WriteFailed) t gives read
+    (Consumes-nil left') t.ends refl
 talks_fault opens receives asking now turns old tasks station port p frames octets waiting left left' held held' Memory t gives read =
-    let written = t.ends.0 in
-    record {
-      talk = record {
-        octets = octets;
-        refused = [];
-        steps = t.steps;
-        sent = t.sent;
-        ended = dialogue_of station port p;
-        unheard = t.unheard;
-        written = written.octets;
-        unwritten = [];
-      };
-      read = subst (λ (r : List ℕ). Consumes left left' r) (sym (append-nil octets)) read;
-      waiting = waiting;
-      gives = subst (λ (fs : List Frame). Gives octets fs waiting) t.split gives;
-      makes = t.makes;
-      spelled = subst (λ (r : List ℕ). AreSpelled t.sent r) (sym (append-nil written.octets)) written.spelled;
-      appended = written.appended;
-      ends = record { goes_on = t.ends.1; answered = refl; short = inr refl };
-      came_to = refl;
-    }
+    talks_over opens receives asking now turns old tasks station port p frames octets waiting [] left left' left' held held' (Err Memory) (Err Memory) t gives read
+    (Consumes-nil left') (in_parts held held' t.sent t.ends.0) record { goes_on = t.ends.1; answered = refl; short = inr refl }
 talks_fault opens receives asking now turns old tasks station port p frames octets waiting left left' held held' ReadFailed t gives read = absurd t.ends
 talks_fault opens receives asking now turns old tasks station port p frames octets waiting left left' held held' TurnsSpent t gives read = absurd t.ends
 
@@ -168,16 +166,8 @@ talks_fault opens receives asking now turns old tasks station port p frames octe
 abbrev pub so_far : {S : Type 0} (opens : Opening S) (receives : Receiving S) (asking : Asking S) (now reads : ℕ) (old : Dialogue S)
     (left left' held held' : Option (List ℕ)) (waiting : List ℕ) (new : Dialogue S) → GoesOn opens receives asking now reads old left left' held held' waiting new
     → List ℕ → Talk S
-so_far opens receives asking now reads old left left' held held' waiting new i refused = record {
-  octets = i.octets;
-  refused = refused;
-  steps = i.turns.steps;
-  sent = i.turns.sent;
-  ended = new;
-  unheard = [];
-  written = i.turns.ends.0.octets;
-  unwritten = [];
-}
+so_far opens receives asking now reads old left left' held held' waiting new i refused =
+    talk_of i.octets refused i.turns.steps i.turns.sent new i.turns.unheard held held' (in_parts held held' i.turns.sent i.turns.ends.0)
 
 -- it ends here, with all that came heard and answered; memory may have been refused for octets that were read last
 pub talks_ends : {S : Type 0} (opens : Opening S) (receives : Receiving S) (asking : Asking S) (now reads turns : ℕ) (old : Endpoint S) (tasks : List Task)
@@ -187,19 +177,8 @@ pub talks_ends : {S : Type 0} (opens : Opening S) (receives : Receiving S) (aski
     (so_far opens receives asking now reads (unbegun old tasks) left left' held held' waiting (dialogue_of station port p) i refused) (IsAtEnd left'') result
     → Talks opens receives asking now turns old tasks left left'' held held' result (endpoint station port)
 talks_ends opens receives asking now reads turns old tasks station port p left left' left'' held held' waiting refused result i last ends =
-    let t = i.turns in
-    let written = t.ends.0 in
-    record {
-      talk = so_far opens receives asking now reads (unbegun old tasks) left left' held held' waiting (dialogue_of station port p) i refused;
-      read = Consumes-trans left left' left'' i.octets refused i.read last;
-      waiting = waiting;
-      gives = subst (λ (fs : List Frame). Gives i.octets fs waiting) (t.split ∙ ap (λ (fs : List Frame). heard_in t.steps ++ fs) t.ends.1) i.gives;
-      makes = t.makes;
-      spelled = subst (λ (r : List ℕ). AreSpelled t.sent r) (sym (append-nil written.octets)) written.spelled;
-      appended = written.appended;
-      ends = ends;
-      came_to = refl;
-    }
+    talks_over opens receives asking now turns old tasks station port p i.frames i.octets waiting refused left left' left'' held held' (Ok false) result i.turns i.gives i.read
+    last (in_parts held held' i.turns.sent i.turns.ends.0) ends
 
 -- it was waiting
 pub is_waiting : {S : Type 0} (opens : Opening S) (receives : Receiving S) (asking : Asking S) (now reads : ℕ) (old : Dialogue S) (station : S) (port : PortState)
@@ -207,4 +186,4 @@ pub is_waiting : {S : Type 0} (opens : Opening S) (receives : Receiving S) (aski
     → (i : GoesOn opens receives asking now reads old left left' held held' waiting (dialogue_of station port p)) → Listens asking.is_idle station p
     → IsWaiting asking.is_idle (so_far opens receives asking now reads old left left' held held' waiting (dialogue_of station port p) i [])
 is_waiting opens receives asking now reads old station port p left left' held held' waiting i listens =
-    record { begun = listens.begun; goes_on = listens.goes_on; busy = listens.busy; looked_at = refl; heard = refl; answered = refl }
+    awaits asking.is_idle i.octets i.turns.steps i.turns.sent station port p i.turns.unheard held held' i.turns.ends.0 i.turns.ends.1 listens

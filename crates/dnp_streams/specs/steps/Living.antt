@@ -2,6 +2,7 @@
 use Rattle.std.specs.Prelude.{◌≡◌, ℕ, ◌+◌, ◌<◌, ◌≤◌, List, [], ◌++◌, OnOk, false, Option, Result, Ok, Err, MatchResult, ⊤, take, length, true, Bool}
 use Rattle.std.specs.Io.KnownBytes.{Consumes, IsAtEnd, Keeps}
 use Rattle.dnp_linkframe.specs.declared.frame.Frame.{Frame}
+use Rattle.dnp_streams.specs.declared.stream.course.Course.{Course}
 use Rattle.dnp_streams.specs.declared.stream.log.Log.{Log}
 use Rattle.dnp_streams.specs.declared.stream.waiting.Came.{Came}
 use Rattle.dnp_streams.specs.declared.stream.waiting.Came.TheVariants.{Octets, Nothing}
@@ -16,7 +17,7 @@ use Rattle.dnp_streams.specs.steps.Hearing.{AreWritten, ArePartlyWritten}
 use Rattle.dnp_streams.specs.streams.Counts.{Counts}
 use Rattle.dnp_streams.specs.streams.Exchanges.{Output}
 use Rattle.dnp_streams.specs.streams.Lives.{Life}
-use Rattle.dnp_streams.specs.streams.Living.{Step, Stage, Idle, Standing, standing_of, FollowsAll, SendsAll, frames_in, turns_in}
+use Rattle.dnp_streams.specs.streams.Living.{NoneIsDue, Step, Stage, Idle, Standing, standing_of, FollowsAll, SendsAll, frames_in, turns_in}
 use Rattle.dnp_streams.specs.streams.Stations.{Opening, Receiving, Endpoint}
 
 -- Some steps were made, in which these frames came, and at least so often a frame came or none; what they brought was counted, and written,
@@ -32,6 +33,20 @@ pub record Brings {S : Type 0} (opens : Opening S) (receives : Receiving S) (lif
   pub often : turns ≤ turns_in steps
   pub counted : Counts served output served'
   pub written : MatchResult result (λ _. AreWritten held held' output.frames) (λ _. ArePartlyWritten held held' output.frames)
+
+-- the same of a course, from a station that stood at this stage to one that is idle, where no frame came
+abbrev pub Passes : {S : Type 0} → Opening S → Receiving S → Life S → ℕ → Stage → Endpoint S → Course → Option (List ℕ) → Result ⊤ NotWritten → Endpoint S → Course
+    → Option (List ℕ) → Type 0
+Passes opens receives life turns stage old course held result new course' held' =
+    Brings opens receives life [] turns old (standing_of stage course.session) course.served held result new (standing_of Idle course'.session) course'.served held'
+
+-- no change is due, where all was written and the connection stands
+abbrev pub IsSettled : Result ⊤ NotWritten → Course → Type 0
+IsSettled result course = OnOk result (course.served.closed ≡ false → NoneIsDue course.session.now course.session.changes.now)
+
+-- what the log notes of octets that were to be written
+abbrev pub IsWriteNoted : Result ⊤ NotWritten → Log → Log → Type 0
+IsWriteNoted result old new = MatchResult result (λ _. new ≡ old) (λ _. new ≡ record old { write_failed = true })
 
 -- what a read brought: octets, and none of them only where the input has ended; or nothing
 abbrev pub HasCome : Option (List ℕ) → Option (List ℕ) → Result Came NotRead → List ℕ → Type 0

@@ -1,5 +1,6 @@
 -- Private steps: how far a dialogue has come in the code's own terms, and what some of its steps wrote.
 use Rattle.std.specs.Prelude.{◌≡◌, ℕ, ◌<◌, ◌≤◌, ◌⊎◌, Bool, true, false, List, [], ◌++◌, length, Option, Result, Ok, Err, ⊤}
+use Rattle.std.specs.Io.KnownBytes.{Appends}
 use Rattle.std.specs.Vec.{vec_len, vec_capacity}
 use Rattle.dnp_linkframe.specs.declared.frame.Frame.{Frame}
 use Rattle.dnp_line.specs.Ports.{PortState}
@@ -77,6 +78,14 @@ pub record Turns {S : Type 0} (opens : Opening S) (receives : Receiving S) (aski
   pub unheard : List Frame
   pub split : frames ≡ heard_in steps ++ unheard
   pub ends : StepsEnd steps new unheard sent held held' result
+
+-- What a step sent, in these octets, was written, and turns followed, in which no frame was heard; or a beginning of it was written, and no turn followed.
+pub data WritesOn {S : Type 0} (opens : Opening S) (receives : Receiving S) (asking : Asking S) (now : ℕ) (octets : List ℕ) (old : Dialogue S)
+    (result : Result Bool ServeFault) (held held' : Option (List ℕ)) (new : Dialogue S) : Type 0 where
+  Whole : (between : Option (List ℕ)) → Appends held between octets → Turns opens receives asking now old [] result between held' new
+      → WritesOn opens receives asking now octets old result held held' new
+  Cut : (part rest : List ℕ) → octets ≡ part ++ rest → Appends held held' part → result ≡ Err WriteFailed → new ≡ old
+      → WritesOn opens receives asking now octets old result held held' new
 
 -- what the log notes of them
 abbrev pub AreNoted : Result Bool ServeFault → Log → Log → Type 0

@@ -106,12 +106,6 @@ impl<'a, Q: PairLanes, B: Book> Station for Above<'a, Q, B> {
         }
     }
 
-    fn receive(&mut self, alloc: Global, now: u64, octets: &[u8]) -> Result<Answer, StationFault> {
-        let mut answer = KeptAnswer::new(alloc);
-        self.receive_into(&mut answer, alloc, now, octets)?;
-        Ok(answer.into_answer())
-    }
-
     fn receive_into(
         &mut self,
         answer: &mut KeptAnswer,
@@ -130,6 +124,12 @@ impl<'a, Q: PairLanes, B: Book> Station for Above<'a, Q, B> {
             }
             Err(fault) => Err(cause_of(Fault::from(fault))),
         }
+    }
+
+    fn receive(&mut self, alloc: Global, now: u64, octets: &[u8]) -> Result<Answer, StationFault> {
+        let mut answer = KeptAnswer::new(alloc);
+        self.receive_into(&mut answer, alloc, now, octets)?;
+        Ok(answer.into_answer())
     }
 
     fn hung_up(&mut self) {

@@ -1,13 +1,13 @@
 //! Tasks that are asked on a stream.
 
-ghost use Rattle.std.specs.Prelude.{◌≡◌, ◌≢◌, ◌<◌, ◌+◌, [], ◌∷◌, true, false, Err, Ok, vec_capacity, vec_len};
+ghost use Rattle.std.specs.Prelude.{◌≡◌, ◌≢◌, ℕ, ◌<◌, ◌+◌, [], ◌∷◌, true, false, Err, Ok, vec_capacity, vec_len};
 ghost use Rattle.dnp_linkframe.specs.declared.frame.Frame.{Frame as FrameValue};
-ghost use Rattle.dnp_streams.specs.streams.Dialogues.{Dialogue, Makes, Step, heard_in};
+ghost use Rattle.dnp_streams.specs.declared.stream.log.Log.{Log as LogValue};
 ghost use Rattle.dnp_streams.specs.streams.Logs.{new_log};
 ghost use Rattle.dnp_streams.specs.streams.Serving.{IsLeft, IsNoted};
 ghost use Rattle.dnp_streams.specs.streams.Stations.{endpoint};
 ghost use Rattle.dnp_streams.specs.streams.Talking.{Talks};
-ghost use Rattle.dnp_streams.specs.steps.Talking.{AreNoted, IsFresh, Listens, Puts, Turns, dialogue_of, told_by};
+ghost use Rattle.dnp_streams.specs.steps.Talking.{AreNoted, IsFresh, Listens, Turns, WritesOn, dialogue_of, told_by};
 
 use crate::stream::asked::Asked;
 use crate::stream::asker::Asker;
@@ -22,8 +22,8 @@ use dnp_master::Task;
 use std::alloc::Global;
 use std::io::{Read, Write};
 
-/// While the station is idle, asks and relays, and writes what each step sends. Whether the dialogue stops. It asks for no memory
-/// but the station's.
+/// Writes what a step sent; then, while the station is idle, asks and relays, and writes what each step sends. Whether the dialogue
+/// stops. It asks for no memory but the station's.
 pub(super) fn go_on<S: Asker, W: Write>(
     alloc: Global,
     station: &mut S,
@@ -37,12 +37,16 @@ pub(super) fn go_on<S: Asker, W: Write>(
     requires { progress.old.is_begun ≡ true }
     ensures kept { S.kept station.new ≡ S.kept station.old }
     ensures held { S.honest station.new → S.honest station.old }
-    ensures turns { S.honest station.new → Turns S.opens S.receives S.asking now (dialogue_of (S.state station.old) port.old progress.old) []
+    ensures turns { S.honest station.new → WritesOn S.opens S.receives S.asking now kept.old.octets.items (dialogue_of (S.state station.old) port.old progress.old)
         result (W.contents out.old) (W.contents out.new) (dialogue_of (S.state station.new) port.new progress.new) }
     ensures listens { result ≡ Ok false → Listens S.asking.is_idle (S.state station.new) progress.new }
     ensures noted { AreNoted result log.old log.new }
     ensures named { result ≢ Err ServeFault.Memory }
 {
+    match write_noted(&kept.octets, out, log) {
+        Ok(()) => {}
+        Err(_) => return Err(ServeFault::WriteFailed),
+    }
     for _ in 0..u64::MAX {
         if progress.is_over {
             return Ok(true);
@@ -57,35 +61,6 @@ pub(super) fn go_on<S: Asker, W: Write>(
         }
     }
     Ok(true)
-}
-
-/// Writes what a step sent, and goes on. Whether the dialogue stops.
-fn finish<S: Asker, W: Write>(
-    alloc: Global,
-    station: &mut S,
-    port: &mut Port,
-    now: u64,
-    kept: &mut Kept,
-    out: &mut W,
-    progress: &mut Progress<'_>,
-    log: &mut Log,
-) -> Result<bool, ServeFault>
-    requires { progress.old.is_begun ≡ true }
-    ensures kept { S.kept station.new ≡ S.kept station.old }
-    ensures held { S.honest station.new → S.honest station.old }
-    ensures turns { S.honest station.new → (before : Dialogue S.State) (step : Step) → before.is_over ≡ false
-        → Puts (λ sent. Makes S.opens S.receives S.asking now before step sent (dialogue_of (S.state station.old) port.old progress.old)) kept.old.octets.items
-        → Turns S.opens S.receives S.asking now before (heard_in (step ∷ []))
-        result (W.contents out.old) (W.contents out.new) (dialogue_of (S.state station.new) port.new progress.new) }
-    ensures listens { result ≡ Ok false → Listens S.asking.is_idle (S.state station.new) progress.new }
-    ensures noted { AreNoted result log.old log.new }
-    ensures named { result ≢ Err ServeFault.Memory }
-{
-    match write_noted(&kept.octets, out, log) {
-        Ok(()) => {}
-        Err(_) => return Err(ServeFault::WriteFailed),
-    }
-    go_on(alloc, station, port, now, kept, out, progress, log)
 }
 
 /// Opens the station, writes what that sends, and goes on. Whether the dialogue stops.
@@ -114,7 +89,7 @@ pub(super) fn begin<S: Asker, W: Write>(
         Err(_) => return Err(ServeFault::Memory),
     }
     open_to(alloc, station, port, now, &mut kept.octets, progress);
-    finish(alloc, station, port, now, kept, out, progress, log)
+    go_on(alloc, station, port, now, kept, out, progress, log)
 }
 
 /// Hears a frame, writes what that sends, and goes on. Whether the dialogue stops. Memory is asked for only where no outcome more
@@ -144,7 +119,7 @@ pub(super) fn hear_one<S: Asker, W: Write>(
         Err(_) => return Err(ServeFault::Memory),
     }
     hear_to(alloc, station, port, now, frame, kept, progress);
-    finish(alloc, station, port, now, kept, out, progress, log)
+    go_on(alloc, station, port, now, kept, out, progress, log)
 }
 
 /// Hears frames, one after the other. Whether the dialogue stops.
@@ -231,6 +206,27 @@ fn ask_on<S: Asker, R: Read, W: Write>(
     Err(ServeFault::TurnsSpent)
 }
 
+/// What is told of tasks that were asked on a stream, by how that ended: a fault hangs the station up.
+pub(super) fn leave<S: Asker>(
+    station: &mut S,
+    ended: Result<(), ServeFault>,
+    asked: Asked,
+) -> Result<Asked, ServeFault>
+    ensures kept { S.kept station.new ≡ S.kept station.old }
+    ensures held { S.honest station.new → S.honest station.old }
+    ensures told { result ≡ told_by ended asked }
+    ensures left { S.honest station.new → IsLeft S.hung_up_of result (S.state station.old) (S.state station.new) }
+    ensures noted { (turns : ℕ) (log : LogValue) → IsNoted turns ended log → IsNoted turns result log }
+{
+    match ended {
+        Ok(()) => Ok(asked),
+        Err(fault) => {
+            station.hung_up();
+            Err(fault)
+        }
+    }
+}
+
 /// Asks tasks on a stream as [`ask_stream`] does, and notes in a new log what it asked of the reader and the writer.
 pub fn ask_noted<S: Asker, R: Read, W: Write>(
     alloc: Global,
@@ -252,7 +248,7 @@ pub fn ask_noted<S: Asker, R: Read, W: Write>(
     ensures noted { IsNoted turns result log.new }
 {
     let mut progress = Progress::new(alloc, tasks);
-    match ask_on(
+    let ended = ask_on(
         alloc,
         station,
         port,
@@ -262,13 +258,8 @@ pub fn ask_noted<S: Asker, R: Read, W: Write>(
         turns,
         &mut progress,
         log,
-    ) {
-        Ok(()) => Ok(progress.asked),
-        Err(fault) => {
-            station.hung_up();
-            Err(fault)
-        }
-    }
+    );
+    leave(station, ended, progress.asked)
 }
 
 /// Asks the tasks on a stream of octets, one by one, each when the station is idle, and then relays controls until there

@@ -7,7 +7,7 @@ ghost use Rattle.dnp_streams.specs.streams.Serving.{IsLeft, IsNoted};
 ghost use Rattle.dnp_streams.specs.streams.Stations.{endpoint};
 ghost use Rattle.dnp_streams.specs.steps.Talking.{IsFresh, told_by};
 
-use crate::stream::ask::begin;
+use crate::stream::ask::{begin, leave};
 use crate::stream::asked::Asked;
 use crate::stream::asker::Asker;
 use crate::stream::kept::Kept;
@@ -110,7 +110,7 @@ pub fn ask_live<S: Asker + Living, R: Waiting, W: Write, C: Clock>(
     ensures noted { IsNoted limits.turns result log.new }
 {
     let mut progress = Progress::new(alloc, tasks);
-    match ask_on(
+    let ended = ask_on(
         alloc,
         station,
         port,
@@ -121,11 +121,6 @@ pub fn ask_live<S: Asker + Living, R: Waiting, W: Write, C: Clock>(
         limits,
         &mut progress,
         log,
-    ) {
-        Ok(()) => Ok(progress.asked),
-        Err(fault) => {
-            station.hung_up();
-            Err(fault)
-        }
-    }
+    );
+    leave(station, ended, progress.asked)
 }

@@ -10,7 +10,7 @@ use crate::stream::ask::{go_on, hear_one};
 use crate::stream::asker::Asker;
 use crate::stream::kept::Kept;
 use crate::stream::living::Living;
-use crate::stream::log::{Log, write_noted};
+use crate::stream::log::Log;
 use crate::stream::outgoing::put_fragments;
 use crate::stream::progress::Progress;
 use crate::stream::serve::ServeFault;
@@ -76,47 +76,11 @@ fn pass_time<S: Asker + Living, W: Write>(
         Err(_) => return Err(ServeFault::Memory),
     }
     tick_to(alloc, station, port, now, kept, progress);
-    match write_noted(&kept.octets, out, log) {
-        Ok(()) => {}
-        Err(_) => return Err(ServeFault::WriteFailed),
-    }
     go_on(alloc, station, port, now, kept, out, progress, log)
 }
 
-/// Hears frames, one after the other, each at the moment that the clock shows then. Whether the dialogue stops.
-fn hear_in_time<S: Asker + Living, W: Write, C: Clock>(
-    alloc: Global,
-    station: &mut S,
-    port: &mut Port,
-    clock: &C,
-    now: &mut u64,
-    frames: &[Frame],
-    kept: &mut Kept,
-    out: &mut W,
-    progress: &mut Progress<'_>,
-    log: &mut Log,
-) -> Result<bool, ServeFault>
-    requires { Listens S.asking.is_idle (S.state station.old) progress.old }
-    ensures kept { S.kept station.new ≡ S.kept station.old }
-    ensures held { S.honest station.new → S.honest station.old }
-    ensures turns { S.honest station.new → LiveTurns S.opens S.receives S.asking S.life [] 0 (dialogue_of (S.state station.old) port.old progress.old)
-        (standing (Owing frames.now) now.old) result (W.contents out.old) (W.contents out.new)
-        (dialogue_of (S.state station.new) port.new progress.new) (standing (Owing []) now.new) }
-    ensures listens { result ≡ Ok false → Listens S.asking.is_idle (S.state station.new) progress.new }
-    ensures noted { AreNoted result log.old log.new }
-{
-    for frame in frames {
-        *now = moment(clock, *now);
-        match hear_one(alloc, station, port, *now, frame, kept, out, progress, log) {
-            Ok(false) => {}
-            Ok(true) => return Ok(true),
-            Err(fault) => return Err(fault),
-        }
-    }
-    Ok(false)
-}
-
-/// Hears what a read brought, which may be nothing; then time has passed. Whether the dialogue stops.
+/// Hears what a read brought, which may be nothing, each frame at the moment that the clock shows then; then time has passed. Whether
+/// the dialogue stops.
 pub(super) fn take_turn<S: Asker + Living, W: Write, C: Clock>(
     alloc: Global,
     station: &mut S,
@@ -139,12 +103,13 @@ pub(super) fn take_turn<S: Asker + Living, W: Write, C: Clock>(
     ensures noted { AreNoted result log.old log.new }
 {
     *now = moment(clock, *now);
-    match hear_in_time(
-        alloc, station, port, clock, now, frames, kept, out, progress, log,
-    ) {
-        Ok(false) => {}
-        Ok(true) => return Ok(true),
-        Err(fault) => return Err(fault),
+    for frame in frames {
+        *now = moment(clock, *now);
+        match hear_one(alloc, station, port, *now, frame, kept, out, progress, log) {
+            Ok(false) => {}
+            Ok(true) => return Ok(true),
+            Err(fault) => return Err(fault),
+        }
     }
     pass_time(alloc, station, port, *now, kept, out, progress, log)
 }

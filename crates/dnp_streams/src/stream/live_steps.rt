@@ -1,9 +1,9 @@
 //! The steps of a live session at which no frame comes: the opening, time that passes, and changes that are due.
 
-ghost use Rattle.std.specs.Prelude.{◌≡◌, [], true, false, MatchResult, OnOk};
+ghost use Rattle.std.specs.Prelude.{◌≡◌, false};
 ghost use Rattle.dnp_streams.specs.streams.Stations.{endpoint};
-ghost use Rattle.dnp_streams.specs.streams.Living.{NoneIsDue, Idle, Owing, Unopened, first_stage, standing_of};
-ghost use Rattle.dnp_streams.specs.steps.Living.{Brings};
+ghost use Rattle.dnp_streams.specs.streams.Living.{Idle, Owing, Unopened, first_stage};
+ghost use Rattle.dnp_streams.specs.steps.Living.{IsSettled, IsWriteNoted, Passes};
 ghost use Rattle.dnp_streams.specs.steps.Outgoing.{OpensTo};
 
 use crate::stream::change::Change;
@@ -82,10 +82,9 @@ fn pass_time<S: Living, W: Write>(
 ) -> Result<(), NotWritten>
     ensures kept { S.kept station.new ≡ S.kept station.old }
     ensures held { S.honest station.new → S.honest station.old }
-    ensures passed { S.honest station.new → Brings S.opens S.receives S.life [] 0
-        (endpoint (S.state station.old) port.old) (standing_of Owing course.old.session) course.old.served (W.contents out.old) result
-        (endpoint (S.state station.new) port.new) (standing_of Idle course.new.session) course.new.served (W.contents out.new) }
-    ensures noted { MatchResult result (λ _. course.new.log ≡ course.old.log) (λ _. course.new.log ≡ record course.old.log { write_failed = true }) }
+    ensures passed { S.honest station.new → Passes S.opens S.receives S.life 0 Owing (endpoint (S.state station.old) port.old) course.old (W.contents out.old) result
+        (endpoint (S.state station.new) port.new) course.new (W.contents out.new) }
+    ensures noted { IsWriteNoted result course.old.log course.new.log }
 {
     let now = course.session.now;
     let (answer, octets) = (&mut course.kept.confirmed, &mut course.kept.octets);
@@ -106,11 +105,10 @@ fn make_due<S: Living, W: Write>(
     requires { course.old.served.closed ≡ false }
     ensures kept { S.kept station.new ≡ S.kept station.old }
     ensures held { S.honest station.new → S.honest station.old }
-    ensures made { S.honest station.new → Brings S.opens S.receives S.life [] 0
-        (endpoint (S.state station.old) port.old) (standing_of Idle course.old.session) course.old.served (W.contents out.old) result
-        (endpoint (S.state station.new) port.new) (standing_of Idle course.new.session) course.new.served (W.contents out.new) }
-    ensures none_due { OnOk result (course.new.served.closed ≡ false → NoneIsDue course.new.session.now course.new.session.changes.now) }
-    ensures noted { MatchResult result (λ _. course.new.log ≡ course.old.log) (λ _. course.new.log ≡ record course.old.log { write_failed = true }) }
+    ensures made { S.honest station.new → Passes S.opens S.receives S.life 0 Idle (endpoint (S.state station.old) port.old) course.old (W.contents out.old) result
+        (endpoint (S.state station.new) port.new) course.new (W.contents out.new) }
+    ensures none_due { IsSettled result course.new }
+    ensures noted { IsWriteNoted result course.old.log course.new.log }
 {
     course.served.count_nothing();
     while let Some((change, later)) = course.session.changes.split_first() {
@@ -145,11 +143,10 @@ pub(super) fn settle<S: Living, W: Write>(
     requires { course.old.served.closed ≡ false }
     ensures kept { S.kept station.new ≡ S.kept station.old }
     ensures held { S.honest station.new → S.honest station.old }
-    ensures settled { S.honest station.new → Brings S.opens S.receives S.life [] 0
-        (endpoint (S.state station.old) port.old) (standing_of Owing course.old.session) course.old.served (W.contents out.old) result
-        (endpoint (S.state station.new) port.new) (standing_of Idle course.new.session) course.new.served (W.contents out.new) }
-    ensures none_due { OnOk result (course.new.served.closed ≡ false → NoneIsDue course.new.session.now course.new.session.changes.now) }
-    ensures noted { MatchResult result (λ _. course.new.log ≡ course.old.log) (λ _. course.new.log ≡ record course.old.log { write_failed = true }) }
+    ensures settled { S.honest station.new → Passes S.opens S.receives S.life 0 Owing (endpoint (S.state station.old) port.old) course.old (W.contents out.old) result
+        (endpoint (S.state station.new) port.new) course.new (W.contents out.new) }
+    ensures none_due { IsSettled result course.new }
+    ensures noted { IsWriteNoted result course.old.log course.new.log }
 {
     match pass_time(alloc, station, port, course, out) {
         Ok(()) => {}
@@ -172,11 +169,10 @@ fn start<S: Living, W: Write, C: Clock>(
 ) -> Result<(), NotWritten>
     ensures kept { S.kept station.new ≡ S.kept station.old }
     ensures held { S.honest station.new → S.honest station.old }
-    ensures begun { S.honest station.new → Brings S.opens S.receives S.life [] 0
-        (endpoint (S.state station.old) port.old) (standing_of Unopened course.old.session) course.old.served (W.contents out.old) result
-        (endpoint (S.state station.new) port.new) (standing_of Idle course.new.session) course.new.served (W.contents out.new) }
-    ensures none_due { OnOk result (course.new.served.closed ≡ false → NoneIsDue course.new.session.now course.new.session.changes.now) }
-    ensures noted { MatchResult result (λ _. course.new.log ≡ course.old.log) (λ _. course.new.log ≡ record course.old.log { write_failed = true }) }
+    ensures begun { S.honest station.new → Passes S.opens S.receives S.life 0 Unopened (endpoint (S.state station.old) port.old) course.old (W.contents out.old) result
+        (endpoint (S.state station.new) port.new) course.new (W.contents out.new) }
+    ensures none_due { IsSettled result course.new }
+    ensures noted { IsWriteNoted result course.old.log course.new.log }
 {
     course.session.now = moment(clock, course.session.now);
     let now = course.session.now;
@@ -206,11 +202,10 @@ pub(super) fn begin<S: Living, W: Write, C: Clock>(
     requires { course.old.served.closed ≡ false }
     ensures kept { S.kept station.new ≡ S.kept station.old }
     ensures held { S.honest station.new → S.honest station.old }
-    ensures begun { S.honest station.new → Brings S.opens S.receives S.life [] 0
-        (endpoint (S.state station.old) port.old) (standing_of (first_stage course.old.session) course.old.session) course.old.served (W.contents out.old) result
-        (endpoint (S.state station.new) port.new) (standing_of Idle course.new.session) course.new.served (W.contents out.new) }
-    ensures none_due { OnOk result (course.new.served.closed ≡ false → NoneIsDue course.new.session.now course.new.session.changes.now) }
-    ensures noted { MatchResult result (λ _. course.new.log ≡ course.old.log) (λ _. course.new.log ≡ record course.old.log { write_failed = true }) }
+    ensures begun { S.honest station.new → Passes S.opens S.receives S.life 0 (first_stage course.old.session) (endpoint (S.state station.old) port.old) course.old (W.contents out.old) result
+        (endpoint (S.state station.new) port.new) course.new (W.contents out.new) }
+    ensures none_due { IsSettled result course.new }
+    ensures noted { IsWriteNoted result course.old.log course.new.log }
 {
     if course.session.stands {
         return make_due(alloc, station, port, course, out);

@@ -1,9 +1,9 @@
 //! The turns of a live session: a frame comes, or a wait ends in which none came.
 
-ghost use Rattle.std.specs.Prelude.{◌≡◌, ◌+◌, ◌-◌, ◌^◌, ◌<◌, ◌∷◌, [], true, false, MatchResult, OnOk};
+ghost use Rattle.std.specs.Prelude.{◌≡◌, ◌+◌, ◌-◌, ◌^◌, ◌<◌, ◌∷◌, [], false};
 ghost use Rattle.dnp_streams.specs.streams.Stations.{endpoint};
-ghost use Rattle.dnp_streams.specs.streams.Living.{NoneIsDue, Idle, standing_of};
-ghost use Rattle.dnp_streams.specs.steps.Living.{Brings, GoesThrough, HasRead, IsFramesNoted};
+ghost use Rattle.dnp_streams.specs.streams.Living.{NoneIsDue, Idle};
+ghost use Rattle.dnp_streams.specs.steps.Living.{GoesThrough, HasRead, IsFramesNoted, IsSettled, IsWriteNoted, Passes};
 
 use crate::stream::course::Course;
 use crate::stream::live_steps::settle;
@@ -32,11 +32,10 @@ fn wait_one<S: Living, W: Write, C: Clock>(
     requires idle { NoneIsDue course.old.session.now course.old.session.changes.now }
     ensures kept { S.kept station.new ≡ S.kept station.old }
     ensures held { S.honest station.new → S.honest station.old }
-    ensures waited { S.honest station.new → Brings S.opens S.receives S.life [] 1
-        (endpoint (S.state station.old) port.old) (standing_of Idle course.old.session) course.old.served (W.contents out.old) result
-        (endpoint (S.state station.new) port.new) (standing_of Idle course.new.session) course.new.served (W.contents out.new) }
-    ensures none_due { OnOk result (course.new.served.closed ≡ false → NoneIsDue course.new.session.now course.new.session.changes.now) }
-    ensures noted { MatchResult result (λ _. course.new.log ≡ course.old.log) (λ _. course.new.log ≡ record course.old.log { write_failed = true }) }
+    ensures waited { S.honest station.new → Passes S.opens S.receives S.life 1 Idle (endpoint (S.state station.old) port.old) course.old (W.contents out.old) result
+        (endpoint (S.state station.new) port.new) course.new (W.contents out.new) }
+    ensures none_due { IsSettled result course.new }
+    ensures noted { IsWriteNoted result course.old.log course.new.log }
 {
     course.session.now = moment(clock, course.session.now);
     course.served.count_nothing();
@@ -60,8 +59,8 @@ fn hear_one<S: Living, W: Write, C: Clock>(
     ensures heard { S.honest station.new → GoesThrough S.opens S.receives S.life
         (endpoint (S.state station.old) port.old) course.old.session course.old.served (W.contents out.old) (frame.now ∷ []) result
         (endpoint (S.state station.new) port.new) course.new.session course.new.served (W.contents out.new) }
-    ensures none_due { OnOk result (course.new.served.closed ≡ false → NoneIsDue course.new.session.now course.new.session.changes.now) }
-    ensures noted { MatchResult result (λ _. course.new.log ≡ course.old.log) (λ _. course.new.log ≡ record course.old.log { write_failed = true }) }
+    ensures none_due { IsSettled result course.new }
+    ensures noted { IsWriteNoted result course.old.log course.new.log }
 {
     course.session.now = moment(clock, course.session.now);
     let now = course.session.now;
@@ -96,8 +95,8 @@ pub(super) fn go_through<S: Living, W: Write, C: Clock>(
     ensures heard { S.honest station.new → GoesThrough S.opens S.receives S.life
         (endpoint (S.state station.old) port.old) course.old.session course.old.served (W.contents out.old) frames.now result
         (endpoint (S.state station.new) port.new) course.new.session course.new.served (W.contents out.new) }
-    ensures none_due { OnOk result (course.new.served.closed ≡ false → NoneIsDue course.new.session.now course.new.session.changes.now) }
-    ensures noted { MatchResult result (λ _. course.new.log ≡ course.old.log) (λ _. course.new.log ≡ record course.old.log { write_failed = true }) }
+    ensures none_due { IsSettled result course.new }
+    ensures noted { IsWriteNoted result course.old.log course.new.log }
 {
     if frames.is_empty() {
         return wait_one(alloc, station, port, clock, course, out);

@@ -5,6 +5,7 @@ ghost use Rattle.std.specs.Prelude.{◌≡◌, ℕ, ◌+◌, ◌-◌, ◌^◌, �
 ghost use Rattle.std.specs.Io.{ReadsAtMost};
 ghost use Rattle.std.specs.Io.KnownBytes.{Appends, ReadConsumes};
 ghost use Rattle.dnp_streams.specs.streams.Logs.{new_log};
+ghost use Rattle.dnp_streams.specs.steps.Living.{IsWriteNoted};
 
 use crate::writing::{NotWritten, write_out};
 use std::io;
@@ -63,7 +64,7 @@ pub(super) fn write_noted<W: Write>(
     ensures whole { OnOk result (Appends (W.contents out.old) (W.contents out.new) octets.now) }
     ensures part { OnErr result ((part rest : List ℕ) × (octets.now ≡ part ++ rest)
         × Appends (W.contents out.old) (W.contents out.new) part) }
-    ensures noted { MatchResult result (λ _. log.new ≡ log.old) (λ _. log.new ≡ record log.old { write_failed = true }) }
+    ensures noted { IsWriteNoted result log.old log.new }
 {
     let result = write_out(octets, out);
     if result.is_err() {

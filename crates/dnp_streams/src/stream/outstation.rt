@@ -70,12 +70,6 @@ impl<L: Lanes, O: Outputs> Station for Outstation<L, O> {
         }
     }
 
-    fn receive(&mut self, alloc: Global, now: u64, octets: &[u8]) -> Result<Answer, StationFault> {
-        let mut answer = KeptAnswer::new(alloc);
-        Station::receive_into(&mut *self, &mut answer, alloc, now, octets)?;
-        Ok(answer.into_answer())
-    }
-
     fn receive_into(
         &mut self,
         answer: &mut KeptAnswer,
@@ -90,6 +84,12 @@ impl<L: Lanes, O: Outputs> Station for Outstation<L, O> {
             }
             Err(fault) => Err(cause_of(fault)),
         }
+    }
+
+    fn receive(&mut self, alloc: Global, now: u64, octets: &[u8]) -> Result<Answer, StationFault> {
+        let mut answer = KeptAnswer::new(alloc);
+        Station::receive_into(&mut *self, &mut answer, alloc, now, octets)?;
+        Ok(answer.into_answer())
     }
 
     fn hung_up(&mut self) {

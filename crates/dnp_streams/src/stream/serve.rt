@@ -1,10 +1,11 @@
 //! A stream, served to its end.
 
-ghost use Rattle.std.specs.Prelude.{◌≡◌, [], true, false, MatchResult};
+ghost use Rattle.std.specs.Prelude.{◌≡◌, [], false, MatchResult};
 ghost use Rattle.dnp_streams.specs.streams.Logs.{new_log};
 ghost use Rattle.dnp_streams.specs.streams.Stations.{endpoint};
 ghost use Rattle.dnp_streams.specs.streams.Serving.{Serves, IsLeft, IsNoted};
 ghost use Rattle.dnp_streams.specs.steps.Hearing.{Greets, HearsSome, AreWritten, ArePartlyWritten};
+ghost use Rattle.dnp_streams.specs.steps.Living.{IsWriteNoted};
 
 use crate::stream::kept::Kept;
 use crate::stream::log::{Log, read_noted, write_noted};
@@ -64,7 +65,7 @@ fn greet<S: Station, W: Write>(
         (greets : Greets S.opens now (endpoint (S.state station.old) port.old) (endpoint (S.state station.new) port.new) served.old served.new)
         × MatchResult result (λ _. AreWritten (W.contents out.old) (W.contents out.new) greets.output.frames)
         (λ _. ArePartlyWritten (W.contents out.old) (W.contents out.new) greets.output.frames) }
-    ensures noted { MatchResult result (λ _. log.new ≡ log.old) (λ _. log.new ≡ record log.old { write_failed = true }) }
+    ensures noted { IsWriteNoted result log.old log.new }
 {
     let mut octets = Outgoing::new();
     served.add(open(alloc, station, port, now, &mut octets));
@@ -90,7 +91,7 @@ fn hear_all<S: Station, W: Write>(
         (some : HearsSome S.receives now (endpoint (S.state station.old) port.old) frames.now (endpoint (S.state station.new) port.new) served.old served.new)
         × MatchResult result (λ _. AreWritten (W.contents out.old) (W.contents out.new) some.output.frames × (served.new.closed ≡ false → some.unheard ≡ []))
         (λ _. ArePartlyWritten (W.contents out.old) (W.contents out.new) some.output.frames) }
-    ensures noted { MatchResult result (λ _. log.new ≡ log.old) (λ _. log.new ≡ record log.old { write_failed = true }) }
+    ensures noted { IsWriteNoted result log.old log.new }
 {
     for frame in frames {
         served.add(hear(alloc, station, port, now, frame, kept));

@@ -25,26 +25,26 @@ of_both see t = record { first = see t.first; second = see t.second }
 
 -- its events, as they are queued for both centres
 abbrev pub queued_for : WholeConcentrator → ℕ → Taking → List LaneRow
-queued_for c station t = queued_rows c.indices c.points station t.events
+queued_for c substation t = queued_rows c.indices c.points substation t.events
 
 -- an outstation above with the readings that its rows set
 abbrev pub with_readings_of : WholeConcentrator → ℕ → Taking → Core → Core
-with_readings_of c station t core =
-    with_points core (readings_set c.indices station (readings_set c.indices station core.points t.events) t.statics)
+with_readings_of c substation t core =
+    with_points core (readings_set c.indices substation (readings_set c.indices substation core.points t.events) t.statics)
 
 abbrev pub concentrator_taken : WholeConcentrator → ℕ → Taking → WholeConcentrator
-concentrator_taken c station t = record c {
-  cores = of_both (with_readings_of c station t) c.cores;
-  queues = of_both (λ (s : Stock). with_rows s (queued_for c station t)) c.queues;
-  links = slice_set c.links station (relaying.received (link_in c.links station) t);
+concentrator_taken c substation t = record c {
+  cores = of_both (with_readings_of c substation t) c.cores;
+  queues = of_both (λ (s : Stock). with_rows s (queued_for c substation t)) c.queues;
+  links = slice_set c.links substation (relaying.received (link_in c.links substation) t);
 }
 
 abbrev pub dropped_for : WholeConcentrator → ℕ → Taking → Two (List Row)
-dropped_for c station t = of_both (λ (s : Stock). dropped_by s (queued_for c station t)) c.queues
+dropped_for c substation t = of_both (λ (s : Stock). dropped_by s (queued_for c substation t)) c.queues
 
 -- both queues have numbers left for its events
 abbrev pub HaveNumbers : WholeConcentrator → ℕ → Taking → Type 0
-HaveNumbers c station t = t.events ≢ [] → ForEach (λ centre. exhausts (at centre c.queues) (queued_for c station t) ≡ false)
+HaveNumbers c substation t = t.events ≢ [] → ForEach (λ centre. exhausts (at centre c.queues) (queued_for c substation t) ≡ false)
 
 -- ---- where one centre is served
 

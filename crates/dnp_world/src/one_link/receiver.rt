@@ -95,6 +95,10 @@ impl<S: Sink> MasterEnd for Receiver<S> {
 
     ghost stays_itself = { λ r. record { sink = refl; master = refl; listed = refl } };
 
+    fn may_drop(&self) -> bool {
+        false
+    }
+
     fn take_in(
         &mut self,
         alloc: Global,

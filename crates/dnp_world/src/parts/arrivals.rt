@@ -21,19 +21,19 @@ const CENTRE_LINK: u8 = 0;
 
 impl<Q: PairLanes, J: JournalStore, A: Book, B: Book> Parts<Q, J, A, B> {
     /// The front unit comes to a substation.
-    fn come_down_below(&mut self, alloc: Global, station: u8, repeats: bool) -> Result<(), Cause>
-        requires { has_link self.old.system (link.Below station) ≡ true }
+    fn come_down_below(&mut self, alloc: Global, substation: u8, repeats: bool) -> Result<(), Cause>
+        requires { has_link self.old.system (link.Below substation) ≡ true }
         ensures held { ⟦<Self as Stored>⟧.well self.new → ⟦<Self as Stored>⟧.well self.old }
-        ensures done { ⟦<Self as Stored>⟧.well self.new → OnOk result (ChangesAll None (ComesDownBelow (left_by repeats) station) self.old.system self.new.system) }
+        ensures done { ⟦<Self as Stored>⟧.well self.new → OnOk result (ChangesAll None (ComesDownBelow (left_by repeats) substation) self.old.system self.new.system) }
         ensures stopped { ⟦<Self as Stored>⟧.well self.new → OnErr result (self.new.system ≡ self.old.system) }
         ensures device { TellsDevice (⟦<Self as Stored>⟧.is_stopped self.old) (⟦<Self as Stored>⟧.is_stopped self.new) (result ≡ Err Cause.Device) }
     {
-        let substation = &mut self.substations[usize::from(station)];
-        substation.come_down(
+        let below = &mut self.substations[usize::from(substation)];
+        below.come_down(
             &mut self.actions,
             alloc,
             self.moment,
-            station,
+            substation,
             repeats,
             &mut self.history,
         )
@@ -60,17 +60,17 @@ impl<Q: PairLanes, J: JournalStore, A: Book, B: Book> Parts<Q, J, A, B> {
     }
 
     /// The front unit comes to the concentrator's master of a substation.
-    fn come_up_below(&mut self, alloc: Global, station: u8, repeats: bool) -> Result<(), Cause>
-        requires { has_link self.old.system (link.Below station) ≡ true }
+    fn come_up_below(&mut self, alloc: Global, substation: u8, repeats: bool) -> Result<(), Cause>
+        requires { has_link self.old.system (link.Below substation) ≡ true }
         ensures held { ⟦<Self as Stored>⟧.well self.new → ⟦<Self as Stored>⟧.well self.old }
-        ensures done { ⟦<Self as Stored>⟧.well self.new → OnOk result (ChangesAll None (ComesUp (left_by repeats) (link.Below station)) self.old.system self.new.system) }
+        ensures done { ⟦<Self as Stored>⟧.well self.new → OnOk result (ChangesAll None (ComesUp (left_by repeats) (link.Below substation)) self.old.system self.new.system) }
         ensures stopped { ⟦<Self as Stored>⟧.well self.new → OnErr result (self.new.system ≡ self.old.system) }
         ensures device { TellsDevice (⟦<Self as Stored>⟧.is_stopped self.old) (⟦<Self as Stored>⟧.is_stopped self.new) (result ≡ Err Cause.Device) }
     {
-        let channel = &mut self.substations[usize::from(station)].channel;
+        let channel = &mut self.substations[usize::from(substation)].channel;
         channel.come_up(
             alloc,
-            station,
+            substation,
             self.moment,
             repeats,
             &mut self.concentrator,
@@ -116,9 +116,11 @@ impl<Q: PairLanes, J: JournalStore, A: Book, B: Book> Parts<Q, J, A, B> {
             return Ok(());
         }
         match (on, way) {
-            (Link::Below(station), Way::Down) => self.come_down_below(alloc, station, repeats),
+            (Link::Below(substation), Way::Down) => self.come_down_below(
+                alloc, substation, repeats,
+            ),
             (Link::Above(centre), Way::Down) => self.come_down_above(alloc, centre, repeats),
-            (Link::Below(station), Way::Up) => self.come_up_below(alloc, station, repeats),
+            (Link::Below(substation), Way::Up) => self.come_up_below(alloc, substation, repeats),
             (Link::Above(centre), Way::Up) => self.come_up_above(alloc, centre, repeats),
         }
     }

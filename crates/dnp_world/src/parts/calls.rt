@@ -27,10 +27,10 @@ impl<Q: PairLanes, J: JournalStore, A: Book, B: Book> Parts<Q, J, A, B> {
         ensures device { TellsDevice (⟦<Self as Stored>⟧.is_stopped self.old) (⟦<Self as Stored>⟧.is_stopped self.new) (result ≡ Err Cause.Device) }
     {
         match on {
-            Link::Below(station) => {
-                let substation = &mut self.substations[usize::from(station)];
-                substation.open(&mut self.actions, alloc, self.moment)?;
-                self.concentrator.opened_below(station);
+            Link::Below(substation) => {
+                let below = &mut self.substations[usize::from(substation)];
+                below.open(&mut self.actions, alloc, self.moment)?;
+                self.concentrator.opened_below(substation);
             }
             Link::Above(centre) => {
                 self.above.at_mut(centre).open(
@@ -55,9 +55,9 @@ impl<Q: PairLanes, J: JournalStore, A: Book, B: Book> Parts<Q, J, A, B> {
         ensures device { TellsDevice (⟦<Self as Stored>⟧.is_stopped self.old) (⟦<Self as Stored>⟧.is_stopped self.new) (result ≡ Err Cause.Device) }
     {
         match on {
-            Link::Below(station) => {
-                let substation = &mut self.substations[usize::from(station)];
-                substation.tick(&mut self.actions, alloc, self.moment)
+            Link::Below(substation) => {
+                let below = &mut self.substations[usize::from(substation)];
+                below.tick(&mut self.actions, alloc, self.moment)
             }
             Link::Above(centre) => self.above.at_mut(centre).tick(
                 &mut self.actions,
@@ -82,14 +82,14 @@ impl<Q: PairLanes, J: JournalStore, A: Book, B: Book> Parts<Q, J, A, B> {
     }
 
     /// A substation's device starts again: the substation hangs up, and its lanes are emptied.
-    pub(crate) fn restart_substation(&mut self, alloc: Global, station: u8) -> Result<(), Cause>
-        requires { has_link self.old.system (link.Below station) ≡ true }
+    pub(crate) fn restart_substation(&mut self, alloc: Global, substation: u8) -> Result<(), Cause>
+        requires { has_link self.old.system (link.Below substation) ≡ true }
         ensures held { ⟦<Self as Stored>⟧.well self.new → ⟦<Self as Stored>⟧.well self.old }
-        ensures done { ⟦<Self as Stored>⟧.well self.new → OnOk result (ChangesAll None (SubstationRestarts station) self.old.system self.new.system) }
+        ensures done { ⟦<Self as Stored>⟧.well self.new → OnOk result (ChangesAll None (SubstationRestarts substation) self.old.system self.new.system) }
         ensures stopped { ⟦<Self as Stored>⟧.well self.new → OnErr result (self.new.system ≡ self.old.system) }
         ensures device { TellsDevice (⟦<Self as Stored>⟧.is_stopped self.old) (⟦<Self as Stored>⟧.is_stopped self.new) (result ≡ Err Cause.Device) }
     {
-        let substation = &mut self.substations[usize::from(station)];
-        substation.restart(alloc, station, &mut self.history.gone)
+        let below = &mut self.substations[usize::from(substation)];
+        below.restart(alloc, substation, &mut self.history.gone)
     }
 }

@@ -9,7 +9,7 @@ ghost use Rattle.dnp_world.specs.Causes.{TellsDevice};
 ghost use Rattle.dnp_world.specs.Centres.{HappensToAll, centre_of, has_link, is_quiet_on, is_there, may_stop, seen_at};
 ghost use Rattle.dnp_world.specs.declared.event.Link.TheVariants as link;
 ghost use Rattle.dnp_world.specs.steps.ControlSteps.{EndsBy};
-ghost use Rattle.dnp_world.specs.Controls.{ControlEnds, IsAccepted, IsControlFor, IsRefusedFor, IsRefusedOn, IsTold, Passes, PassesBack, StopsBack, StopsFor, StopsOn, StopsRelaying, are_quiet_for, first_with, found_in, is_free_below, is_next_for, next_below, station_in, status_in, status_on};
+ghost use Rattle.dnp_world.specs.Controls.{ControlEnds, IsAccepted, IsControlFor, IsRefusedFor, IsRefusedOn, IsTold, Passes, PassesBack, StopsBack, StopsFor, StopsOn, StopsRelaying, are_quiet_for, first_with, found_in, is_free_below, is_next_for, next_below, substation_in, status_in, status_on};
 ghost use Rattle.dnp_world.specs.Wholes.{seen_by};
 
 use super::Parts;
@@ -143,56 +143,57 @@ impl<Q: PairLanes, J: JournalStore, A: Book, B: Book> Parts<Q, J, A, B> {
     }
 
     /// The id of the concentrator's next pending control for the substation.
-    fn next_below(&mut self, alloc: Global, station: u8) -> Result<Option<u64>, Cause>
+    fn next_below(&mut self, alloc: Global, substation: u8) -> Result<Option<u64>, Cause>
         ensures held { ⟦<Self as Stored>⟧.well self.new → ⟦<Self as Stored>⟧.well self.old }
         ensures same { ⟦<Self as Stored>⟧.well self.new → self.new.system ≡ self.old.system }
-        ensures value { ⟦<Self as Stored>⟧.well self.new → IfOk result (λ id. id ≡ next_below (seen_by 0 self.old.system) station) }
+        ensures value { ⟦<Self as Stored>⟧.well self.new → IfOk result (λ id. id ≡ next_below (seen_by 0 self.old.system) substation) }
         ensures device { TellsDevice (⟦<Self as Stored>⟧.is_stopped self.old) (⟦<Self as Stored>⟧.is_stopped self.new) (result ≡ Err Cause.Device) }
         ensures memory { result ≡ Err Cause.Memory → IsTrue A.asks_memory }
     {
         let book = self.concentrator.book();
-        Ok(id_of(next_for(alloc, book, station)?))
+        Ok(id_of(next_for(alloc, book, substation)?))
     }
 
     /// The substation that the control of this id in the centre's book is for.
-    fn station_of(&mut self, alloc: Global, centre: u8, id: u64) -> Result<Option<u8>, Cause>
+    fn substation_for(&mut self, alloc: Global, centre: u8, id: u64) -> Result<Option<u8>, Cause>
         requires { centre < CENTRES }
         ensures held { ⟦<Self as Stored>⟧.well self.new → ⟦<Self as Stored>⟧.well self.old }
         ensures same { ⟦<Self as Stored>⟧.well self.new → self.new.system ≡ self.old.system }
-        ensures value { ⟦<Self as Stored>⟧.well self.new → IfOk result (λ station. station ≡ station_in (seen_by centre self.old.system) id) }
+        ensures value { ⟦<Self as Stored>⟧.well self.new → IfOk result (λ substation. substation ≡ substation_in (seen_by centre self.old.system) id) }
         ensures device { TellsDevice (⟦<Self as Stored>⟧.is_stopped self.old) (⟦<Self as Stored>⟧.is_stopped self.new) (result ≡ Err Cause.Device) }
     {
         let Some(entry) = self.entry_above(alloc, centre, id)? else {
             return Ok(None);
         };
         match self.map.command_below(&entry.command) {
-            Some((station, _)) => Ok(Some(station)),
+            Some((substation, _)) => Ok(Some(substation)),
             None => Ok(None),
         }
     }
 
     /// Whether the link to the centre is quiet, and that to the substation.
-    fn are_quiet(&self, centre: u8, station: Option<u8>) -> bool
+    fn are_quiet(&self, centre: u8, substation: Option<u8>) -> bool
         requires { centre < CENTRES }
-        ensures { result ≡ are_quiet_for (seen_by centre self.now.system) station }
+        ensures { result ≡ are_quiet_for (seen_by centre self.now.system) substation }
     {
-        match station {
-            Some(station) => self.quiet(Link::Above(centre)) && self.quiet(Link::Below(station)),
+        match substation {
+            Some(substation) => self.quiet(Link::Above(centre))
+                && self.quiet(Link::Below(substation)),
             None => self.quiet(Link::Above(centre)),
         }
     }
 
     /// Whether the concentrator has no control pending or in progress for the substation, which is one of the plan.
-    fn is_free(&mut self, alloc: Global, station: u8) -> Result<bool, Cause>
-        requires { has_link self.old.system (link.Below station) ≡ true }
+    fn is_free(&mut self, alloc: Global, substation: u8) -> Result<bool, Cause>
+        requires { has_link self.old.system (link.Below substation) ≡ true }
         ensures held { ⟦<Self as Stored>⟧.well self.new → ⟦<Self as Stored>⟧.well self.old }
         ensures same { ⟦<Self as Stored>⟧.well self.new → self.new.system ≡ self.old.system }
-        ensures value { ⟦<Self as Stored>⟧.well self.new → IfOk result (λ free. free ≡ is_free_below (seen_by 0 self.old.system) (Some station)) }
+        ensures value { ⟦<Self as Stored>⟧.well self.new → IfOk result (λ free. free ≡ is_free_below (seen_by 0 self.old.system) (Some substation)) }
         ensures device { TellsDevice (⟦<Self as Stored>⟧.is_stopped self.old) (⟦<Self as Stored>⟧.is_stopped self.new) (result ≡ Err Cause.Device) }
         ensures memory { result ≡ Err Cause.Memory → IsTrue A.asks_memory }
     {
-        let idle = self.concentrator.in_progress(station).is_none();
-        let next = self.next_below(alloc, station)?;
+        let idle = self.concentrator.in_progress(substation).is_none();
+        let next = self.next_below(alloc, substation)?;
         Ok(next.is_none() && idle)
     }
 
@@ -211,18 +212,18 @@ impl<Q: PairLanes, J: JournalStore, A: Book, B: Book> Parts<Q, J, A, B> {
         alloc: Global,
         centre: u8,
         id: u64,
-        station: Option<u8>,
+        substation: Option<u8>,
     ) -> Result<bool, Cause>
         requires centre { centre < CENTRES }
-        requires planned { IfSome station (λ s. has_link self.old.system (link.Below s) ≡ true) }
+        requires planned { IfSome substation (λ s. has_link self.old.system (link.Below s) ≡ true) }
         ensures held { ⟦<Self as Stored>⟧.well self.new → ⟦<Self as Stored>⟧.well self.old }
         ensures same { ⟦<Self as Stored>⟧.well self.new → self.new.system ≡ self.old.system }
-        ensures value { ⟦<Self as Stored>⟧.well self.new → IfOk result (λ next. next ≡ is_next_for (seen_by centre self.old.system) id station) }
+        ensures value { ⟦<Self as Stored>⟧.well self.new → IfOk result (λ next. next ≡ is_next_for (seen_by centre self.old.system) id substation) }
         ensures device { TellsDevice (⟦<Self as Stored>⟧.is_stopped self.old) (⟦<Self as Stored>⟧.is_stopped self.new) (result ≡ Err Cause.Device) }
         ensures memory { result ≡ Err Cause.Memory → IsTrue A.asks_memory ⊎ IsTrue B.asks_memory }
     {
-        let free = match station {
-            Some(station) => self.is_free(alloc, station)?,
+        let free = match substation {
+            Some(substation) => self.is_free(alloc, substation)?,
             None => true,
         };
         let alone = self.in_progress_above(centre).unwrap_or(id) == id;
@@ -313,21 +314,21 @@ impl<Q: PairLanes, J: JournalStore, A: Book, B: Book> Parts<Q, J, A, B> {
         alloc: Global,
         centre: u8,
         id: u64,
-        station: Option<u8>,
+        substation: Option<u8>,
         carrier: &mut C,
     ) -> Result<(), ControlFault>
         requires { centre < CENTRES }
         ensures held { ⟦<Self as Stored>⟧.well self.new → ⟦<Self as Stored>⟧.well self.old }
-        ensures done { ⟦<Self as Stored>⟧.well self.new → OnOk result (IsControlFor HappensToAll (seen_by centre) centre station id self.old.system self.new.system) }
-        ensures ended { ⟦<Self as Stored>⟧.well self.new → IfErr result (EndsBy (λ status. IsRefusedFor HappensToAll (seen_by centre) centre station id status self.old.system self.new.system) (StopsFor HappensToAll (seen_by centre) may_stop centre station id self.old.system self.new.system)) }
+        ensures done { ⟦<Self as Stored>⟧.well self.new → OnOk result (IsControlFor HappensToAll (seen_by centre) centre substation id self.old.system self.new.system) }
+        ensures ended { ⟦<Self as Stored>⟧.well self.new → IfErr result (EndsBy (λ status. IsRefusedFor HappensToAll (seen_by centre) centre substation id status self.old.system self.new.system) (StopsFor HappensToAll (seen_by centre) may_stop centre substation id self.old.system self.new.system)) }
         ensures device { TellsDeviceOver C.refuses (⟦<Self as Stored>⟧.is_stopped self.old) (⟦<Self as Stored>⟧.is_stopped self.new) (result ≡ Err (ControlFault.Fault Cause.Device)) }
     {
         self.relay_through(alloc, Link::Above(centre), Some(id), carrier)?;
-        let Some(station) = station else {
+        let Some(substation) = substation else {
             return Ok(());
         };
-        let queued = self.next_below(alloc, station)?;
-        self.relay_through(alloc, Link::Below(station), queued, carrier)
+        let queued = self.next_below(alloc, substation)?;
+        self.relay_through(alloc, Link::Below(substation), queued, carrier)
     }
 
     /// The control of this id, which is for this substation, goes as `clean_control` says. The link to the centre was asked
@@ -337,22 +338,22 @@ impl<Q: PairLanes, J: JournalStore, A: Book, B: Book> Parts<Q, J, A, B> {
         alloc: Global,
         centre: u8,
         id: u64,
-        station: Option<u8>,
+        substation: Option<u8>,
         carrier: &mut C,
     ) -> Result<(), ControlFault>
         requires { centre < CENTRES }
         ensures held { ⟦<Self as Stored>⟧.well self.new → ⟦<Self as Stored>⟧.well self.old }
-        ensures ends { ⟦<Self as Stored>⟧.well self.new → station ≡ station_in (seen_by centre self.old.system) id
+        ensures ends { ⟦<Self as Stored>⟧.well self.new → substation ≡ substation_in (seen_by centre self.old.system) id
             → ControlEnds HappensToAll (seen_by centre) may_stop centre id self.old.system result self.new.system }
         ensures device { TellsDeviceOver C.refuses (⟦<Self as Stored>⟧.is_stopped self.old) (⟦<Self as Stored>⟧.is_stopped self.new) (result ≡ Err (ControlFault.Fault Cause.Device)) }
     {
-        if !self.are_quiet(centre, station) {
+        if !self.are_quiet(centre, substation) {
             return Err(ControlFault::NotQuiet);
         }
-        if !self.is_next(alloc, centre, id, station)? {
+        if !self.is_next(alloc, centre, id, substation)? {
             return Err(ControlFault::NotNext);
         }
-        self.relay_all(alloc, centre, id, station, carrier)
+        self.relay_all(alloc, centre, id, substation, carrier)
     }
 
     /// The control of this id goes from the centre to its substation, over quiet links. Refused, with nothing changed, is
@@ -374,7 +375,7 @@ impl<Q: PairLanes, J: JournalStore, A: Book, B: Book> Parts<Q, J, A, B> {
         if !self.quiet(Link::Above(centre)) {
             return Err(ControlFault::NotQuiet);
         }
-        let station = self.station_of(alloc, centre, id)?;
-        self.relay_next(alloc, centre, id, station, carrier)
+        let substation = self.substation_for(alloc, centre, id)?;
+        self.relay_next(alloc, centre, id, substation, carrier)
     }
 }

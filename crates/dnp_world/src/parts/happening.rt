@@ -33,7 +33,7 @@ fn link_of(event: &Event) -> Option<Link>
         Event::Issue { centre, .. } => Some(Link::Above(*centre)),
         Event::Pass(_) | Event::Restart(Place::Concentrator) => None,
         Event::Restart(Place::Centre(centre)) => Some(Link::Above(*centre)),
-        Event::Restart(Place::Substation(station)) => Some(Link::Below(*station)),
+        Event::Restart(Place::Substation(substation)) => Some(Link::Below(*substation)),
     }
 }
 
@@ -102,8 +102,8 @@ impl<Q: PairLanes, J: JournalStore, A: Book, B: Book> Parts<Q, J, A, B> {
             Event::Pass(ms) => self.pass(*ms),
             Event::Restart(Place::Centre(centre)) => self.restart_centre(*centre),
             Event::Restart(Place::Concentrator) => self.restart_concentrator(alloc),
-            Event::Restart(Place::Substation(station)) => {
-                return self.restart_substation(alloc, *station);
+            Event::Restart(Place::Substation(substation)) => {
+                return self.restart_substation(alloc, *substation);
             }
         }
         Ok(())

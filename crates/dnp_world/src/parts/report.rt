@@ -8,7 +8,7 @@ ghost use Rattle.dnp_world.specs.Kept.{lane_rows_of};
 ghost use Rattle.dnp_world.specs.ReportShown.{AreById, IsDroppedOf, IsJournalOf, IsQueueOf, Shows, all_in, lists_of};
 ghost use Rattle.dnp_world.specs.Stations.{listed_from};
 ghost use Rattle.dnp_world.specs.SystemParts.{substation_of};
-ghost use Rattle.dnp_world.specs.Systems.{at_station};
+ghost use Rattle.dnp_world.specs.Systems.{at_substation};
 ghost use Rattle.dnp_world.specs.Wholes.{seen_by};
 
 use super::Parts;
@@ -71,17 +71,17 @@ struct Copies {
 /// Puts the rows in the lanes of the substation of this number after the list, lane by lane.
 fn put_buffered(
     alloc: Global,
-    substation: &mut Substation,
-    station: u8,
+    below: &mut Substation,
+    substation: u8,
     list: &mut Vec<(u8, Row)>,
 ) -> Result<(), Cause>
-    ensures same { substation_of substation.new ≡ substation_of substation.old }
-    ensures rows { OnOk result (list.new.items ≡ list.old.items ++ at_station station (lane_rows_of (substation_of substation.old))) }
+    ensures same { substation_of below.new ≡ substation_of below.old }
+    ensures rows { OnOk result (list.new.items ≡ list.old.items ++ at_substation substation (lane_rows_of (substation_of below.old))) }
     ensures named { result ≢ Err Cause.Exhausted }
     ensures device { result ≢ Err Cause.Device }
 {
-    let rows = all_rows(alloc, substation.outstation.lanes())?;
-    put_rows_of(list, station, rows.as_slice())?;
+    let rows = all_rows(alloc, below.outstation.lanes())?;
+    put_rows_of(list, substation, rows.as_slice())?;
     Ok(())
 }
 

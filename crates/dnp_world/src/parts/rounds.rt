@@ -27,9 +27,9 @@ impl<Q: PairLanes, J: JournalStore, A: Book, B: Book> Parts<Q, J, A, B> {
             return false;
         }
         match on {
-            Link::Below(station) => {
-                self.concentrator.idle_below(station)
-                    && self.substations[usize::from(station)].quiet()
+            Link::Below(substation) => {
+                self.concentrator.idle_below(substation)
+                    && self.substations[usize::from(substation)].quiet()
             }
             Link::Above(centre) => {
                 self.centres.at(centre).idle()

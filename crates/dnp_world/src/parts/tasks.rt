@@ -144,21 +144,21 @@ fn send_relayed(
 
 impl<Q: PairLanes, J: JournalStore, A: Book, B: Book> Parts<Q, J, A, B> {
     /// The concentrator's master of a substation asks a task of its own. What it refuses does nothing.
-    fn ask_below(&mut self, station: u8, task: Task) -> Result<(), Cause>
-        requires { has_link self.old.system (link.Below station) ≡ true }
+    fn ask_below(&mut self, substation: u8, task: Task) -> Result<(), Cause>
+        requires { has_link self.old.system (link.Below substation) ≡ true }
         ensures held { ⟦<Self as Stored>⟧.well self.new → ⟦<Self as Stored>⟧.well self.old }
-        ensures done { ⟦<Self as Stored>⟧.well self.new → OnOk result (ChangesAll None (AsksOn true (link.Below station) task) self.old.system self.new.system) }
+        ensures done { ⟦<Self as Stored>⟧.well self.new → OnOk result (ChangesAll None (AsksOn true (link.Below substation) task) self.old.system self.new.system) }
         ensures stopped { ⟦<Self as Stored>⟧.well self.new → OnErr result (self.new.system ≡ self.old.system) }
         ensures device { TellsDevice (⟦<Self as Stored>⟧.is_stopped self.old) (⟦<Self as Stored>⟧.is_stopped self.new) (result ≡ Err Cause.Device) }
     {
-        let channel = &mut self.substations[usize::from(station)].channel;
+        let channel = &mut self.substations[usize::from(substation)].channel;
         let Ok(()) = channel.reserve_down() else {
             return Err(Cause::Memory);
         };
         let request = &mut channel.request;
         let asked = self
             .concentrator
-            .ask_below_into(request, station, self.moment, task);
+            .ask_below_into(request, substation, self.moment, task);
         send_asked(channel, &asked);
         Ok(())
     }
@@ -190,7 +190,7 @@ impl<Q: PairLanes, J: JournalStore, A: Book, B: Book> Parts<Q, J, A, B> {
         ensures { result ≡ is_idle (relaying_at (seen_at (centre_of on) self.now.system) on).master }
     {
         match on {
-            Link::Below(station) => self.concentrator.idle_below(station),
+            Link::Below(substation) => self.concentrator.idle_below(substation),
             Link::Above(centre) => self.centres.at(centre).idle(),
         }
     }
@@ -219,29 +219,29 @@ impl<Q: PairLanes, J: JournalStore, A: Book, B: Book> Parts<Q, J, A, B> {
             return Ok(());
         }
         match on {
-            Link::Below(station) => self.ask_below(station, task),
+            Link::Below(substation) => self.ask_below(substation, task),
             Link::Above(centre) => self.ask_above(centre, task),
         }
     }
 
     /// A step of relaying the concentrator's controls to a substation.
-    fn relay_below(&mut self, alloc: Global, station: u8) -> Result<(), Cause>
-        requires { has_link self.old.system (link.Below station) ≡ true }
+    fn relay_below(&mut self, alloc: Global, substation: u8) -> Result<(), Cause>
+        requires { has_link self.old.system (link.Below substation) ≡ true }
         ensures held { ⟦<Self as Stored>⟧.well self.new → ⟦<Self as Stored>⟧.well self.old }
-        ensures done { ⟦<Self as Stored>⟧.well self.new → OnOk result (ChangesAll None (RelaysOn (link.Below station)) self.old.system self.new.system) }
+        ensures done { ⟦<Self as Stored>⟧.well self.new → OnOk result (ChangesAll None (RelaysOn (link.Below substation)) self.old.system self.new.system) }
         ensures stopped { ⟦<Self as Stored>⟧.well self.new → OnErr result (self.new.system ≡ self.old.system) }
         ensures device { TellsDevice (⟦<Self as Stored>⟧.is_stopped self.old) (⟦<Self as Stored>⟧.is_stopped self.new) (result ≡ Err Cause.Device) }
         ensures never { result ≢ Err Cause.Exhausted }
-        ensures dead { asks_book (link_at (seen_by 0 self.old.system).concentrator station) ≡ true → IsTrue (A.is_stopped self.old.stores.controls) → IsErr result }
+        ensures dead { asks_book (link_at (seen_by 0 self.old.system).concentrator substation) ≡ true → IsTrue (A.is_stopped self.old.stores.controls) → IsErr result }
     {
-        let channel = &mut self.substations[usize::from(station)].channel;
+        let channel = &mut self.substations[usize::from(substation)].channel;
         let Ok(()) = channel.reserve_down() else {
             return Err(Cause::Memory);
         };
         let request = &mut channel.request;
         let relayed = self
             .concentrator
-            .relay_into(request, alloc, station, self.moment);
+            .relay_into(request, alloc, substation, self.moment);
         send_relayed(channel, &relayed)
     }
 
@@ -281,7 +281,7 @@ impl<Q: PairLanes, J: JournalStore, A: Book, B: Book> Parts<Q, J, A, B> {
             return Ok(());
         }
         match on {
-            Link::Below(station) => self.relay_below(alloc, station),
+            Link::Below(substation) => self.relay_below(alloc, substation),
             Link::Above(centre) => self.relay_above(alloc, centre),
         }
     }
@@ -290,24 +290,24 @@ impl<Q: PairLanes, J: JournalStore, A: Book, B: Book> Parts<Q, J, A, B> {
     pub(crate) fn change(
         &mut self,
         alloc: Global,
-        station: u8,
+        substation: u8,
         kind: Kind,
         index: u16,
         reading: Reading,
     ) -> Result<(), Cause>
-        requires { has_link self.old.system (link.Below station) ≡ true }
+        requires { has_link self.old.system (link.Below substation) ≡ true }
         ensures held { ⟦<Self as Stored>⟧.well self.new → ⟦<Self as Stored>⟧.well self.old }
-        ensures done { ⟦<Self as Stored>⟧.well self.new → OnOk result (ChangesAll None (Reads station kind index reading) self.old.system self.new.system) }
+        ensures done { ⟦<Self as Stored>⟧.well self.new → OnOk result (ChangesAll None (Reads substation kind index reading) self.old.system self.new.system) }
         ensures stopped { ⟦<Self as Stored>⟧.well self.new → OnErr result (self.new.system ≡ self.old.system) }
-        ensures named { OnErr result (takes_reading (slice_get self.old.system.substations station) kind index reading ≡ true) }
+        ensures named { OnErr result (takes_reading (slice_get self.old.system.substations substation) kind index reading ≡ true) }
         ensures device { TellsDevice (⟦<Self as Stored>⟧.is_stopped self.old) (⟦<Self as Stored>⟧.is_stopped self.new) (result ≡ Err Cause.Device) }
     {
-        let substation = &mut self.substations[usize::from(station)];
-        substation.change(
+        let below = &mut self.substations[usize::from(substation)];
+        below.change(
             &mut self.actions,
             alloc,
             self.moment,
-            station,
+            substation,
             kind,
             index,
             reading,
@@ -320,14 +320,14 @@ impl<Q: PairLanes, J: JournalStore, A: Book, B: Book> Parts<Q, J, A, B> {
         &mut self,
         alloc: Global,
         centre: u8,
-        station: u8,
+        substation: u8,
         command: &Command,
     ) -> Result<(), Cause>
         requires { centre < CENTRES }
         ensures held { ⟦<Self as Stored>⟧.well self.new → ⟦<Self as Stored>⟧.well self.old }
-        ensures done { ⟦<Self as Stored>⟧.well self.new → OnOk result (ChangesAll (Some centre) (λ s t. IssuesBy (command_above s.centre.indices station command.now) station command.now s t) self.old.system self.new.system) }
+        ensures done { ⟦<Self as Stored>⟧.well self.new → OnOk result (ChangesAll (Some centre) (λ s t. IssuesBy (command_above s.centre.indices substation command.now) substation command.now s t) self.old.system self.new.system) }
         ensures stopped { ⟦<Self as Stored>⟧.well self.new → OnErr result (self.new.system ≡ self.old.system) }
-        ensures named { OnErr result (is_some (command_above (seen_by centre self.old.system).centre.indices station command.now) ≡ true) }
+        ensures named { OnErr result (is_some (command_above (seen_by centre self.old.system).centre.indices substation command.now) ≡ true) }
         // Exhausted only where the book has no number left; out of memory before the book is asked, or where it has one.
         ensures exhausted { ⟦<Self as Stored>⟧.well self.new → result ≡ Err Cause.Exhausted → MAX_ID ≤ (seen_by centre self.old.system).centre.orders.last_id }
         ensures exhausted_first { ⟦<Self as Stored>⟧.well self.new → result ≡ Err Cause.Memory
@@ -335,13 +335,14 @@ impl<Q: PairLanes, J: JournalStore, A: Book, B: Book> Parts<Q, J, A, B> {
         ensures device { TellsDevice (⟦<Self as Stored>⟧.is_stopped self.old) (⟦<Self as Stored>⟧.is_stopped self.new) (result ≡ Err Cause.Device) }
     {
         has_widths(command);
-        if !self.centres.at(centre).has_output(station, command) {
+        if !self.centres.at(centre).has_output(substation, command) {
             return Ok(());
         }
         self.history.issued.reserve(1)?;
-        match self.centres.at_mut(centre).issue(alloc, station, command) {
+        let to = self.centres.at_mut(centre);
+        match to.issue(alloc, substation, command) {
             Ok(_) => {
-                self.history.issued.put(station, *command);
+                self.history.issued.put(substation, *command);
                 Ok(())
             }
             Err(IssueFault::NoOutput) => Ok(()),

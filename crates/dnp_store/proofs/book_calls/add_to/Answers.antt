@@ -1,51 +1,18 @@
-use Rattle.std.proofs.Common.{rules, ◌≡◌, ◌+◌, ◌∷◌, [], Err, ap, arith, inr, subst, sym, true}
+use Rattle.std.proofs.Common.{rules, ◌≡◌, ◌+◌, ◌∷◌, [], Err, List, ℕ, ap, subst, sym}
 use Rattle.sqlite.specs.State.{HasCleanDisk}
 use Rattle.sqlite.specs.Held.{state}
+use Rattle.dnp_controls.specs.declared.book.Entry.{Entry}
+use Rattle.dnp_controls.specs.declared.book.BookFault.TheVariants as fault
+use Rattle.dnp_store.specs.BookTables.{HoldsBook, IsBook}
+use Rattle.dnp_store.specs.declared.store_kind.StoreKind.TheVariants.{Book}
+use Rattle.dnp_store.specs.steps.Writing.{IsWritten}
 use Rattle.dnp_controls.specs.Book.{IsSound, Ledger, added}
 use Rattle.dnp_controls.specs.Moves.{Add}
 use Rattle.dnp_store.specs.BookKept.{IsPast, Stands}
 use Rattle.dnp_store.proofs.BookPlaces.{past_push}
-use Rattle.dnp_store.proofs.BookStanding.{either_of, kept_standing, leaves_before, leaves_last}
-use Rattle.dnp_store.proofs.Refusing.{lost_book}
+use Rattle.dnp_store.proofs.BookStanding.{holding}
+use Rattle.dnp_store.proofs.Writing.{refused_first, refused_write, was_written}
 use Rattle.dnp_store.proofs.book_calls.add_to.Goals as goal
-
-pub returns-then-last-ge-MAX_ID-clause-either : goal.returns-then-last-ge-MAX_ID-clause-either
-returns-then-last-ge-MAX_ID-clause-either g c clean stood =
-    leaves_before (state g.S.Store c.args.conn.now) _ _ (g.met.S.Store.settled c.args.conn.now.store) stood
-
-pub returns-then-is_err-clause-either : goal.returns-then-is_err-clause-either
-returns-then-is_err-clause-either g c clean stood =
-    leaves_before (state g.S.Store c.args.conn.now) _ _ (g.met.S.Store.settled c.args.conn.now.store) stood
-
-pub returns-in-Err-clause-stands : goal.returns-in-Err-clause-stands
-returns-in-Err-clause-stands g c clean stood other =
-    let early : HasCleanDisk (state g.S.Store c.write_added.new.conn) = omega (arith, clean, c.is_lost-lost.ensures.survives.clean) in
-    let same : c.args.entries.now.items ≡ c.reserve.new.self.items = search rules in
-    subst (λ es. Stands (state g.S.Store c.is_lost-lost.new.conn) (record { entries = es; last_id = c.args.last_id.now })) same
-    (kept_standing (state g.S.Store c.args.conn.now) (state g.S.Store c.write_added.new.conn) (state g.S.Store c.is_lost-lost.new.conn) c.is_lost-lost.result
-    c.book_fault.result (record { entries = c.args.entries.now.items; last_id = c.args.last_id.now }) c.book_fault.ensures.stopped (λ e. other (ap Err e))
-    (c.is_lost-lost.ensures.serves clean) (c.is_lost-lost.ensures.same clean) (c.in-Err.ensures.err early) stood)
-
-pub returns-in-Err-clause-device : goal.returns-in-Err-clause-device
-returns-in-Err-clause-device g c clean told =
-    let early : HasCleanDisk (state g.S.Store c.write_added.new.conn) = omega (arith, clean, c.is_lost-lost.ensures.survives.clean) in
-    let lost : c.is_lost-lost.result ≡ true = lost_book c.is_lost-lost.result c.book_fault.result c.book_fault.ensures.serves told in
-    record { between = c.write_added.new.conn; error = _; refused = c.in-Err.ensures.refused early; lost = c.is_lost-lost.ensures.lost clean lost }
-
-pub returns-in-Err-clause-either : goal.returns-in-Err-clause-either
-returns-in-Err-clause-either g c clean stood =
-    let book : Ledger = (record { entries = c.args.entries.now.items; last_id = c.args.last_id.now }) in
-    let old = state g.S.Store c.args.conn.now in
-    let mid = state g.S.Store c.write_added.new.conn in
-    let new = state g.S.Store c.is_lost-lost.new.conn in
-    let early : HasCleanDisk mid = omega (arith, clean, c.is_lost-lost.ensures.survives.clean) in
-    either_of old mid new book (added book c.args.target c.args.command.now) _ (λ db commits. commits book c.requires.sound stood) clean early
-    (g.met.S.Store.settled c.args.conn.now.store) stood c.write_added.ensures.survives c.is_lost-lost.ensures.survives
-
-pub returns-in-Err-clause-clean : goal.returns-in-Err-clause-clean
-returns-in-Err-clause-clean g c clean =
-    let early : HasCleanDisk (state g.S.Store c.write_added.new.conn) = omega (arith, clean, c.is_lost-lost.ensures.survives.clean) in
-    omega (arith, early, c.write_added.ensures.survives.clean)
 
 -- the entries afterwards
 added_is : (g : _) (c : goal.After-push-room g) → added (record { entries = c.args.entries.now.items; last_id = c.args.last_id.now }) c.args.target c.args.command.now
@@ -69,17 +36,38 @@ pub returns-clause-past : goal.returns-clause-past
 returns-clause-past g c first past =
     subst (λ (b : Ledger). IsPast b.entries first) (added_is g c) (past_push c.args.entries.now.items first _ past)
 
-pub returns-clause-stands : goal.returns-clause-stands
-returns-clause-stands g c clean stood other = subst (Stands (state g.S.Store c.write_added.new.conn)) (added_is g c) (written g c clean stood)
+-- a call that refuses, also where the entries have made room
+pub returns-then-last-ge-MAX_ID-clause-written : goal.returns-then-last-ge-MAX_ID-clause-written
+returns-then-last-ge-MAX_ID-clause-written g c =
+    refused_first g.S.Store Book fault.Device IsBook HoldsBook holding _ _ c.args.conn.now _ (λ e. absurd cc) (g.met.S.Store.settled c.args.conn.now.store)
+    c.requires.idle
 
-pub returns-clause-either : goal.returns-clause-either
-returns-clause-either g c clean stood db may =
-    inr (leaves_last (state g.S.Store c.write_added.new.conn) _ (g.met.S.Store.settled c.write_added.new.conn.store) (written g c clean stood) db may)
+pub returns-then-is_err-clause-written : goal.returns-then-is_err-clause-written
+returns-then-is_err-clause-written g c =
+    let book : Ledger = record { entries = c.args.entries.now.items; last_id = c.args.last_id.now } in
+    let same : c.args.entries.now.items ≡ c.reserve.new.self.items = search rules in
+    subst (λ (es : List Entry). IsWritten {A = ℕ} {I = Unit {0}} g.S.Store Book fault.Device IsBook HoldsBook (λ _. book)
+    (λ _. added book c.args.target c.args.command.now) (λ _. record { entries = es; last_id = c.args.last_id.now }) c.args.conn.now c.args.conn.now
+    (Err fault.Memory)) same
+    (refused_first g.S.Store Book fault.Device IsBook HoldsBook holding _ _ c.args.conn.now _ (λ e. absurd cc) (g.met.S.Store.settled c.args.conn.now.store)
+    c.requires.idle)
 
-pub returns-clause-after : goal.returns-clause-after
-returns-clause-after g c clean stood =
-    leaves_last (state g.S.Store c.write_added.new.conn) _ (g.met.S.Store.settled c.write_added.new.conn.store)
-    (subst (Stands (state g.S.Store c.write_added.new.conn)) (added_is g c) (written g c clean stood))
+pub returns-in-Err-clause-written : goal.returns-in-Err-clause-written
+returns-in-Err-clause-written g c =
+    let book : Ledger = record { entries = c.args.entries.now.items; last_id = c.args.last_id.now } in
+    let wrote = c.write_added.ensures in
+    let asked = c.is_lost-lost.ensures in
+    let same : c.args.entries.now.items ≡ c.reserve.new.self.items = search rules in
+    subst (λ (es : List Entry). IsWritten {A = ℕ} {I = Unit {0}} g.S.Store Book fault.Device IsBook HoldsBook (λ _. book)
+    (λ _. added book c.args.target c.args.command.now) (λ _. record { entries = es; last_id = c.args.last_id.now }) c.args.conn.now
+    c.is_lost-lost.new.conn (Err c.book_fault.result)) same
+    (refused_write g.S.Store Book fault.Device IsBook HoldsBook holding _ _ c.args.conn.now c.write_added.new.conn c.is_lost-lost.new.conn _
+    c.is_lost-lost.result c.book_fault.result _ (g.met.S.Store.settled c.args.conn.now.store) (λ _ stood db commits. commits book c.requires.sound stood)
+    wrote.survives c.in-Err.ensures.err c.in-Err.ensures.refused asked.survives asked.idle asked.same asked.serves asked.lost c.book_fault.ensures.stopped
+    (λ serves told. absurd (let is = c.book_fault.ensures.serves serves in cc)))
 
-pub returns-clause-clean : goal.returns-clause-clean
-returns-clause-clean g c clean = omega (arith, clean, c.write_added.ensures.survives.clean)
+pub returns-clause-written : goal.returns-clause-written
+returns-clause-written g c =
+    was_written g.S.Store Book fault.Device IsBook HoldsBook holding _ _ _ c.args.conn.now c.write_added.new.conn _ _
+    (g.met.S.Store.settled c.write_added.new.conn.store) (λ _. added_is g c) c.write_added.ensures.idle c.write_added.ensures.survives
+    (λ clean _ stood. written g c clean stood)

@@ -1,13 +1,16 @@
-use Rattle.std.proofs.Common.{rules, ◌≡◌, ◌++◌, take, drop, length, Err, ap, arith, inr, subst, sym, true}
+use Rattle.std.proofs.Common.{◌≡◌, ◌++◌, take, drop, length, ap, arith, subst, sym}
 use Rattle.sqlite.specs.State.{HasCleanDisk}
 use Rattle.sqlite.specs.Held.{state}
+use Rattle.dnp_controls.specs.declared.book.BookFault.TheVariants as fault
+use Rattle.dnp_store.specs.BookTables.{HoldsBook, IsBook}
+use Rattle.dnp_store.specs.declared.store_kind.StoreKind.TheVariants.{Book}
 use Rattle.dnp_controls.specs.Book.{Has, IsSound, Ledger, in_state}
 use Rattle.dnp_store.specs.BookKept.{IsPast, Stands}
 use Rattle.dnp_store.specs.steps.Turning.{may_turn}
 use Rattle.dnp_store.proofs.BookPlaces.{id_low, past_turned}
-use Rattle.dnp_store.proofs.BookStanding.{either_of, kept_standing, leaves_before, leaves_last}
+use Rattle.dnp_store.proofs.BookStanding.{holding, not_device}
 use Rattle.dnp_store.proofs.BookTurning.{granted_there, not_pending, sound_turned, turned_is}
-use Rattle.dnp_store.proofs.Refusing.{lost_book}
+use Rattle.dnp_store.proofs.Writing.{refused_too, refused_write, was_written}
 use Rattle.dnp_store.proofs.book_calls.turn_to.Goals as goal
 
 pub write_turned-requires-clause-id : goal.write_turned-requires-clause-id
@@ -15,42 +18,6 @@ write_turned-requires-clause-id g c =
     let items = c.args.entries.now.items in
     let has = subst (λ es. Has es c.args.id (λ from. may_turn from c.args.control.now)) c.deref.ensures.value c.in_ok-granted.ensures.granted in
     omega (arith, id_low (record { entries = items; last_id = c.args.last_id }) c.args.id c.requires.sound (granted_there items c.args.id _ has), c.requires.range)
-
-pub returns-in_err-granted-clause-either : goal.returns-in_err-granted-clause-either
-returns-in_err-granted-clause-either g c clean stood =
-    leaves_before (state g.S.Store c.args.conn.now) _ _ (g.met.S.Store.settled c.args.conn.now.store) stood
-
-pub returns-in-Err-clause-stands : goal.returns-in-Err-clause-stands
-returns-in-Err-clause-stands g c clean stood other =
-    let early : HasCleanDisk (state g.S.Store c.write_turned.new.conn) = omega (arith, clean, c.is_lost-lost.ensures.survives.clean) in
-    kept_standing (state g.S.Store c.args.conn.now) (state g.S.Store c.write_turned.new.conn) (state g.S.Store c.is_lost-lost.new.conn) c.is_lost-lost.result
-    c.book_fault.result (record { entries = c.args.entries.now.items; last_id = c.args.last_id }) c.book_fault.ensures.stopped (λ e. other (ap Err e))
-    (c.is_lost-lost.ensures.serves clean) (c.is_lost-lost.ensures.same clean) (c.in-Err.ensures.err early) stood
-
-pub returns-in-Err-clause-device : goal.returns-in-Err-clause-device
-returns-in-Err-clause-device g c clean told =
-    let early : HasCleanDisk (state g.S.Store c.write_turned.new.conn) = omega (arith, clean, c.is_lost-lost.ensures.survives.clean) in
-    let lost : c.is_lost-lost.result ≡ true = lost_book c.is_lost-lost.result c.book_fault.result c.book_fault.ensures.serves told in
-    record { between = c.write_turned.new.conn; error = _; refused = c.in-Err.ensures.refused early; lost = c.is_lost-lost.ensures.lost clean lost }
-
-pub returns-in-Err-clause-either : goal.returns-in-Err-clause-either
-returns-in-Err-clause-either g c clean stood =
-    let items = c.args.entries.now.items in
-    let id = c.args.id in
-    let book : Ledger = record { entries = items; last_id = c.args.last_id } in
-    let old = state g.S.Store c.args.conn.now in
-    let mid = state g.S.Store c.write_turned.new.conn in
-    let new = state g.S.Store c.is_lost-lost.new.conn in
-    let early : HasCleanDisk mid = omega (arith, clean, c.is_lost-lost.ensures.survives.clean) in
-    let has = subst (λ es. Has es id (λ from. may_turn from c.args.control.now)) c.deref.ensures.value c.in_ok-granted.ensures.granted in
-    either_of old mid new book (record book { entries = in_state items id c.args.control.now }) _
-    (λ db commits. commits book c.requires.sound (granted_there items id _ has) stood) clean early (g.met.S.Store.settled c.args.conn.now.store) stood
-    c.write_turned.ensures.survives c.is_lost-lost.ensures.survives
-
-pub returns-in-Err-clause-clean : goal.returns-in-Err-clause-clean
-returns-in-Err-clause-clean g c clean =
-    let early : HasCleanDisk (state g.S.Store c.write_turned.new.conn) = omega (arith, clean, c.is_lost-lost.ensures.survives.clean) in
-    omega (arith, early, c.write_turned.ensures.survives.clean)
 
 -- the control may come into the state
 has : (g : _) (c : goal.After-entries-1 g) → Has c.args.entries.now.items c.args.id (λ from. may_turn from c.args.control.now)
@@ -94,17 +61,26 @@ returns-clause-past g c first past =
     subst (λ (b : Ledger). IsPast b.entries first) (entries_are g c)
     (past_turned items first c.args.id control (not_pending items c.args.id control (has g c)) past)
 
-pub returns-clause-stands : goal.returns-clause-stands
-returns-clause-stands g c clean stood other = subst (Stands (state g.S.Store c.write_turned.new.conn)) (entries_are g c) (written g c clean stood)
+pub returns-in_err-granted-clause-written : goal.returns-in_err-granted-clause-written
+returns-in_err-granted-clause-written g c =
+    refused_too g.S.Store Book fault.Device IsBook HoldsBook holding _ _ c.args.conn.now _ c.from_residual.result c.from_residual.ensures
+    (not_device _ c.in_err-granted.ensures.named) (g.met.S.Store.settled c.args.conn.now.store) c.requires.idle
 
-pub returns-clause-either : goal.returns-clause-either
-returns-clause-either g c clean stood db may =
-    inr (leaves_last (state g.S.Store c.write_turned.new.conn) _ (g.met.S.Store.settled c.write_turned.new.conn.store) (written g c clean stood) db may)
+pub returns-in-Err-clause-written : goal.returns-in-Err-clause-written
+returns-in-Err-clause-written g c =
+    let items = c.args.entries.now.items in
+    let id = c.args.id in
+    let has = subst (λ es. Has es id (λ from. may_turn from c.args.control.now)) c.deref.ensures.value c.in_ok-granted.ensures.granted in
+    let wrote = c.write_turned.ensures in
+    let asked = c.is_lost-lost.ensures in
+    refused_write g.S.Store Book fault.Device IsBook HoldsBook holding _ _ c.args.conn.now c.write_turned.new.conn c.is_lost-lost.new.conn _
+    c.is_lost-lost.result c.book_fault.result _ (g.met.S.Store.settled c.args.conn.now.store)
+    (λ _ stood db commits. commits (record { entries = items; last_id = c.args.last_id }) c.requires.sound (granted_there items id _ has) stood) wrote.survives
+    c.in-Err.ensures.err c.in-Err.ensures.refused asked.survives asked.idle asked.same asked.serves asked.lost c.book_fault.ensures.stopped
+    (λ serves told. absurd (let is = c.book_fault.ensures.serves serves in cc))
 
-pub returns-clause-after : goal.returns-clause-after
-returns-clause-after g c clean stood =
-    leaves_last (state g.S.Store c.write_turned.new.conn) _ (g.met.S.Store.settled c.write_turned.new.conn.store)
-    (subst (Stands (state g.S.Store c.write_turned.new.conn)) (entries_are g c) (written g c clean stood))
-
-pub returns-clause-clean : goal.returns-clause-clean
-returns-clause-clean g c clean = omega (arith, clean, c.write_turned.ensures.survives.clean)
+pub returns-clause-written : goal.returns-clause-written
+returns-clause-written g c =
+    was_written g.S.Store Book fault.Device IsBook HoldsBook holding _ _ _ c.args.conn.now c.write_turned.new.conn _ _
+    (g.met.S.Store.settled c.write_turned.new.conn.store) (λ _. entries_are g c) c.write_turned.ensures.idle c.write_turned.ensures.survives
+    (λ clean _ stood. written g c clean stood)

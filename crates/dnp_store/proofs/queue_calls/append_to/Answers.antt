@@ -1,14 +1,13 @@
-use Rattle.std.proofs.Common.{inr, ◌≡◌, true, Err, ap, arith, subst, sym}
-use Rattle.sqlite.specs.State.{HasCleanDisk}
-use Rattle.sqlite.specs.Held.{state}
+use Rattle.std.proofs.Common.{ap, arith, sym}
+use Rattle.dnp_objects.specs.declared.store.StoreFault.TheVariants as store
+use Rattle.dnp_store.specs.PairTables.{HoldsPair, IsPair}
+use Rattle.dnp_store.specs.declared.store_kind.StoreKind.TheVariants.{Queue}
 use Rattle.dnp_eventbuf.specs.Sound.{IsSound}
 use Rattle.dnp_eventbuf.specs.Stock.{Stock, with_rows}
-use Rattle.dnp_store.specs.Kept.{Stands}
 use Rattle.dnp_store.specs.steps.Pairs.{sides_of}
 use Rattle.dnp_store.proofs.Trimming.{last_rows}
-use Rattle.dnp_store.proofs.Standing.{either_of, kept_standing, leaves_before, leaves_last}
-use Rattle.dnp_store.proofs.Statements.{survives_as}
-use Rattle.dnp_store.proofs.Refusing.{lost_if}
+use Rattle.dnp_store.proofs.Standing.{device_is, device_not, holding}
+use Rattle.dnp_store.proofs.Writing.{refused_too, refused_write, was_written}
 use Rattle.dnp_store.proofs.queue_calls.append_to.Goals as goal
 
 pub write_append-requires-clause-after : goal.write_append-requires-clause-after
@@ -22,58 +21,21 @@ write_append-requires-clause-few g c =
     let last = after.last_id_at_most in
     omega (arith, last, last_rows c.args.lanes.now c.args.rows.now)
 
-pub returns-in-Err-clause-stands : goal.returns-in-Err-clause-stands
-returns-in-Err-clause-stands g c clean others stood other =
-    let early : HasCleanDisk (state g.S.Store c.write_append.new.conn) = omega (arith, clean, c.is_lost-lost.ensures.survives.clean) in
-    kept_standing (state g.S.Store c.args.conn.now) (state g.S.Store c.write_append.new.conn) (state g.S.Store c.is_lost-lost.new.conn) c.is_lost-lost.result
-    c.fault.result (sides_of c.args.side c.args.lanes.now others) c.fault.ensures (λ e. other (ap Err e)) (c.is_lost-lost.ensures.serves clean) (c.is_lost-lost.ensures.same clean)
-    (c.in-Err.ensures.err early) stood
+pub returns-in_err-dropped-clause-written : goal.returns-in_err-dropped-clause-written
+returns-in_err-dropped-clause-written g c =
+    refused_too g.S.Store Queue store.Device IsPair HoldsPair holding _ _ c.args.conn.now _ c.from_residual.result c.from_residual.ensures c.in_err-dropped.ensures.named
+    (g.met.S.Store.settled c.args.conn.now.store) c.requires.idle
 
-pub returns-in-Err-clause-device : goal.returns-in-Err-clause-device
-returns-in-Err-clause-device g c clean told =
-    let early : HasCleanDisk (state g.S.Store c.write_append.new.conn) = omega (arith, clean, c.is_lost-lost.ensures.survives.clean) in
-    let lost : c.is_lost-lost.result ≡ true = lost_if c.is_lost-lost.result c.fault.result c.fault.ensures told in
-    record { between = c.write_append.new.conn; error = _; refused = c.in-Err.ensures.refused early; lost = c.is_lost-lost.ensures.lost clean lost }
+pub returns-in-Err-clause-written : goal.returns-in-Err-clause-written
+returns-in-Err-clause-written g c =
+    let wrote = c.write_append.ensures in
+    let asked = c.is_lost-lost.ensures in
+    refused_write g.S.Store Queue store.Device IsPair HoldsPair holding _ _ c.args.conn.now c.write_append.new.conn c.is_lost-lost.new.conn _ c.is_lost-lost.result c.fault.result _
+    (g.met.S.Store.settled c.args.conn.now.store) (λ others stood db made. made others stood) wrote.survives c.in-Err.ensures.err c.in-Err.ensures.refused
+    asked.survives asked.idle asked.same asked.serves asked.lost (device_is c.is_lost-lost.result c.fault.result c.fault.ensures)
+    (device_not c.is_lost-lost.result c.fault.result c.fault.ensures)
 
-pub returns-in-Err-clause-either : goal.returns-in-Err-clause-either
-returns-in-Err-clause-either g c clean others stood db may =
-    let s = c.args.lanes.now in
-    let old = state g.S.Store c.args.conn.now in
-    let mid = state g.S.Store c.write_append.new.conn in
-    let new = state g.S.Store c.is_lost-lost.new.conn in
-    let early : HasCleanDisk mid = omega (arith, clean, c.is_lost-lost.ensures.survives.clean) in
-    either_of old mid new (sides_of c.args.side s others) (sides_of c.args.side (with_rows s c.args.rows.now) others) clean early
-    (g.met.S.Store.settled c.args.conn.now.store) stood (survives_as old mid _ _ (λ db made. made others) c.write_append.ensures.survives)
-    c.is_lost-lost.ensures.survives db may
-
-pub returns-in_err-dropped-clause-either : goal.returns-in_err-dropped-clause-either
-returns-in_err-dropped-clause-either g c clean others stood =
-    leaves_before (state g.S.Store c.args.conn.now) _ _ (g.met.S.Store.settled c.args.conn.now.store) stood
-
--- what was written holds the rows too
-written : (g : _) (c : goal.After-put_all g) → HasCleanDisk (state g.S.Store c.write_append.new.conn) → (others : Stock)
-    → Stands (state g.S.Store c.args.conn.now) (sides_of c.args.side c.args.lanes.now others)
-    → Stands (state g.S.Store c.write_append.new.conn) (sides_of c.args.side c.put_all.new.self others)
-written g c clean others stood =
-    subst (λ (t : Stock). Stands (state g.S.Store c.write_append.new.conn) (sides_of c.args.side t others)) (sym c.put_all.ensures.with)
-    (c.in_default.ensures.ok clean others stood)
-
-pub returns-clause-stands : goal.returns-clause-stands
-returns-clause-stands g c clean others stood other = written g c clean others stood
-
-pub returns-clause-either : goal.returns-clause-either
-returns-clause-either g c clean others stood db may =
-    inr (leaves_last (state g.S.Store c.write_append.new.conn) _ (g.met.S.Store.settled c.write_append.new.conn.store)
-    (c.in_default.ensures.ok clean others stood) db may)
-
-pub returns-clause-after : goal.returns-clause-after
-returns-clause-after g c clean others stood =
-    leaves_last (state g.S.Store c.write_append.new.conn) _ (g.met.S.Store.settled c.write_append.new.conn.store) (written g c clean others stood)
-
-pub returns-in-Err-clause-clean : goal.returns-in-Err-clause-clean
-returns-in-Err-clause-clean g c clean =
-    let early : HasCleanDisk (state g.S.Store c.write_append.new.conn) = omega (arith, clean, c.is_lost-lost.ensures.survives.clean) in
-    omega (arith, early, c.write_append.ensures.survives.clean)
-
-pub returns-clause-clean : goal.returns-clause-clean
-returns-clause-clean g c clean = omega (arith, clean, c.write_append.ensures.survives.clean)
+pub returns-clause-written : goal.returns-clause-written
+returns-clause-written g c =
+    was_written g.S.Store Queue store.Device IsPair HoldsPair holding _ _ _ c.args.conn.now c.write_append.new.conn _ _ (g.met.S.Store.settled c.write_append.new.conn.store)
+    (λ others. ap (λ (t : Stock). sides_of c.args.side t others) (sym c.put_all.ensures.with)) c.write_append.ensures.idle c.write_append.ensures.survives c.in_default.ensures.ok

@@ -21,7 +21,8 @@ laws_of c = record {
 same_of : goal.After-equality_is_decided → SameLaw
 same_of c = λ command. (c.equality_is_decided.ensures.commands.decides command command).1 refl
 
-reports : (s : State) (now : ℕ) (octets : List ℕ) → uns_in octets ≡ true → (r : Result Taking MasterFault) → receive_of s now octets ≡ r → IfOk r (PassesReport s)
+reports : (s : State) (now : ℕ) (octets : List ℕ) → uns_in octets ≡ true → (r : Result Taking MasterFault) → receive_of s now octets ≡ r
+    → IfOk r (PassesReport s)
 reports s now octets uns (Ok t) is = report_heard s now octets t uns is
 reports s now octets uns (Err fault) is = tt
 

@@ -25,7 +25,7 @@ tests_of c = record {
   pairs = c.equality_is_decided.ensures.pairs nat_eq row_eq c.equality_is_decided.ensures.numbers c.equality_is_decided.ensures.rows;
 }
 
-goes_on : RowTests → (old new : System) (came : ℕ → List Row) → HappenedAsEvents old → ((station : ℕ) → All IsEvent (came station))
+goes_on : RowTests → (old new : System) (came : ℕ → List Row) → HappenedAsEvents old → ((substation : ℕ) → All IsEvent (came substation))
     → IsFate came (report_of old) (report_of new) → HappenedAsEvents new
 goes_on tests old new came events each fate = all_fated tests RowIsEvent came (report_of old) (report_of new) fate each events
 
@@ -40,10 +40,10 @@ pub returns-clause-goes_on : goal.returns-clause-goes_on
 returns-clause-goes_on c = goes_on (tests_of c)
 
 pub returns-clause-kept : goal.returns-clause-kept
-returns-clause-kept c old new el station events keeps =
-    goes_on (tests_of c) old new (made_at station []) events (all_made RowIsEvent station [] (All-nil IsEvent)) keeps.fate
+returns-clause-kept c old new el substation events keeps =
+    goes_on (tests_of c) old new (made_at substation []) events (all_made RowIsEvent substation [] (All-nil IsEvent)) keeps.fate
 
 pub returns-clause-read : goal.returns-clause-read
-returns-clause-read c old new el station points made events keeps =
-    goes_on (tests_of c) old new (made_at station (rows_made_by points made)) events
-    (all_made RowIsEvent station (rows_made_by points made) (all_made_events c.a_change_makes_what_its_lane_takes.ensures points made)) keeps.fate
+returns-clause-read c old new el substation points made events keeps =
+    goes_on (tests_of c) old new (made_at substation (rows_made_by points made)) events
+    (all_made RowIsEvent substation (rows_made_by points made) (all_made_events c.a_change_makes_what_its_lane_takes.ensures points made)) keeps.fate

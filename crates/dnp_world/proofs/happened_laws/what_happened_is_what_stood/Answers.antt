@@ -12,4 +12,4 @@ laws_of c = record {
 }
 
 pub returns : goal.returns
-returns c = λ s el h station. happened_stood (laws_of c) s.indices h.links (kept_in s) h.behind station
+returns c = λ s el h substation. happened_stood (laws_of c) s.indices h.links (kept_in s) h.behind substation

@@ -34,4 +34,5 @@ returns-clause-appended g c = λ others s rows carried room h.
     )
 
 pub returns-clause-sink : goal.returns-clause-sink
-returns-clause-sink g c = λ others s sink h. record { link = h.link; stands = h.stands; joined = c.appends_by_others_are_moves.ensures.sink others s sink h.link h.joined }
+returns-clause-sink g c =
+    λ others s sink h. record { link = h.link; stands = h.stands; joined = c.appends_by_others_are_moves.ensures.sink others s sink h.link h.joined }

@@ -53,14 +53,14 @@ reports_of c = record {
 
 moves : goal.After-each_case_says_what_came → (on : Link) (old new : System) {el : Elsewhere} → IsSteadyBeside el old → is_quiet_on old on ≡ true
     → IsRound Happens itself on old new → RoundMoves on old new
-moves c (Below station) old new steady quiet round = record {
-  polled = polled_below (stations_of c) (lines_of c) (lanes_of c) station old new steady quiet round;
+moves c (Below substation) old new steady quiet round = record {
+  polled = polled_below (stations_of c) (lines_of c) (lanes_of c) substation old new steady quiet round;
   repeated = λ again. (passed again).moves;
   busy = λ again. (passed again).busy;
 }
   where
-    passed : is_repeated_on old (Below station) ≡ true → PassedBelow station old new
-    passed = repeated_below (stations_of c) (lines_of c) (lanes_of c) station old new steady quiet round (reports_of c) c.each_case_says_what_came.ensures
+    passed : is_repeated_on old (Below substation) ≡ true → PassedBelow substation old new
+    passed = repeated_below (stations_of c) (lines_of c) (lanes_of c) substation old new steady quiet round (reports_of c) c.each_case_says_what_came.ensures
 moves c (Above centre) old new steady quiet round = record {
   polled = polled_above (stations_of c) (lines_of c) (lanes_of c) centre old new steady quiet round;
   repeated = λ again. (passed again).moves;

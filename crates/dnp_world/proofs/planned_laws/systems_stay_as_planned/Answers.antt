@@ -30,11 +30,11 @@ returns-clause-at_first c plan centre queue journal controls orders limits = rec
 }
 
 pub returns-clause-kept : goal.returns-clause-kept
-returns-clause-kept c old new el station event h happens keeps =
+returns-clause-kept c old new el substation event h happens keeps =
     goes_on old new h (asked_keep old new (touches old new event happens))
-    (c.what_happens_is_of_the_plan.ensures.kept h.plan old new el station event h.happened happens keeps)
+    (c.what_happens_is_of_the_plan.ensures.kept h.plan old new el substation event h.happened happens keeps)
 
 pub returns-clause-read : goal.returns-clause-read
-returns-clause-read c old new el station kind index reading h happens reads keeps =
-    goes_on old new h (asked_keep old new (touches old new (event.Change station kind index reading) happens))
-    (c.what_happens_is_of_the_plan.ensures.read h.plan old new el station kind index reading h.happened reads keeps)
+returns-clause-read c old new el substation kind index reading h happens reads keeps =
+    goes_on old new h (asked_keep old new (touches old new (event.Change substation kind index reading) happens))
+    (c.what_happens_is_of_the_plan.ensures.read h.plan old new el substation kind index reading h.happened reads keeps)

@@ -49,17 +49,17 @@ class_laws_of c = record {
 }
 
 -- the rows that a reading makes
-made_planned : MakesEvents → (plan : Plan) (s : System) (station : ℕ) (kind : Kind) (index : ℕ) (reading : Reading) (was : SubstationState)
-    → HavePlannedPoints plan s → slice_get s.substations station ≡ Some was
-    → All (λ row. IsPlanned plan (station, row)) (rows_made_by was.core.points (event.Change kind index reading ∷ []))
-made_planned makes plan s station kind index reading was planned there =
-    let classes : IsSomeAnd (slice_get plan.substations station) (λ x. HasClassesBelow x was.core.points) =
+made_planned : MakesEvents → (plan : Plan) (s : System) (substation : ℕ) (kind : Kind) (index : ℕ) (reading : Reading) (was : SubstationState)
+    → HavePlannedPoints plan s → slice_get s.substations substation ≡ Some was
+    → All (λ row. IsPlanned plan (substation, row)) (rows_made_by was.core.points (event.Change kind index reading ∷ []))
+made_planned makes plan s substation kind index reading was planned there =
+    let classes : IsSomeAnd (slice_get plan.substations substation) (λ x. HasClassesBelow x was.core.points) =
     subst
-    (λ (o : Option SubstationState). IfSome o (λ is. IsSomeAnd (slice_get plan.substations station) (λ x. HasClassesBelow x is.core.points)))
-    there (planned station) in
+    (λ (o : Option SubstationState). IfSome o (λ is. IsSomeAnd (slice_get plan.substations substation) (λ x. HasClassesBelow x is.core.points)))
+    there (planned substation) in
     λ k d low. (
       all_made_events makes was.core.points (event.Change kind index reading ∷ []) k d low,
-      by (slice_get plan.substations station) classes k d low,
+      by (slice_get plan.substations substation) classes k d low,
     )
   where
     by : (o : Option SubPlan) → IsSomeAnd o (λ x. HasClassesBelow x was.core.points)
@@ -75,20 +75,20 @@ returns-clause-at_first c plan centre queue journal controls orders limits = rec
 }
 
 pub returns-clause-kept : goal.returns-clause-kept
-returns-clause-kept c plan old new el station event planned happens keeps = record {
+returns-clause-kept c plan old new el substation event planned happens keeps = record {
   points = c.substations_keep_their_points.ensures plan old new event happens planned.points;
-  rows = all_fated (tests_of c) (IsPlanned plan) (made_at station []) (report_of old) (report_of new) keeps.fate
-      (all_made (IsPlanned plan) station [] (All-nil (λ (row : Row). IsPlanned plan (station, row)))) planned.rows;
+  rows = all_fated (tests_of c) (IsPlanned plan) (made_at substation []) (report_of old) (report_of new) keeps.fate
+      (all_made (IsPlanned plan) substation [] (All-nil (λ (row : Row). IsPlanned plan (substation, row)))) planned.rows;
 }
 
 pub returns-clause-read : goal.returns-clause-read
-returns-clause-read c plan old new el station kind index reading planned reads keeps =
+returns-clause-read c plan old new el substation kind index reading planned reads keeps =
     let made : List Row = rows_made_by reads.was.core.points (event.Change kind index reading ∷ []) in
     record {
-      points = planned_on (class_laws_of c) plan old new (touched_by_reading station kind index reading old new reads) planned.points;
-      rows = all_fated (tests_of c) (IsPlanned plan) (made_at station made) (report_of old) (report_of new) keeps.fate
-          (all_made (IsPlanned plan) station made
-          (made_planned c.a_change_makes_what_its_lane_takes.ensures plan old station kind index reading reads.was planned.points reads.there))
+      points = planned_on (class_laws_of c) plan old new (touched_by_reading substation kind index reading old new reads) planned.points;
+      rows = all_fated (tests_of c) (IsPlanned plan) (made_at substation made) (report_of old) (report_of new) keeps.fate
+          (all_made (IsPlanned plan) substation made
+          (made_planned c.a_change_makes_what_its_lane_takes.ensures plan old substation kind index reading reads.was planned.points reads.there))
           planned.rows;
     }
 

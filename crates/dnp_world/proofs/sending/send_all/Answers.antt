@@ -27,7 +27,8 @@ loop-fragment-preserved c =
           subst (λ (line : HeldLine). IsSending fs (i + 1) c.args.line.now c.args.port.now line c.match-fragment.port) (sym w.line-is)
           (subst (λ (port : PortState). IsSending fs (i + 1) c.args.line.now c.args.port.now w.send.new.line port) (sym w.port-is)
           (some_sent fs i c.args.line.now c.loop-fragment.line w.send.new.line c.args.port.now c.loop-fragment.port w.send.new.port
-          c.fragment-item.result w.in-Some.octets c.loop-fragment.invariant c.loop-fragment-test.true c.fragment-item.is w.in-Some.is sent w.send.ensures.room)))
+          c.fragment-item.result w.in-Some.octets c.loop-fragment.invariant c.loop-fragment-test.true c.fragment-item.is w.in-Some.is sent
+          w.send.ensures.room)))
       | in_default w ↦
           (subst (λ (line : HeldLine). IsSending fs (i + 1) c.args.line.now c.args.port.now line c.match-fragment.port) (sym w.line-is)
           (subst (λ (port : PortState). IsSending fs (i + 1) c.args.line.now c.args.port.now c.loop-fragment.line port) (sym w.port-is)

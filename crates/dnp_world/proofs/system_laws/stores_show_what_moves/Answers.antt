@@ -7,7 +7,7 @@ use Rattle.dnp_world.proofs.SystemMapping.{queued_undone, added_orders, added_un
 use Rattle.dnp_world.proofs.system_laws.stores_show_what_moves.Goals as goal
 
 pub returns-clause-queued : goal.returns-clause-queued
-returns-clause-queued c = λ indices points station rows m all. queued_undone c.rows_above_are_undone.ensures indices m points station rows all
+returns-clause-queued c = λ indices points substation rows m all. queued_undone c.rows_above_are_undone.ensures indices m points substation rows all
 
 pub returns-clause-added : goal.returns-clause-added
 returns-clause-added c = λ indices book commands. (added_orders indices book commands, added_unused indices book commands)
@@ -17,5 +17,8 @@ returns-clause-spent c = λ book id entry is pending.
     (in_state_same order_of (λ e state. refl) book.entries id Spent, spent_used order_of (λ e state. refl) book.entries id entry is pending)
 
 pub returns-clause-finished : goal.returns-clause-finished
-returns-clause-finished c = λ book id status.
-    (in_state_same order_of (λ e state. refl) book.entries id (Finished status), in_state_used order_of (λ e state. refl) book.entries id (Finished status) refl)
+returns-clause-finished c = λ book id status. (
+  in_state_same order_of (λ e state. refl) book.entries id (Finished status),
+  in_state_used order_of (λ e state. refl) book.entries id
+      (Finished status) refl,
+)

@@ -18,7 +18,8 @@ invariant_of-self-2 c =
     let place : lane ≡ lane_at s n = sym c.index-self-number.is
     ∙ get_or_read_under c.self.inside.lanes c.number.result LANES c.index-self-number.result no_lane c.index-self-number.is c.number.ensures.range (sym c.self.invariant.nine)
     ∙ ap (lane_at s) c.number.ensures.value in
-    let takes : (not (is_full lane) && nat_lt (last_of lane.rows) c.args.id) ≡ true = sym c.takes.ensures ∙ c.if-not-takes.false in
+    let takes : (not (is_full lane) && nat_lt (last_of lane.rows) c.args.id) ≡ true =
+    subst (λ (l : LaneState). (not (is_full l) && nat_lt (last_of l.rows) c.args.id) ≡ true) c.lane.view_is (sym c.takes.ensures ∙ c.if-not-takes.false) in
     let room : is_full (lane_at s n) ≡ false = ap is_full (sym place) ∙ has_room lane c.args.id takes in
     let over : last_of (lane_at s n).rows < c.args.id = subst (λ (l : LaneState). last_of l.rows < c.args.id) place (is_above lane c.args.id takes) in
     let upto : c.args.id ≤ s.last_id = let h = c.if-last_id-id.false in omega arith in

@@ -114,10 +114,20 @@ returns-clause-confirmed g c = λ honest p.
     ∙ c.in_ok-starts.ensures.ends written now step lanes_here refl (c.is_due-is_due.ensures.value step.state.core refl refl refl free)
     ∙ c.end_call.ensures.ended honest step.state now refl refl refl c.deadline-ends.ensures
 
-pub returns-in_err-release_into-clause-memory : goal.returns-in_err-release_into-clause-memory
-returns-in_err-release_into-clause-memory g c = λ honest failed asks none.
-    let written = c.in_err-release_into.ensures.call.held honest in
-    let read = c.in_ok-starts.ensures.look.held written in
-    let empty : rows_in (g.L.Lanes.contents c.write_ending.new.lanes) ≡ [] =
-    ap rows_in (c.in_ok-starts.ensures.look.same written ∙ c.in_ok-next.ensures.look.same read) ∙ none in
-    released_is_there (g.L.Lanes.contents c.write_ending.new.lanes) c.in-Some.awaited.upto (c.in_err-release_into.ensures.memory (search rules) asks) empty
+pub returns-in_err-release_into-clause-releases : goal.returns-in_err-release_into-clause-releases
+returns-in_err-release_into-clause-releases g c = record {
+  held = search rules;
+  place = search rules;
+  beside = search rules;
+  unchanged = search rules;
+  device = search rules;
+  runs_on = search rules;
+  memory = λ honest failed asks none.
+      let written = c.in_err-release_into.ensures.call.held honest in
+      let read = c.in_ok-starts.ensures.look.held written in
+      let empty : rows_in (g.L.Lanes.contents c.write_ending.new.lanes) ≡ [] =
+      ap rows_in (c.in_ok-starts.ensures.look.same written ∙ c.in_ok-next.ensures.look.same read) ∙ none in
+      released_is_there (g.L.Lanes.contents c.write_ending.new.lanes) c.in-Some.awaited.upto (c.in_err-release_into.ensures.memory (search rules) asks) empty;
+  named = search rules;
+  faults = search rules;
+}

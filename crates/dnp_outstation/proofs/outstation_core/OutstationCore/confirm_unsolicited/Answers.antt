@@ -14,13 +14,23 @@ use Rattle.dnp_outstation.proofs.HeldRead.{with_switches, held_switched, held_st
 use Rattle.dnp_outstation.proofs.NoRows.{released_is_there}
 use Rattle.dnp_outstation.proofs.outstation_core.OutstationCore.confirm_unsolicited.Goals as goal
 
-pub returns-in_err-release_into-clause-memory : goal.returns-in_err-release_into-clause-memory
-returns-in_err-release_into-clause-memory g c = λ honest failed asks none.
-    let written = c.in_err-release_into.ensures.call.held honest in
-    let read = c.in_ok-starts.ensures.look.held written in
-    let empty : rows_in (g.L.Lanes.contents c.write_ending.new.lanes) ≡ [] =
-    ap rows_in (c.in_ok-starts.ensures.look.same written ∙ c.in_ok-held.ensures.look.same read) ∙ none in
-    released_is_there (g.L.Lanes.contents c.write_ending.new.lanes) c.in-Some.response.upto (c.in_err-release_into.ensures.memory (search rules) asks) empty
+pub returns-in_err-release_into-clause-releases : goal.returns-in_err-release_into-clause-releases
+returns-in_err-release_into-clause-releases g c = record {
+  held = search rules;
+  place = search rules;
+  beside = search rules;
+  unchanged = search rules;
+  device = search rules;
+  runs_on = search rules;
+  memory = λ honest failed asks none.
+      let written = c.in_err-release_into.ensures.call.held honest in
+      let read = c.in_ok-starts.ensures.look.held written in
+      let empty : rows_in (g.L.Lanes.contents c.write_ending.new.lanes) ≡ [] =
+      ap rows_in (c.in_ok-starts.ensures.look.same written ∙ c.in_ok-held.ensures.look.same read) ∙ none in
+      released_is_there (g.L.Lanes.contents c.write_ending.new.lanes) c.in-Some.response.upto (c.in_err-release_into.ensures.memory (search rules) asks) empty;
+  named = search rules;
+  faults = search rules;
+}
 
 pub returns-clause-confirmed : goal.returns-clause-confirmed
 returns-clause-confirmed g c = λ honest p.

@@ -1,76 +1,43 @@
-use Rattle.std.proofs.Common.{rules, ◌≡◌, None, arith, ◌∙◌}
-use Rattle.sqlite.specs.State.{HasCleanDisk}
-use Rattle.sqlite.specs.Held.{state}
-use Rattle.dnp_controls.specs.Book.{Ledger}
-use Rattle.dnp_store.proofs.BookOpening.{found_again}
+use Rattle.std.proofs.Common.{arith}
+use Rattle.dnp_store.proofs.Beginning.{inside_not, inside_wrong}
 use Rattle.dnp_store.proofs.BookPlaces.{past_none}
-use Rattle.dnp_store.proofs.Statements.{survives_on}
-use Rattle.dnp_store.proofs.Standing.{survives_itself}
 use Rattle.dnp_store.proofs.book.ControlBook.open.Goals as goal
 
 pub invariant_of-result : goal.invariant_of-result
-invariant_of-result g c =
-    let old = state g.S.Store c.args.conn in
-    let mid = state g.S.Store c.read_book.new.conn in
-    let new = state g.S.Store c.last_fault.new.conn in
-    let serving : c.last_fault.result ≡ None = search rules in
-    let book : Ledger = record { entries = c.read_book.new.entries.items; last_id = c.in-Ok.found.last_id } in
-    record {
-      idle = c.last_fault.ensures.idle;
-      sound = c.in-Ok.ensures.sound;
-      past = past_none c.read_book.new.entries.items;
-      last_in_range = c.in-Ok.ensures.range;
-      stands = λ _ own clean.
-          let early : HasCleanDisk mid = omega (arith, clean, c.last_fault.ensures.survives.clean) in
-          let is_open = c.last_fault.ensures.open clean serving in
-          let s = c.last_fault.ensures.same clean is_open in
-          found_again old new book is_open (s.1 ∙ (c.read_book.ensures.same early s.0).1) (c.in-Ok.ensures.read early own);
-    }
+invariant_of-result g c = record {
+  idle = c.in-Ok.ensures.found.begins.idle;
+  sound = c.in-Ok.ensures.sound.0;
+  past = past_none c.find_book.new.entries.items;
+  last_in_range = c.in-Ok.ensures.sound.1;
+  stands = λ _ own clean. (c.in-Ok.ensures.found.found clean own).stands;
+}
 
-pub returns-in_default-clause-stands : goal.returns-in_default-clause-stands
-returns-in_default-clause-stands g c clean own =
-    let old = state g.S.Store c.args.conn in
-    let mid = state g.S.Store c.read_book.new.conn in
-    let new = state g.S.Store c.last_fault.new.conn in
-    let serving : c.last_fault.result ≡ None = search rules in
-    let book : Ledger = record { entries = c.read_book.new.entries.items; last_id = c.in-Ok.found.last_id } in
-    let early : HasCleanDisk mid = omega (arith, clean, c.last_fault.ensures.survives.clean) in
-    let is_open = c.last_fault.ensures.open clean serving in
-    let s = c.last_fault.ensures.same clean is_open in
-    found_again old new book is_open (s.1 ∙ (c.read_book.ensures.same early s.0).1) (c.in-Ok.ensures.read early own)
+pub returns-in-Ok-clause-inside : goal.returns-in-Ok-clause-inside
+returns-in-Ok-clause-inside g c inside = inside_not g.S.Store _ c.args.conn c.find_book.new.conn _ c.in-Ok.ensures.found.begins inside
 
-pub returns-in_default-clause-unwritten : goal.returns-in_default-clause-unwritten
-returns-in_default-clause-unwritten g c =
-    survives_on (state g.S.Store c.args.conn) (state g.S.Store c.read_book.new.conn) (state g.S.Store c.last_fault.new.conn) _ c.read_book.ensures.survives
-    c.last_fault.ensures.survives
+pub returns-in-Err-clause-inside : goal.returns-in-Err-clause-inside
+returns-in-Err-clause-inside g c inside = inside_wrong g.S.Store _ c.args.conn c.find_book.new.conn c.in-Err.fault c.in-Err.ensures.found.begins inside
 
-pub returns-in-Some-clause-left : goal.returns-in-Some-clause-left
-returns-in-Some-clause-left g c =
-    survives_on (state g.S.Store c.args.conn) (state g.S.Store c.read_book.new.conn) (state g.S.Store c.last_fault.new.conn) _ c.read_book.ensures.survives
-    c.last_fault.ensures.survives
+pub returns-in-Ok-clause-held : goal.returns-in-Ok-clause-held
+returns-in-Ok-clause-held g c clean = omega (arith, clean, c.in-Ok.ensures.found.begins.survives.clean)
 
-pub returns-in-Some-clause-same : goal.returns-in-Some-clause-same
-returns-in-Some-clause-same g c clean opened =
-    let early : HasCleanDisk (state g.S.Store c.read_book.new.conn) = omega (arith, clean, c.last_fault.ensures.survives.clean) in
-    let late = c.last_fault.ensures.same clean opened in
-    late.1 ∙ (c.read_book.ensures.same early late.0).1
+pub returns-in-Ok-clause-found : goal.returns-in-Ok-clause-found
+returns-in-Ok-clause-found g c clean own = (c.in-Ok.ensures.found.found clean own).found
 
-pub returns-in-Some-clause-handed_back : goal.returns-in-Some-clause-handed_back
-returns-in-Some-clause-handed_back g c = (search rules, c.last_fault.ensures.survives.limit ∙ c.read_book.ensures.survives.limit)
+pub returns-in-Ok-clause-stands : goal.returns-in-Ok-clause-stands
+returns-in-Ok-clause-stands g c clean own = (c.in-Ok.ensures.found.found clean own).stands
 
-pub returns-in-Err-clause-left : goal.returns-in-Err-clause-left
-returns-in-Err-clause-left g c =
-    survives_on (state g.S.Store c.args.conn) (state g.S.Store c.read_book.new.conn) (state g.S.Store c.unread_fault-fault.new.conn) _
-    c.read_book.ensures.survives c.unread_fault-fault.ensures.survives
+pub returns-in-Ok-clause-unwritten : goal.returns-in-Ok-clause-unwritten
+returns-in-Ok-clause-unwritten g c = c.in-Ok.ensures.found.begins.survives
 
 pub returns-in-Err-clause-same : goal.returns-in-Err-clause-same
-returns-in-Err-clause-same g c clean opened =
-    let early : HasCleanDisk (state g.S.Store c.read_book.new.conn) = omega (arith, clean, c.unread_fault-fault.ensures.survives.clean) in
-    let late = c.unread_fault-fault.ensures.same clean opened in
-    late.1 ∙ (c.read_book.ensures.same early late.0).1
+returns-in-Err-clause-same g c = c.in-Err.ensures.found.begins.same
+
+pub returns-in-Err-clause-left : goal.returns-in-Err-clause-left
+returns-in-Err-clause-left g c = c.in-Err.ensures.found.begins.survives
 
 pub returns-in-Err-clause-handed_back : goal.returns-in-Err-clause-handed_back
-returns-in-Err-clause-handed_back g c = (search rules, c.unread_fault-fault.ensures.survives.limit ∙ c.read_book.ensures.survives.limit)
+returns-in-Err-clause-handed_back g c = (c.in-Err.ensures.found.begins.kept, c.in-Err.ensures.found.begins.survives.limit)
 
-pub returns-then-not-is_autocommit-clause-left : goal.returns-then-not-is_autocommit-clause-left
-returns-then-not-is_autocommit-clause-left g c = survives_itself (state g.S.Store c.args.conn)
+pub returns-in-Err-clause-current : goal.returns-in-Err-clause-current
+returns-in-Err-clause-current g c = c.in-Err.ensures.found.current

@@ -68,7 +68,7 @@ returns-in-Err-feed-clause-talks g c honest =
     let i = c.loop.invariant.3 honest in
     talks_ends S.opens S.receives S.asking c.args.now c.loop.counter c.args.turns _ _ _ _ c.loop.progress _ _ _ _ _ _
     (take c.in-Ok.count c.read_noted.new.piece) _ i c.in-Ok.ensures.octets.0
-    record { goes_on = c.loop.invariant.0.goes_on; answered = refl; short = inl refl }
+    record { goes_on = c.loop.invariant.0.goes_on; answered = refl; short = inl i.turns.ends.1 }
 
 pub returns-in-Ok-true-hear_each-clause-talks : goal.returns-in-Ok-true-hear_each-clause-talks
 returns-in-Ok-true-hear_each-clause-talks g c honest =

@@ -1,7 +1,7 @@
 use Rattle.std.proofs.Common.{[], refl, subst}
 use Rattle.dnp_streams.specs.streams.Dialogues.{Beginning, Dialogue}
 use Rattle.dnp_streams.specs.steps.Talking.{Turns, dialogue_of}
-use Rattle.dnp_streams.proofs.streams.Dialogues.{dialogue_is, begin_puts}
+use Rattle.dnp_streams.proofs.streams.Dialogues.{dialogue_is, begin_puts, turns_on}
 use Rattle.dnp_streams.proofs.stream.ask.begin.Goals as goal
 
 pub returns-clause-turns : goal.returns-clause-turns
@@ -12,9 +12,10 @@ returns-clause-turns g c honest =
     let port = c.args.port.now in
     let old = c.args.progress.now in
     let roomy = dialogue_of station port (record old { asked = c.make_room.new.self }) in
-    let new = dialogue_of (S.state c.finish.new.station) c.finish.new.port c.finish.new.progress in
+    let new = dialogue_of (S.state c.go_on.new.station) c.go_on.new.port c.go_on.new.progress in
     let told = c.make_room.ensures in
-    subst (λ (d : Dialogue S.State). Turns S.opens S.receives S.asking c.args.now d [] c.finish.result (W.contents c.args.out.now) (W.contents c.finish.new.out) new)
+    subst (λ (d : Dialogue S.State). Turns S.opens S.receives S.asking c.args.now d [] c.go_on.result (W.contents c.args.out.now) (W.contents c.go_on.new.out) new)
     (dialogue_is station station port port old.left.now old.left.now _ _ _ _ _ _ _ _ _ _ refl refl refl told.rows told.outcomes told.faults refl refl)
-    (c.finish.ensures.turns honest roomy Beginning c.requires.goes_on
-    (begin_puts S.opens S.receives S.asking c.args.now roomy _ c.open_to.new.out.items c.requires.begun (c.open_to.ensures.begins (c.finish.ensures.held honest))))
+    (turns_on S.opens S.receives S.asking c.args.now roomy _ new Beginning c.open_to.new.out.items c.go_on.result _ _ c.requires.goes_on
+    (begin_puts S.opens S.receives S.asking c.args.now roomy _ c.open_to.new.out.items c.requires.begun (c.open_to.ensures.begins (c.go_on.ensures.held honest)))
+    (c.go_on.ensures.turns honest))

@@ -1,11 +1,10 @@
-use Rattle.std.proofs.Common.{[], Err, arith, refl, subst}
-use Rattle.dnp_streams.specs.declared.stream.serve.ServeFault.TheVariants.{WriteFailed}
+use Rattle.std.proofs.Common.{[], arith, refl, subst}
 use Rattle.dnp_streams.specs.streams.Dialogues.{Dialogue}
 use Rattle.dnp_streams.specs.streams.LiveTalking.{Owing, Settled}
 use Rattle.dnp_streams.specs.steps.LiveTalking.{LiveTurns, standing}
 use Rattle.dnp_streams.specs.steps.Talking.{dialogue_of}
 use Rattle.dnp_streams.proofs.streams.Dialogues.{dialogue_is}
-use Rattle.dnp_streams.proofs.streams.LiveSteps.{live_cut, live_rests, live_then, live_ticks, live_wants}
+use Rattle.dnp_streams.proofs.streams.LiveSteps.{live_on, live_wants}
 use Rattle.dnp_streams.proofs.stream.live_ask_turns.pass_time.Goals as goal
 
 pub returns-in-Err-clause-turns : goal.returns-in-Err-clause-turns
@@ -16,22 +15,6 @@ returns-in-Err-clause-turns g c honest =
     live_wants S.opens S.receives S.asking S.life _ _ (standing (Owing []) c.args.now) (standing Settled c.args.now) (g.W.Write.contents c.args.out.now)
     (dialogue_is _ _ c.args.port.now c.args.port.now left left _ _ _ _ _ _ _ _ _ _ refl refl refl told.rows told.outcomes told.faults refl refl) c.requires.goes_on (omega arith)
 
-pub returns-in-Err-write_noted-clause-turns : goal.returns-in-Err-write_noted-clause-turns
-returns-in-Err-write_noted-clause-turns g c honest =
-    let S = g.S.Station in
-    let W = g.W.Write in
-    let station = S.state c.args.station.now in
-    let port = c.args.port.now in
-    let old = c.args.progress.now in
-    let roomy = dialogue_of station port (record old { asked = c.make_room.new.self }) in
-    let new = dialogue_of (S.state c.tick_to.new.station) c.tick_to.new.port c.tick_to.new.progress in
-    let told = c.make_room.ensures in
-    let (part, rest, split, appended) = c.in-Err-write_noted.ensures.part in
-    subst (λ (d : Dialogue S.State). LiveTurns S.opens S.receives S.asking S.life [] 0 d (standing (Owing []) c.args.now) (Err WriteFailed) (W.contents c.args.out.now) (W.contents c.write_noted.new.out) new (standing Settled c.args.now))
-    (dialogue_is station station port port old.left.now old.left.now _ _ _ _ _ _ _ _ _ _ refl refl refl told.rows told.outcomes told.faults refl refl)
-    (live_cut S.opens S.receives S.asking S.life c.args.now roomy new c.tick_to.new.kept.octets.items c.deref.result.now part rest _ _
-    c.requires.begun c.requires.goes_on c.requires.busy (c.tick_to.ensures.ticks honest) c.deref.ensures.0 split appended)
-
 pub returns-clause-turns : goal.returns-clause-turns
 returns-clause-turns g c honest =
     let S = g.S.Station in
@@ -40,14 +23,10 @@ returns-clause-turns g c honest =
     let port = c.args.port.now in
     let old = c.args.progress.now in
     let roomy = dialogue_of station port (record old { asked = c.make_room.new.self }) in
-    let ticked = dialogue_of (S.state c.tick_to.new.station) c.tick_to.new.port c.tick_to.new.progress in
     let new = dialogue_of (S.state c.go_on.new.station) c.go_on.new.port c.go_on.new.progress in
     let told = c.make_room.ensures in
-    let from = standing (Owing []) c.args.now in
-    let to = standing Settled c.args.now in
-    subst (λ (d : Dialogue S.State). LiveTurns S.opens S.receives S.asking S.life [] 0 d from c.go_on.result (W.contents c.args.out.now) (W.contents c.go_on.new.out) new to)
+    subst (λ (d : Dialogue S.State). LiveTurns S.opens S.receives S.asking S.life [] 0 d (standing (Owing []) c.args.now) c.go_on.result (W.contents c.args.out.now)
+    (W.contents c.go_on.new.out) new (standing Settled c.args.now))
     (dialogue_is station station port port old.left.now old.left.now _ _ _ _ _ _ _ _ _ _ refl refl refl told.rows told.outcomes told.faults refl refl)
-    (live_then S.opens S.receives S.asking S.life [] [] [] 0 0 0 roomy ticked new from to to c.go_on.result _ _ _
-    (live_ticks S.opens S.receives S.asking S.life c.args.now roomy ticked c.tick_to.new.kept.octets.items c.deref.result.now _ _
-    c.requires.begun c.requires.goes_on c.requires.busy (c.tick_to.ensures.ticks (c.go_on.ensures.held honest)) c.deref.ensures.0 c.in-Ok-write_noted.ensures.whole)
-    (live_rests S.opens S.receives S.asking S.life Settled c.args.now ticked new c.go_on.result _ _ (c.go_on.ensures.turns honest)) refl refl)
+    (live_on S.opens S.receives S.asking S.life c.args.now roomy _ new c.tick_to.new.kept.octets.items c.go_on.result _ _
+    c.requires.begun c.requires.goes_on c.requires.busy (c.tick_to.ensures.ticks (c.go_on.ensures.held honest)) (c.go_on.ensures.turns honest))

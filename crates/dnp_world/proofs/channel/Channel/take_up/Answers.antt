@@ -20,18 +20,19 @@ returns-in-Ok-clause-took g c = λ well.
     let a : MasterActions × List Row = (c.in-Ok.actions, c.in-Ok.other) in
     let master = g.E.MasterEnd.master c.args.end.now c.args.link in
     let made = receive_of master c.args.now fragment in
-    let few = few_dropped _ _ _ _ _ master fragment made _ _ c.take_in.result a (c.what_comes_is_taken_or_passed_over.ensures master c.args.now fragment)
-    c.take_in.ensures.takes c.in-Ok.is well in
+    let few = few_dropped _ _ _ _ _ master fragment made _ _ c.take_in.result a c.most_dropped.result
+    (c.what_comes_is_taken_or_passed_over.ensures master c.args.now fragment) (c.most_dropped.ensures c.args.link) c.take_in.ensures.takes c.in-Ok.is well in
     let first : c.extend_from_slice.new.self.items ≡ was.first.items ++ a.0.dropped =
-    all_listed (is_ok c.extend_from_slice.result) was.first.items c.reserve_for_events.new.dropped.first.items c.as_slice.result.now a.0.dropped _ c.reserve_for_events.ensures.first
+    all_listed (is_ok c.extend_from_slice.result) was.first.items c.reserve_for_events.new.dropped.first.items c.as_slice.result.now a.0.dropped _
+    c.reserve_for_events.ensures.first
     c.as_slice.ensures c.extend_from_slice.ensures.items
     (c.extend_from_slice.ensures.succeeds
-    (omega (arith, few.0, c.count_events.ensures, ap (λ (xs : List Row). length xs) c.as_slice.ensures, c.in_ok-reserve_for_events.ensures.to_first))) in
+    (omega (arith, few.0, ap (λ (xs : List Row). length xs) c.as_slice.ensures, c.in_ok-reserve_for_events.ensures.to_first))) in
     let second : c.extend_from_slice-in-Ok.new.self.items ≡ was.second.items ++ a.1 =
     all_listed (is_ok c.extend_from_slice-in-Ok.result) was.second.items c.reserve_for_events.new.dropped.second.items c.as_slice-in-Ok.result.now a.1 _
     c.reserve_for_events.ensures.second c.as_slice-in-Ok.ensures c.extend_from_slice-in-Ok.ensures.items
     (c.extend_from_slice-in-Ok.ensures.succeeds
-    (omega (arith, few.1, c.count_events.ensures, ap (λ (xs : List Row). length xs) c.as_slice-in-Ok.ensures, c.in_ok-reserve_for_events.ensures.to_second))) in (
+    (omega (arith, few.1, ap (λ (xs : List Row). length xs) c.as_slice-in-Ok.ensures, c.in_ok-reserve_for_events.ensures.to_second))) in (
       fragment,
       c.fragment-fragment.ensures.shown,
       taken_up _ _ _ _ _ made _ _ c.take_in.result a old _ (state_of c.confirm.new.self)
@@ -50,7 +51,8 @@ returns-in-Err-clause-took g c = λ well. on_ok_weaker c.stops_for.result
       fragment,
       c.fragment-fragment.ensures.shown,
       refused_up _ _ _ _ _ made _ _ c.take_in.result c.in-Err.fault old _ (record { first = was.first.items; second = was.second.items })
-          (record { first = c.reserve_for_events.new.dropped.first.items; second = c.reserve_for_events.new.dropped.second.items }) c.take_in.ensures.takes c.in-Err.is none well
+          (record { first = c.reserve_for_events.new.dropped.first.items; second = c.reserve_for_events.new.dropped.second.items }) c.take_in.ensures.takes
+          c.in-Err.is none well
           (ap (λ (line : LineState). record old { down = line }) c.reserve_for_events.ensures.line) c.reserve_for_events.ensures.first
           c.reserve_for_events.ensures.second,
     )) c.stops_for.ensures.passed

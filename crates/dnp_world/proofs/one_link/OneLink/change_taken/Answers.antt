@@ -37,6 +37,7 @@ returns-clause-done g c = λ honest.
     })
     (λ few.
     let room : length overwritten ≤ 1 = subst (λ (rows : List Row). length rows ≤ 1) (sym same) few in
-    extended (is_ok c.extend_from_slice.result) c.reserve_for_left.new.left.items overwritten c.extend_from_slice.new.self.items c.extend_from_slice.ensures.items
+    extended (is_ok c.extend_from_slice.result) c.reserve_for_left.new.left.items overwritten c.extend_from_slice.new.self.items
+    c.extend_from_slice.ensures.items
     (c.extend_from_slice.ensures.succeeds (omega (arith, room, c.in_ok-reserve_for_left.ensures.places)))
     ∙ ap (λ (rows : List Row). rows ++ overwritten) c.reserve_for_left.ensures.list ∙ ap (λ (rows : List Row). old.left ++ rows) same)

@@ -46,9 +46,11 @@ returns-then-answered-clause-done g c = λ honest.
     let first : ChannelState = state_of c.args.self.now.channel in
     let last : ChannelState = state_of c.come_down.new.self in
     let answered = c.in_ok-answered.answered in
-    let came : ComesToOutstation (λ _. ⊤) no_panel old.now before state does answered first last = unfollowed _ _ _ _ _ _ _ _ _ (c.in_ok-answered.ensures.came (honest, tt)) in
+    let came : ComesToOutstation (λ _. ⊤) no_panel old.now before state does answered first last =
+    unfollowed _ _ _ _ _ _ _ _ _ (c.in_ok-answered.ensures.came (honest, tt)) in
     let discarded : List Row = c.as_slice.result.now in
-    let waits : c.rows_waiting-waiting.result ≡ length (rows_in before.lanes) = c.rows_waiting-waiting.ensures.count (c.come_down.ensures.held (honest, tt)).0 in
+    let waits : c.rows_waiting-waiting.result ≡ length (rows_in before.lanes) =
+    c.rows_waiting-waiting.ensures.count (c.come_down.ensures.held (honest, tt)).0 in
     let few : length discarded ≤ length (rows_in before.lanes) =
     subst (λ (rows : List Row). length rows ≤ length (rows_in before.lanes)) (sym c.as_slice.ensures)
     (few_came laws (λ _. ⊤) no_panel old.now before state does answered first last came c.if-answered.true) in

@@ -36,7 +36,8 @@ returns-in-Err-clause-joined g c = λ honest sink others joined.
 
 pub returns-in-Err-clause-covered : goal.returns-in-Err-clause-covered
 returns-in-Err-clause-covered g c = λ honest sink others joined.
-    (c.the_law_of_one_link.ensures.law others (link_of g.L.Lanes.contents c.happen.new.self) (returns-in-Err-clause-joined g c honest sink others joined)).covered
+    (c.the_law_of_one_link.ensures.law others (link_of g.L.Lanes.contents c.happen.new.self)
+    (returns-in-Err-clause-joined g c honest sink others joined)).covered
 
 pub returns-in-Err-clause-stood : goal.returns-in-Err-clause-stood
 returns-in-Err-clause-stood g c = λ honest sink others joined.

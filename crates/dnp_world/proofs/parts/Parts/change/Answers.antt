@@ -17,26 +17,26 @@ returns-clause-stopped g c = λ well.
     rw (← c.self.view_is)
     (at_err c.change.result (both_err _ _ c.change.result c.change.ensures.stopped c.change.ensures.unlisted)
     (λ same. rw same.1
-    (unchanged_at (viewed c.self.view_is).system c.self.inside.substations.items c.args.station c.from.result c.index_mut-substation.result.now
-    c.change.new.self refl c.from.ensures (rw (← c.self.view_is) at c.requires) c.index_mut-substation.ensures.value same.0)))
+    (unchanged_at (viewed c.self.view_is).system c.self.inside.substations.items c.args.substation c.from.result c.index_mut-below.result.now
+    c.change.new.self refl c.from.ensures (rw (← c.self.view_is) at c.requires) c.index_mut-below.ensures.value same.0)))
 
 pub returns-clause-named : goal.returns-clause-named
 returns-clause-named g c =
     let xs = c.self.inside.substations.items in
-    let was = c.index_mut-substation.result.now in
-    let low = is_there (seen_by 0 (viewed c.self.view_is).system) xs c.args.station refl (rw (← c.self.view_is) at c.requires) in
+    let was = c.index_mut-below.result.now in
+    let low = is_there (seen_by 0 (viewed c.self.view_is).system) xs c.args.substation refl (rw (← c.self.view_is) at c.requires) in
     rw (← c.self.view_is)
     (at_err c.change.result c.change.ensures.named
     (subst (λ (o : Option SubstationState). takes_reading o c.args.kind c.args.index c.args.reading ≡ true)
     (sym (subst (λ (n : ℕ). slice_get (map substation_of xs) n ≡ Some (substation_of was)) c.from.ensures
-    (there substation_of xs c.from.result was was (rw c.from.ensures low) c.index_mut-substation.ensures.value)))))
+    (there substation_of xs c.from.result was was (rw c.from.ensures low) c.index_mut-below.ensures.value)))))
 
 pub returns-clause-done : goal.returns-clause-done
 returns-clause-done g c = λ well.
     let planned = rw (← c.self.view_is) at c.requires in
     let old = (viewed c.self.view_is).system in
     let xs = c.self.inside.substations.items in
-    let was = c.index_mut-substation.result.now in
+    let was = c.index_mut-below.result.now in
     let change = c.change.ensures in
     rw (← c.self.view_is)
     (at_ok c.change.result
@@ -44,8 +44,8 @@ returns-clause-done g c = λ well.
     (λ done. λ (centre : ℕ) (low : centre < CENTRES). record {
       was = substation_of was;
       there = subst (λ (n : ℕ). slice_get (map substation_of xs) n ≡ Some (substation_of was)) c.from.ensures (there substation_of xs c.from.result was was
-          (rw c.from.ensures (is_there (seen_by 0 old) xs c.args.station refl planned)) c.index_mut-substation.ensures.value);
-      reads = reads_at (answer_of (substation_of was).core.points c.args.kind c.args.index c.args.reading) centre c.args.station c.from.result c.args.kind
+          (rw c.from.ensures (is_there (seen_by 0 old) xs c.args.substation refl planned)) c.index_mut-below.ensures.value);
+      reads = reads_at (answer_of (substation_of was).core.points c.args.kind c.args.index c.args.reading) centre c.args.substation c.from.result c.args.kind
           c.args.index c.args.reading old xs was c.change.new.self c.change.new.overwritten.items refl c.from.ensures planned
-          c.index_mut-substation.ensures.value done.0.0 done.0.1 done.1.0 done.1.1;
+          c.index_mut-below.ensures.value done.0.0 done.0.1 done.1.0 done.1.1;
     }))

@@ -1,7 +1,7 @@
 -- The control goes, or a book can't be read before it does.
 use Rattle.std.proofs.Common.{◌≡◌, inl, refl, sym, ap, ◌∙◌}
 use Rattle.std.proofs.lemmas.Result.{err_from_is_err_and}
-use Rattle.dnp_world.specs.Controls.{station_in}
+use Rattle.dnp_world.specs.Controls.{substation_in}
 use Rattle.dnp_world.specs.Wholes.{Whole, seen_by}
 use Rattle.dnp_world.proofs.CentreReads.{quiet_own}
 use Rattle.dnp_world.proofs.SystemControls.{not_quiet}
@@ -11,16 +11,16 @@ pub returns-then-not-quiet-clause-ends : goal.returns-then-not-quiet-clause-ends
 returns-then-not-quiet-clause-ends g c = λ well.
     let old = c.args.self.now.system in
     let quiet = sym (quiet_own c.args.centre c.requires old) ∙ sym c.quiet.ensures ∙ c.if-not-quiet.true in
-    (not_quiet (seen_by c.args.centre old) (station_in (seen_by c.args.centre old) c.args.id) quiet, refl)
+    (not_quiet (seen_by c.args.centre old) (substation_in (seen_by c.args.centre old) c.args.id) quiet, refl)
 
-pub returns-in_err-station-clause-ends : goal.returns-in_err-station-clause-ends
-returns-in_err-station-clause-ends g c = λ well.
+pub returns-in_err-substation-clause-ends : goal.returns-in_err-substation-clause-ends
+returns-in_err-substation-clause-ends g c = λ well.
     let p = err_from_is_err_and c.from_residual.result c.from_residual.ensures.1 in
-    rw (p.1, p.2) (inl (c.station_of.ensures.same well))
+    rw (p.1, p.2) (inl (c.substation_for.ensures.same well))
 
 pub returns-clause-ends : goal.returns-clause-ends
 returns-clause-ends g c = λ well.
     let before = c.relay_next.ensures.held well in
-    let was : c.station_of.new.self.system ≡ c.args.self.now.system = c.station_of.ensures.same before in
-    let is = c.in_ok-station.ensures.value before ∙ ap (λ (w : Whole). station_in (seen_by c.args.centre w) c.args.id) (sym was) in
+    let was : c.substation_for.new.self.system ≡ c.args.self.now.system = c.substation_for.ensures.same before in
+    let is = c.in_ok-substation.ensures.value before ∙ ap (λ (w : Whole). substation_in (seen_by c.args.centre w) c.args.id) (sym was) in
     rw was at (c.relay_next.ensures.ends well is)

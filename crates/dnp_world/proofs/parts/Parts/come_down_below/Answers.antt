@@ -12,8 +12,8 @@ returns-clause-stopped g c = λ well.
     rw (← c.self.view_is)
     (at_err c.come_down.result (both_err _ _ c.come_down.result c.come_down.ensures.stopped c.come_down.ensures.unlisted)
     (λ same. rw same.1
-    (unchanged_at (viewed c.self.view_is).system c.self.inside.substations.items c.args.station c.from.result c.index_mut-substation.result.now
-    c.come_down.new.self refl c.from.ensures (rw (← c.self.view_is) at c.requires) c.index_mut-substation.ensures.value same.0)))
+    (unchanged_at (viewed c.self.view_is).system c.self.inside.substations.items c.args.substation c.from.result c.index_mut-below.result.now
+    c.come_down.new.self refl c.from.ensures (rw (← c.self.view_is) at c.requires) c.index_mut-below.ensures.value same.0)))
 
 pub returns-clause-done : goal.returns-clause-done
 returns-clause-done g c = λ well.
@@ -22,8 +22,8 @@ returns-clause-done g c = λ well.
     rw (← c.self.view_is)
     (at_ok c.come_down.result c.come_down.ensures.done (λ done. λ (centre : ℕ) (low : centre < CENTRES). record {
       released = done.0;
-      came = changes_at c.args.station c.from.result _ _ (seen_by centre old) _ xs c.index_mut-substation.result.now c.come_down.new.self refl c.from.ensures
-          (rw c.from.ensures (is_there (seen_by 0 old) xs c.args.station refl (rw (← c.self.view_is) at c.requires))) c.index_mut-substation.ensures.value done.1
+      came = changes_at c.args.substation c.from.result _ _ (seen_by centre old) _ xs c.index_mut-below.result.now c.come_down.new.self refl c.from.ensures
+          (rw c.from.ensures (is_there (seen_by 0 old) xs c.args.substation refl (rw (← c.self.view_is) at c.requires))) c.index_mut-below.ensures.value done.1
           (ap (λ (h : WholeHistory). seen_by centre (record old {
             substations = map substation_of (slice_set xs c.from.result c.come_down.new.self);
             history = h;

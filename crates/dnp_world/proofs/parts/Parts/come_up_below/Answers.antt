@@ -15,8 +15,9 @@ returns-clause-done g c = λ well.
     let rows = c.come_up.new.dropped in
     rw (← c.self.view_is)
     (at_ok c.come_up.result (c.come_up.ensures.came (well.queues_are, (well.controls_are.is, well.controls_are.runs)))
-    (comes_to_concentrator (left_by c.args.repeats) old c.args.station c.from.result c.self.inside.substations.items c.index_mut.result.now
-    (concentrator_of stock ledger c.come_up.new.end) c.come_up.new.self rows.first.items rows.second.items refl c.from.ensures (rw (← c.self.view_is) at c.requires)
+    (comes_to_concentrator (left_by c.args.repeats) old c.args.substation c.from.result c.self.inside.substations.items c.index_mut.result.now
+    (concentrator_of stock ledger c.come_up.new.end) c.come_up.new.self rows.first.items rows.second.items refl c.from.ensures
+    (rw (← c.self.view_is) at c.requires)
     c.index_mut.ensures.value))
 
 pub returns-clause-stopped : goal.returns-clause-stopped
@@ -31,5 +32,5 @@ returns-clause-stopped g c = λ well.
     let first : rows.first.items ≡ old.history.dropped.first = same.1.to_first ∙ append-nil old.history.dropped.first in
     let second : rows.second.items ≡ old.history.dropped.second = same.1.to_second ∙ append-nil old.history.dropped.second in
     rw (same.0.0, first, second)
-    (unchanged_at old c.self.inside.substations.items c.args.station c.from.result was (record was { channel = c.come_up.new.self }) refl c.from.ensures
+    (unchanged_at old c.self.inside.substations.items c.args.substation c.from.result was (record was { channel = c.come_up.new.self }) refl c.from.ensures
     (rw (← c.self.view_is) at c.requires) c.index_mut.ensures.value (ap (λ (k : ChannelState). record (substation_of was) { channel = k }) same.0.1))))

@@ -11,7 +11,7 @@ pub returns-in-Below-clause-done : goal.returns-in-Below-clause-done
 returns-in-Below-clause-done g c =
     let planned = rw (← c.self.view_is, c.in-Below.is) at c.requires in
     rw (c.in-Below.is, ← c.self.view_is)
-    (λ (centre : ℕ) (low : centre < CENTRES). lines_change_at c.in-Below.station c.from.result (DamagesAt c.args.way c.args.octets.now)
+    (λ (centre : ℕ) (low : centre < CENTRES). lines_change_at c.in-Below.substation c.from.result (DamagesAt c.args.way c.args.octets.now)
     (seen_by centre (viewed c.self.view_is).system) c.self.inside.substations.items
     c.index_mut.result.now c.damage.new.self refl c.from.ensures planned
     c.index_mut.ensures.value c.damage.ensures)

@@ -21,31 +21,31 @@ returns-in-Below-Master-clause-done g c =
     let stock = g.Q.PairLanes.contents in
     let ledger = g.A.Book.contents in
     let old = (viewed c.self.view_is).system in
-    let station = c.in-Below-Master.station in
+    let substation = c.in-Below-Master.substation in
     let xs = c.self.inside.substations.items in
     let was = c.index_mut.result.now in
     let is = record c.index_mut.result.now { channel = c.hang_up.new.self } in
     let has = rw (← c.self.view_is, c.in-Below-Master.is-0) at c.requires in
-    let cores = of_both (λ core. without_link core station) old.concentrator.cores in
-    let links = slice_set old.concentrator.links station (hung_up (link_in old.concentrator.links station)) in
+    let cores = of_both (λ core. without_link core substation) old.concentrator.cores in
+    let links = slice_set old.concentrator.links substation (hung_up (link_in old.concentrator.links substation)) in
     let middle = concentrator_with stock ledger c.self.inside.concentrator c.hung_up_below.new.self cores links
     (c.hung_up_below.ensures.cores 0 (omega arith)) (c.hung_up_below.ensures.cores 1 (omega arith)) c.hung_up_below.ensures.link
     c.hung_up_below.ensures.stores in
     rw (c.in-Below-Master.is-0, c.in-Below-Master.is-1, ← c.self.view_is)
-    (hangs_up_below old station c.from.result xs was is _ refl c.from.ensures has c.index_mut.ensures.value
+    (hangs_up_below old substation c.from.result xs was is _ refl c.from.ensures has c.index_mut.ensures.value
     (ap (λ (k : ChannelState). record (substation_of was) { channel = k }) c.hang_up.ensures) middle)
 
 pub returns-in-Below-Outstation-clause-done : goal.returns-in-Below-Outstation-clause-done
 returns-in-Below-Outstation-clause-done g c =
     let old = (viewed c.self.view_is).system in
-    let station = c.in-Below-Outstation.station in
+    let substation = c.in-Below-Outstation.substation in
     let xs = c.self.inside.substations.items in
     let i = c.from-in-Below-Outstation.result in
     let has = rw (← c.self.view_is, c.in-Below-Outstation.is-0) at c.requires in
     rw (c.in-Below-Outstation.is-0, c.in-Below-Outstation.is-1, ← c.self.view_is)
-    (λ (centre : ℕ) (low : centre < CENTRES). changes_at station i _ same_rest (seen_by centre old) _ xs c.index_mut-in-Below-Outstation.result.now
+    (λ (centre : ℕ) (low : centre < CENTRES). changes_at substation i _ same_rest (seen_by centre old) _ xs c.index_mut-in-Below-Outstation.result.now
     c.hang_up-in-Below-Outstation.new.self refl c.from-in-Below-Outstation.ensures
-    (rw c.from-in-Below-Outstation.ensures (is_there (seen_by 0 old) xs station refl has)) c.index_mut-in-Below-Outstation.ensures.value
+    (rw c.from-in-Below-Outstation.ensures (is_there (seen_by 0 old) xs substation refl has)) c.index_mut-in-Below-Outstation.ensures.value
     c.hang_up-in-Below-Outstation.ensures refl)
 
 pub returns-in-Above-Master-clause-done : goal.returns-in-Above-Master-clause-done

@@ -17,7 +17,7 @@ use Rattle.dnp_world.proofs.parts.Parts.happen.Goals as goal
 
 none_there : (on : Link) (Change : System → System → Type 0) (w : Whole) → has_link w on ≡ false
     → IfThere (is_there (centre_of on)) (ChangesAll (centre_of on) (λ s t. IfThere (one_system.has_link s on) Change s t)) w w
-none_there (Below station) Change w none = λ centre low. rw none refl
+none_there (Below substation) Change w none = λ centre low. rw none refl
 none_there (Above n) Change w none = by (nat_lt n CENTRES) none
   where
     by : (b : Bool) → (b && true) ≡ false → IfThere b (ChangesAll (Some n) Change) w w
@@ -31,14 +31,14 @@ unplanned w (event.Deliver on way) none = none_there on _ w none
 unplanned w (event.Repeat on way) none = none_there on _ w none
 unplanned w (event.Lose on way) none = none_there on _ w none
 unplanned w (event.Damage on way octets) none = none_there on _ w none
-unplanned w (event.Change station kind index reading) none = none_there (Below station) _ w none
+unplanned w (event.Change substation kind index reading) none = none_there (Below substation) _ w none
 unplanned w (event.Ask on task) none = none_there on _ w none
-unplanned w (event.Issue centre station command) none = none_there (Above centre) _ w none
+unplanned w (event.Issue centre substation command) none = none_there (Above centre) _ w none
 unplanned w (event.Relay on) none = none_there on _ w none
 unplanned w (event.Tick on end.Master) none = none_there on _ w none
 unplanned w (event.Tick on end.Outstation) none = none_there on _ w none
 unplanned w (event.Restart (place.Centre centre)) none = none_there (Above centre) _ w none
-unplanned w (event.Restart (place.Substation station)) none = none_there (Below station) _ w none
+unplanned w (event.Restart (place.Substation substation)) none = none_there (Below substation) _ w none
 unplanned w e none = absurd (cc)
 
 pub returns-then-not-names_plan-clause-done : goal.returns-then-not-names_plan-clause-done

@@ -11,7 +11,7 @@ pub returns-in-Below-clause-done : goal.returns-in-Below-clause-done
 returns-in-Below-clause-done g c =
     let planned = rw (← c.self.view_is, c.in-Below.is) at c.requires in
     rw (c.in-Below.is, ← c.self.view_is)
-    (λ (centre : ℕ) (low : centre < CENTRES). lines_change_at c.in-Below.station c.from.result (λ (was is : ChannelState). is ≡ lost_at c.args.way was)
+    (λ (centre : ℕ) (low : centre < CENTRES). lines_change_at c.in-Below.substation c.from.result (λ (was is : ChannelState). is ≡ lost_at c.args.way was)
     (seen_by centre (viewed c.self.view_is).system) c.self.inside.substations.items
     c.index_mut.result.now c.lose.new.self refl c.from.ensures planned
     c.index_mut.ensures.value c.lose.ensures)

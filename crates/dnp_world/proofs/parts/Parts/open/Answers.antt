@@ -20,26 +20,26 @@ returns-in_err-open-in-Below-clause-stopped g c = λ well.
     let planned = rw (← c.self.view_is, c.in-Below.is) at c.requires in
     rw (← c.self.view_is)
     (any_err c.from_residual.result _
-    (unchanged_at _ c.self.inside.substations.items c.in-Below.station c.from.result c.index_mut-substation.result.now c.open.new.self refl c.from.ensures
-    planned c.index_mut-substation.ensures.value c.in_err-open-in-Below.ensures.stopped))
+    (unchanged_at _ c.self.inside.substations.items c.in-Below.substation c.from.result c.index_mut-below.result.now c.open.new.self refl c.from.ensures
+    planned c.index_mut-below.ensures.value c.in_err-open-in-Below.ensures.stopped))
 
 pub returns-in_ok-open-in-Below-clause-done : goal.returns-in_ok-open-in-Below-clause-done
 returns-in_ok-open-in-Below-clause-done g c = λ well.
     let stock = g.Q.PairLanes.contents in
     let ledger = g.A.Book.contents in
     let old = (viewed c.self.view_is).system in
-    let station = c.in-Below.station in
+    let substation = c.in-Below.substation in
     let xs = c.self.inside.substations.items in
     let i = c.from.result in
     let has = rw (← c.self.view_is, c.in-Below.is) at c.requires in
     let middle = concentrator_with stock ledger c.self.inside.concentrator c.opened_below.new.self old.concentrator.cores _
     (c.opened_below.ensures.cores 0 (omega arith)) (c.opened_below.ensures.cores 1 (omega arith)) c.opened_below.ensures.link
     c.opened_below.ensures.stores in
-    let first = opened (link_in old.concentrator.links station) in
+    let first = opened (link_in old.concentrator.links substation) in
     rw (c.in-Below.is, ← c.self.view_is)
-    (λ (centre : ℕ) (low : centre < CENTRES). changes_at station i _ same_rest (with_link (seen_by centre old) station first) _ xs
-    c.index_mut-substation.result.now c.open.new.self refl c.from.ensures
-    (rw c.from.ensures (is_there (seen_by 0 old) xs station refl has)) c.index_mut-substation.ensures.value c.in_ok-open-in-Below.ensures.done
+    (λ (centre : ℕ) (low : centre < CENTRES). changes_at substation i _ same_rest (with_link (seen_by centre old) substation first) _ xs
+    c.index_mut-below.result.now c.open.new.self refl c.from.ensures
+    (rw c.from.ensures (is_there (seen_by 0 old) xs substation refl has)) c.index_mut-below.ensures.value c.in_ok-open-in-Below.ensures.done
     (ap (λ (k : WholeConcentrator). seen_by centre (record old { substations = map substation_of (slice_set xs i c.open.new.self); concentrator = k })) middle))
 
 pub returns-in_err-open-in-Above-clause-stopped : goal.returns-in_err-open-in-Above-clause-stopped

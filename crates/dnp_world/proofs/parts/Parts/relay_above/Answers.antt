@@ -46,4 +46,5 @@ returns-clause-done g c = λ well.
     (sends_above archive ledger n base was k (state_of lines) answer (relay.link honest) (relay.ledger honest) relay.journal relay.indices down)
     (unmoved_above archive ledger base was k (state_of lines) answer relay.unchanged (relay.book.unchanged honest) relay.journal relay.indices
     (on_err_weaker answer (λ same. same ∙ c.reserve_down.ensures.same) c.send_relayed.ensures.same))
-    (refused_by answer c.send_relayed.result link entries 0 _ c.send_relayed.ensures.passed relay.unasked (relay.no_control honest) (relay.past honest))))
+    (refused_by answer c.send_relayed.result link entries 0 _ c.send_relayed.ensures.passed relay.book.unasked
+    (relay.book.no_control honest) (relay.book.past honest))))

@@ -10,15 +10,15 @@ use Rattle.dnp_world.proofs.SystemControls.{below_accepted, below_refused, below
 use Rattle.dnp_world.proofs.parts.Parts.relay_all.Goals as goal
 
 -- wherever the control is for
-stops_above : (centre : ℕ) (station : Option ℕ) (id : ℕ) (old new : Whole)
+stops_above : (centre : ℕ) (substation : Option ℕ) (id : ℕ) (old new : Whole)
     → StopsOn HappensToAll (seen_by centre) may_stop (Above centre) (Some id) old new
-    → StopsFor HappensToAll (seen_by centre) may_stop centre station id old new
+    → StopsFor HappensToAll (seen_by centre) may_stop centre substation id old new
 stops_above centre None id old new stops = stops
 stops_above centre (Some its) id old new stops = inl stops
 
 pub returns-in_err-relay_through-clause-ended : goal.returns-in_err-relay_through-clause-ended
 returns-in_err-relay_through-clause-ended g c = λ well.
-    let stops = stops_above c.args.centre c.args.station c.args.id c.args.self.now.system c.relay_through.new.self.system in
+    let stops = stops_above c.args.centre c.args.substation c.args.id c.args.self.now.system c.relay_through.new.self.system in
     let p = err_from_is_err_and c.from_residual.result c.from_residual.ensures.1 in
     rw (p.1, p.2) (ends_of c.in_err-relay_through.field-0.0 (λ status refused. AtCentre refused) stops (c.in_err-relay_through.ensures.ended well))
 
@@ -32,7 +32,7 @@ returns-in_err-queued-clause-ended g c = λ well.
 pub returns-clause-ended : goal.returns-clause-ended
 returns-clause-ended g c = λ well.
     let centre = c.args.centre in
-    let its = c.in-Some.station in
+    let its = c.in-Some.substation in
     let queued = c.in_ok-queued.queued in
     let above = c.relay_through.new.self.system in
     let read = c.next_below.new.self.system in
@@ -48,7 +48,7 @@ returns-clause-ended g c = λ well.
 
 pub returns-clause-done : goal.returns-clause-done
 returns-clause-done g c = λ well.
-    let its = c.in-Some.station in
+    let its = c.in-Some.substation in
     let queued = c.in_ok-queued.queued in
     let above = c.relay_through.new.self.system in
     let read = c.next_below.new.self.system in

@@ -13,7 +13,7 @@ pub returns-in_default-clause-stopped : goal.returns-in_default-clause-stopped
 returns-in_default-clause-stopped g c = λ well.
     let was = c.index_mut.result.now in
     rw (← c.self.view_is)
-    (unchanged_at _ c.self.inside.substations.items c.args.station c.from.result was (record was { channel = c.reserve_down.new.self }) refl
+    (unchanged_at _ c.self.inside.substations.items c.args.substation c.from.result was (record was { channel = c.reserve_down.new.self }) refl
     c.from.ensures (rw (← c.self.view_is) at c.requires) c.index_mut.ensures.value
     (ap (λ (k : ChannelState). record (substation_of was) { channel = k }) c.reserve_down.ensures.same))
 
@@ -22,26 +22,28 @@ returns-clause-done g c = λ well.
     let ledger = g.A.Book.contents in
     let old = (viewed c.self.view_is).system in
     let was = c.index_mut.result.now in
-    let link = link_in old.concentrator.links c.args.station in
+    let link = link_in old.concentrator.links c.args.substation in
     let entries = old.concentrator.controls.entries in
-    let step = step_of link entries c.args.station in
+    let step = step_of link entries c.args.substation in
     let answer = c.relay_into-relayed.result in
     let relay = c.relay_into-relayed.ensures in
     let request = c.relay_into-relayed.new.request in
     let down = down_by answer request step link.master.seq (state_of was.channel) (state_of c.reserve_down.new.self) (state_of c.send_relayed.new.channel)
     c.reserve_down.ensures.same (relay.told well.controls_are.is) c.send_relayed.ensures.sent in
     rw (← c.self.view_is)
-    (relays_below c.args.station old _ answer c.send_relayed.result
+    (relays_below c.args.substation old _ answer c.send_relayed.result
     (granted_by answer request step link.master.seq old.concentrator.controls (relay.told well.controls_are.is) (relay.granted well.controls_are.is))
-    (λ (number : ℕ). sends_below g.Q.PairLanes.contents ledger old c.self.inside.concentrator c.relay_into-relayed.new.self c.args.station c.from.result
+    (λ (number : ℕ). sends_below g.Q.PairLanes.contents ledger old c.self.inside.concentrator c.relay_into-relayed.new.self c.args.substation c.from.result
     c.self.inside.substations.items was c.send_relayed.new.channel answer number c.from.ensures (rw (← c.self.view_is) at c.requires)
-    c.index_mut.ensures.value (relay.link well.controls_are.is) (relay.ledger well.controls_are.is) relay.cores relay.queue relay.indices relay.plan down)
-    (unmoved_below g.Q.PairLanes.contents ledger old c.self.inside.concentrator c.relay_into-relayed.new.self c.args.station c.from.result
+    c.index_mut.ensures.value (relay.link well.controls_are.is) (relay.ledger well.controls_are.is) relay.others.cores relay.others.queue relay.others.indices
+    relay.others.plan down)
+    (unmoved_below g.Q.PairLanes.contents ledger old c.self.inside.concentrator c.relay_into-relayed.new.self c.args.substation c.from.result
     c.self.inside.substations.items was c.send_relayed.new.channel answer c.from.ensures (rw (← c.self.view_is) at c.requires) c.index_mut.ensures.value
-    relay.unchanged (relay.book.unchanged well.controls_are.is) relay.cores relay.queue relay.indices relay.plan
+    relay.unchanged (relay.book.unchanged well.controls_are.is)
+    relay.others.cores relay.others.queue relay.others.indices relay.others.plan
     (on_err_weaker answer (λ same. same ∙ c.reserve_down.ensures.same) c.send_relayed.ensures.same))
-    (refused_by answer c.send_relayed.result link entries c.args.station _ c.send_relayed.ensures.passed relay.unasked (relay.no_control well.controls_are.is)
-    (relay.past well.controls_are.is)))
+    (refused_by answer c.send_relayed.result link entries c.args.substation _ c.send_relayed.ensures.passed relay.book.unasked
+    (relay.book.no_control well.controls_are.is) (relay.book.past well.controls_are.is)))
 
 pub returns-clause-stopped : goal.returns-clause-stopped
 returns-clause-stopped g c = λ well.
@@ -52,7 +54,8 @@ returns-clause-stopped g c = λ well.
     let relay = c.relay_into-relayed.ensures in
     rw (← c.self.view_is)
     (stops_by answer c.send_relayed.result _ c.send_relayed.ensures.stopped
-    (unmoved_below g.Q.PairLanes.contents ledger old c.self.inside.concentrator c.relay_into-relayed.new.self c.args.station c.from.result
+    (unmoved_below g.Q.PairLanes.contents ledger old c.self.inside.concentrator c.relay_into-relayed.new.self c.args.substation c.from.result
     c.self.inside.substations.items was c.send_relayed.new.channel answer c.from.ensures (rw (← c.self.view_is) at c.requires) c.index_mut.ensures.value
-    relay.unchanged (relay.book.unchanged well.controls_are.is) relay.cores relay.queue relay.indices relay.plan
+    relay.unchanged (relay.book.unchanged well.controls_are.is)
+    relay.others.cores relay.others.queue relay.others.indices relay.others.plan
     (on_err_weaker answer (λ same. same ∙ c.reserve_down.ensures.same) c.send_relayed.ensures.same)))

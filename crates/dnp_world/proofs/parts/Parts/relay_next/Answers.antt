@@ -12,7 +12,7 @@ returns-then-not-are_quiet-clause-ends g c = λ well is. (rw is at (sym c.are_qu
 pub is_next-requires : goal.is_next-requires
 is_next-requires g c = record {
   centre = c.requires;
-  planned = planned (seen_by c.args.centre c.args.self.now.system) c.args.station (sym c.are_quiet.ensures ∙ search rules);
+  planned = planned (seen_by c.args.centre c.args.self.now.system) c.args.substation (sym c.are_quiet.ensures ∙ search rules);
 }
 
 pub returns-in_err-is_next-clause-ends : goal.returns-in_err-is_next-clause-ends
@@ -26,7 +26,7 @@ returns-clause-ends g c = λ well is.
     let old = c.args.self.now.system in
     let before = c.relay_all.ensures.held well in
     let same = c.is_next.ensures.same before in
-    let quiet : are_quiet_for (see old) c.args.station ≡ true = sym c.are_quiet.ensures ∙ search rules in
-    let next : is_next_for (see old) c.args.id c.args.station ≡ true = sym (c.in_ok-is_next.ensures.value before) ∙ search rules in
-    control_of see c.args.centre c.args.id c.args.station old c.relay_all.new.self.system c.relay_all.result (rw is at quiet, rw is at next) is
+    let quiet : are_quiet_for (see old) c.args.substation ≡ true = sym c.are_quiet.ensures ∙ search rules in
+    let next : is_next_for (see old) c.args.id c.args.substation ≡ true = sym (c.in_ok-is_next.ensures.value before) ∙ search rules in
+    control_of see c.args.centre c.args.id c.args.substation old c.relay_all.new.self.system c.relay_all.result (rw is at quiet, rw is at next) is
     (rw same at c.relay_all.ensures.done well) (rw same at c.relay_all.ensures.ended well)

@@ -13,8 +13,8 @@ returns-clause-stopped g c = λ well.
     rw (← c.self.view_is)
     (at_err c.restart.result (both_err _ _ c.restart.result c.restart.ensures.stopped c.restart.ensures.unlisted)
     (λ same. rw same.1
-    (unchanged_at (viewed c.self.view_is).system c.self.inside.substations.items c.args.station c.from.result c.index_mut-substation.result.now
-    c.restart.new.self refl c.from.ensures (rw (← c.self.view_is) at c.requires) c.index_mut-substation.ensures.value same.0)))
+    (unchanged_at (viewed c.self.view_is).system c.self.inside.substations.items c.args.substation c.from.result c.index_mut-below.result.now
+    c.restart.new.self refl c.from.ensures (rw (← c.self.view_is) at c.requires) c.index_mut-below.ensures.value same.0)))
 
 pub returns-clause-done : goal.returns-clause-done
 returns-clause-done g c = λ well.
@@ -22,9 +22,9 @@ returns-clause-done g c = λ well.
     let xs = c.self.inside.substations.items in
     rw (← c.self.view_is)
     (at_ok c.restart.result (both_ok _ _ c.restart.result c.restart.ensures.done c.restart.ensures.listed)
-    (λ done. λ (centre : ℕ) (low : centre < CENTRES). changes_at c.args.station c.from.result _ _ (seen_by centre old) _ xs
-    c.index_mut-substation.result.now c.restart.new.self refl c.from.ensures
-    (rw c.from.ensures (is_there (seen_by 0 old) xs c.args.station refl (rw (← c.self.view_is) at c.requires))) c.index_mut-substation.ensures.value done.0
+    (λ done. λ (centre : ℕ) (low : centre < CENTRES). changes_at c.args.substation c.from.result _ _ (seen_by centre old) _ xs
+    c.index_mut-below.result.now c.restart.new.self refl c.from.ensures
+    (rw c.from.ensures (is_there (seen_by 0 old) xs c.args.substation refl (rw (← c.self.view_is) at c.requires))) c.index_mut-below.ensures.value done.0
     (ap (λ (rows : List (ℕ × Row)). seen_by centre (record old {
       substations = map substation_of (slice_set xs c.from.result c.restart.new.self);
       history = record (history_of c.self.inside.history) { gone = rows };

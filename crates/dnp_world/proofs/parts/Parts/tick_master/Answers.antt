@@ -17,13 +17,13 @@ returns-in-Below-clause-done g c =
     let stock = g.Q.PairLanes.contents in
     let ledger = g.A.Book.contents in
     let old = (viewed c.self.view_is).system in
-    let station = c.in-Below.station in
+    let substation = c.in-Below.substation in
     let ticks = c.tick_below.ensures in
     let closes = c.tick_below.result in
-    let cores = of_both (λ core. if closes then without_link core station else core) old.concentrator.cores in
-    let links = slice_set old.concentrator.links station (ticked (link_in old.concentrator.links station) old.now) in
+    let cores = of_both (λ core. if closes then without_link core substation else core) old.concentrator.cores in
+    let links = slice_set old.concentrator.links substation (ticked (link_in old.concentrator.links substation) old.now) in
     rw (c.in-Below.is, ← c.self.view_is)
-    (ticks_below station old (concentrator_of stock ledger c.tick_below.new.self) closes ticks.closes
+    (ticks_below substation old (concentrator_of stock ledger c.tick_below.new.self) closes ticks.closes
     (concentrator_with stock ledger c.self.inside.concentrator c.tick_below.new.self cores links (ticks.cores 0 (omega arith)) (ticks.cores 1 (omega arith))
     ticks.link ticks.stores))
 

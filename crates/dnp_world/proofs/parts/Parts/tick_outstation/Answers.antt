@@ -15,18 +15,18 @@ pub returns-in-Below-clause-stopped : goal.returns-in-Below-clause-stopped
 returns-in-Below-clause-stopped g c = λ well.
     rw (← c.self.view_is)
     (at_err c.tick.result c.tick.ensures.stopped
-    (unchanged_at (viewed c.self.view_is).system c.self.inside.substations.items c.in-Below.station c.from.result c.index_mut-substation.result.now
-    c.tick.new.self refl c.from.ensures (rw (← c.self.view_is, c.in-Below.is) at c.requires) c.index_mut-substation.ensures.value))
+    (unchanged_at (viewed c.self.view_is).system c.self.inside.substations.items c.in-Below.substation c.from.result c.index_mut-below.result.now
+    c.tick.new.self refl c.from.ensures (rw (← c.self.view_is, c.in-Below.is) at c.requires) c.index_mut-below.ensures.value))
 
 pub returns-in-Below-clause-done : goal.returns-in-Below-clause-done
 returns-in-Below-clause-done g c = λ well.
     let old = (viewed c.self.view_is).system in
-    let station = c.in-Below.station in
+    let substation = c.in-Below.substation in
     let xs = c.self.inside.substations.items in
     rw (c.in-Below.is, ← c.self.view_is)
-    (at_ok c.tick.result c.tick.ensures.done (λ steps. λ (centre : ℕ) (low : centre < CENTRES). changes_at station c.from.result _ same_rest
-    (seen_by centre old) _ xs c.index_mut-substation.result.now c.tick.new.self refl c.from.ensures (rw c.from.ensures
-    (is_there (seen_by 0 old) xs station refl (rw (← c.self.view_is, c.in-Below.is) at c.requires))) c.index_mut-substation.ensures.value steps refl))
+    (at_ok c.tick.result c.tick.ensures.done (λ steps. λ (centre : ℕ) (low : centre < CENTRES). changes_at substation c.from.result _ same_rest
+    (seen_by centre old) _ xs c.index_mut-below.result.now c.tick.new.self refl c.from.ensures (rw c.from.ensures
+    (is_there (seen_by 0 old) xs substation refl (rw (← c.self.view_is, c.in-Below.is) at c.requires))) c.index_mut-below.ensures.value steps refl))
 
 pub returns-in-Above-clause-stopped : goal.returns-in-Above-clause-stopped
 returns-in-Above-clause-stopped g c = λ well.

@@ -13,13 +13,13 @@ pub returns-in_err-put_buffered-clause-same : goal.returns-in_err-put_buffered-c
 returns-in_err-put_buffered-clause-same c =
     let long : length c.loop-number.substations ≡ length c.args.substations.now = c.loop-number.auto.substations in
     all_kept (map substation_of c.args.substations.now) c.loop-number.substations c.loop-number.number c.index-substations-number.result
-    c.put_buffered.new.substation c.loop-number.invariant.same (omega (arith, long)) c.put_buffered.ensures.same
+    c.put_buffered.new.below c.loop-number.invariant.same (omega (arith, long)) c.put_buffered.ensures.same
 
 pub loop-number-preserved : goal.loop-number-preserved
 loop-number-preserved c =
     let long : length c.loop-number.substations ≡ length c.args.substations.now = c.loop-number.auto.substations in
     let both = one_listed (map substation_of c.args.substations.now) c.loop-number.substations c.loop-number.number c.index-substations-number.result
-    c.put_buffered.new.substation c.loop-number.list.items c.put_buffered.new.list.items c.loop-number.invariant.same (omega (arith, long))
+    c.put_buffered.new.below c.loop-number.list.items c.put_buffered.new.list.items c.loop-number.invariant.same (omega (arith, long))
     c.put_buffered.ensures.same c.loop-number.invariant.listed c.in_ok-put_buffered.ensures.rows in
     record { same = both.0; listed = both.1 }
 

@@ -13,7 +13,7 @@ use Rattle.dnp_outstation.specs.Station.{actions_of}
 use Rattle.dnp_world.specs.Channels.{ChannelState, state_of, left_at, left_by}
 use Rattle.dnp_world.specs.SystemEvents.{ComesToSubstation}
 use Rattle.dnp_world.specs.SystemParts.{history_of, substation_of}
-use Rattle.dnp_world.specs.Systems.{SubstationState, at_station}
+use Rattle.dnp_world.specs.Systems.{SubstationState, at_substation}
 use Rattle.dnp_world.specs.declared.link_event.Way.TheVariants.{Down}
 use Rattle.dnp_world.proofs.SystemSteps.{comes, few_performed, few_since, released_by, same_outputs, since_is}
 use Rattle.dnp_world.proofs.substation.Substation.come_down.Goals as goal
@@ -40,7 +40,7 @@ put_all-requires-then-answered c =
 pub returns-then-answered-clause-done : goal.returns-then-answered-clause-done
 returns-then-answered-clause-done c =
     let self = c.args.self.now in
-    let station = c.args.station in
+    let substation = c.args.substation in
     let history = history_of c.args.history.now in
     let does = actions_of c.come_down.new.actions in
     let answered = c.in_ok-answered.answered in
@@ -64,16 +64,17 @@ returns-then-answered-clause-done c =
     (record is { outputs = o; channel = state_of c.settle.new.self })) (sym c.outputs-then-answered.ensures.value)
     (subst (λ (l : ChannelState). ComesToSubstation (left_by c.args.repeats) c.args.now released was (record is { channel = l }))
     (sym c.settle.ensures) came)) in
-    let rows : List (ℕ × Row) = history.confirmed ++ at_station station released in
+    let rows : List (ℕ × Row) = history.confirmed ++ at_substation substation released in
     let confirmed : c.put_all.new.self.items ≡ rows =
-    c.put_all.ensures ∙ ap (λ (xs : List (ℕ × Row)). xs ++ at_station station c.as_slice.result.now) c.reserve_for_unit.ensures.confirmed
-    ∙ ap (λ (xs : List Row). history.confirmed ++ at_station station xs)
+    c.put_all.ensures ∙ ap (λ (xs : List (ℕ × Row)). xs ++ at_substation substation c.as_slice.result.now) c.reserve_for_unit.ensures.confirmed
+    ∙ ap (λ (xs : List Row). history.confirmed ++ at_substation substation xs)
     (c.as_slice.ensures ∙ ap (λ (b : Bool). released_by b does) (sym c.if-answered.true)) in
     let before : List Command = c.operated-before.result.now in
     let now : List Command = c.operated-operated.result.now in
     let operated =
-    c.put_all-then-answered.ensures ∙ ap (λ (xs : List (ℕ × Command)). xs ++ at_station station (take (length now - length before) (drop (length before) now))) c.reserve_for_unit.ensures.operated
-    ∙ ap (λ (xs : List Command). history.operated ++ at_station station xs)
+    c.put_all-then-answered.ensures ∙ ap (λ (xs : List (ℕ × Command)). xs ++ at_substation substation
+    (take (length now - length before) (drop (length before) now))) c.reserve_for_unit.ensures.operated
+    ∙ ap (λ (xs : List Command). history.operated ++ at_substation substation xs)
     (since_is before now (outputs_of self.outstation).performed last.performed
     (c.operated-before.ensures ∙ ap (λ (o : PlainState). o.performed) c.outputs.ensures.value) c.operated-operated.ensures) in (
       released,

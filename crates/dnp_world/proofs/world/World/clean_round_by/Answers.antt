@@ -75,4 +75,5 @@ returns-clause-none_issued g c = λ well.
     rw (← c.self.view_is)
     (round_leaves _ (seen_at (centre_of on)) on old new c.clean_round.result (law.round on old new) (law.round_stopped on old new)
     (λ same. ap (λ (s : Whole). s.history.issued) same)
-    (c.clean_round.ensures.done well) (c.clean_round.ensures.stopped well) (λ is. ap (λ (shown : Shown _ _ _ _). shown.system) (c.clean_round.ensures.unchanged is)))
+    (c.clean_round.ensures.done well) (c.clean_round.ensures.stopped well)
+    (λ is. ap (λ (shown : Shown _ _ _ _). shown.system) (c.clean_round.ensures.unchanged is)))

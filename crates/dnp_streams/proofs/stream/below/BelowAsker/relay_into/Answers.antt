@@ -14,13 +14,14 @@ returns-clause-relayed g c honest =
     let at = c.args.self.now.substation in
     let there : at < length (links_of old) = search rules in
     let contents = g.Q.PairLanes.contents in
-    let queue = c.relay_into.ensures.queue in
+    let queue = c.relay_into.ensures.others.queue in
     relayed_below c.relay_into.result c.relay_into.new.request c.args.now at (links_of old) (links_of new) (core_of 0 old) (core_of 0 new)
     (core_of 1 old) (core_of 1 new)
     (indices_of old) (indices_of new) (plan_above old) (plan_above new) (contents (queue_of old) 0) (contents (queue_of new) 0)
     (contents (queue_of old) 1) (contents (queue_of new) 1) (g.B.Book.contents (book_of old)) (g.B.Book.contents (book_of new)) there
     (c.relay_into.ensures.told honest.1) (c.relay_into.ensures.link honest.1) (c.relay_into.ensures.ledger honest.1) (c.relay_into.ensures.spent honest.1)
-    (c.relay_into.ensures.cores 0 (omega arith)) (c.relay_into.ensures.cores 1 (omega arith)) c.relay_into.ensures.indices c.relay_into.ensures.plan
+    (c.relay_into.ensures.others.cores 0 (omega arith)) (c.relay_into.ensures.others.cores 1 (omega arith))
+    c.relay_into.ensures.others.indices c.relay_into.ensures.others.plan
     (ap (λ q. contents q 0) queue) (ap (λ q. contents q 1) queue)
 
 pub returns-clause-refused : goal.returns-clause-refused
@@ -29,4 +30,4 @@ returns-clause-refused g c honest =
     let at = c.args.self.now.substation in
     let there : at < length (links_of old) = search rules in
     IfErr-weaker c.relay_into.result _ _ (λ fault by. record { there = there; by_book = by })
-    (refused_relay (asks_book (link_at old at)) c.relay_into.result c.relay_into.ensures.unasked c.relay_into.ensures.named)
+    (refused_relay (asks_book (link_at old at)) c.relay_into.result c.relay_into.ensures.book.unasked c.relay_into.ensures.book.named)

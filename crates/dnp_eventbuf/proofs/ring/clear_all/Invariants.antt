@@ -1,7 +1,0 @@
-use Rattle.std.proofs.Common.{◌≡◌}
-use Rattle.dnp_eventbuf.specs.Stock.{emptied}
-use Rattle.dnp_eventbuf.proofs.InPlace.{mapped}
-use Rattle.dnp_eventbuf.proofs.ring.clear_all.Given as goal
-
-abbrev pub invariant-loop-lane : goal.invariant-loop-lane
-invariant-loop-lane l = l.lane-items ≡ mapped emptied l.lane-index l.fn.lanes

@@ -1,7 +1,0 @@
-use Rattle.std.proofs.Common.{◌≡◌, ◌+◌, ◌≤◌, ◌++◌, length, take}
-use Rattle.dnp_world.specs.Systems.{at_station}
-use Rattle.dnp_world.proofs.station_list.StationList.put_all.Given as goal
-
-abbrev pub invariant-loop-thing : goal.invariant-loop-thing
-invariant-loop-thing g l =
-    (l.self.items ≡ l.initial.self.items ++ at_station l.station (take l.thing-index l.things)) × (length l.things ≤ l.self.room + l.thing-index)
