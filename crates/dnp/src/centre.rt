@@ -7,7 +7,7 @@ use clap::{ArgMatches, Command};
 use dnp_concentrator::MAX_SUBSTATIONS;
 use dnp_concentrator::addresses::{CENTRE, SECOND_CENTRE};
 use dnp_daemons::issue_in;
-use dnp_files::{CentreWords, Place, PollPace, has_output, run_centre};
+use dnp_files::{CentreWords, PollPace, StoreFile, has_output, run_centre};
 use dnp_objects::Command as Control;
 use dnp_tcp::exit;
 use std::alloc::{AllocError, Global};
@@ -133,12 +133,12 @@ fn words_given<'a, R: Eprint>(rt: &R, given: &ArgMatches<'a>) -> Option<Words<'a
     let pace = pace_given(rt, given)?;
     let new = given.get_flag("new");
     let run = CentreWords {
-        journal: Place {
+        journal: StoreFile {
             path: given.get_str("journal").unwrap_or(""),
             store: "journal",
             new,
         },
-        controls: Place {
+        controls: StoreFile {
             path: given.get_str("controls").unwrap_or(""),
             store: "book of controls",
             new,

@@ -6,7 +6,7 @@ use crate::options::{HINT, defaulted, flag, plan, required, subcommand, valued};
 use crate::plan_file::plan_given;
 use clap::{ArgMatches, Command};
 use dnp_concentrator::Plan;
-use dnp_files::{ConcentratorWords, Place, RoundPace, run_concentrator};
+use dnp_files::{ConcentratorWords, RoundPace, StoreFile, run_concentrator};
 use dnp_tcp::exit;
 use std::alloc::{AllocError, Global};
 use std::process::ExitCode;
@@ -170,12 +170,12 @@ fn words_given<'a, R: Eprint>(rt: &R, given: &ArgMatches<'a>) -> Option<Words<'a
     let pace = pace_given(rt, given)?;
     let new = given.get_flag("new");
     let run = ConcentratorWords {
-        queue: Place {
+        queue: StoreFile {
             path: given.get_str("queue").unwrap_or(""),
             store: "queue",
             new,
         },
-        controls: Place {
+        controls: StoreFile {
             path: given.get_str("controls").unwrap_or(""),
             store: "book of controls",
             new,

@@ -3,27 +3,21 @@ use Rattle.std.proofs.Common.{◌≡◌, refl, sym, ◌∙◌, ap, subst, ℕ, z
 use Rattle.std.specs.Prelude.{option_to_list, is_some}
 use Rattle.std.specs.List.{All, flat_map, list_all, range_with_len, slice_get}
 use Rattle.std.specs.Option.{option_map_or, IsSomeAnd}
-use Rattle.std.specs.Result.{is_ok, result_unwrap_or}
 use Rattle.std.proofs.lemmas.Bool.{and_parts, leb-true}
 use Rattle.std.proofs.lemmas.Option.{slice_get-get_or}
 use Rattle.std.proofs.Math.Nat.{mul-le-mul_left}
 use Rattle.dnp_objects.specs.Objects.{objects, content_of, object_size, shape_read}
 use Rattle.dnp_objects.specs.declared.row.Row.{Row}
 use Rattle.dnp_appfragment.specs.declared.fault.AppFault.{AppFault}
-use Rattle.dnp_appfragment.specs.declared.table.Form.{Form}
 use Rattle.dnp_appfragment.specs.declared.table.Form.TheVariants as form
 use Rattle.dnp_appfragment.specs.EventRows.{header_rows, is_event_group, is_event_header, event_rows, events_in, answered_events}
 use Rattle.dnp_appfragment.specs.Faults.{IsResponseFault}
 use Rattle.dnp_appfragment.specs.Fragments.{Answered, IsResponse}
 use Rattle.dnp_appfragment.specs.Headers.{Head, AreHeaders, IsHeader, IsTimed, is_relative, Context, begin, context_after, count_of, header_octets, octets_of, prefix_size, qualifier_of, range_octets, spelled}
-use Rattle.dnp_appfragment.specs.Left.{is_whole, headers_left}
 use Rattle.dnp_appfragment.specs.Meaning.{row_in}
 use Rattle.dnp_appfragment.specs.Objects.{HasRows}
-use Rattle.dnp_appfragment.specs.Reading.{headers_from}
 use Rattle.dnp_appfragment.specs.Table.{Rule, allows, form_eq, rules, takes_of}
 use Rattle.dnp_appfragment.proofs.Answering.{Meets}
-use Rattle.dnp_appfragment.proofs.Divisions.{ReadsHeaders, headers_read_from}
-use Rattle.dnp_appfragment.proofs.Numbers.{AreOctets}
 use Rattle.dnp_appfragment.proofs.TableLines.{line_of}
 use Rattle.dnp_appfragment.proofs.RelativeRows.{any_row_there}
 
@@ -160,50 +154,7 @@ few_events context (h ∷ hs) are =
         let same : length (event_rows h) ≡ 0 = ap (λ (b : Bool). length (cond b (header_rows h) [])) event in
         omega (arith, same)
 
--- what is left of headers whose event rows are being counted: they are so many in all, and so many were counted
-pub record IsCounting (all : ℕ) (headers : List Head) (count : ℕ) : Type 0 where
-  pub context : Context
-  pub each : AreHeaders form.Response context headers
-  pub adds : count + length (events_in headers) ≡ all
-
--- one header more: of so many, where it is of events
-pub events_counted : (all count : ℕ) (h : Head) (rest headers : List Head) → headers ≡ h ∷ rest → is_event_header h ≡ true → IsCounting all headers count
-    → IsCounting all rest (count + count_of h.range)
-events_counted all count h rest headers is event counting =
-    let each : AreHeaders form.Response counting.context (h ∷ rest) = subst (AreHeaders form.Response counting.context) is counting.each in
-    let one = counted h each.0.header each.0.timed event in
-    let whole : length (events_in headers) ≡ length (header_rows h ++ events_in rest) =
-    ap (λ (hs : List Head). length (events_in hs)) is ∙ ap (λ (b : Bool). length (cond b (header_rows h) [] ++ events_in rest)) event in
-    record {
-      context = context_after counting.context h;
-      each = each.1;
-      adds = omega (arith, counting.adds, whole, one.rows, length-append (header_rows h) (events_in rest));
-    }
-
-pub others_passed : (all count : ℕ) (h : Head) (rest headers : List Head) → headers ≡ h ∷ rest → is_event_header h ≡ false → IsCounting all headers count
-    → IsCounting all rest count
-others_passed all count h rest headers is event counting =
-    let each : AreHeaders form.Response counting.context (h ∷ rest) = subst (AreHeaders form.Response counting.context) is counting.each in
-    let whole : length (events_in headers) ≡ length (events_in rest) =
-    ap (λ (hs : List Head). length (events_in hs)) is ∙ ap (λ (b : Bool). length (cond b (header_rows h) [] ++ events_in rest)) event in
-    record {
-      context = context_after counting.context h;
-      each = each.1;
-      adds = omega (arith, counting.adds, whole);
-    }
-
--- headers that divide octets have no more event rows than those are
-pub whole_few : (f : Form) (context given : Context) (octets : List ℕ) → AreOctets octets → IsTrue (is_whole f context octets)
-    → AreHeaders form.Response given (headers_left f context octets) → length (events_in (headers_left f context octets)) ≤ length octets
-whole_few f context given octets are whole each =
-    let divides : octets ≡ spelled (headers_left f context octets) = go (headers_from f context octets) (headers_read_from f context octets are) whole in
-    omega (arith, few_events given (headers_left f context octets) each, ap (λ (bs : List ℕ). length bs) divides)
-  where
-    go : (r : Result (List Head) AppFault) → ReadsHeaders f context octets r → is_ok r ≡ true → octets ≡ spelled (result_unwrap_or r [])
-    go (Ok hs) reads is = reads.whole
-    go (Err e) reads is = cc
-
--- nor has a response than stand after its first four
+-- nor than stand after a response's first four
 pub answered_few : (octets : List ℕ) (r : Result Answered AppFault) → Meets r (IsResponse octets) (IsResponseFault octets)
     → length (answered_events r) ≤ length octets - 4
 answered_few octets (Ok answered) is =

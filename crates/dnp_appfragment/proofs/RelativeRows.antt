@@ -23,8 +23,8 @@ use Rattle.dnp_appfragment.specs.Headers.{Head, count_of, prefix_size, octets_of
 use Rattle.dnp_appfragment.specs.Objects.{IsObject, IsWholeRow, IsRelativeRow, IsRow, HasRelativeRows, HasRows, prefix_octets}
 use Rattle.dnp_appfragment.specs.Reading.{object_at, first_octets, index_at, is_timed}
 use Rattle.dnp_appfragment.specs.Meaning.{whole_row_in, common_in, relative_row_in, row_in}
-use Rattle.dnp_appfragment.specs.declared.row_walk.Carried.{Carried}
-use Rattle.dnp_appfragment.specs.declared.row_walk.Carried.TheVariants as carried
+use Rattle.dnp_appfragment.specs.declared.row_walk.RowForm.{RowForm}
+use Rattle.dnp_appfragment.specs.declared.row_walk.RowForm.TheVariants as carried
 use Rattle.dnp_appfragment.specs.steps.Walking.{carried_by, relative_by, carried_in, rows_left}
 use Rattle.dnp_appfragment.proofs.Numbers.{AreOctets}
 use Rattle.dnp_appfragment.proofs.ObjectValues.{RowsRead, RowsAlone, object_is, part_octets, object_said, row_said, row_says, row_is_event}
@@ -241,7 +241,7 @@ row_found h k (Some row) is says = says row (sym is)
 
 -- ---- the whole walk
 
-pub any_walk_is : (h : Head) (c : Carried) (left : ℕ) → c ≡ carried_in h → left ≡ count_of h.range → (i : ℕ)
+pub any_walk_is : (h : Head) (c : RowForm) (left : ℕ) → c ≡ carried_in h → left ≡ count_of h.range → (i : ℕ)
     → slice_get (rows_left c h.range h.octets 0 left) i ≡ row_in h i
 any_walk_is h c left carries counts i = go (is_relative h.group h.variation) refl
   where
@@ -253,7 +253,7 @@ any_walk_is h c left carries counts i = go (is_relative h.group h.variation) ref
 
     go : (b : Bool) → is_relative h.group h.variation ≡ b → slice_get (rows_left c h.range h.octets 0 left) i ≡ row_in h i
     go true relative =
-        ap (λ (c : Carried). slice_get (rows_left c h.range h.octets 0 left) i)
+        ap (λ (c : RowForm). slice_get (rows_left c h.range h.octets 0 left) i)
         (carries ∙ ap (λ (b : Bool). cond b (relative_by h) (carried_by h.group h.variation)) relative)
         ∙ at_common (common_in h) ∙ sym (at_relative h i relative)
     go false whole =

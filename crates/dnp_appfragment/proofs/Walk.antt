@@ -13,7 +13,7 @@ use Rattle.dnp_appfragment.specs.Table.{takes_of}
 use Rattle.dnp_appfragment.specs.Headers.{Head, head_after, objects_size, Context, context_after, common_of}
 use Rattle.dnp_appfragment.specs.declared.header.Header.{Header}
 use Rattle.dnp_appfragment.specs.Left.{Left, is_whole, headers_left}
-use Rattle.dnp_appfragment.specs.Places.{Ends, YieldsHeader}
+use Rattle.dnp_appfragment.specs.Places.{EndsWith, YieldsHeader}
 use Rattle.dnp_appfragment.specs.Seen.{head}
 use Rattle.dnp_appfragment.specs.Reading.{◌>>=◌, number_at, span_at, count_at, indexed_at, range_at, taken, is_timed, timed_at, objects_at, header_at, headers_in, headers_from}
 
@@ -244,12 +244,12 @@ front_whole f context octets some whole = go (header_at f context octets) refl
 
 -- ---- passing headers
 
-ends_on : (source old new : Bor (List ℕ)) → Ends source old → Ends old new → Ends source new
+ends_on : (source old new : Bor (List ℕ)) → EndsWith source old → EndsWith old new → EndsWith source new
 ends_on source old new is on = (on.0 ∙ is.0, on.1 ∙ is.1)
 
 -- a header passed is one fewer to be passed
 pub passes : (source : Bor (List ℕ)) (all : List Head) (old new : Left) (given : Option Header) (n : ℕ) → YieldsHeader old given new
-    → is_some given ≡ true → (drop n old.headers ≡ all) × Ends source old.rest → 0 < n → (drop (n - 1) new.headers ≡ all) × Ends source new.rest
+    → is_some given ≡ true → (drop n old.headers ≡ all) × EndsWith source old.rest → 0 < n → (drop (n - 1) new.headers ≡ all) × EndsWith source new.rest
 passes source all old new None n yields some is more = cc
 passes source all old new (Some h) n yields some is more =
     let one : n ≡ suc (n - 1) = omega arith in (
@@ -259,6 +259,6 @@ passes source all old new (Some h) n yields some is more =
 
 -- and where there is none, what is left stays
 pub stays : (source : Bor (List ℕ)) (old new : Left) (given : Option Header) → YieldsHeader old given new → is_some given ≡ false
-    → Ends source old.rest → Ends source new.rest
-stays source old new None yields none is = subst (λ (b : Bor (List ℕ)). Ends source b) (sym yields.1) is
+    → EndsWith source old.rest → EndsWith source new.rest
+stays source old new None yields none is = subst (λ (b : Bor (List ℕ)). EndsWith source b) (sym yields.1) is
 stays source old new (Some h) yields none is = cc

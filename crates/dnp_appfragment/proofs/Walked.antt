@@ -13,8 +13,8 @@ use Rattle.dnp_objects.specs.Objects.{object_size, shape_read, shape_size}
 use Rattle.dnp_objects.specs.Parts.{row_of}
 use Rattle.dnp_appfragment.specs.declared.header.Range.{Range}
 use Rattle.dnp_appfragment.specs.declared.header.Range.TheVariants as range
-use Rattle.dnp_appfragment.specs.declared.row_walk.Carried.{Carried}
-use Rattle.dnp_appfragment.specs.declared.row_walk.Carried.TheVariants as carried
+use Rattle.dnp_appfragment.specs.declared.row_walk.RowForm.{RowForm}
+use Rattle.dnp_appfragment.specs.declared.row_walk.RowForm.TheVariants as carried
 use Rattle.dnp_appfragment.specs.Headers.{head_of, count_of, prefix_size}
 use Rattle.dnp_appfragment.specs.Reading.{index_at, first_octets, object_at}
 use Rattle.dnp_appfragment.specs.Meaning.{start_of, bit_in, shaped_row_in, whole_row_in}
@@ -229,7 +229,7 @@ rows_are f size r octets (suc n) k i all room =
 
 -- ---- the whole walk
 
-pub walk_is : (g v : ℕ) (r : Range) (octets : List ℕ) (c : Carried) (left : ℕ) → c ≡ carried_by g v → left ≡ count_of r → (i : ℕ)
+pub walk_is : (g v : ℕ) (r : Range) (octets : List ℕ) (c : RowForm) (left : ℕ) → c ≡ carried_by g v → left ≡ count_of r → (i : ℕ)
     → slice_get (rows_left c r octets 0 left) i ≡ whole_row_in (head_of g v r octets) i
 walk_is g v r octets c left carries counts i =
     (λ j. slice_get (rows_left (carries j) r octets 0 (counts j)) i) ∙ go ((g == 1) && (v == 1))

@@ -8,13 +8,13 @@ use Rattle.dnp_appfragment.specs.Left.{Left}
 use Rattle.dnp_appfragment.specs.Seen.{head}
 
 -- the part is the end of the source, in its memory
-abbrev pub Ends : Bor (List ℕ) → Bor (List ℕ) → Type 0
-Ends source part = (part.ref_ptr.0 ≡ source.ref_ptr.0) × (part.ref_ptr.1 + length part.now ≡ source.ref_ptr.1 + length source.now)
+abbrev pub EndsWith : Bor (List ℕ) → Bor (List ℕ) → Type 0
+EndsWith source part = (part.ref_ptr.0 ≡ source.ref_ptr.0) × (part.ref_ptr.1 + length part.now ≡ source.ref_ptr.1 + length source.now)
 
 -- the part lies in the source's memory, and the rest, which is the end of the source, begins where
 -- the part ends
 abbrev pub IsPart : Bor (List ℕ) → Bor (List ℕ) → Bor (List ℕ) → Type 0
-IsPart source part rest = Ends source rest × (part.ref_ptr.0 ≡ source.ref_ptr.0) × (part.ref_ptr.1 + length part.now ≡ rest.ref_ptr.1)
+IsPart source part rest = EndsWith source rest × (part.ref_ptr.0 ≡ source.ref_ptr.0) × (part.ref_ptr.1 + length part.now ≡ rest.ref_ptr.1)
 
 -- the first of the headers that are left is given, if there is one, and the others are left; its
 -- objects lie in what was left, and what is left now begins where they end. Where there is none,

@@ -2,7 +2,7 @@
 ghost use Rattle.std.specs.Prelude.{◌≡◌, Ok, IsTrue};
 ghost use Rattle.std.specs.Result.{is_ok};
 ghost use Rattle.dnp_appfragment.specs.Reading as spec;
-ghost use Rattle.dnp_appfragment.specs.Places.{Ends, IsPart};
+ghost use Rattle.dnp_appfragment.specs.Places.{EndsWith, IsPart};
 ghost use Rattle.dnp_appfragment.specs.Seen.{number_and_rest, range_and_rest, head_and_rest};
 
 use crate::common::common_of;
@@ -16,7 +16,7 @@ use crate::table::Form;
 fn checked_number(wide: bool, octets: &[u8]) -> (u16, &[u8])
     requires { IsTrue (is_ok (spec.number_at wide octets.now)) }
     ensures gives { spec.number_at wide octets.now ≡ Ok (number_and_rest result) }
-    ensures end { Ends octets.entry result.1 }
+    ensures end { EndsWith octets.entry result.1 }
 {
     if wide {
         (u16::from_le_bytes([octets[0], octets[1]]), &octets[2..])
@@ -31,7 +31,7 @@ fn checked_number(wide: bool, octets: &[u8]) -> (u16, &[u8])
 fn checked_range(qualifier: u8, octets: &[u8]) -> (Range, &[u8])
     requires { IsTrue (is_ok (spec.range_at qualifier octets.now)) }
     ensures gives { spec.range_at qualifier octets.now ≡ Ok (range_and_rest result) }
-    ensures end { Ends octets.entry result.1 }
+    ensures end { EndsWith octets.entry result.1 }
 {
     match qualifier {
         ALL => (Range::All, octets),

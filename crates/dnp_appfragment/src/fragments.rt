@@ -5,7 +5,7 @@ ghost use Rattle.dnp_appfragment.specs.declared.fault.AppFault.{AppFault as Faul
 ghost use Rattle.dnp_appfragment.specs.Fragments as spec;
 ghost use Rattle.dnp_appfragment.specs.Fragments.{Asked, Answered, IsRequest, IsResponse, request_octets, confirmation};
 ghost use Rattle.dnp_appfragment.specs.Faults.{IsRequestFault, IsResponseFault};
-ghost use Rattle.dnp_appfragment.specs.Places.{Ends};
+ghost use Rattle.dnp_appfragment.specs.Places.{EndsWith};
 ghost use Rattle.dnp_appfragment.specs.Meaning.{request_at, response_at};
 ghost use Rattle.dnp_appfragment.specs.Seen.{Gives};
 ghost use Rattle.dnp_appfragment.specs.Whole.{request, response};
@@ -22,7 +22,7 @@ use crate::table::{Form, form_of};
 /// The octets in which headers are looked for: all after the function, or none.
 fn looked_at(form: Form, body: &[u8]) -> &[u8]
     ensures value { result.now ≡ spec.looked_at form body.now }
-    ensures end { Ends body.entry result }
+    ensures end { EndsWith body.entry result }
 {
     match form {
         Form::Bare => &body[body.len()..],
@@ -34,7 +34,7 @@ fn looked_at(form: Form, body: &[u8]) -> &[u8]
 #[tactic(auto, unfolding(crate::specs::Meaning::request_at))]
 fn request_of(octets: &[u8]) -> Result<Request<'_>, AppFault>
     ensures gives { Gives request result (request_at octets.now) }
-    ensures place { IfOk result (λ r. Ends octets.entry r.headers.rest) }
+    ensures place { IfOk result (λ r. EndsWith octets.entry r.headers.rest) }
 {
     match octets {
         [control, code, body @ ..] => {
@@ -57,7 +57,7 @@ fn request_of(octets: &[u8]) -> Result<Request<'_>, AppFault>
 #[tactic(auto, unfolding(crate::specs::Meaning::response_at))]
 fn response_of(octets: &[u8]) -> Result<Response<'_>, AppFault>
     ensures gives { Gives response result (response_at octets.now) }
-    ensures place { IfOk result (λ r. Ends octets.entry r.headers.rest) }
+    ensures place { IfOk result (λ r. EndsWith octets.entry r.headers.rest) }
 {
     match octets {
         [control, code, one, two, body @ ..] => {
@@ -93,7 +93,7 @@ pub fn read_request(octets: &[u8]) -> Result<Request<'_>, AppFault>
     ensures fault { IfErr result (IsRequestFault octets.now) }
     ensures only_fault { (fault : FaultValue) → IsRequestFault octets.now fault → result ≡ Err fault }
     // The headers lie in the octets, to their end.
-    ensures place { IfOk result (λ r. Ends octets.entry r.headers.rest) }
+    ensures place { IfOk result (λ r. EndsWith octets.entry r.headers.rest) }
 {
     request_of(octets)
 }
@@ -104,7 +104,7 @@ pub fn known_request(octets: &[u8]) -> Request<'_>
     requires { IsTrue (is_ok (request_at octets.now)) }
     ensures value { request_at octets.now ≡ Ok (request result) }
     // The headers lie in the octets, to their end.
-    ensures place { Ends octets.entry result.headers.rest }
+    ensures place { EndsWith octets.entry result.headers.rest }
 {
     let [control, code, body @ ..] = octets else {
         unreachable!();
@@ -131,7 +131,7 @@ pub fn read_response(octets: &[u8]) -> Result<Response<'_>, AppFault>
     ensures fault { IfErr result (IsResponseFault octets.now) }
     ensures only_fault { (fault : FaultValue) → IsResponseFault octets.now fault → result ≡ Err fault }
     // The headers lie in the octets, to their end.
-    ensures place { IfOk result (λ r. Ends octets.entry r.headers.rest) }
+    ensures place { IfOk result (λ r. EndsWith octets.entry r.headers.rest) }
 {
     response_of(octets)
 }

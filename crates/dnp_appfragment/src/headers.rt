@@ -30,12 +30,10 @@ impl<'a> Model for Headers<'a> {
 }
 
 impl<'a> Headers<'a> {
-    ghost use Rattle.std.specs.Prelude.{◌≡◌, IfOk, IsTrue, drop, length};
-    ghost use Rattle.dnp_appfragment.specs.declared.table.Form.TheVariants as form;
-    ghost use Rattle.dnp_appfragment.specs.EventRows.{events_in};
-    ghost use Rattle.dnp_appfragment.specs.Headers.{Context, AreHeaders, begin};
+    ghost use Rattle.std.specs.Prelude.{◌≡◌, IfOk, IsTrue, drop};
+    ghost use Rattle.dnp_appfragment.specs.Headers.{begin};
     ghost use Rattle.dnp_appfragment.specs.Left.{is_whole, headers_of};
-    ghost use Rattle.dnp_appfragment.specs.Places.{Ends};
+    ghost use Rattle.dnp_appfragment.specs.Places.{EndsWith};
     ghost use Rattle.dnp_appfragment.specs.Seen.{Gives};
     ghost use Rattle.dnp_appfragment.specs.Reading.{headers_at};
 
@@ -77,7 +75,7 @@ impl<'a> Headers<'a> {
     /// octets.
     pub fn after(&self, k: usize) -> Headers<'a>
         ensures headers { result.headers ≡ drop k self.now.headers }
-        ensures place { Ends self.now.rest result.rest }
+        ensures place { EndsWith self.now.rest result.rest }
     {
         let mut left = Headers {
             form: self.form,
@@ -91,28 +89,6 @@ impl<'a> Headers<'a> {
             }
         }
         left
-    }
-
-    /// How many event rows these headers of a response have: as many as the ranges of those of events
-    /// name.
-    pub fn count_events(&self) -> usize
-        requires response { (context : Context) × AreHeaders form.Response context self.now.headers }
-        ensures { result ≡ length (events_in self.now.headers) }
-    {
-        // (a law, for the proof: it does nothing)
-        a_slice_is_of_octets(self.rest);
-        let left = Headers {
-            form: self.form,
-            common: self.common,
-            rest: self.rest,
-        };
-        let mut count = 0;
-        for header in left {
-            if header.is_event() {
-                count += header.count();
-            }
-        }
-        count
     }
 }
 

@@ -1,7 +1,7 @@
 //! Headers from the front of octets, checked.
 ghost use Rattle.std.specs.Prelude.{◌≡◌, ◌≤◌, IfOk};
 ghost use Rattle.dnp_appfragment.specs.Reading as spec;
-ghost use Rattle.dnp_appfragment.specs.Places.{Ends, IsPart};
+ghost use Rattle.dnp_appfragment.specs.Places.{EndsWith, IsPart};
 ghost use Rattle.dnp_appfragment.specs.Seen.{Gives, number_and_rest, range_and_rest, head_and_rest};
 
 use crate::common::{common_of, is_timed};
@@ -14,7 +14,7 @@ use crate::table::{Form, allows, takes_of};
 /// A number in one octet, or in two, and the octets after it.
 pub(crate) fn number_at(wide: bool, octets: &[u8]) -> Result<(u16, &[u8]), AppFault>
     ensures gives { Gives number_and_rest result (spec.number_at wide octets.now) }
-    ensures end { IfOk result (λ x. Ends octets.entry x.1) }
+    ensures end { IfOk result (λ x. EndsWith octets.entry x.1) }
 {
     match (wide, octets) {
         (false, [number, rest @ ..]) => Ok((u16::from(*number), rest)),
@@ -27,7 +27,7 @@ pub(crate) fn number_at(wide: bool, octets: &[u8]) -> Result<(u16, &[u8]), AppFa
 #[tactic(auto, unfolding(crate::specs::Reading::span_at))]
 fn span_at(wide: bool, octets: &[u8]) -> Result<(Range, &[u8]), AppFault>
     ensures gives { Gives range_and_rest result (spec.span_at wide octets.now) }
-    ensures end { IfOk result (λ x. Ends octets.entry x.1) }
+    ensures end { IfOk result (λ x. EndsWith octets.entry x.1) }
 {
     let (first, rest) = number_at(wide, octets)?;
     let (last, rest) = number_at(wide, rest)?;
@@ -40,7 +40,7 @@ fn span_at(wide: bool, octets: &[u8]) -> Result<(Range, &[u8]), AppFault>
 /// A count.
 fn count_at(wide: bool, octets: &[u8]) -> Result<(Range, &[u8]), AppFault>
     ensures gives { Gives range_and_rest result (spec.count_at wide octets.now) }
-    ensures end { IfOk result (λ x. Ends octets.entry x.1) }
+    ensures end { IfOk result (λ x. EndsWith octets.entry x.1) }
 {
     let (n, rest) = number_at(wide, octets)?;
     Ok((Range::Count { wide, n }, rest))
@@ -49,7 +49,7 @@ fn count_at(wide: bool, octets: &[u8]) -> Result<(Range, &[u8]), AppFault>
 /// A count of objects that have an index before them.
 fn indexed_at(wide: bool, octets: &[u8]) -> Result<(Range, &[u8]), AppFault>
     ensures gives { Gives range_and_rest result (spec.indexed_at wide octets.now) }
-    ensures end { IfOk result (λ x. Ends octets.entry x.1) }
+    ensures end { IfOk result (λ x. EndsWith octets.entry x.1) }
 {
     let (n, rest) = number_at(wide, octets)?;
     Ok((Range::Indexed { wide, n }, rest))
@@ -59,7 +59,7 @@ fn indexed_at(wide: bool, octets: &[u8]) -> Result<(Range, &[u8]), AppFault>
 #[tactic(auto, unfolding(crate::specs::Reading::range_at))]
 fn range_at(qualifier: u8, octets: &[u8]) -> Result<(Range, &[u8]), AppFault>
     ensures gives { Gives range_and_rest result (spec.range_at qualifier octets.now) }
-    ensures end { IfOk result (λ x. Ends octets.entry x.1) }
+    ensures end { IfOk result (λ x. EndsWith octets.entry x.1) }
 {
     match qualifier {
         SPAN => span_at(false, octets),

@@ -14,7 +14,7 @@ use std::marker::Model;
 
 /// The rows that the objects of a header carry.
 #[derive(Clone, Copy, Debug, PartialEq, Eq)]
-pub enum Carried {
+pub enum RowForm {
     /// Packed bits, 1.1.
     Bits,
     /// A row in each object.
@@ -26,37 +26,37 @@ pub enum Carried {
 }
 
 /// The rows that a header of this object carries, where their times stand whole.
-fn carried_by(group: u8, variation: u8) -> Carried
+fn carried_by(group: u8, variation: u8) -> RowForm
     ensures value { result ≡ spec.carried_by group variation }
-    ensures sound { spec.IsCarried result }
+    ensures sound { spec.IsRowForm result }
 {
     if group == 1 && variation == 1 {
-        return Carried::Bits;
+        return RowForm::Bits;
     }
     match row_shape(group, variation) {
-        Some(shape) => Carried::Rows(shape),
-        None => Carried::Nothing,
+        Some(shape) => RowForm::Rows(shape),
+        None => RowForm::Nothing,
     }
 }
 
 /// What a header carries whose times are given after its common one.
-fn relative_by(header: &Header<'_>) -> Carried
+fn relative_by(header: &Header<'_>) -> RowForm
     requires some { 0 < count header.now.range }
     requires relative { spec_is_relative header.now.group header.now.variation ≡ true }
     ensures value { result ≡ spec.relative_by (head header.now) }
-    ensures sound { spec.IsCarried result }
+    ensures sound { spec.IsRowForm result }
 {
     match common_in(header) {
-        Some(common) => Carried::Relative(common),
-        None => Carried::Nothing,
+        Some(common) => RowForm::Relative(common),
+        None => RowForm::Nothing,
     }
 }
 
 /// What a header of some objects carries.
-fn carried_in(header: &Header<'_>) -> Carried
+fn carried_in(header: &Header<'_>) -> RowForm
     requires some { 0 < count header.now.range }
     ensures value { result ≡ spec.carried_in (head header.now) }
-    ensures sound { spec.IsCarried result }
+    ensures sound { spec.IsRowForm result }
 {
     if is_relative(header.group, header.variation) {
         relative_by(header)
@@ -84,7 +84,7 @@ fn cut_at(range: Range, size: usize, k: usize, octets: &[u8]) -> Option<(u16, &[
 /// looked up once, and each object is cut off the front of the octets that are left.
 #[derive(Debug, Drop)]
 pub struct RowWalk<'a> {
-    carried: Carried,
+    carried: RowForm,
     range: Range,
     /// The octets of the objects that are left; of packed bits those of all.
     octets: &'a [u8],
@@ -119,7 +119,7 @@ impl<'a> RowWalk<'a> {
         let left = count_of(header.range);
         // (the header of a READ by class needs no look-up)
         let carried = if left == 0 {
-            Carried::Nothing
+            RowForm::Nothing
         } else {
             carried_in(header)
         };
@@ -149,18 +149,18 @@ impl<'a> Iterator for RowWalk<'a> {
             return None;
         }
         let row = match self.carried {
-            Carried::Rows(shape) => {
+            RowForm::Rows(shape) => {
                 let (index, octets, rest) = cut_at(self.range, shape.size(), self.k, self.octets)?;
                 self.octets = rest;
                 shape.row(index, octets)
             }
-            Carried::Relative(common) => {
+            RowForm::Relative(common) => {
                 let (index, octets, rest) = cut_at(self.range, 3, self.k, self.octets)?;
                 self.octets = rest;
                 binary_after(index, octets, common)
             }
-            Carried::Bits => bit_at(self.range, self.octets, self.k)?,
-            Carried::Nothing => return None,
+            RowForm::Bits => bit_at(self.range, self.octets, self.k)?,
+            RowForm::Nothing => return None,
         };
         self.k += 1;
         self.left -= 1;

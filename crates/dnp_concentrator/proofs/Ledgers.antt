@@ -6,7 +6,7 @@ use Rattle.std.proofs.lemmas.Bool.Decides.{Decides-eqb}
 use Rattle.dnp_controls.specs.declared.book.Entry.{Entry}
 use Rattle.dnp_controls.specs.declared.book.State.{State}
 use Rattle.dnp_controls.specs.declared.book.State.TheVariants.{Spent}
-use Rattle.dnp_controls.specs.Book.{Ledger, IsSound, Has, entry_of, in_state, spent, is_pending}
+use Rattle.dnp_controls.specs.Book.{Ledger, IsSoundLedger, Has, entry_of, in_state, spent, is_pending}
 use Rattle.dnp_controls.specs.Moves.{IsNext}
 use Rattle.dnp_concentrator.specs.declared.progress.Progress.{Progress}
 use Rattle.dnp_concentrator.specs.declared.progress.Stage.{Stage}
@@ -112,7 +112,7 @@ found (x ∷ entries) entry rising (suc k, low, is) =
     go false same rest = rest
 
 -- the next entry as the control in progress is the book's
-pub next_is_of : (book : Ledger) (target : ℕ) (entry : Entry) (stage : Stage) → IsSound book → IsNext book.entries target entry
+pub next_is_of : (book : Ledger) (target : ℕ) (entry : Entry) (stage : Stage) → IsSoundLedger book → IsNext book.entries target entry
     → IsOf book.entries target (Some (record { id = entry.id; command = entry.command; stage = stage }))
 next_is_of book target entry stage sound next =
     let P : Option Entry → Type 0 = λ o. IsSomeAnd o (λ e. (e.target ≡ target) × (e.command ≡ entry.command)) in

@@ -3,7 +3,7 @@ use Rattle.std.proofs.Common.{◌≡◌, ℕ, Bool, Result, refl, sym, ◌∙◌
 use Rattle.std.specs.Borrow.{GName}
 use Rattle.std.specs.Prelude.{OnErr}
 use Rattle.dnp_eventbuf.specs.Sides.{beside_of, centre_in, lent_pair, pair_in}
-use Rattle.dnp_eventbuf.specs.Stock.{Stock}
+use Rattle.dnp_eventbuf.specs.EventBuffer.{EventBuffer}
 use Rattle.dnp_eventbuf.specs.declared.side.Side.{Side}
 use Rattle.dnp_outstation.specs.Stores.{KeepsLanes}
 use Rattle.dnp_concentrator.specs.Concentrator.{KeepsSide}
@@ -13,7 +13,7 @@ abbrev pub place_of : {Pair : Type 0} → Side Pair → GName × ℕ
 place_of s = ((lent_pair s).ghost_name, centre_in s)
 
 -- a call that keeps a side keeps it in the store
-pub side_kept : {Pair Answer Fault : Type 0} (honest : Pair → Type 0) (is_stopped : Pair → Bool) (contents : Pair → ℕ → Stock) (device : Fault)
+pub side_kept : {Pair Answer Fault : Type 0} (honest : Pair → Type 0) (is_stopped : Pair → Bool) (contents : Pair → ℕ → EventBuffer) (device : Fault)
     (s t : Side Pair) (answer : Result Answer Fault) (pair : Pair) (centre : ℕ)
     → KeepsLanes (λ x. honest (pair_in x)) (λ x. is_stopped (pair_in x)) (λ x. contents (pair_in x) (centre_in x))
     (λ x. beside_of contents (centre_in x) (pair_in x)) place_of device s t answer

@@ -6,12 +6,12 @@ use Rattle.std.specs.List.Sorted.{IsPermutation, IsPartitionPoint, IsNonDecreasi
 use Rattle.std.proofs.lemmas.Bool.Decides.{nat_tests}
 use Rattle.std.proofs.lemmas.List.{get_or-map, length-map, map-append}
 use Rattle.std.proofs.lemmas.List.Sorted.{IsPermutation-map}
-use Rattle.dnp_pointdb.specs.declared.order.Place.{Place as BlockPlace}
+use Rattle.dnp_pointdb.specs.declared.order.BlockPlace.{BlockPlace}
 use Rattle.dnp_pointdb.specs.steps.Order.{Extent, AreApart, covers, place_in}
 use Rattle.dnp_pointdb.specs.steps.Order as blocks
 use Rattle.dnp_pointdb.proofs.Orders.{Placed, placed_push, placed_skip, placed_sorted}
 use Rattle.dnp_concentrator.specs.declared.index_kind.IndexKind.{IndexKind}
-use Rattle.dnp_concentrator.specs.declared.order.Place.{Place}
+use Rattle.dnp_concentrator.specs.declared.order.SpanPlace.{SpanPlace}
 use Rattle.dnp_concentrator.specs.declared.span.Spans.{Spans}
 use Rattle.dnp_concentrator.specs.IndexMap.{IsApart, index_below, is_in, no_spans, one_on, span_of}
 use Rattle.dnp_concentrator.specs.steps.Order.{IsOrder, as_block, extent}
@@ -22,7 +22,7 @@ extent_at : (kind : IndexKind) (spans : List Spans) (n : ℕ) (d : Spans) (e : E
     → get_or (map (extent kind) spans) n e ≡ extent kind (get_or spans n d)
 extent_at kind spans n d e lt = get_or-map (extent kind) spans n d e lt
 
-block_at : (order : List Place) (n : ℕ) (d : Place) (e : BlockPlace) → n < length order
+block_at : (order : List SpanPlace) (n : ℕ) (d : SpanPlace) (e : BlockPlace) → n < length order
     → get_or (map as_block order) n e ≡ as_block (get_or order n d)
 block_at order n d e lt = get_or-map as_block order n d e lt
 
@@ -46,14 +46,14 @@ extents_apart kind spans apart i j index d d' before lt of_i of_j =
 
 -- ---- the order, substation after substation
 
-pub IsPlaced : IndexKind → List Spans → ℕ → List Place → Type 0
+pub IsPlaced : IndexKind → List Spans → ℕ → List SpanPlace → Type 0
 IsPlaced kind spans n order = Placed (map (extent kind) spans) n (map as_block order)
 
 pub none_placed : (kind : IndexKind) (spans : List Spans) → IsPlaced kind spans 0 []
 unfolding IsPlaced
 none_placed kind spans = record { listed = λ k d lt. absurd (omega arith); complete = λ j lt. absurd (omega arith) }
 
-pub place_pushed : (kind : IndexKind) (spans : List Spans) (n : ℕ) (order : List Place) (place : Place) (s : Spans) → IsPlaced kind spans n order
+pub place_pushed : (kind : IndexKind) (spans : List Spans) (n : ℕ) (order : List SpanPlace) (place : SpanPlace) (s : Spans) → IsPlaced kind spans n order
     → n < length spans → place.substation ≡ n → 0 < place.count
     → place.first ≡ (span_of (get_or spans n s) kind).base → place.count ≡ (span_of (get_or spans n s) kind).count
     → IsPlaced kind spans (n + 1) (order ++ place ∷ [])
@@ -63,22 +63,22 @@ place_pushed kind spans n order place s p lt number some first count =
     (placed_push (map (extent kind) spans) n (map as_block order) (as_block place) p (omega (arith, length-map spans (extent kind))) number some (λ d.
     (ap (λ (e : Extent). e.first) (extent_at kind spans n s d lt) ∙ sym first, ap (λ (e : Extent). e.count) (extent_at kind spans n s d lt) ∙ sym count)))
 
-pub place_skipped : (kind : IndexKind) (spans : List Spans) (n : ℕ) (order : List Place) (s : Spans) → IsPlaced kind spans n order
+pub place_skipped : (kind : IndexKind) (spans : List Spans) (n : ℕ) (order : List SpanPlace) (s : Spans) → IsPlaced kind spans n order
     → n < length spans → (span_of (get_or spans n s) kind).count ≡ 0 → IsPlaced kind spans (n + 1) order
 unfolding IsPlaced
 place_skipped kind spans n order s p lt none =
     placed_skip (map (extent kind) spans) n (map as_block order) p (λ d. ap (λ (e : Extent). e.count) (extent_at kind spans n s d lt) ∙ none)
 
-rising_blocks : (order : List Place) → IsNonDecreasingBy (λ place. place.first) order → IsNonDecreasingBy (λ place. place.first) (map as_block order)
+rising_blocks : (order : List SpanPlace) → IsNonDecreasingBy (λ place. place.first) order → IsNonDecreasingBy (λ place. place.first) (map as_block order)
 rising_blocks order rising i j d le lt =
     let as_many : length (map as_block order) ≡ length order = length-map order as_block in
-    let e : Place = record { first = d.first; count = d.count; substation = d.block } in
+    let e : SpanPlace = record { first = d.first; count = d.count; substation = d.block } in
     let of_i : (get_or (map as_block order) i d).first ≡ (get_or order i e).first = ap (λ (p : BlockPlace). p.first) (block_at order i e d (omega arith)) in
     let of_j : (get_or (map as_block order) j d).first ≡ (get_or order j e).first = ap (λ (p : BlockPlace). p.first) (block_at order j e d (omega arith)) in
     let low : (get_or order i e).first ≤ (get_or order j e).first = rising i j e le (omega arith) in
     omega arith
 
-pub order_sorted : (kind : IndexKind) (spans : List Spans) (n : ℕ) (order order' : List Place) → IsPlaced kind spans n order → length spans ≤ n
+pub order_sorted : (kind : IndexKind) (spans : List Spans) (n : ℕ) (order order' : List SpanPlace) → IsPlaced kind spans n order → length spans ≤ n
     → IsPermutation order order' → IsNonDecreasingBy (λ place. place.first) order' → IsApart kind spans → IsOrder kind spans order'
 unfolding IsPlaced
 order_sorted kind spans n order order' p all moves rising apart =
@@ -86,7 +86,7 @@ order_sorted kind spans n order order' p all moves rising apart =
     (IsPermutation-map as_block order order' moves) (rising_blocks order' rising) (extents_apart kind spans apart)
 
 -- the other way
-pub order_rising : (kind : IndexKind) (spans : List Spans) (order : List Place) → IsOrder kind spans order → IsNonDecreasingBy (λ place. place.first) order
+pub order_rising : (kind : IndexKind) (spans : List Spans) (order : List SpanPlace) → IsOrder kind spans order → IsNonDecreasingBy (λ place. place.first) order
 order_rising kind spans order o i j d le lt =
     let as_many : length (map as_block order) ≡ length order = length-map order as_block in
     let e : BlockPlace = as_block d in
@@ -98,17 +98,17 @@ order_rising kind spans order o i j d le lt =
 -- ---- looking an index up
 
 -- where the places that begin up to an index end
-abbrev pub begins : ℕ → Place → Bool
+abbrev pub begins : ℕ → SpanPlace → Bool
 begins index place = nat_le place.first index
 
-pub begun_below : (order : List Place) (index n : ℕ) → IsPartitionPoint (λ p. begins index p ≡ true) (λ p. begins index p ≡ false) order n
-    → (k : ℕ) (e : Place) → k < n → (get_or order k e).first ≤ index
+pub begun_below : (order : List SpanPlace) (index n : ℕ) → IsPartitionPoint (λ p. begins index p ≡ true) (λ p. begins index p ≡ false) order n
+    → (k : ℕ) (e : SpanPlace) → k < n → (get_or order k e).first ≤ index
 begun_below order index n split k e lt =
     let at : begins index (get_or order k e) ≡ true = split.0 k e (omega arith) lt in
     grind (arith, nat_tests)
 
-pub begun_above : (order : List Place) (index n : ℕ) → IsPartitionPoint (λ p. begins index p ≡ true) (λ p. begins index p ≡ false) order n
-    → (k : ℕ) (e : Place) → n ≤ k → k < length order → index < (get_or order k e).first
+pub begun_above : (order : List SpanPlace) (index n : ℕ) → IsPartitionPoint (λ p. begins index p ≡ true) (λ p. begins index p ≡ false) order n
+    → (k : ℕ) (e : SpanPlace) → n ≤ k → k < length order → index < (get_or order k e).first
 begun_above order index n split k e le lt =
     let at : begins index (get_or order k e) ≡ false = split.1 k e le lt in
     grind (arith, nat_tests)
@@ -125,7 +125,8 @@ pub record FindsEach : Type 0 where
       → ((k : ℕ) → k < length order → index < (get_or order k d).first) → place_in es index ≡ None
 
 -- the place at m has the index
-pub found_below : FindsEach → (kind : IndexKind) (spans : List Spans) (order : List Place) (index m : ℕ) (d : Place) → IsOrder kind spans order → m < length order
+pub found_below : FindsEach → (kind : IndexKind) (spans : List Spans) (order : List SpanPlace) (index m : ℕ) (d : SpanPlace) → IsOrder kind spans order
+    → m < length order
     → (get_or order m d).first ≤ index → index < (get_or order m d).first + (get_or order m d).count
     → Some ((get_or order m d).substation, index - (get_or order m d).first) ≡ index_below spans kind index
 found_below law kind spans order index m d o lt low high =
@@ -138,7 +139,7 @@ found_below law kind spans order index m d o lt low high =
     ∙ sym (below_is kind spans index)
 
 -- none has it if those that begin up to it, of which m is the last, end before it
-pub missed_below : FindsEach → (kind : IndexKind) (spans : List Spans) (order : List Place) (index n m : ℕ) (d : Place) → IsOrder kind spans order
+pub missed_below : FindsEach → (kind : IndexKind) (spans : List Spans) (order : List SpanPlace) (index n m : ℕ) (d : SpanPlace) → IsOrder kind spans order
     → n ≡ suc m → n ≤ length order → ((k : ℕ) → n ≤ k → k < length order → index < (get_or order k d).first)
     → (get_or order m d).first ≤ index → (get_or order m d).first + (get_or order m d).count ≤ index
     → None ≡ index_below spans kind index
@@ -155,7 +156,7 @@ missed_below law kind spans order index n m d o after within above low high =
     ∙ sym (below_is kind spans index)
 
 -- nor if none begins up to it
-pub missed_all : FindsEach → (kind : IndexKind) (spans : List Spans) (order : List Place) (index : ℕ) (d : Place) → IsOrder kind spans order
+pub missed_all : FindsEach → (kind : IndexKind) (spans : List Spans) (order : List SpanPlace) (index : ℕ) (d : SpanPlace) → IsOrder kind spans order
     → ((k : ℕ) → k < length order → index < (get_or order k d).first) → None ≡ index_below spans kind index
 missed_all law kind spans order index d o above =
     let e : BlockPlace = as_block d in

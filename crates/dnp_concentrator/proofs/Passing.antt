@@ -102,7 +102,7 @@ points-above points.Analog s = refl
 
 -- what a new database has at an index of a block
 abbrev IsThere : Type 0
-IsThere = (plan : plans.Plan) (kind : Kind) (index : ℕ) (block : Block) → plans.IsSound plan → Contains (plans.blocks_of plan kind) block
+IsThere = (plan : plans.Plan) (kind : Kind) (index : ℕ) (block : Block) → plans.IsSoundPlan plan → Contains (plans.blocks_of plan kind) block
     → HasIndex block index → option_map (λ (state : PointState). state.point) (state_at (new_database plan) kind index)
     ≡ slice_get block.points (index - block.base)
 

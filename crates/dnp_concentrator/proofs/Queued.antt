@@ -9,7 +9,7 @@ use Rattle.dnp_objects.specs.declared.lane.Lane.{Lane}
 use Rattle.dnp_objects.specs.declared.lane.LaneRow.{LaneRow}
 use Rattle.dnp_objects.specs.declared.row.Kind.{Kind}
 use Rattle.dnp_objects.specs.declared.row.Row.{Row}
-use Rattle.dnp_eventbuf.specs.Carried.{IsCarried}
+use Rattle.dnp_eventbuf.specs.FitsLane.{FitsLane}
 use Rattle.dnp_pointdb.specs.Classes.{class_at}
 use Rattle.dnp_pointdb.specs.Plan as points
 use Rattle.dnp_pointdb.specs.Events.{lane_of}
@@ -29,24 +29,24 @@ kind_is (suc (suc (suc zero))) kind lane e = grind (arith, e)
 kind_is (suc (suc (suc (suc n)))) kind lane e = absurd (grind (arith, e))
 
 lane_carries : (class : ℕ) (row : Row) (x : LaneRow) (o : Option Lane) → lane_of class row.kind ≡ o
-    → option_map (λ (lane : Lane). let y : LaneRow = record { lane = lane; row = row } in y) o ≡ Some x → IsEvent row → row.index < 2 ^ 16 → IsCarried x
+    → option_map (λ (lane : Lane). let y : LaneRow = record { lane = lane; row = row } in y) o ≡ Some x → IsEvent row → row.index < 2 ^ 16 → FitsLane x
 lane_carries class row x None is e event low = absurd (grind (arith, e))
 lane_carries class row x (Some lane) is e event low =
     let y : LaneRow = record { lane = lane; row = row } in
     let same : y ≡ x = grind (arith, e) in
-    let carried : IsCarried y = record { of_its_kind = kind_is class row.kind lane is; fits = event; index = low } in
-    subst IsCarried same carried
+    let carried : FitsLane y = record { of_its_kind = kind_is class row.kind lane is; fits = event; index = low } in
+    subst FitsLane same carried
 
 class_carries : (row : Row) (x : LaneRow) (o : Option ℕ)
     → option_and_then (λ (class : ℕ). option_map (λ (lane : Lane). let y : LaneRow = record { lane = lane; row = row } in y)
     (lane_of class row.kind)) o ≡ Some x
-    → IsEvent row → row.index < 2 ^ 16 → IsCarried x
+    → IsEvent row → row.index < 2 ^ 16 → FitsLane x
 class_carries row x None e event low = absurd (grind (arith, e))
 class_carries row x (Some class) e event low = lane_carries class row x (lane_of class row.kind) refl e event low
 
 index_carries : (spans : List Spans) → IsMap spans → (plan : points.Plan) (substation : ℕ) (row : Row) (x : LaneRow) (o : Option ℕ)
     → index_above spans substation (kind_of_points row.kind) row.index ≡ o
-    → option_and_then (lane_row plan) (option_map (λ (index : ℕ). record row { index = index }) o) ≡ Some x → IsEvent row → IsCarried x
+    → option_and_then (lane_row plan) (option_map (λ (index : ℕ). record row { index = index }) o) ≡ Some x → IsEvent row → FitsLane x
 index_carries spans m plan substation row x None is e event = absurd (grind (arith, e))
 index_carries spans m plan substation row x (Some index) is e event =
     let above : Row = record row { index = index } in
@@ -54,18 +54,18 @@ index_carries spans m plan substation row x (Some index) is e event =
 
 queued_carried : (spans : List Spans) → IsMap spans → (plan : points.Plan) (substation : ℕ) (row : Row) (o : Option LaneRow)
     → queued_row spans plan substation row ≡ o
-    → IsEvent row → (more : List LaneRow) → All IsCarried more → All IsCarried (cons_option o more)
+    → IsEvent row → (more : List LaneRow) → All FitsLane more → All FitsLane (cons_option o more)
 queued_carried spans m plan substation row None e event more all = all
 queued_carried spans m plan substation row (Some x) e event more all =
-    let first : IsCarried x = index_carries spans m plan substation row x (index_above spans substation (kind_of_points row.kind) row.index) refl e event in
+    let first : FitsLane x = index_carries spans m plan substation row x (index_above spans substation (kind_of_points row.kind) row.index) refl e event in
     all_more first all
   where
-    all_more : IsCarried x → All IsCarried more → All IsCarried (x ∷ more)
+    all_more : FitsLane x → All FitsLane more → All FitsLane (x ∷ more)
     all_more first all zero d lt = first
     all_more first all (suc i) d lt = all i d (omega arith)
 
 pub all_carried : (spans : List Spans) (plan : points.Plan) (substation : ℕ) (rows : List Row) → IsMap spans → All IsEvent rows
-    → All IsCarried (queued_rows spans plan substation rows)
+    → All FitsLane (queued_rows spans plan substation rows)
 all_carried spans plan substation [] m events = λ i d lt. absurd (omega arith)
 all_carried spans plan substation (row ∷ rows) m events =
     queued_carried spans m plan substation row (queued_row spans plan substation row) refl (All-head IsEvent row rows events)

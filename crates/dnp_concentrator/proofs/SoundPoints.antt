@@ -120,7 +120,7 @@ blocks-above points.Counter plan = refl
 blocks-above points.Analog plan = refl
 
 -- no fault is any
-pub sound_above : (plan : Plan) → KeepsLimits plan → IsMap (map_of plan) → plans.IsSound (points_above plan)
+pub sound_above : (plan : Plan) → KeepsLimits plan → IsMap (map_of plan) → plans.IsSoundPlan (points_above plan)
 sound_above plan keeps is Class (kind, wrong) =
     all_any KeepsSubLimits (λ s. plans.HasWrongPoint kind (block_above kind s)) plan.substations (no-class kind) keeps.substations
     (mapped_any (plans.HasWrongPoint kind) (block_above kind) plan.substations
@@ -176,7 +176,7 @@ one-of points.Binary s analog = refl
 one-of points.Counter s analog = refl
 one-of points.Analog s analog = refl
 
-sound-with : (s : SubPlan) → KeepsSubLimits s → (analog : Block) → IsAnalog analog → plans.IsSound (with_analog s analog)
+sound-with : (s : SubPlan) → KeepsSubLimits s → (analog : Block) → IsAnalog analog → plans.IsSoundPlan (with_analog s analog)
 sound-with s keeps analog is Class (kind, wrong) = class-in kind s keeps analog is wrong
 sound-with s keeps analog is TooMany (kind, many) =
     let found = few-of kind s keeps analog is plans.HasTooMany many in
@@ -187,7 +187,7 @@ sound-with s keeps analog is TooWide (kind, wide) =
 sound-with s keeps analog is Overlap (kind, shared) = omega (arith, shared.in_order, shared.in_list, one-of kind s analog)
 
 -- those that its master needs
-pub sound_below : (s : SubPlan) → KeepsSubLimits s → plans.IsSound (points_below s)
+pub sound_below : (s : SubPlan) → KeepsSubLimits s → plans.IsSoundPlan (points_below s)
 sound_below s keeps =
     sound-with s keeps (block_of 0 s.analog)
     (record { base = refl; few = few-in s.analog keeps.few_analog; classes = good-points points.Analog s.analog keeps.analog })
@@ -207,7 +207,7 @@ few-analogs : (classes deadbands : List ℕ) → length classes ≤ MAX_POINTS �
 few-analogs classes deadbands few = omega (arith, length-map (zip classes deadbands) analog_point, length-zip classes deadbands, few)
 
 -- its own
-pub sound_at : (s : SubPlan) → KeepsSubLimits s → plans.IsSound (points_at s)
+pub sound_at : (s : SubPlan) → KeepsSubLimits s → plans.IsSoundPlan (points_at s)
 sound_at s keeps =
     sound-with s keeps (analog_block s.analog s.deadband)
     (record { base = refl; few = few-analogs s.analog s.deadband keeps.few_analog; classes = good-analogs s.analog s.deadband keeps.analog })

@@ -5,7 +5,7 @@ use Rattle.std.specs.Prelude.{◌≡◌, ◌≢◌, ℕ, Bool, true, IsTrue, Lis
 use Rattle.dnp_controls.specs.Book.{Ledger}
 use Rattle.dnp_controls.specs.Panel.{Panel}
 use Rattle.dnp_eventbuf.specs.Sides.{AreSame, ForEach, beside_of, other_than}
-use Rattle.dnp_eventbuf.specs.Stock.{Stock}
+use Rattle.dnp_eventbuf.specs.EventBuffer.{EventBuffer}
 use Rattle.dnp_outstation.specs.State.{Core, State}
 use Rattle.dnp_outstation.specs.Stores.{IsLook, KeepsLanes}
 use Rattle.dnp_objects.specs.declared.lane.LaneRow.{LaneRow}
@@ -71,7 +71,7 @@ abbrev pub IsBookWell : {Q B : Type 0} → (B → Type 0) → (B → Bool) → C
 IsBookWell honest is_stopped c = IsWell honest is_stopped (outputs_of c)
 
 -- the state of the outstation towards a centre, by what queue and book say of themselves
-abbrev pub above_of : {Q B : Type 0} → (Q → ℕ → Stock) → (B → Ledger) → ℕ → Concentrator Q B → State
+abbrev pub above_of : {Q B : Type 0} → (Q → ℕ → EventBuffer) → (B → Ledger) → ℕ → Concentrator Q B → State
 above_of contents ledger centre c = state_of (core_of centre c) (contents (queue_of c) centre) (panel_of ledger (outputs_of c))
 
 -- the outputs that a centre sees at this moment: the point of the other centre's standing select is reserved
@@ -115,20 +115,20 @@ pub record KeepsStores {Q B : Type 0} (old new : Concentrator Q B) : Type 0 wher
   pub plan : plan_above new ≡ plan_above old
 
 -- what a call leaves of a centre's side of the queue, and of the other side, which stays as it is
-abbrev pub KeepsSide : {Queue Answer Fault : Type 0} → (Queue → Type 0) → (Queue → Bool) → (Queue → ℕ → Stock) → ℕ → Fault
+abbrev pub KeepsSide : {Queue Answer Fault : Type 0} → (Queue → Type 0) → (Queue → Bool) → (Queue → ℕ → EventBuffer) → ℕ → Fault
     → Queue → Queue → Result Answer Fault → Type 0
 KeepsSide honest is_stopped contents centre device old new answer =
     KeepsLanes honest is_stopped (λ q. contents q centre) (beside_of contents centre) (λ _. tt {0}) device old new answer
 
 -- what a call leaves of a side that it only looks at, and of the other
-abbrev pub LooksAt : {Queue Answer : Type 0} → (Queue → Type 0) → (Queue → Bool) → (Queue → ℕ → Stock) → Bool → (StoreFault → Bool) → ℕ
+abbrev pub LooksAt : {Queue Answer : Type 0} → (Queue → Type 0) → (Queue → Bool) → (Queue → ℕ → EventBuffer) → Bool → (StoreFault → Bool) → ℕ
     → Queue → Queue → Result Answer StoreFault → Type 0
 LooksAt honest is_stopped contents asks_memory may_fault centre old new answer =
     IsLook honest is_stopped (λ q. contents q centre) (beside_of contents centre) (λ _. tt {0}) asks_memory may_fault old new answer
 
 -- What a call leaves that does no more above than look at a centre's side of the queue: nothing but the outstation towards
 -- that centre has changed, nor that where the call is refused, and it is refused only where unsolicited responses are on.
-pub record LeavesAbove {Q B Answer : Type 0} (honest : Q → Type 0) (is_stopped : Q → Bool) (contents : Q → ℕ → Stock)
+pub record LeavesAbove {Q B Answer : Type 0} (honest : Q → Type 0) (is_stopped : Q → Bool) (contents : Q → ℕ → EventBuffer)
     (asks_memory : Bool) (may_fault : StoreFault → Bool) (centre : ℕ) (old new : Concentrator Q B) (answer : Result Answer StoreFault) : Type 0 where
   pub look : LooksAt honest is_stopped contents asks_memory may_fault centre (queue_of old) (queue_of new) answer
   pub unchanged : OnErr answer (core_of centre new ≡ core_of centre old)
@@ -143,7 +143,7 @@ abbrev pub without_link : Core → ℕ → Core
 without_link core substation = with_points core (lost_of core.points substation)
 
 -- What a call of at most one append to both sides leaves of the queue, by the queue before and after it and the call's answer.
-pub record LeavesQueue {Queue Answer : Type 0} (honest : Queue → Type 0) (is_stopped : Queue → Bool) (contents : Queue → ℕ → Stock)
+pub record LeavesQueue {Queue Answer : Type 0} (honest : Queue → Type 0) (is_stopped : Queue → Bool) (contents : Queue → ℕ → EventBuffer)
     (old new : Queue) (answer : Result Answer MasterFault) : Type 0 where
   -- an honest queue was honest before
   pub held : honest new → honest old

@@ -9,7 +9,7 @@ ghost use Rattle.dnp_concentrator.specs.Plan.{map_of, spans_of, KeepsLimits};
 use crate::fault::MapFault;
 use crate::index_kind::IndexKind;
 use crate::limits::MAX_SUBSTATIONS;
-use crate::order::{Orders, find, order_of};
+use crate::order::{SortedSpans, find, order_of};
 use crate::plan::{Plan, SubPlan};
 use crate::span::{Span, Spans};
 use dnp_pointdb::INDICES;
@@ -28,7 +28,7 @@ pub struct IndexMap {
     /// Where the indices of each substation stand, by its number.
     spans: Vec<Spans>,
     /// How indices above are looked up.
-    orders: Orders,
+    orders: SortedSpans,
 }
 
 impl Model for IndexMap {
@@ -137,12 +137,12 @@ fn spans_of_each(alloc: Global, substations: &[SubPlan]) -> Result<Vec<Spans>, A
 }
 
 /// How the indices of each kind are looked up.
-fn orders_of(alloc: Global, spans: &[Spans]) -> Result<Orders, AllocError>
+fn orders_of(alloc: Global, spans: &[Spans]) -> Result<SortedSpans, AllocError>
     requires few { length spans.now ≤ MAX_SUBSTATIONS }
     requires map { IsMap spans.now }
     ensures { IfOk result (AreOrders spans.now) }
 {
-    Ok(Orders {
+    Ok(SortedSpans {
         of_kinds: [
             order_of(alloc, IndexKind::Binary, spans)?,
             order_of(alloc, IndexKind::Counter, spans)?,

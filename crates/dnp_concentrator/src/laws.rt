@@ -15,7 +15,7 @@ ghost use Rattle.dnp_master.specs.Rows.{is_reported};
 ghost use Rattle.dnp_master.specs.State.{State};
 ghost use Rattle.dnp_objects.specs.declared.row.Row.{Row};
 ghost use Rattle.dnp_objects.specs.Events.{IsEvent};
-ghost use Rattle.dnp_eventbuf.specs.Carried.{IsCarried};
+ghost use Rattle.dnp_eventbuf.specs.FitsLane.{FitsLane};
 ghost use Rattle.dnp_pointdb.specs.Plan as points;
 ghost use Rattle.dnp_objects.specs.declared.command.Command.{Command};
 ghost use Rattle.dnp_concentrator.specs.Addresses.{centre_address, outstation_address};
@@ -53,7 +53,7 @@ pub fn indices_above_are_in_range()
 /// Rows that are queued above are such as their lanes can carry.
 pub fn rows_are_queued_as_lanes_carry_them()
     ensures { (spans : List Spans) (plan : points.Plan) (substation : ℕ) (events : List Row) → IsMap spans → All IsEvent events
-        → All IsCarried (queued_rows spans plan substation events) }
+        → All FitsLane (queued_rows spans plan substation events) }
 {}
 
 /// A row that went up is undone to the row and its substation.

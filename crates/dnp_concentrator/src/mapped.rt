@@ -3,7 +3,7 @@
 ghost use Rattle.std.specs.Prelude.{◌≡◌, ◌+◌, ◌<◌, ◌≤◌, IfSome, IfOk, All};
 ghost use Rattle.std.specs.Option.{option_and_then};
 ghost use Rattle.dnp_objects.specs.Events.{IsEvent};
-ghost use Rattle.dnp_eventbuf.specs.Carried.{IsCarried};
+ghost use Rattle.dnp_eventbuf.specs.FitsLane.{FitsLane};
 ghost use Rattle.dnp_pointdb.specs.declared.limits.TheConstants.{INDICES};
 ghost use Rattle.dnp_concentrator.specs.declared.index_kind.IndexKind.{IndexKind as KindValue};
 ghost use Rattle.dnp_concentrator.specs.IndexMap.{span_of};
@@ -110,7 +110,7 @@ pub fn queued_rows(
     events: &[Row],
 ) -> Result<Vec<LaneRow>, AllocError>
     ensures rows { IfOk result (λ rows. rows.items ≡ spec.queued_rows map.now points.now substation events.now) }
-    ensures carried { All IsEvent events.now → IfOk result (λ rows. All IsCarried rows.items) }
+    ensures carried { All IsEvent events.now → IfOk result (λ rows. All FitsLane rows.items) }
 {
     // To count the substations is to know that their indices above have 16 bits.
     prove!(map.substations() <= MAX_SUBSTATIONS);

@@ -15,7 +15,7 @@ use std::alloc::{AllocError, Global};
 
 /// Where a substation's indices of a kind stand above.
 #[derive(Clone, Copy, Debug)]
-pub struct Place {
+pub struct SpanPlace {
     /// The index above of the first.
     pub first: u16,
     /// How many they are, at least 1.
@@ -25,7 +25,11 @@ pub struct Place {
 }
 
 /// The places of the substations that have indices of this kind, by rising base.
-pub fn order_of(alloc: Global, kind: IndexKind, spans: &[Spans]) -> Result<Vec<Place>, AllocError>
+pub fn order_of(
+    alloc: Global,
+    kind: IndexKind,
+    spans: &[Spans],
+) -> Result<Vec<SpanPlace>, AllocError>
     requires few { length spans.now ≤ MAX_SUBSTATIONS }
     requires apart { IsApart kind spans.now }
     ensures { IfOk result (λ order. IsOrder kind spans.now order.items) }
@@ -34,7 +38,7 @@ pub fn order_of(alloc: Global, kind: IndexKind, spans: &[Spans]) -> Result<Vec<P
     for (number, substation) in spans.iter().enumerate() {
         let span = substation.of(kind);
         if span.count > 0 {
-            order.push(Place {
+            order.push(SpanPlace {
                 first: span.base,
                 count: span.count,
                 substation: number as u8,
@@ -47,14 +51,14 @@ pub fn order_of(alloc: Global, kind: IndexKind, spans: &[Spans]) -> Result<Vec<P
 
 /// How the indices of each kind are looked up, by the kind's number.
 #[derive(Debug, Drop)]
-pub struct Orders {
+pub struct SortedSpans {
     /// The places of each kind.
-    pub of_kinds: [Vec<Place>; INDEX_KINDS],
+    pub of_kinds: [Vec<SpanPlace>; INDEX_KINDS],
 }
 
-impl Orders {
+impl SortedSpans {
     /// Those of this kind.
-    pub fn of(&self, kind: IndexKind) -> &[Place]
+    pub fn of(&self, kind: IndexKind) -> &[SpanPlace]
         ensures { result.now ≡ order_in self.now kind }
     {
         self.of_kinds[kind.number()].as_slice()
@@ -62,7 +66,7 @@ impl Orders {
 }
 
 /// The number of the substation whose index this is above, and which one it is there.
-pub fn find(order: &[Place], index: u16) -> Option<(u8, u16)>
+pub fn find(order: &[SpanPlace], index: u16) -> Option<(u8, u16)>
     requires { IsNonDecreasingBy (λ place. place.first) order.now }
     ensures { (kind : KindValue) (spans : List SpansValue) → IsOrder kind spans order.now → result ≡ index_below spans kind index }
 {

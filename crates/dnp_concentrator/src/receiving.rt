@@ -10,7 +10,7 @@ ghost use Rattle.dnp_concentrator.specs.Relaying as spec;
 use crate::progress::Progress;
 use crate::relay::Relay;
 use dnp_eventbuf::Sink;
-use dnp_master::{MasterActions, MasterFault, Outcome, Rows, Taken};
+use dnp_master::{MasterActions, MasterFault, Outcome, Rows, SeenFragment};
 use std::alloc::Global;
 
 /// What an outcome of the master's task makes of the control in progress.
@@ -27,7 +27,12 @@ fn heard(progress: Option<Progress>, outcome: &Option<Outcome>) -> Option<Progre
 
 impl Relay {
     /// Looks at octets that came at this moment, in milliseconds, as the master does, with the same refusals.
-    pub fn look(&mut self, alloc: Global, now: u64, octets: &[u8]) -> Result<Taken, MasterFault>
+    pub fn look(
+        &mut self,
+        alloc: Global,
+        now: u64,
+        octets: &[u8],
+    ) -> Result<SeenFragment, MasterFault>
         ensures same { self.new ≡ self.old }
         ensures looked { WorksOut self.old.master (receive_of self.old.master now octets.now) result }
     {
@@ -36,7 +41,7 @@ impl Relay {
 
     /// Settles what `look` has found, as the master does; where the response to a request of the control in progress
     /// came to its end, the outcome is the control's.
-    pub fn settle(&mut self, taken: Taken, dropped: Rows) -> MasterActions
+    pub fn settle(&mut self, taken: SeenFragment, dropped: Rows) -> MasterActions
         requires { IsFit taken }
         ensures after { self.new ≡ spec.received self.old (taking_of self.old.master taken) }
         ensures actions { result ≡ actions_of (taking_of self.old.master taken) dropped }

@@ -4,7 +4,7 @@ ghost use Rattle.std.specs.Prelude.{◌≡◌, ◌≢◌, ◌⊎◌, ◌<◌, �
 ghost use Rattle.dnp_appfragment.specs.declared.function.Function.TheVariants as function;
 ghost use Rattle.dnp_appfragment.specs.Table.{function_octet};
 ghost use Rattle.dnp_eventbuf.specs.Sides.{other_than};
-ghost use Rattle.dnp_eventbuf.specs.Stock.{rows_in};
+ghost use Rattle.dnp_eventbuf.specs.EventBuffer.{rows_in};
 ghost use Rattle.dnp_outstation.specs.Calls.{connection_after, performed_in};
 ghost use Rattle.dnp_outstation.specs.Connection.{case_of, function_in, is_looked_at};
 ghost use Rattle.dnp_outstation.specs.State.{is_ready, nothing};

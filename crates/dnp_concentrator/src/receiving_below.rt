@@ -2,9 +2,9 @@
 
 ghost use Rattle.std.specs.Prelude.{◌≡◌, ◌≢◌, ◌<◌, ◌⊎◌, true, false, [], All, Ok, Err, IsTrue, IfOk, IfErr, OnOk, OnErr, length};
 ghost use Rattle.std.specs.Result.{IsOkAnd};
-ghost use Rattle.dnp_eventbuf.specs.Carried.{IsCarried};
+ghost use Rattle.dnp_eventbuf.specs.FitsLane.{FitsLane};
 ghost use Rattle.dnp_eventbuf.specs.Sides.{BothHave, EitherDrops, ForEach, either_exhausts};
-ghost use Rattle.dnp_eventbuf.specs.Stock.{dropped_by};
+ghost use Rattle.dnp_eventbuf.specs.EventBuffer.{dropped_by};
 ghost use Rattle.dnp_master.specs.Calls.{actions_of, has_rows};
 ghost use Rattle.dnp_master.specs.Sinks.{IsSinkFault};
 ghost use Rattle.dnp_objects.specs.Events.{IsEvent};
@@ -27,7 +27,7 @@ fn append_both<Q: PairLanes>(
     alloc: Global,
     rows: &[LaneRow],
 ) -> Result<(Rows, Rows), MasterFault>
-    requires { All IsCarried rows.now }
+    requires { All FitsLane rows.now }
     ensures queue { LeavesQueue Q.honest Q.is_stopped Q.contents queue.old queue.new result }
     ensures queued { Q.honest queue.new → OnOk result (BothHave (Q.contents queue.old) rows.now (Q.contents queue.new)) }
     ensures dropped { Q.honest queue.new → IfOk result (λ dropped. dropped.0 ≡ dropped_by (Q.contents queue.old 0) rows.now) }

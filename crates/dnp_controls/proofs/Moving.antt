@@ -12,14 +12,14 @@ use Rattle.dnp_objects.specs.declared.command.Command.{Command}
 use Rattle.dnp_controls.specs.declared.book.Entry.{Entry}
 use Rattle.dnp_controls.specs.declared.book.State.{State}
 use Rattle.dnp_controls.specs.declared.book.State.TheVariants.{Pending, Spent, Finished}
-use Rattle.dnp_controls.specs.Book.{Ledger, AreNumberedFrom, IsSound, Has, entry_of, next_of, added, in_state, spent, finished, is_pending, is_finished}
+use Rattle.dnp_controls.specs.Book.{Ledger, AreNumberedFrom, IsSoundLedger, Has, entry_of, next_of, added, in_state, spent, finished, is_pending, is_finished}
 use Rattle.dnp_controls.specs.Calls.{IsBookCall}
 use Rattle.dnp_controls.specs.Moves.{Move, Add, Spend, Finish, IsGranted, moved, AreGranted, after, is_spend_of, IsNext, HasNoNext}
 use Rattle.dnp_controls.proofs.Numbered.{with_state, numbered-push, in_state-numbered}
 
 -- ---- a call of a book in memory that is granted
 
-pub granted_call : {Book Answer : Type 0} (contents : Book → Ledger) (old new : Book) (answer : Answer) → IsSound (contents new)
+pub granted_call : {Book Answer : Type 0} (contents : Book → Ledger) (old new : Book) (answer : Answer) → IsSoundLedger (contents new)
     → IsBookCall (λ _. ⊤) (λ _. false) contents old new (Ok answer)
 granted_call contents old new answer sound = record {
   held = λ h. h;
@@ -222,7 +222,7 @@ in_state-at [] id state k d low = absurd (omega arith)
 in_state-at (entry ∷ entries) id state zero d low = head-id (eqb entry.id id) entry state
 in_state-at (entry ∷ entries) id state (suc k) d low = in_state-at entries id state k d (omega arith)
 
-sound-in_state : (book : Ledger) (id : ℕ) (state : State) → IsSound book → IsSound (record book { entries = in_state book.entries id state })
+sound-in_state : (book : Ledger) (id : ℕ) (state : State) → IsSoundLedger book → IsSoundLedger (record book { entries = in_state book.entries id state })
 sound-in_state book id state sound =
     let same : length (in_state book.entries id state) ≡ length book.entries = simp length-map refl in
     let at = in_state-at book.entries id state in
@@ -232,7 +232,7 @@ sound-in_state book id state sound =
       up_to_last = λ i d low. let h = sound.up_to_last i d (omega arith) in let e = at i d low in omega arith;
     }
 
-sound-added : (book : Ledger) (target : ℕ) (command : Command) → IsSound book → IsSound (added book target command)
+sound-added : (book : Ledger) (target : ℕ) (command : Command) → IsSoundLedger book → IsSoundLedger (added book target command)
 sound-added book target command sound =
     let new : Entry = record { id = book.last_id + 1; target = target; command = command; state = Pending } in
     record {
@@ -241,7 +241,7 @@ sound-added book target command sound =
       up_to_last = All-push (λ x. x.id ≤ book.last_id + 1) book.entries new (All-weaker (λ x. x.id ≤ book.last_id) (λ x. x.id ≤ book.last_id + 1) (λ x h. omega arith) book.entries sound.up_to_last) (omega arith);
     }
 
-pub sound-after : (book : Ledger) (moves : List Move) → IsSound book → IsSound (after book moves)
+pub sound-after : (book : Ledger) (moves : List Move) → IsSoundLedger book → IsSoundLedger (after book moves)
 sound-after book [] sound = sound
 sound-after book (Add target command ∷ moves) sound = sound-after (added book target command) moves (sound-added book target command sound)
 sound-after book (Spend id ∷ moves) sound = sound-after (spent book id) moves (sound-in_state book id Spent sound)
@@ -272,7 +272,7 @@ id_at [] first i d numbered low = absurd (omega arith)
 id_at (e ∷ es) first zero d numbered low = let h : e.id ≡ first = numbered.0 in omega (arith, h)
 id_at (e ∷ es) first (suc i) d numbered low = let h = id_at es (first + 1) i d numbered.1 (omega arith) in omega (arith, h)
 
-pub sound_numbered : (entries : List Entry) → AreNumberedFrom 1 entries → IsSound (record { entries = entries; last_id = length entries })
+pub sound_numbered : (entries : List Entry) → AreNumberedFrom 1 entries → IsSoundLedger (record { entries = entries; last_id = length entries })
 sound_numbered entries numbered = record {
   rising = λ i j d before low. omega (arith, id_at entries 1 i d numbered (omega arith), id_at entries 1 j d numbered low);
   from_1 = λ i d low. omega (arith, id_at entries 1 i d numbered low);

@@ -31,7 +31,7 @@ abbrev pub empty_ledger : Ledger
 empty_ledger = record { entries = []; last_id = 0 }
 
 -- ids rise, from 1 on, and are at most the last one used
-pub record IsSound (book : Ledger) : Type 0 where
+pub record IsSoundLedger (book : Ledger) : Type 0 where
   pub rising : AllPairs (λ x y. x.id < y.id) book.entries
   pub from_1 : All (λ x. 1 ≤ x.id) book.entries
   pub up_to_last : All (λ x. x.id ≤ book.last_id) book.entries

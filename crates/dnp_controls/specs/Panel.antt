@@ -21,12 +21,12 @@ abbrev pub accepted : (Command → ℕ) → List Command → List Command
 accepted check commands = filter (λ command. check command == status.success) commands
 
 -- a request that was carried out: its commands, and the status that each one was answered then
-pub record Request : Type 0 where
+pub record PerformedRequest : Type 0 where
   pub check : Command → ℕ
   pub commands : List Command
 
 -- the commands that were performed after such requests, one after another
-abbrev pub performed_after : List Command → List Request → List Command
+abbrev pub performed_after : List Command → List PerformedRequest → List Command
 performed_after performed [] = performed
 performed_after performed (request ∷ requests) =
     performed_after (performed ++ accepted request.check request.commands) requests

@@ -26,9 +26,9 @@ standing (Selecting select ∷ before) = Some select
 standing (Operating ∷ before) = None
 standing (Forgetting ∷ before) = None
 
--- what is kept stands for these calls, the newest first: they came since it was new
-abbrev pub Stands : List SelectCall → Option Select → Type 0
-Stands calls kept = kept ≡ standing calls
+-- what is kept is the select after these calls, the newest first: they came since it was new
+abbrev pub IsSelectAfter : List SelectCall → Option Select → Type 0
+IsSelectAfter calls kept = kept ≡ standing calls
 
 -- the moment at which a timer ends that was started at a moment and runs this many milliseconds, or the
 -- last moment there is

@@ -5,10 +5,10 @@ ghost use Rattle.std.specs.List.{flat_map};
 ghost use Rattle.std.specs.Option.{option_or};
 ghost use Rattle.dnp_objects.specs.declared.command.Command.{Command};
 ghost use Rattle.dnp_objects.specs.Status as status;
-ghost use Rattle.dnp_controls.specs.Book.{Ledger, IsSound, AreNumberedFrom, empty_ledger, entry_of, next_of, is_finished};
+ghost use Rattle.dnp_controls.specs.Book.{Ledger, IsSoundLedger, AreNumberedFrom, empty_ledger, entry_of, next_of, is_finished};
 ghost use Rattle.dnp_controls.specs.Latches.{PlainState, latch_of, is_latched, setting_of, value_of};
 ghost use Rattle.dnp_controls.specs.Moves.{Move, AreGranted, after, is_spend_of, IsNext, HasNoNext};
-ghost use Rattle.dnp_controls.specs.Panel.{Request, accepted, performed_after};
+ghost use Rattle.dnp_controls.specs.Panel.{PerformedRequest, accepted, performed_after};
 ghost use Rattle.dnp_controls.specs.Selecting.{Select, SelectCall, Operating, Forgetting, standing, MakesNoSelect, GoesWith, IsRunning, HasEnded, answer};
 ghost use Rattle.dnp_controls.specs.declared.book.Entry.{Entry};
 ghost use Rattle.dnp_controls.specs.declared.limits.TheConstants as limits;
@@ -41,7 +41,7 @@ pub fn a_select_serves_once()
 /// The commands that are performed after some requests are those that were performed before them, and
 /// then those of each request that were accepted, request by request.
 pub fn performed_commands_are_the_accepted_ones()
-    ensures { (performed : List Command) (requests : List Request) → performed_after performed requests
+    ensures { (performed : List Command) (requests : List PerformedRequest) → performed_after performed requests
         ≡ performed ++ flat_map (λ request. accepted request.check request.commands) requests }
 {}
 
@@ -65,7 +65,7 @@ pub fn latest_outputs_are_seen_as_plain_ones()
 
 /// The next entry for a target is the pending one of the least id, where there is one.
 pub fn the_next_entry_is_the_least()
-    ensures { (book : Ledger) (target : ℕ) → IsSound book → MatchOption (next_of book.entries target) (HasNoNext book.entries target) (IsNext book.entries target) }
+    ensures { (book : Ledger) (target : ℕ) → IsSoundLedger book → MatchOption (next_of book.entries target) (HasNoNext book.entries target) (IsNext book.entries target) }
 {}
 
 /// An entry is spent by at most one call, over every list of calls that a book grants.
@@ -82,7 +82,7 @@ pub fn a_finished_entry_stays()
 /// A book stays sound. One that began empty has the ids 1, 2, 3 and so on, and its last id is the number
 /// of its entries.
 pub fn ids_go_on()
-    ensures sound { (book : Ledger) (moves : List Move) → IsSound book → IsSound (after book moves) }
+    ensures sound { (book : Ledger) (moves : List Move) → IsSoundLedger book → IsSoundLedger (after book moves) }
     ensures numbered { (moves : List Move) → AreNumberedFrom 1 (after empty_ledger moves).entries }
     ensures counted { (moves : List Move) → (after empty_ledger moves).last_id ≡ length (after empty_ledger moves).entries }
 {}

@@ -1,7 +1,7 @@
 //! The select that an OPERATE needs.
 
 ghost use Rattle.std.specs.Prelude.{◌≡◌, ◌≤◌, List, [], ◌∷◌, None, Some, length, option_copied};
-ghost use Rattle.dnp_controls.specs.Selecting.{SelectCall, Selecting, Operating, Forgetting, Stands, answer, running};
+ghost use Rattle.dnp_controls.specs.Selecting.{SelectCall, Selecting, Operating, Forgetting, IsSelectAfter, answer, running};
 
 use crate::limits::SEQUENCE_NUMBERS;
 use arrayvec::ArrayVec;
@@ -13,7 +13,7 @@ pub const MAX_OCTETS: usize = MAX_FRAGMENT;
 
 /// The last select that was made.
 #[derive(Debug, Drop)]
-struct Kept {
+struct LastSelect {
     /// The moment of the select, in milliseconds.
     at: u64,
     /// Its sequence number.
@@ -32,7 +32,7 @@ pub struct Selects {
     /// put over them.
     stands: bool,
     /// The last select that was made, or one of nothing.
-    kept: Kept,
+    kept: LastSelect,
 }
 
 impl Model for Selects {
@@ -50,11 +50,11 @@ impl Selects {
     /// No select stands.
     pub fn new() -> Self
         ensures nothing { result ≡ None }
-        ensures stands { Stands [] result }
+        ensures stands { IsSelectAfter [] result }
     {
         Selects {
             stands: false,
-            kept: Kept {
+            kept: LastSelect {
                 at: 0,
                 seq: 0,
                 octets: ArrayVec::new(),
@@ -67,7 +67,7 @@ impl Selects {
     pub fn select(&mut self, now: u64, seq: u8, octets: &[u8])
         requires { length octets.now ≤ MAX_OCTETS }
         ensures kept { self.new ≡ Some (record { at = now; seq = seq; octets = octets.now }) }
-        ensures stands { (before : List SelectCall) → Stands before self.old → Stands (Selecting (record { at = now; seq = seq; octets = octets.now }) ∷ before) self.new }
+        ensures stands { (before : List SelectCall) → IsSelectAfter before self.old → IsSelectAfter (Selecting (record { at = now; seq = seq; octets = octets.now }) ∷ before) self.new }
     {
         self.stands = true;
         self.kept.at = now;
@@ -119,7 +119,7 @@ impl Selects {
     pub fn operate(&mut self, now: u64, seq: u8, octets: &[u8], select_ms: u64) -> Status
         ensures answers { result ≡ answer self.old now seq octets.now select_ms }
         ensures forgotten { self.new ≡ None }
-        ensures stands { (before : List SelectCall) → Stands before self.old → Stands (Operating ∷ before) self.new }
+        ensures stands { (before : List SelectCall) → IsSelectAfter before self.old → IsSelectAfter (Operating ∷ before) self.new }
     {
         let status = self.answer(now, seq, octets, select_ms);
         self.forget();
@@ -129,7 +129,7 @@ impl Selects {
     /// Forgets the select that stands, if one does.
     pub fn forget(&mut self)
         ensures forgotten { self.new ≡ None }
-        ensures stands { (before : List SelectCall) → Stands before self.old → Stands (Forgetting ∷ before) self.new }
+        ensures stands { (before : List SelectCall) → IsSelectAfter before self.old → IsSelectAfter (Forgetting ∷ before) self.new }
     {
         self.stands = false;
     }

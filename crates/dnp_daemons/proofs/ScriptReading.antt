@@ -8,7 +8,7 @@ use Rattle.dnp_daemons.specs.declared.script.ScriptLine.{ScriptLine}
 use Rattle.dnp_daemons.specs.declared.run.ScriptStop.{ScriptStop}
 use Rattle.dnp_daemons.specs.declared.run.ScriptStop.TheVariants as stop
 use Rattle.dnp_daemons.specs.Scripted.{Law}
-use Rattle.dnp_daemons.specs.ScriptRuns.{Does, DoesAll, EndsBy}
+use Rattle.dnp_daemons.specs.ScriptRuns.{Does, DoesAll, ScriptEndsBy}
 use Rattle.dnp_daemons.specs.steps.Readings.{TextEndsBy}
 use Rattle.dnp_daemons.proofs.ScriptRunning.{does_next}
 
@@ -50,7 +50,7 @@ all_done script done e =
 
 -- how a script ends that stopped, or whose writer failed
 pub ends_so : {State : Type 0} (law : Law State) (old : State) (script : List ScriptLine) (by : ScriptStop) (new : State) (held held' : Option (List ℕ))
-    → EndsBy law old script (Err by) new held held' → TextEndsBy law old script (Err by) new held held'
+    → ScriptEndsBy law old script (Err by) new held held' → TextEndsBy law old script (Err by) new held held'
 ends_so law old script (stop.Stopped n) new held held' ends = ends
 ends_so law old script stop.WriteFailed new held held' ends = ends
 ends_so law old script (stop.Fault cause) new held held' ends = absurd ends

@@ -10,7 +10,7 @@ use Rattle.dnp_daemons.specs.declared.run.ScriptStop.{ScriptStop}
 use Rattle.dnp_daemons.specs.declared.run.ScriptStop.TheVariants as stop
 use Rattle.dnp_streams.specs.declared.writing.NotWritten.{NotWritten}
 use Rattle.dnp_daemons.specs.Scripted.{Law}
-use Rattle.dnp_daemons.specs.ScriptRuns.{Does, DoesAll, StopsIn, StopsAt, IsCut, Done, Stopped, EndsBy}
+use Rattle.dnp_daemons.specs.ScriptRuns.{Does, DoesAll, StopsIn, StopsAt, IsCut, Done, Stopped, ScriptEndsBy}
 use Rattle.dnp_daemons.specs.ScriptTexts.{stopped_line}
 use Rattle.dnp_daemons.specs.steps.Lines.{LineEnds, line_result, SaysStopped}
 
@@ -74,7 +74,7 @@ cut_line law old script done line mid new held held' held'' text part rest low i
 pub said_stopped : {State : Type 0} (law : Law State) (old : State) (script : List ScriptLine) (done : ℕ) (line : ScriptLine) (before new : State)
     (held held' held'' : Option (List ℕ)) (text : List ℕ) → done < length script → line ≡ get_or script done line
     → DoesAll law old (take done script) before text → Appends held held' text → StopsIn law before line new
-    → (by : ScriptStop) → SaysStopped done by held' held'' → EndsBy law old script (Err by) new held held''
+    → (by : ScriptStop) → SaysStopped done by held' held'' → ScriptEndsBy law old script (Err by) new held held''
 said_stopped law old script done line before new held held' held'' text low is did wrote stopped (stop.Stopped n) said =
     let at : StopsAt law old script done new (text ++ stopped_line done) = record {
       before = before;
@@ -85,7 +85,7 @@ said_stopped law old script done line before new held held' held'' text low is d
       stopped = stopped;
       whole = refl;
     } in
-    subst (λ (k : ℕ). EndsBy law old script (Err (stop.Stopped k)) new held held'') (sym said.0)
+    subst (λ (k : ℕ). ScriptEndsBy law old script (Err (stop.Stopped k)) new held held'') (sym said.0)
     (text ++ stopped_line done, at, Appends-trans held held' held'' text (stopped_line done) wrote said.1)
 said_stopped law old script done line before new held held' held'' text low is did wrote stopped stop.WriteFailed said =
     let at : StopsAt law old script done new ((text ++ said.0) ++ said.1) = record {

@@ -8,8 +8,8 @@ use Rattle.dnp_concentrator.specs.declared.plan.SubPlan.{SubPlan}
 use Rattle.dnp_controls.specs.Book.{Ledger, empty_ledger}
 use Rattle.dnp_eventbuf.specs.Archive.{Archive}
 use Rattle.dnp_eventbuf.specs.Sides.{ForEach}
-use Rattle.dnp_eventbuf.specs.Sound.{IsSound}
-use Rattle.dnp_eventbuf.specs.Stock.{Stock, empty_stock, lost_in, rows_in}
+use Rattle.dnp_eventbuf.specs.Sound.{IsSoundBuffer}
+use Rattle.dnp_eventbuf.specs.EventBuffer.{EventBuffer, empty_buffer, lost_in, rows_in}
 use Rattle.dnp_objects.specs.declared.limits.TheConstants.{LANES}
 use Rattle.dnp_world.specs.NewSystems.{AreEmpty}
 use Rattle.dnp_concentrator.specs.declared.cause.Cause.TheVariants as cause
@@ -72,18 +72,18 @@ spoken_done Sql done = λ is. absurd cc
 
 -- ---- new stores in memory
 
-no_rows : (capacities : List ℕ) → rows_in (empty_stock capacities) ≡ []
+no_rows : (capacities : List ℕ) → rows_in (empty_buffer capacities) ≡ []
 no_rows [] = refl
 no_rows (capacity ∷ capacities) = no_rows capacities
 
-none_lost : (capacities : List ℕ) → lost_in (empty_stock capacities) ≡ 0
+none_lost : (capacities : List ℕ) → lost_in (empty_buffer capacities) ≡ 0
 none_lost [] = refl
 none_lost (capacity ∷ capacities) = none_lost capacities
 
 -- they hold nothing, and lanes of a plan that keeps its limits are sound
-one_new : ((capacities : List ℕ) → length capacities ≡ LANES → All (λ capacity. 1 ≤ capacity) capacities → IsSound (empty_stock capacities))
+one_new : ((capacities : List ℕ) → length capacities ≡ LANES → All (λ capacity. 1 ≤ capacity) capacities → IsSoundBuffer (empty_buffer capacities))
     → (capacities : List ℕ) → All IsCapacity capacities → length capacities ≡ LANES
-    → AreEmpty (empty_stock capacities) empty_archive empty_ledger empty_ledger
+    → AreEmpty (empty_buffer capacities) empty_archive empty_ledger empty_ledger
 one_new made capacities keeps nine = record {
   sound = made capacities nine (All-weaker IsCapacity (λ capacity. 1 ≤ capacity) (λ capacity h. h.0) capacities keeps);
   no_rows = no_rows capacities;
@@ -93,16 +93,16 @@ one_new made capacities keeps nine = record {
   no_orders = refl;
 }
 
-one_side : ((capacities : List ℕ) → length capacities ≡ LANES → All (λ capacity. 1 ≤ capacity) capacities → IsSound (empty_stock capacities))
-    → (capacities : List ℕ) → All IsCapacity capacities → length capacities ≡ LANES → (queue : Stock) (journal : Archive) (controls orders : Ledger)
-    → queue ≡ empty_stock capacities → journal ≡ empty_archive → controls ≡ empty_ledger → orders ≡ empty_ledger
+one_side : ((capacities : List ℕ) → length capacities ≡ LANES → All (λ capacity. 1 ≤ capacity) capacities → IsSoundBuffer (empty_buffer capacities))
+    → (capacities : List ℕ) → All IsCapacity capacities → length capacities ≡ LANES → (queue : EventBuffer) (journal : Archive) (controls orders : Ledger)
+    → queue ≡ empty_buffer capacities → journal ≡ empty_archive → controls ≡ empty_ledger → orders ≡ empty_ledger
     → AreEmpty queue journal controls orders
 one_side made capacities keeps nine queue journal controls orders q j c o = rw (q, j, c, o) (one_new made capacities keeps nine)
 
 -- those for each centre
-pub new_stores : ((capacities : List ℕ) → length capacities ≡ LANES → All (λ capacity. 1 ≤ capacity) capacities → IsSound (empty_stock capacities))
+pub new_stores : ((capacities : List ℕ) → length capacities ≡ LANES → All (λ capacity. 1 ≤ capacity) capacities → IsSoundBuffer (empty_buffer capacities))
     → (plan : Plan) → KeepsLimits plan → length plan.queue ≡ LANES → length plan.queue2 ≡ LANES
-    → (queue : ℕ → Stock) (journal : ℕ → Archive) (orders : ℕ → Ledger) → queue 0 ≡ empty_stock plan.queue → queue 1 ≡ empty_stock plan.queue2
+    → (queue : ℕ → EventBuffer) (journal : ℕ → Archive) (orders : ℕ → Ledger) → queue 0 ≡ empty_buffer plan.queue → queue 1 ≡ empty_buffer plan.queue2
     → journal 0 ≡ empty_archive → journal 1 ≡ empty_archive → orders 0 ≡ empty_ledger → orders 1 ≡ empty_ledger
     → (controls : Ledger) → controls ≡ empty_ledger
     → ForEach (λ centre. AreEmpty (queue centre) (journal centre) controls (orders centre))

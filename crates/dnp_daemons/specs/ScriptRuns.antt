@@ -70,12 +70,12 @@ pub record IsCut {State : Type 0} (law : Law State) (old : State) (script : List
   pub appended : Appends held held' written
 
 -- how a script ends, and what was written
-abbrev pub EndsBy : {State : Type 0} → Law State → State → List ScriptLine → Result ⊤ ScriptStop → State → Option (List ℕ) → Option (List ℕ) → Type 0
-EndsBy law old script (Ok done) new held held' = (text : List ℕ) × DoesAll law old script new text × Appends held held' text
-EndsBy law old script (Err (stop.Stopped done)) new held held' =
+abbrev pub ScriptEndsBy : {State : Type 0} → Law State → State → List ScriptLine → Result ⊤ ScriptStop → State → Option (List ℕ) → Option (List ℕ) → Type 0
+ScriptEndsBy law old script (Ok done) new held held' = (text : List ℕ) × DoesAll law old script new text × Appends held held' text
+ScriptEndsBy law old script (Err (stop.Stopped done)) new held held' =
     (text : List ℕ) × StopsAt law old script done new text × Appends held held' text
-EndsBy law old script (Err stop.WriteFailed) new held held' = IsCut law old script new held held'
-EndsBy law old script (Err (stop.Fault cause)) new held held' = ⊥
+ScriptEndsBy law old script (Err stop.WriteFailed) new held held' = IsCut law old script new held held'
+ScriptEndsBy law old script (Err (stop.Fault cause)) new held held' = ⊥
 
 -- so many lines of a script that is read as it runs are done, and memory for the octets of the next one was refused
 pub record IsUnread {State : Type 0} (law : Law State) (old : State) (script : List ScriptLine) (cause : Cause) (new : State)

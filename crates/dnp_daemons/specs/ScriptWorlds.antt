@@ -4,7 +4,7 @@ use Rattle.dnp_concentrator.specs.declared.plan.Plan.{Plan}
 use Rattle.dnp_controls.specs.Book.{empty_ledger}
 use Rattle.dnp_eventbuf.specs.Archive.{Archive}
 use Rattle.dnp_eventbuf.specs.Sides.{ForEach}
-use Rattle.dnp_eventbuf.specs.Stock.{empty_stock}
+use Rattle.dnp_eventbuf.specs.EventBuffer.{empty_buffer}
 use Rattle.dnp_world.specs.Centres.{HappensToAll, centre_of, is_quiet_on, may_stop, seen_at, standing_on}
 use Rattle.dnp_world.specs.Controls.{ControlEnds}
 use Rattle.dnp_world.specs.FreshSystems.{fresh_whole}
@@ -42,5 +42,5 @@ empty_archive = record { rows = []; last_id = 0 }
 -- a new system of the plan, over empty stores
 abbrev pub plain_system : Plan → Whole
 plain_system plan =
-    fresh_whole plan (record { first = empty_stock plan.queue; second = empty_stock plan.queue2 })
+    fresh_whole plan (record { first = empty_buffer plan.queue; second = empty_buffer plan.queue2 })
     (record { first = empty_archive; second = empty_archive }) empty_ledger (record { first = empty_ledger; second = empty_ledger })

@@ -1,7 +1,7 @@
 //! A script, run line by line.
 
 ghost use Rattle.std.specs.Prelude.{◌≡◌, OnOk};
-ghost use Rattle.dnp_daemons.specs.ScriptRuns.{EndsBy};
+ghost use Rattle.dnp_daemons.specs.ScriptRuns.{ScriptEndsBy};
 ghost use Rattle.dnp_daemons.specs.steps.Lines.{SaysStopped};
 
 use crate::run::line::{LineStop, run_line};
@@ -61,7 +61,7 @@ pub fn run_script<S: Scripted, W: Write>(
     out: &mut W,
 ) -> Result<(), ScriptStop>
     ensures held { S.honest system.new → S.honest system.old }
-    ensures ends { S.honest system.new → EndsBy S.law (S.state system.old) script.now result (S.state system.new) (W.contents out.old) (W.contents out.new) }
+    ensures ends { S.honest system.new → ScriptEndsBy S.law (S.state system.old) script.now result (S.state system.new) (W.contents out.old) (W.contents out.new) }
     ensures runs_on { OnOk result (S.is_stopped system.new ≡ S.is_stopped system.old) }
 {
     for (done, line) in script.iter().enumerate() {

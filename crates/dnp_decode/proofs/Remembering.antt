@@ -6,15 +6,15 @@ use Rattle.std.specs.Global.{Box}
 use Rattle.std.specs.Map.{lookup}
 use Rattle.std.specs.Ordering.{nat_cmp}
 use Rattle.dnp_linkframe.specs.declared.frame.Frame.{Frame}
-use Rattle.dnp_transport.specs.Assembly.{Assembly, Idle, Stands}
+use Rattle.dnp_transport.specs.Assembly.{Assembly, Idle, ArePushed}
 use Rattle.dnp_decode.specs.FrameLines.{says_data, is_data_of, data_of}
 use Rattle.dnp_decode.specs.steps.Remembered.{Ports, Remembers, direction_of, found, assembly_at}
 
 -- nothing is remembered before the first frame
-pub remembers_none : Stands [] Idle → (ports : Ports) → ports.entries ≡ [] → Remembers [] ports
+pub remembers_none : ArePushed [] Idle → (ports : Ports) → ports.entries ≡ [] → Remembers [] ports
 remembers_none idle ports none = record {
   each = λ s d low.
-      subst (λ (es : List (ℕ × Box Assembly)). Stands [] (found (lookup (is_at (nat_cmp (direction_of s d))) es))) (sym none) idle;
+      subst (λ (es : List (ℕ × Box Assembly)). ArePushed [] (found (lookup (is_at (nat_cmp (direction_of s d))) es))) (sym none) idle;
 }
 
 -- a direction is told by its number
@@ -57,7 +57,7 @@ pub remembers_more : (heard : List Frame) (frame : Frame) (ports without after :
     → Remembers heard ports → says_data frame.control ≡ true
     → ((d : ℕ) → assembly_at without d ≡ cond (direction_of frame.source frame.dest == d) Idle (assembly_at ports d))
     → ((d : ℕ) → assembly_at after d ≡ cond (direction_of frame.source frame.dest == d) new (assembly_at without d))
-    → Stands (frame.user.items ∷ data_of frame.source frame.dest heard) new
+    → ArePushed (frame.user.items ∷ data_of frame.source frame.dest heard) new
     → Remembers (frame ∷ heard) after
 remembers_more heard frame ports without after new within before carries left put stands = record {
   each = λ t e low.
@@ -67,7 +67,7 @@ remembers_more heard frame ports without after new within before carries left pu
       let here : assembly_at after way ≡ cond ((frame.source == t) && (frame.dest == e)) new old =
       put way ∙ ap (λ (a : Assembly). cond own new a) (left way) ∙ put_again own new old
       ∙ ap (λ (b : Bool). cond b new old) (same_way frame.source frame.dest t e within low) in
-      let stood : Stands (data_of t e (frame ∷ heard)) (cond ((frame.source == t) && (frame.dest == e)) new old) =
+      let stood : ArePushed (data_of t e (frame ∷ heard)) (cond ((frame.source == t) && (frame.dest == e)) new old) =
       elim (cases_Bool ((frame.source == t) && (frame.dest == e))) [
         | inl same ↦
             let parts = and_parts (frame.source == t) (frame.dest == e) same in
@@ -76,16 +76,16 @@ remembers_more heard frame ports without after new within before carries left pu
             let pushed : data_of t e (frame ∷ heard) ≡ frame.user.items ∷ data_of t e heard =
             ap (λ (b : Bool). cond b (frame.user.items ∷ data_of t e heard) (data_of t e heard))
             (ap (λ (b : Bool). b && says_data frame.control) same ∙ carries) in
-            let took : Stands (frame.user.items ∷ data_of t e heard) new =
-            subst (λ (x : ℕ). Stands (frame.user.items ∷ data_of x e heard) new) t_is
-            (subst (λ (y : ℕ). Stands (frame.user.items ∷ data_of frame.source y heard) new) e_is stands) in
-            subst (λ (a : Assembly). Stands (data_of t e (frame ∷ heard)) a) (sym (ap (λ (b : Bool). cond b new old) same))
-            (subst (λ (xs : List (List ℕ)). Stands xs new) (sym pushed) took)
+            let took : ArePushed (frame.user.items ∷ data_of t e heard) new =
+            subst (λ (x : ℕ). ArePushed (frame.user.items ∷ data_of x e heard) new) t_is
+            (subst (λ (y : ℕ). ArePushed (frame.user.items ∷ data_of frame.source y heard) new) e_is stands) in
+            subst (λ (a : Assembly). ArePushed (data_of t e (frame ∷ heard)) a) (sym (ap (λ (b : Bool). cond b new old) same))
+            (subst (λ (xs : List (List ℕ)). ArePushed xs new) (sym pushed) took)
         | inr other ↦
             let pushed : data_of t e (frame ∷ heard) ≡ data_of t e heard =
             ap (λ (b : Bool). cond b (frame.user.items ∷ data_of t e heard) (data_of t e heard)) (other_way frame t e other) in
-            subst (λ (a : Assembly). Stands (data_of t e (frame ∷ heard)) a) (sym (ap (λ (b : Bool). cond b new old) other))
-            (subst (λ (xs : List (List ℕ)). Stands xs old) (sym pushed) (before.each t e low))
+            subst (λ (a : Assembly). ArePushed (data_of t e (frame ∷ heard)) a) (sym (ap (λ (b : Bool). cond b new old) other))
+            (subst (λ (xs : List (List ℕ)). ArePushed xs old) (sym pushed) (before.each t e low))
       ] in
-      subst (λ (a : Assembly). Stands (data_of t e (frame ∷ heard)) a) (sym here) stood;
+      subst (λ (a : Assembly). ArePushed (data_of t e (frame ∷ heard)) a) (sym here) stood;
 }

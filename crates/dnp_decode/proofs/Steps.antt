@@ -3,7 +3,7 @@ use Rattle.std.proofs.Common.{◌≡◌, ℕ, ◌+◌, ◌-◌, ◌<◌, ◌≤�
 use Rattle.std.proofs.lemmas.List.{drop-drop, drop_all, length-drop, append-nil}
 use Rattle.dnp_linkframe.specs.declared.frame.Frame.{Frame}
 use Rattle.dnp_linkframe.specs.Stream.{Waits, IsFront}
-use Rattle.dnp_transport.specs.Assembly.{Idle, Stands}
+use Rattle.dnp_transport.specs.Assembly.{Idle, ArePushed}
 use Rattle.dnp_decode.specs.declared.line.Line.{Line}
 use Rattle.dnp_decode.specs.declared.line.Line.TheVariants as line
 use Rattle.dnp_decode.specs.StreamLines.{AreLines, Ends, Cuts, GoesOn}
@@ -11,7 +11,7 @@ use Rattle.dnp_decode.specs.steps.Remembered.{Ports, Remembers}
 use Rattle.dnp_decode.specs.steps.Stepped.{Stepped, SoFar}
 use Rattle.dnp_decode.proofs.Remembering.{remembers_none}
 
-pub so_far_none : Stands [] Idle → (stream : List ℕ) (ports : Ports) → ports.entries ≡ [] → SoFar stream 0 [] ports
+pub so_far_none : ArePushed [] Idle → (stream : List ℕ) (ports : Ports) → ports.entries ≡ [] → SoFar stream 0 [] ports
 so_far_none idle stream ports none = record { within = omega arith; heard = []; remembers = remembers_none idle ports none; rest = λ more lines. lines }
 
 pub so_far_more : (stream : List ℕ) (done n : ℕ) (old new : List Line) (before ports : Ports) → SoFar stream done old before → 0 < n

@@ -3,7 +3,7 @@ ghost use Rattle.std.specs.Prelude.{◌≡◌, ◌++◌, ◌∷◌, ℕ, List, O
 ghost use Rattle.dnp_linkframe.specs.declared.frame.Frame.{Frame as FrameValue};
 ghost use Rattle.dnp_decode.specs.FrameLines as spec;
 ghost use Rattle.dnp_decode.specs.FrameLines.{AreFrameLines, AreDataLines};
-ghost use Rattle.dnp_transport.specs.Assembly.{Stands};
+ghost use Rattle.dnp_transport.specs.Assembly.{ArePushed};
 ghost use Rattle.dnp_decode.specs.steps.Remembered.{Remembers};
 ghost use Rattle.dnp_decode.specs.declared.line.Line.{Line as LineValue};
 
@@ -48,8 +48,8 @@ fn segment_line(octets: &[u8]) -> Line
 
 /// Appends the lines of the fragment that the user data complete, if they do, or of the series that they end.
 fn push_data(user: &[u8], assembler: &mut Assembler, out: &mut Vec<Line>) -> Result<(), AllocError>
-    ensures stands { (before : List (List ℕ)) → Stands before assembler.old → OnOk result (Stands (user.now ∷ before) assembler.new) }
-    ensures lines { (before : List (List ℕ)) → Stands before assembler.old → OnOk result ((more : List LineValue) × AreDataLines (user.now ∷ before) more × (out.new.items ≡ out.old.items ++ more)) }
+    ensures stands { (before : List (List ℕ)) → ArePushed before assembler.old → OnOk result (ArePushed (user.now ∷ before) assembler.new) }
+    ensures lines { (before : List (List ℕ)) → ArePushed before assembler.old → OnOk result ((more : List LineValue) × AreDataLines (user.now ∷ before) more × (out.new.items ≡ out.old.items ++ more)) }
 {
     match assembler.push(user) {
         Pushed::Nothing => Ok(()),

@@ -11,7 +11,7 @@ use Rattle.dnp_objects.specs.declared.row.Row.{Row}
 use Rattle.dnp_objects.specs.declared.lane.LaneRow.{LaneRow}
 use Rattle.dnp_objects.specs.Lanes.{lane_number}
 use Rattle.dnp_eventbuf.specs.declared.numbered.Numbered.{Numbered}
-use Rattle.dnp_eventbuf.specs.Stock.{LaneState, Stock, lane_at, no_lane, is_full, put_in, with_row, up_to, lanes_above, lanes_up_to, all_up_to, without, dropped_by, dropped_from, emptied, added_in, moved_on}
+use Rattle.dnp_eventbuf.specs.EventBuffer.{LaneState, EventBuffer, lane_at, no_lane, is_full, put_in, with_row, up_to, lanes_above, lanes_up_to, all_up_to, without, dropped_by, dropped_from, emptied, added_in, moved_on}
 use Rattle.dnp_eventbuf.specs.Buffered.{Buffered, buffered_as, buffered_dropped, buffered_from, buffered_in, buffered_next, buffered_row, id_limit, is_upto}
 
 -- ---- a release
@@ -81,7 +81,7 @@ rows_up_to n (lane ∷ lanes) (u ∷ us) whole e h =
     ∙ ap (map buffered_row) (sym (filter-append (is_upto whole) (map (buffered_as n) lane.rows) (buffered_from (n + 1) lanes)))
 
 -- a release leaves the rows over its ids, and gives the others
-pub release_seen : (s : Stock) (upto : List ℕ) → length upto ≡ length s.lanes →
+pub release_seen : (s : EventBuffer) (upto : List ℕ) → length upto ≡ length s.lanes →
     (buffered_in (without s upto) ≡ filter (λ x. not (is_upto upto x)) (buffered_in s)) × (all_up_to s upto ≡ map buffered_row
     (filter (is_upto upto) (buffered_in s)))
 release_seen s upto e = (buffered_above 0 s.lanes upto upto e refl, rows_up_to 0 s.lanes upto upto e refl)
@@ -152,7 +152,7 @@ put_seen number lane x false =
     (sym (map-append (buffered_as number) lane.rows (x ∷ [])) ∙ sym (append-nil (map (buffered_as number) (lane.rows ++ x ∷ []))))
 
 -- an append of one row: what was there and the row are what is there and what was dropped
-pub append_seen : (s : Stock) (x : LaneRow) → lane_number x.lane < length s.lanes →
+pub append_seen : (s : EventBuffer) (x : LaneRow) → lane_number x.lane < length s.lanes →
     IsPermutation (buffered_in s ++ buffered_next s x ∷ [])
     (buffered_in (with_row s x) ++ buffered_dropped (lane_number x.lane) (lane_at s (lane_number x.lane)))
 append_seen s x low =
@@ -170,7 +170,7 @@ dropped_if true number rows = dropped_rows number rows
 dropped_if false number rows = refl
 
 -- the row that a full lane drops
-pub dropped_seen : (s : Stock) (x : LaneRow)
+pub dropped_seen : (s : EventBuffer) (x : LaneRow)
     → map buffered_row (buffered_dropped (lane_number x.lane) (lane_at s (lane_number x.lane))) ≡ dropped_by s (x ∷ [])
 dropped_seen s x =
     let lane : LaneState = lane_at s (lane_number x.lane) in

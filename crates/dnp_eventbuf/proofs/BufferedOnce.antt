@@ -3,10 +3,10 @@ use Rattle.std.proofs.Common.{◌≡◌, ℕ, suc, ◌+◌, ◌<◌, ◌≤◌, 
 use Rattle.std.specs.List.{All, AllPairs, count_by}
 use Rattle.std.proofs.lemmas.Bool.Decides.{nat_tests, Decides-eqb}
 use Rattle.std.proofs.lemmas.Bool.{and_parts, both_ways}
-use Rattle.dnp_eventbuf.specs.Sound.{IsSound}
+use Rattle.dnp_eventbuf.specs.Sound.{IsSoundBuffer}
 use Rattle.std.proofs.lemmas.List.Elements.{All-nil, All-append, All-map, All-head, All-tail}
 use Rattle.dnp_eventbuf.specs.declared.numbered.Numbered.{Numbered}
-use Rattle.dnp_eventbuf.specs.Stock.{LaneState, Stock, no_lane}
+use Rattle.dnp_eventbuf.specs.EventBuffer.{LaneState, EventBuffer, no_lane}
 use Rattle.std.proofs.lemmas.List.Sums.{sum_by-cons, sum_by-append}
 use Rattle.dnp_eventbuf.specs.Buffered.{buffered_as, buffered_from, buffered_in, is_named}
 
@@ -112,7 +112,7 @@ all_risen (l ∷ lanes) rising first id lane =
     (all_risen lanes (λ k within. rising (suc k) (omega (arith, within))) (first + 1) id lane)
 
 -- of sound lanes each row stands once
-pub sound_once : (s : Stock) → IsSound s → (id lane : ℕ) → count_by (is_named id lane) (buffered_in s) ≤ 1
+pub sound_once : (s : EventBuffer) → IsSoundBuffer s → (id lane : ℕ) → count_by (is_named id lane) (buffered_in s) ≤ 1
 sound_once s sound id lane =
     all_risen s.lanes (λ k within. (sound.each k (omega (arith, within, sound.nine))).rising) 0 id lane
 
@@ -131,7 +131,7 @@ all_numbered (l ∷ lanes) last low high first =
     (lane_numbered first last l.rows (low 0 (omega arith)) (high 0 (omega arith)))
     (all_numbered lanes last (λ k within. low (suc k) (omega (arith, within))) (λ k within. high (suc k) (omega (arith, within))) (first + 1))
 
-pub sound_numbered : (s : Stock) → IsSound s → All (λ x. (1 ≤ x.id) × (x.id ≤ s.last_id)) (buffered_in s)
+pub sound_numbered : (s : EventBuffer) → IsSoundBuffer s → All (λ x. (1 ≤ x.id) × (x.id ≤ s.last_id)) (buffered_in s)
 sound_numbered s sound =
     all_numbered s.lanes s.last_id (λ k within. (sound.each k (omega (arith, within, sound.nine))).from_1)
     (λ k within. (sound.each k (omega (arith, within, sound.nine))).up_to_last) 0

@@ -12,7 +12,7 @@ use Rattle.dnp_objects.specs.Lanes.{lane_number}
 use Rattle.dnp_objects.specs.declared.row.Row.{Row}
 use Rattle.dnp_objects.specs.declared.lane.LaneRow.{LaneRow}
 use Rattle.dnp_eventbuf.specs.declared.numbered.Numbered.{Numbered}
-use Rattle.dnp_eventbuf.specs.Stock.{LaneState, Stock, lane_at, no_lane, row_of, is_full, put_in, dropped_from, with_row, with_rows, dropped_by, arriving, lane_rows, rows_in, lost_in, above, up_to, lanes_above, lanes_up_to, all_up_to, emptied, without, without_all, added_in, moved_on}
+use Rattle.dnp_eventbuf.specs.EventBuffer.{LaneState, EventBuffer, lane_at, no_lane, row_of, is_full, put_in, dropped_from, with_row, with_rows, dropped_by, arriving, lane_rows, rows_in, lost_in, above, up_to, lanes_above, lanes_up_to, all_up_to, emptied, without, without_all, added_in, moved_on}
 use Rattle.dnp_eventbuf.proofs.Drops.{IsRoomy, IsRoomy-with_row}
 use Rattle.dnp_eventbuf.proofs.LaneNumbers.{lane_number-low}
 
@@ -68,7 +68,7 @@ put_conserves lane x true =
 put_conserves lane x false =
     IsPermutation-same (map row_of lane.rows ++ x.row ∷ []) (map row_of (lane.rows ++ x ∷ []) ++ []) (sym (map-append row_of lane.rows (x ∷ [])) ∙ sym (append-nil (map row_of (lane.rows ++ x ∷ []))))
 
-row_conserves : (s : Stock) (x : LaneRow) → lane_number x.lane < length s.lanes
+row_conserves : (s : EventBuffer) (x : LaneRow) → lane_number x.lane < length s.lanes
     → IsPermutation (rows_in s ++ x.row ∷ []) (rows_in (with_row s x) ++ dropped_from (lane_at s (lane_number x.lane)))
 row_conserves s x low =
     let n = lane_number x.lane in
@@ -77,7 +77,7 @@ row_conserves s x low =
 
 -- ---- all rows of an append
 
-pub append_conserves : (s : Stock) (rows : List LaneRow) → length s.lanes ≡ LANES
+pub append_conserves : (s : EventBuffer) (rows : List LaneRow) → length s.lanes ≡ LANES
     → IsPermutation (rows_in s ++ arriving rows) (rows_in (with_rows s rows) ++ dropped_by s rows)
 append_conserves s [] nine = IsPermutation-refl (rows_in s ++ [])
 append_conserves s (x ∷ xs) nine =
@@ -109,7 +109,7 @@ count_by-lists test a b c d p =
     let one : Row → ℕ = λ r. cond (test r) 1 0 in
     omega (arith, sum_by-IsPermutation one (a ++ b) (c ++ d) p, sum_by-append one a b, sum_by-append one c d)
 
-pub append_conserves_counts : (s : Stock) (rows : List LaneRow) (test : Row → Bool) → length s.lanes ≡ LANES
+pub append_conserves_counts : (s : EventBuffer) (rows : List LaneRow) (test : Row → Bool) → length s.lanes ≡ LANES
     → count_by test (rows_in s) + count_by test (arriving rows) ≡ count_by test (rows_in (with_rows s rows)) + count_by test (dropped_by s rows)
 append_conserves_counts s rows test nine =
     count_by-lists test (rows_in s) (arriving rows) (rows_in (with_rows s rows)) (dropped_by s rows) (append_conserves s rows nine)
@@ -150,10 +150,11 @@ lanes_conserve (lane ∷ lanes) (u ∷ us) long =
     (IsPermutation-append (map row_of lane.rows) (a ++ b) (lane_rows lanes) (c ++ d) (lane_conserves u lane) (lanes_conserve lanes us (omega arith)))
     (middle_two a b c d)
 
-pub release_conserves : (s : Stock) (upto : List ℕ) → length upto ≡ length s.lanes → IsPermutation (rows_in s) (all_up_to s upto ++ rows_in (without s upto))
+pub release_conserves : (s : EventBuffer) (upto : List ℕ) → length upto ≡ length s.lanes
+    → IsPermutation (rows_in s) (all_up_to s upto ++ rows_in (without s upto))
 release_conserves s upto long = lanes_conserve s.lanes upto long
 
-pub release_conserves_counts : (s : Stock) (upto : List ℕ) (test : Row → Bool) → length upto ≡ length s.lanes
+pub release_conserves_counts : (s : EventBuffer) (upto : List ℕ) (test : Row → Bool) → length upto ≡ length s.lanes
     → count_by test (rows_in s) ≡ count_by test (all_up_to s upto) + count_by test (rows_in (without s upto))
 release_conserves_counts s upto test long =
     let one : Row → ℕ = λ r. cond (test r) 1 0 in
@@ -175,7 +176,7 @@ sum_by-map : (f : LaneState → LaneState) → ((lane : LaneState) → (f lane).
 sum_by-map f same [] = refl
 sum_by-map f same (lane ∷ lanes) = omega (arith, sum_by-cons lost_of lane lanes, sum_by-cons lost_of (f lane) (map f lanes), same lane, sum_by-map f same lanes)
 
-pub empty_loses_none : (s : Stock) → lost_in (without_all s) ≡ lost_in s
+pub empty_loses_none : (s : EventBuffer) → lost_in (without_all s) ≡ lost_in s
 empty_loses_none s = sum_by-map emptied (λ lane. refl) s.lanes
 
 lanes_above_lose_none : (lanes : List LaneState) (upto : List ℕ) → sum_by lost_of (lanes_above lanes upto) ≡ sum_by lost_of lanes
@@ -183,7 +184,7 @@ lanes_above_lose_none [] upto = refl
 lanes_above_lose_none (lane ∷ lanes) [] = refl
 lanes_above_lose_none (lane ∷ lanes) (u ∷ us) = omega (arith, sum_by-cons lost_of lane lanes, sum_by-cons lost_of (above u lane) (lanes_above lanes us), lanes_above_lose_none lanes us)
 
-pub release_loses_none : (s : Stock) (upto : List ℕ) → lost_in (without s upto) ≡ lost_in s
+pub release_loses_none : (s : EventBuffer) (upto : List ℕ) → lost_in (without s upto) ≡ lost_in s
 release_loses_none s upto = lanes_above_lose_none s.lanes upto
 
 sum_by-set : (lanes : List LaneState) (n : ℕ) (new : LaneState) (more : ℕ) → n < length lanes → new.lost ≡ (get_or lanes n no_lane).lost + more
@@ -202,7 +203,7 @@ put_counts lane x true full least =
     omega (arith, length-map (take 1 lane.rows) row_of, length-take 1 lane.rows)
 put_counts lane x false room least = omega arith
 
-pub append_counts_lost : (s : Stock) (rows : List LaneRow) → IsRoomy s → lost_in (with_rows s rows) ≡ lost_in s + length (dropped_by s rows)
+pub append_counts_lost : (s : EventBuffer) (rows : List LaneRow) → IsRoomy s → lost_in (with_rows s rows) ≡ lost_in s + length (dropped_by s rows)
 append_counts_lost s [] roomy = omega arith
 append_counts_lost s (x ∷ xs) roomy =
     let n = lane_number x.lane in
@@ -216,11 +217,11 @@ append_counts_lost s (x ∷ xs) roomy =
 
 -- ---- two appends
 
-pub with_rows-append : (s : Stock) (xs ys : List LaneRow) → with_rows s (xs ++ ys) ≡ with_rows (with_rows s xs) ys
+pub with_rows-append : (s : EventBuffer) (xs ys : List LaneRow) → with_rows s (xs ++ ys) ≡ with_rows (with_rows s xs) ys
 with_rows-append s [] ys = refl
 with_rows-append s (x ∷ xs) ys = with_rows-append (with_row s x) xs ys
 
-pub dropped_by-append : (s : Stock) (xs ys : List LaneRow) → dropped_by s (xs ++ ys) ≡ dropped_by s xs ++ dropped_by (with_rows s xs) ys
+pub dropped_by-append : (s : EventBuffer) (xs ys : List LaneRow) → dropped_by s (xs ++ ys) ≡ dropped_by s xs ++ dropped_by (with_rows s xs) ys
 dropped_by-append s [] ys = refl
 dropped_by-append s (x ∷ xs) ys =
     let d = dropped_from (lane_at s (lane_number x.lane)) in

@@ -11,8 +11,8 @@ use Rattle.dnp_objects.specs.Lanes.{lane_number}
 use Rattle.dnp_objects.specs.declared.lane.LaneRow.{LaneRow}
 use Rattle.dnp_eventbuf.specs.declared.numbered.Numbered.{Numbered}
 use Rattle.dnp_eventbuf.specs.declared.tally.Tally.{Tally}
-use Rattle.dnp_eventbuf.specs.Sound.{IsSound}
-use Rattle.dnp_eventbuf.specs.Stock.{LaneState, Stock, lane_at, no_lane, row_of, is_full, put_in, dropped_from, with_row, with_rows, dropped_by, exhausts, added_in, moved_on}
+use Rattle.dnp_eventbuf.specs.Sound.{IsSoundBuffer}
+use Rattle.dnp_eventbuf.specs.EventBuffer.{LaneState, EventBuffer, lane_at, no_lane, row_of, is_full, put_in, dropped_from, with_row, with_rows, dropped_by, exhausts, added_in, moved_on}
 use Rattle.dnp_eventbuf.specs.steps.Tallies.{tally_of, tally_at, after_row, with_tally, drops_from}
 use Rattle.dnp_eventbuf.proofs.LaneNumbers.{lane_number-low}
 use Rattle.dnp_eventbuf.proofs.Limits.{LostWithin, LostWithin-with_rows, LostWithin-from_sound, is_past-false, LostWithin-from_test, last_id-from_test, last_id-with_rows}
@@ -41,10 +41,10 @@ tally_by false lane x room =
 tally_of-put_in : (lane : LaneState) (x : Numbered) → tally_of (put_in lane x) ≡ after_row (tally_of lane)
 tally_of-put_in lane x = tally_by (is_full lane) lane x refl
 
-tally_at-map : (s : Stock) (n : ℕ) → tally_at (map tally_of s.lanes) n ≡ tally_of (lane_at s n)
+tally_at-map : (s : EventBuffer) (n : ℕ) → tally_at (map tally_of s.lanes) n ≡ tally_of (lane_at s n)
 tally_at-map s n = get_or-map tally_of s.lanes n no_lane
 
-map-with_row : (s : Stock) (x : LaneRow) → with_tally (map tally_of s.lanes) x ≡ map tally_of (with_row s x).lanes
+map-with_row : (s : EventBuffer) (x : LaneRow) → with_tally (map tally_of s.lanes) x ≡ map tally_of (with_row s x).lanes
 map-with_row s x =
     let n = lane_number x.lane in
     let new : Numbered = record { id = s.last_id + 1; row = x.row } in
@@ -53,7 +53,7 @@ map-with_row s x =
 
 -- ---- lanes that take a row each
 
-pub record IsRoomy (s : Stock) : Type 0 where
+pub record IsRoomy (s : EventBuffer) : Type 0 where
   pub nine : length s.lanes ≡ LANES
   pub least : All (λ lane. 1 ≤ lane.capacity) s.lanes
 
@@ -62,7 +62,7 @@ capacity_by : (b : Bool) (c : ℕ) (p q : List Numbered) (m n : ℕ)
 capacity_by true c p q m n = refl
 capacity_by false c p q m n = refl
 
-pub IsRoomy-with_row : (s : Stock) (x : LaneRow) → lane_number x.lane < LANES → IsRoomy s → IsRoomy (with_row s x)
+pub IsRoomy-with_row : (s : EventBuffer) (x : LaneRow) → lane_number x.lane < LANES → IsRoomy s → IsRoomy (with_row s x)
 IsRoomy-with_row s x low roomy =
     let n = lane_number x.lane in
     let lane = lane_at s n in
@@ -74,7 +74,7 @@ IsRoomy-with_row s x low roomy =
       least = All-set (λ (l : LaneState). 1 ≤ l.capacity) s.lanes n (put_in lane new) (omega arith) roomy.least;
     }
 
-pub IsRoomy-from_sound : (s : Stock) → IsSound s → IsRoomy s
+pub IsRoomy-from_sound : (s : EventBuffer) → IsSoundBuffer s → IsRoomy s
 IsRoomy-from_sound s sound = record {
   nine = sound.nine;
   least = λ k d low.
@@ -86,13 +86,13 @@ IsRoomy-from_sound s sound = record {
 -- ---- the walk over the rows
 
 -- what the walk from `dropped` answers tells of the lanes after the rows
-abbrev Tells : Stock → ℕ → List LaneRow → Option ℕ → Type 0
+abbrev Tells : EventBuffer → ℕ → List LaneRow → Option ℕ → Type 0
 Tells s dropped rows answer =
     MatchOption answer (LostWithin (with_rows s rows).lanes → ⊥)
     (λ total. (total ≡ dropped + length (dropped_by s rows)) × LostWithin (with_rows s rows).lanes)
 
 -- one row more in front
-more_tells : (s : Stock) (dropped : ℕ) (x : LaneRow) (xs : List LaneRow) (answer : Option ℕ) → (n : ℕ)
+more_tells : (s : EventBuffer) (dropped : ℕ) (x : LaneRow) (xs : List LaneRow) (answer : Option ℕ) → (n : ℕ)
     → length (dropped_from (lane_at s (lane_number x.lane))) ≡ n
     → Tells (with_row s x) (dropped + n) xs answer → Tells s dropped (x ∷ xs) answer
 more_tells s dropped x xs None n one told = told
@@ -134,7 +134,7 @@ LostWithin-set lanes n new few within = record { each = All-set (λ (lane : Lane
 
 -- ---- the step, by whether a place is free and whether one more may be lost
 
-walk_step : (s : Stock) (dropped : ℕ) (x : LaneRow) (xs : List LaneRow) → IsRoomy s → LostWithin s.lanes
+walk_step : (s : EventBuffer) (dropped : ℕ) (x : LaneRow) (xs : List LaneRow) → IsRoomy s → LostWithin s.lanes
     → ((n : ℕ) → LostWithin (with_row s x).lanes → Tells (with_row s x) n xs (drops_from n (with_tally (map tally_of s.lanes) x) xs))
     → (free countable : Bool) → nat_lt 0 (tally_of (lane_at s (lane_number x.lane))).free ≡ free → nat_lt (lane_at s (lane_number x.lane)).lost MAX_ID ≡ countable
     → Tells s dropped (x ∷ xs) (walk free countable dropped (with_tally (map tally_of s.lanes) x) xs)
@@ -166,7 +166,7 @@ walk_step s dropped x xs roomy within rest false false none many = λ after.
     let here : (put_in lane r).lost ≤ MAX_ID = subst (λ (l : LaneState). l.lost ≤ MAX_ID) is there in
     absurd (omega (arith, here, lost-full lane r (is_full-true lane none), ltb-false lane.lost MAX_ID many))
 
-walk_tells : (s : Stock) (dropped : ℕ) (rows : List LaneRow) → IsRoomy s → LostWithin s.lanes
+walk_tells : (s : EventBuffer) (dropped : ℕ) (rows : List LaneRow) → IsRoomy s → LostWithin s.lanes
     → Tells s dropped rows (drops_from dropped (map tally_of s.lanes) rows)
 walk_tells s dropped [] roomy within = (omega arith, within)
 walk_tells s dropped (x ∷ xs) roomy within =
@@ -186,14 +186,15 @@ else_true : (b : Bool) → (b ≡ false → ⊥) → b ≡ true
 else_true true not_false = refl
 else_true false not_false = absurd (not_false refl)
 
-pub exhausts-many : (s : Stock) (rows : List LaneRow) → MAX_ID < s.last_id + length rows → exhausts s rows ≡ true
+pub exhausts-many : (s : EventBuffer) (rows : List LaneRow) → MAX_ID < s.last_id + length rows → exhausts s rows ≡ true
 exhausts-many s rows many = else_true (exhausts s rows) (λ e. omega (arith, last_id-from_test (with_rows s rows) e, last_id-with_rows s rows))
 
-walked : (s : Stock) (rows : List LaneRow) (answer : Option ℕ) → IsSound s → answer ≡ drops_from 0 (map tally_of s.lanes) rows → Tells s 0 rows answer
+walked : (s : EventBuffer) (rows : List LaneRow) (answer : Option ℕ) → IsSoundBuffer s → answer ≡ drops_from 0 (map tally_of s.lanes) rows
+    → Tells s 0 rows answer
 walked s rows answer sound is = subst (Tells s 0 rows) (sym is) (walk_tells s 0 rows (IsRoomy-from_sound s sound) (LostWithin-from_sound s sound))
 
 -- where the ids suffice, the walk answers the number of rows that are dropped
-pub drops-Some : (s : Stock) (rows : List LaneRow) (answer : Option ℕ) → IsSound s → s.last_id + length rows ≤ MAX_ID
+pub drops-Some : (s : EventBuffer) (rows : List LaneRow) (answer : Option ℕ) → IsSoundBuffer s → s.last_id + length rows ≤ MAX_ID
     → answer ≡ drops_from 0 (map tally_of s.lanes) rows
     → IfSome answer (λ total. (total ≡ length (dropped_by s rows)) × (exhausts s rows ≡ false))
 drops-Some s rows None sound few is = tt
@@ -202,7 +203,7 @@ drops-Some s rows (Some total) sound few is =
     (omega (arith, told.0), is_past-false (with_rows s rows) (omega (arith, last_id-with_rows s rows)) told.1)
 
 -- and none where a count of lost rows would pass 2^62
-pub drops-None : (s : Stock) (rows : List LaneRow) (answer : Option ℕ) → IsSound s → answer ≡ drops_from 0 (map tally_of s.lanes) rows
+pub drops-None : (s : EventBuffer) (rows : List LaneRow) (answer : Option ℕ) → IsSoundBuffer s → answer ≡ drops_from 0 (map tally_of s.lanes) rows
     → IfNone answer (exhausts s rows ≡ true)
 drops-None s rows (Some total) sound is = tt
 drops-None s rows None sound is =

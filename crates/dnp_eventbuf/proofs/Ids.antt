@@ -7,7 +7,7 @@ use Rattle.std.proofs.lemmas.List.Elements.{All-contains_itself, All-drop, All-p
 use Rattle.dnp_objects.specs.Lanes.{lane_number}
 use Rattle.dnp_objects.specs.declared.lane.LaneRow.{LaneRow}
 use Rattle.dnp_eventbuf.specs.declared.numbered.Numbered.{Numbered}
-use Rattle.dnp_eventbuf.specs.Stock.{LaneState, Stock, lane_at, no_lane, is_full, put_in, with_row, with_rows, lanes_above, without, added_in, moved_on}
+use Rattle.dnp_eventbuf.specs.EventBuffer.{LaneState, EventBuffer, lane_at, no_lane, is_full, put_in, with_row, with_rows, lanes_above, without, added_in, moved_on}
 
 abbrev IsOldOrAfter : List Numbered → ℕ → Numbered → Type 0
 IsOldOrAfter old last x = Contains old x ⊎ (last < x.id)
@@ -22,7 +22,7 @@ put_by : (lane : LaneState) (x : Numbered) (last : ℕ) → last < x.id → (b :
 put_by lane x last after true = All-push (IsOldOrAfter lane.rows last) (drop 1 lane.rows) x (All-drop (IsOldOrAfter lane.rows last) 1 lane.rows (all_old last lane.rows)) (inr after)
 put_by lane x last after false = All-push (IsOldOrAfter lane.rows last) lane.rows x (all_old last lane.rows) (inr after)
 
-one_row : (s : Stock) (x : LaneRow) (number : ℕ) → All (IsOldOrAfter (lane_at s number).rows s.last_id) (lane_at (with_row s x) number).rows
+one_row : (s : EventBuffer) (x : LaneRow) (number : ℕ) → All (IsOldOrAfter (lane_at s number).rows s.last_id) (lane_at (with_row s x) number).rows
 one_row s x number = by (cases_eq number n)
   where
     n : ℕ
@@ -51,7 +51,7 @@ old_or_after old middle last h x (inl stood) = All-contains (IsOldOrAfter old la
 old_or_after old middle last h x (inr after) = inr (omega arith)
 
 -- after an append a row stood there, or has a new id
-pub new_ids : (s : Stock) (rows : List LaneRow) (number : ℕ)
+pub new_ids : (s : EventBuffer) (rows : List LaneRow) (number : ℕ)
     → All (λ x. Contains (lane_at s number).rows x ⊎ (s.last_id < x.id)) (lane_at (with_rows s rows) number).rows
 new_ids s [] number = all_old s.last_id (lane_at s number).rows
 new_ids s (x ∷ xs) number =
@@ -67,5 +67,5 @@ left_in (lane ∷ lanes) [] number = All-contains_itself (get_or (lane ∷ lanes
 left_in (lane ∷ lanes) (u ∷ us) zero = All-filter (λ x. nat_lt u x.id) (Contains lane.rows) lane.rows (All-contains_itself lane.rows)
 left_in (lane ∷ lanes) (u ∷ us) (suc number) = left_in lanes us number
 
-pub left : (s : Stock) (upto : List ℕ) (number : ℕ) → All (Contains (lane_at s number).rows) (lane_at (without s upto) number).rows
+pub left : (s : EventBuffer) (upto : List ℕ) (number : ℕ) → All (Contains (lane_at s number).rows) (lane_at (without s upto) number).rows
 left s upto number = left_in s.lanes upto number

@@ -1,7 +1,7 @@
 -- Lanes that are changed one after another, in place.
 use Rattle.std.proofs.Common.{◌≡◌, ℕ, suc, zero, ◌+◌, ◌<◌, List, [], ◌∷◌, ◌++◌, length, map, take, drop, get_or, set, refl, ap, ap₂, arith, add-one}
 use Rattle.std.specs.List.{AllZip}
-use Rattle.dnp_eventbuf.specs.Stock.{LaneState, above, lanes_above}
+use Rattle.dnp_eventbuf.specs.EventBuffer.{LaneState, above, lanes_above}
 
 abbrev pub mapped : {A : Type 0} → (A → A) → ℕ → List A → List A
 mapped f k xs = map f (take k xs) ++ drop k xs

@@ -7,8 +7,8 @@ use Rattle.dnp_objects.specs.Lanes.{lane_number}
 use Rattle.dnp_objects.specs.declared.lane.LaneRow.{LaneRow}
 use Rattle.dnp_eventbuf.specs.declared.numbered.Numbered.{Numbered}
 use Rattle.dnp_eventbuf.specs.Latest.{numbered_for, latest, KeepsLatest}
-use Rattle.dnp_eventbuf.specs.Sound.{IsSound, IsSoundLane}
-use Rattle.dnp_eventbuf.specs.Stock.{LaneState, Stock, lane_at, no_lane, is_full, put_in, with_row, with_rows, added_in, moved_on}
+use Rattle.dnp_eventbuf.specs.Sound.{IsSoundBuffer, IsSoundLane}
+use Rattle.dnp_eventbuf.specs.EventBuffer.{LaneState, EventBuffer, lane_at, no_lane, is_full, put_in, with_row, with_rows, added_in, moved_on}
 
 -- ---- the latest rows
 
@@ -81,7 +81,7 @@ IsWithin-kept old new came within kept = record {
   short = omega (arith, kept.capacity, ap length kept.rows, length-drop (length (old.rows ++ came) - old.capacity) (old.rows ++ came));
 }
 
-step : (s : Stock) (x : LaneRow) (xs : List LaneRow) (number : ℕ) → number < length s.lanes → IsWithin (lane_at s number)
+step : (s : EventBuffer) (x : LaneRow) (xs : List LaneRow) (number : ℕ) → number < length s.lanes → IsWithin (lane_at s number)
     → ((lane : LaneState) → lane_at (with_row s x) number ≡ lane → IsWithin lane → KeepsLatest lane (numbered_for number (s.last_id + 1) xs) (lane_at (with_rows (with_row s x) xs) number))
     → (b : Bool) → nat_eq (lane_number x.lane) number ≡ b
     → KeepsLatest (lane_at s number) (cond b (record { id = s.last_id + 1; row = x.row } ∷ numbered_for number (s.last_id + 1) xs) (numbered_for number (s.last_id + 1) xs)) (lane_at (with_rows s (x ∷ xs)) number)
@@ -101,7 +101,7 @@ step s x xs number low within rest false other =
     let apart : number ≡ n → ⊥ = λ e. eqb-false n number other (sym e) in
     rest (lane_at s number) (get_or-set_other s.lanes n number (put_in (lane_at s n) r) no_lane apart) within
 
-keeps_latest : (s : Stock) (rows : List LaneRow) (number : ℕ) → number < length s.lanes → IsWithin (lane_at s number)
+keeps_latest : (s : EventBuffer) (rows : List LaneRow) (number : ℕ) → number < length s.lanes → IsWithin (lane_at s number)
     → KeepsLatest (lane_at s number) (numbered_for number s.last_id rows) (lane_at (with_rows s rows) number)
 keeps_latest s [] number low within = keeps_none (lane_at s number) within.short
 keeps_latest s (x ∷ xs) number low within =
@@ -113,7 +113,7 @@ keeps_latest s (x ∷ xs) number low within =
     (keeps_latest (with_row s x) xs number low' (subst IsWithin (sym is) fits)))
     (nat_eq (lane_number x.lane) number) refl
 
-pub append_keeps_latest : (s : Stock) (rows : List LaneRow) (number : ℕ) → IsSound s → number < LANES
+pub append_keeps_latest : (s : EventBuffer) (rows : List LaneRow) (number : ℕ) → IsSoundBuffer s → number < LANES
     → KeepsLatest (lane_at s number) (numbered_for number s.last_id rows) (lane_at (with_rows s rows) number)
 append_keeps_latest s rows number sound low =
     let lane : IsSoundLane number s.last_id (lane_at s number) = sound.each number low in

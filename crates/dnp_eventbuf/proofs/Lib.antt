@@ -12,6 +12,7 @@ pub mod LatestRows
 pub mod Limits
 pub mod Offers
 pub mod Over
+pub mod Puts
 pub mod Released
 pub mod Remaining
 pub mod Restoring

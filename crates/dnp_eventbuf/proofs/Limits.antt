@@ -9,8 +9,8 @@ use Rattle.dnp_objects.specs.declared.limits.TheConstants.{LANES, MAX_ID}
 use Rattle.dnp_objects.specs.Lanes.{lane_number}
 use Rattle.dnp_objects.specs.declared.lane.LaneRow.{LaneRow}
 use Rattle.dnp_eventbuf.specs.declared.numbered.Numbered.{Numbered}
-use Rattle.dnp_eventbuf.specs.Sound.{IsSound}
-use Rattle.dnp_eventbuf.specs.Stock.{LaneState, Stock, lane_at, no_lane, is_full, put_in, with_row, with_rows, is_past, exhausts}
+use Rattle.dnp_eventbuf.specs.Sound.{IsSoundBuffer}
+use Rattle.dnp_eventbuf.specs.EventBuffer.{LaneState, EventBuffer, lane_at, no_lane, is_full, put_in, with_row, with_rows, is_past, exhausts}
 
 -- no lane has lost more than 2^62 rows
 pub record LostWithin (lanes : List LaneState) : Type 0 where
@@ -27,18 +27,18 @@ none_over (lane ∷ lanes) e =
     let parts = or_parts (is_over lane) (list_any is_over lanes) e in
     All-cons (λ lane. lane.lost ≤ MAX_ID) lane lanes (ltb-false MAX_ID lane.lost parts.0) (none_over lanes parts.1)
 
-pub LostWithin-from_test : (s : Stock) → is_past s ≡ false → LostWithin s.lanes
+pub LostWithin-from_test : (s : EventBuffer) → is_past s ≡ false → LostWithin s.lanes
 LostWithin-from_test s e = record { each = none_over s.lanes (or_parts (nat_lt MAX_ID s.last_id) (list_any is_over s.lanes) e).1 }
 
-pub last_id-from_test : (s : Stock) → is_past s ≡ false → s.last_id ≤ MAX_ID
+pub last_id-from_test : (s : EventBuffer) → is_past s ≡ false → s.last_id ≤ MAX_ID
 last_id-from_test s e = ltb-false MAX_ID s.last_id (or_parts (nat_lt MAX_ID s.last_id) (list_any is_over s.lanes) e).0
 
-pub is_past-false : (s : Stock) → s.last_id ≤ MAX_ID → LostWithin s.lanes → is_past s ≡ false
+pub is_past-false : (s : EventBuffer) → s.last_id ≤ MAX_ID → LostWithin s.lanes → is_past s ≡ false
 is_past-false s last within =
     or_from (nat_lt MAX_ID s.last_id) (list_any is_over s.lanes) (le-ltb MAX_ID s.last_id last)
     (list_any_none is_over s.lanes (λ k d low. le-ltb MAX_ID (get_or s.lanes k d).lost (within.each k d low)))
 
-pub LostWithin-from_sound : (s : Stock) → IsSound s → LostWithin s.lanes
+pub LostWithin-from_sound : (s : EventBuffer) → IsSoundBuffer s → LostWithin s.lanes
 LostWithin-from_sound s sound = record {
   each = λ k d low.
       let nine = sound.nine in
@@ -75,7 +75,7 @@ before_set lanes n new less within = record { each = λ k d low. at k d low (cas
         let is : get_or (set lanes n new) k d ≡ get_or lanes k d = get_or-set_other lanes n k new d other in
         subst (λ (lane : LaneState). lane.lost ≤ MAX_ID) is (within.each k d long)
 
-pub LostWithin-with_row : (s : Stock) (x : LaneRow) → LostWithin (with_row s x).lanes → LostWithin s.lanes
+pub LostWithin-with_row : (s : EventBuffer) (x : LaneRow) → LostWithin (with_row s x).lanes → LostWithin s.lanes
 LostWithin-with_row s x within =
     let n = lane_number x.lane in
     before_set s.lanes n (put_in (lane_at s n) (record { id = s.last_id + 1; row = x.row }))
@@ -83,15 +83,15 @@ LostWithin-with_row s x within =
     (get_or_default s.lanes n no_lane d low) (lost-put_in (lane_at s n) (record { id = s.last_id + 1; row = x.row })))
     within
 
-pub LostWithin-with_rows : (s : Stock) (xs : List LaneRow) → LostWithin (with_rows s xs).lanes → LostWithin s.lanes
+pub LostWithin-with_rows : (s : EventBuffer) (xs : List LaneRow) → LostWithin (with_rows s xs).lanes → LostWithin s.lanes
 LostWithin-with_rows s [] within = within
 LostWithin-with_rows s (x ∷ xs) within = LostWithin-with_row s x (LostWithin-with_rows (with_row s x) xs within)
 
-pub last_id-with_rows : (s : Stock) (xs : List LaneRow) → (with_rows s xs).last_id ≡ s.last_id + length xs
+pub last_id-with_rows : (s : EventBuffer) (xs : List LaneRow) → (with_rows s xs).last_id ≡ s.last_id + length xs
 last_id-with_rows s [] = omega arith
 last_id-with_rows s (x ∷ xs) = omega (arith, last_id-with_rows (with_row s x) xs)
 
--- what a stock with more rows does not pass, the stock before does not
-pub is_past-before : (s : Stock) (xs : List LaneRow) → exhausts s xs ≡ false → is_past s ≡ false
+-- what a buffer with more rows does not pass, the buffer before does not
+pub is_past-before : (s : EventBuffer) (xs : List LaneRow) → exhausts s xs ≡ false → is_past s ≡ false
 is_past-before s xs e =
     is_past-false s (omega (arith, last_id-from_test (with_rows s xs) e, last_id-with_rows s xs)) (LostWithin-with_rows s xs (LostWithin-from_test (with_rows s xs) e))

@@ -15,11 +15,11 @@ use Rattle.dnp_objects.specs.declared.lane.Lane.{Lane}
 use Rattle.dnp_objects.specs.declared.row.Row.{Row}
 use Rattle.dnp_objects.specs.declared.lane.LaneRow.{LaneRow}
 use Rattle.dnp_eventbuf.specs.declared.numbered.Numbered.{Numbered}
-use Rattle.dnp_eventbuf.specs.Carried.{IsCarried}
-use Rattle.dnp_eventbuf.specs.Sound.{IsSound, IsSoundLane}
-use Rattle.dnp_eventbuf.specs.Stock.{Stock, lane_at, row_of, with_rows, exhausts, offered, last_of, up_to}
+use Rattle.dnp_eventbuf.specs.FitsLane.{FitsLane}
+use Rattle.dnp_eventbuf.specs.Sound.{IsSoundBuffer, IsSoundLane}
+use Rattle.dnp_eventbuf.specs.EventBuffer.{EventBuffer, lane_at, row_of, with_rows, exhausts, offered, last_of, up_to}
 use Rattle.dnp_eventbuf.proofs.Ids.{new_ids}
-use Rattle.dnp_eventbuf.proofs.Soundness.{IsSound-with_rows}
+use Rattle.dnp_eventbuf.proofs.Soundness.{IsSoundBuffer-with_rows}
 
 abbrev pub Rises : List Numbered → Type 0
 Rises rows = AllPairs (λ x y. x.id < y.id) rows
@@ -102,7 +102,7 @@ pub record Covering : Type 0 where
   pub members : (xs ys : List Numbered) → HasNoRepeat xs → All (Contains ys) xs → IsCoveredBy xs ys
   pub mapped : (f : Numbered → Row) (xs ys : List Numbered) → IsCoveredBy xs ys → IsCoveredBy (map f xs) (map f ys)
 
-pub release_takes_offered : Covering → (s : Stock) (xs : List LaneRow) (number after most : ℕ) → IsSound s → All IsCarried xs → exhausts s xs ≡ false
+pub release_takes_offered : Covering → (s : EventBuffer) (xs : List LaneRow) (number after most : ℕ) → IsSoundBuffer s → All FitsLane xs → exhausts s xs ≡ false
     → number < LANES
     → IsCoveredBy (up_to (last_of (offered s number after most)) (lane_at (with_rows s xs) number)) (up_to after (lane_at (with_rows s xs) number) ++ map row_of (offered s number after most))
 release_takes_offered laws s xs number after most sound carried within low =
@@ -114,7 +114,8 @@ release_takes_offered laws s xs number after most sound carried within low =
     let taken = filter p now in
     let before = filter (λ (x : Numbered). nat_le x.id after) now in
     let lane_old : IsSoundLane number s.last_id (lane_at s number) = sound.each number low in
-    let lane_now : IsSoundLane number (with_rows s xs).last_id (lane_at (with_rows s xs) number) = (IsSound-with_rows s xs sound carried within).each number low in
+    let lane_now : IsSoundLane number (with_rows s xs).last_id (lane_at (with_rows s xs) number) = (IsSoundBuffer-with_rows s xs sound carried within).each
+    number low in
     let rising : Rises taken = AllPairs-filter (λ (a b : Numbered). a.id < b.id) p now lane_now.rising in
     let apart : HasNoRepeat taken =
     λ i j d first second same. let less = rising i j d first second in omega (arith, ap (λ (x : Numbered). x.id) same) in
@@ -145,22 +146,22 @@ none_at_0 (x ∷ rows) from_1 =
     go false low h = refl
 
 -- from the oldest row on, nothing else is taken
-pub release_takes_offered_alone : Covering → (s : Stock) (xs : List LaneRow) (number most : ℕ) → IsSound s → All IsCarried xs → exhausts s xs ≡ false
+pub release_takes_offered_alone : Covering → (s : EventBuffer) (xs : List LaneRow) (number most : ℕ) → IsSoundBuffer s → All FitsLane xs → exhausts s xs ≡ false
     → number < LANES
     → IsCoveredBy (up_to (last_of (offered s number 0 most)) (lane_at (with_rows s xs) number)) (map row_of (offered s number 0 most))
 release_takes_offered_alone laws s xs number most sound carried within low =
     let now = lane_at (with_rows s xs) number in
-    let none : up_to 0 now ≡ [] = ap (map row_of) (none_at_0 now.rows ((IsSound-with_rows s xs sound carried within).each number low).from_1) in
+    let none : up_to 0 now ≡ [] = ap (map row_of) (none_at_0 now.rows ((IsSoundBuffer-with_rows s xs sound carried within).each number low).from_1) in
     subst (λ (before : List Row). IsCoveredBy (up_to (last_of (offered s number 0 most)) now) (before ++ map row_of (offered s number 0 most))) none
     (release_takes_offered laws s xs number 0 most sound carried within low)
 
 -- ---- what is offered is an event
 
-pub offered_events : (s : Stock) (of : Lane) (after most : ℕ) → IsSound s → lane_number of < LANES
+pub offered_events : (s : EventBuffer) (of : Lane) (after most : ℕ) → IsSoundBuffer s → lane_number of < LANES
     → All (λ x. IsEvent x.row) (offered s (lane_number of) after most)
 offered_events s of after most sound low =
     let rows = (lane_at s (lane_number of)).rows in
     let Fits : Numbered → Type 0 = λ x. IsEvent x.row in
-    let carried : All (λ (x : Numbered). IsCarried (record { lane = of; row = x.row })) rows = (sound.each (lane_number of) low).carried of refl in
-    let events : All Fits rows = All-weaker (λ (x : Numbered). IsCarried (record { lane = of; row = x.row })) Fits (λ x h. h.fits) rows carried in
+    let carried : All (λ (x : Numbered). FitsLane (record { lane = of; row = x.row })) rows = (sound.each (lane_number of) low).carried of refl in
+    let events : All Fits rows = All-weaker (λ (x : Numbered). FitsLane (record { lane = of; row = x.row })) Fits (λ x h. h.fits) rows carried in
     All-take Fits most (filter (λ x. nat_lt after x.id) rows) (All-filter (λ x. nat_lt after x.id) Fits rows events)

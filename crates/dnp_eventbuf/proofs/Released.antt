@@ -7,8 +7,8 @@ use Rattle.std.proofs.lemmas.Bool.Decides.{Decides-ltb}
 use Rattle.std.proofs.lemmas.List.Folds.{list_any_at, list_any_none}
 use Rattle.dnp_objects.specs.declared.limits.TheConstants.{LANES}
 use Rattle.dnp_eventbuf.specs.declared.numbered.Numbered.{Numbered}
-use Rattle.dnp_eventbuf.specs.Sound.{IsSound}
-use Rattle.dnp_eventbuf.specs.Stock.{LaneState, Stock, lane_at, offered, above, last_of, without}
+use Rattle.dnp_eventbuf.specs.Sound.{IsSoundBuffer}
+use Rattle.dnp_eventbuf.specs.EventBuffer.{LaneState, EventBuffer, lane_at, offered, above, last_of, without}
 use Rattle.dnp_eventbuf.proofs.Offers.{Rises, last_of-some, last_of-most}
 use Rattle.dnp_eventbuf.proofs.Soundness.{get_or-lanes_above}
 
@@ -52,7 +52,7 @@ over_both after upto (x ∷ rows) =
     second false true false da db dc rest = rest
     second false false false da db dc rest = rest
 
-pub offered_after_release : (s : Stock) (upto : List ℕ) (number after most : ℕ) → length upto ≡ length s.lanes → number < length s.lanes
+pub offered_after_release : (s : EventBuffer) (upto : List ℕ) (number after most : ℕ) → length upto ≡ length s.lanes → number < length s.lanes
     → offered (without s upto) number after most ≡ offered s number (max after (get_or upto number 0)) most
 offered_after_release s upto number after most long low =
     let left : lane_at (without s upto) number ≡ above (get_or upto number 0) (lane_at s number) = get_or-lanes_above s.lanes upto number (sym long) low in
@@ -80,12 +80,12 @@ any_over (x ∷ rows) u rising =
           | inr is ↦ (let e : k ≡ length (x ∷ rows) - 1 = omega arith in let f : (get_or (x ∷ rows) k d).id ≡ (get_or (x ∷ rows) (length (x ∷ rows) - 1) d).id = ap (λ j. (get_or (x ∷ rows) j d).id) e in omega arith)
         ]
 
-pub any_over_lane : (s : Stock) (number u : ℕ) → IsSound s → number < LANES
+pub any_over_lane : (s : EventBuffer) (number u : ℕ) → IsSoundBuffer s → number < LANES
     → list_any (λ x. nat_lt u x.id) (lane_at s number).rows ≡ nat_lt u (last_of (lane_at s number).rows)
 any_over_lane s number u sound low = any_over (lane_at s number).rows u (sound.each number low).rising
 
-pub none_over_last : (s : Stock) (number : ℕ) → IsSound s → number < LANES → All (λ x. x.id ≤ s.last_id) (lane_at s number).rows
+pub none_over_last : (s : EventBuffer) (number : ℕ) → IsSoundBuffer s → number < LANES → All (λ x. x.id ≤ s.last_id) (lane_at s number).rows
 none_over_last s number sound low = (sound.each number low).up_to_last
 
-pub last_up_to_last : (s : Stock) (number : ℕ) → IsSound s → number < LANES → last_of (lane_at s number).rows ≤ s.last_id
+pub last_up_to_last : (s : EventBuffer) (number : ℕ) → IsSoundBuffer s → number < LANES → last_of (lane_at s number).rows ≤ s.last_id
 last_up_to_last s number sound low = last_of-most (lane_at s number).rows s.last_id (none_over_last s number sound low)

@@ -11,14 +11,14 @@ use Rattle.dnp_objects.specs.declared.row.Row.{Row}
 use Rattle.dnp_objects.specs.declared.lane.Lane.{Lane}
 use Rattle.dnp_objects.specs.declared.lane.LaneRow.{LaneRow}
 use Rattle.dnp_eventbuf.specs.declared.numbered.Numbered.{Numbered}
-use Rattle.dnp_eventbuf.specs.Carried.{IsCarried}
-use Rattle.dnp_eventbuf.specs.Sound.{IsSound, IsSoundLane}
-use Rattle.dnp_eventbuf.specs.Stock.{LaneState, Stock, lane_at, no_lane, is_full, added_in, last_of}
+use Rattle.dnp_eventbuf.specs.FitsLane.{FitsLane}
+use Rattle.dnp_eventbuf.specs.Sound.{IsSoundBuffer, IsSoundLane}
+use Rattle.dnp_eventbuf.specs.EventBuffer.{LaneState, EventBuffer, lane_at, no_lane, is_full, added_in, last_of}
 use Rattle.dnp_eventbuf.specs.Restored.{with_lane, with_lost, with_old_row}
 use Rattle.dnp_eventbuf.proofs.Offers.{Rises, last_of-some}
 use Rattle.dnp_eventbuf.proofs.Soundness.{fits_number}
 
-sound_with_lane : (s : Stock) (n : ℕ) (new : LaneState) → n < LANES → IsSound s → IsSoundLane n s.last_id new → IsSound (with_lane s n new)
+sound_with_lane : (s : EventBuffer) (n : ℕ) (new : LaneState) → n < LANES → IsSoundBuffer s → IsSoundLane n s.last_id new → IsSoundBuffer (with_lane s n new)
 sound_with_lane s n new low sound here = record {
   nine = length-set s.lanes n new ∙ sound.nine;
   each = λ number at. go number at (cases_eq number n);
@@ -31,8 +31,8 @@ sound_with_lane s n new low sound here = record {
         subst (λ (k : ℕ). IsSoundLane k s.last_id (get_or (set s.lanes n new) k no_lane)) (sym same) (subst (IsSoundLane n s.last_id) (sym is) here)
     go number at (inr other) = subst (IsSoundLane number s.last_id) (sym (get_or-set_other s.lanes n number new no_lane other)) (sound.each number at)
 
-pub IsSound-with_lost : (s : Stock) (n lost : ℕ) → n < LANES → lost ≤ MAX_ID → IsSound s → IsSound (with_lost s n lost)
-IsSound-with_lost s n lost low few sound =
+pub IsSoundBuffer-with_lost : (s : EventBuffer) (n lost : ℕ) → n < LANES → lost ≤ MAX_ID → IsSoundBuffer s → IsSoundBuffer (with_lost s n lost)
+IsSoundBuffer-with_lost s n lost low few sound =
     let was = sound.each n low in
     sound_with_lane s n (record (lane_at s n) { lost = lost }) low sound (record {
       takes_one = was.takes_one;
@@ -48,7 +48,7 @@ abbrev IdLess : Numbered → Numbered → Type 0
 IdLess x y = x.id < y.id
 
 abbrev CarriedIn : Lane → Numbered → Type 0
-CarriedIn of x = IsCarried (record { lane = of; row = x.row })
+CarriedIn of x = FitsLane (record { lane = of; row = x.row })
 
 -- the ids of a lane are at most the last one's
 up_to_last_of : (rows : List Numbered) → Rises rows → (k : ℕ) (d : Numbered) → k < length rows → (get_or rows k d).id ≤ last_of rows
@@ -62,7 +62,7 @@ up_to_last_of rows rising k d low = go (cases_eq k (length rows - 1))
     go (inr other) = let less = rising k (length rows - 1) d (omega arith) (omega arith) in omega (arith, last)
 
 behind : (number last id : ℕ) (lane : LaneState) (row : Row) → IsSoundLane number last lane → length lane.rows < lane.capacity → last_of lane.rows < id → id ≤ last
-    → ((of : Lane) → lane_number of ≡ number → IsCarried (record { lane = of; row = row }))
+    → ((of : Lane) → lane_number of ≡ number → FitsLane (record { lane = of; row = row }))
     → IsSoundLane number last (added_in lane (record { id = id; row = row }))
 behind number last id lane row sound room over upto fits =
     let x : Numbered = record { id = id; row = row } in
@@ -92,9 +92,10 @@ is_above lane id h = go (is_full lane) h
     go true h = absurd cc
     go false h = (Decides-ltb (last_of lane.rows) id).0 h
 
-pub IsSound-with_old_row : (s : Stock) (id : ℕ) (x : LaneRow) → lane_number x.lane < LANES → IsSound s → IsCarried x
-    → is_full (lane_at s (lane_number x.lane)) ≡ false → last_of (lane_at s (lane_number x.lane)).rows < id → id ≤ s.last_id → IsSound (with_old_row s id x)
-IsSound-with_old_row s id x low sound carried room over upto =
+pub IsSoundBuffer-with_old_row : (s : EventBuffer) (id : ℕ) (x : LaneRow) → lane_number x.lane < LANES → IsSoundBuffer s → FitsLane x
+    → is_full (lane_at s (lane_number x.lane)) ≡ false → last_of (lane_at s (lane_number x.lane)).rows < id → id ≤ s.last_id
+    → IsSoundBuffer (with_old_row s id x)
+IsSoundBuffer-with_old_row s id x low sound carried room over upto =
     let n = lane_number x.lane in
     let lane = lane_at s n in
     sound_with_lane s n (added_in lane (record { id = id; row = x.row })) low sound

@@ -14,28 +14,28 @@ use Rattle.dnp_objects.specs.declared.row.Row.{Row}
 use Rattle.dnp_objects.specs.declared.lane.Lane.{Lane}
 use Rattle.dnp_objects.specs.declared.lane.LaneRow.{LaneRow}
 use Rattle.dnp_eventbuf.specs.declared.numbered.Numbered.{Numbered}
-use Rattle.dnp_eventbuf.specs.Carried.{IsCarried}
-use Rattle.dnp_eventbuf.specs.Sound.{IsSound, IsSoundLane}
-use Rattle.dnp_eventbuf.specs.Stock.{LaneState, Stock, lane_at, no_lane, empty_lane, empty_stock, is_full, put_in, with_row, with_rows, is_past, exhausts, above, lanes_above, emptied, without, without_all, added_in, moved_on}
+use Rattle.dnp_eventbuf.specs.FitsLane.{FitsLane}
+use Rattle.dnp_eventbuf.specs.Sound.{IsSoundBuffer, IsSoundLane}
+use Rattle.dnp_eventbuf.specs.EventBuffer.{LaneState, EventBuffer, lane_at, no_lane, empty_lane, empty_buffer, is_full, put_in, with_row, with_rows, is_past, exhausts, above, lanes_above, emptied, without, without_all, added_in, moved_on}
 use Rattle.dnp_eventbuf.proofs.LaneNumbers.{same_kind}
 use Rattle.dnp_eventbuf.proofs.Limits.{LostWithin-from_test, last_id-from_test, is_past-before}
 
-pub IsSound-to : (new s : Stock) → new ≡ s → IsSound s → IsSound new
-IsSound-to new s same sound = subst IsSound (sym same) sound
+pub IsSoundBuffer-to : (new s : EventBuffer) → new ≡ s → IsSoundBuffer s → IsSoundBuffer new
+IsSoundBuffer-to new s same sound = subst IsSoundBuffer (sym same) sound
 
 -- the overflow mark makes no difference
-pub IsSound-same_lanes : (new s : Stock) → new.lanes ≡ s.lanes → new.last_id ≡ s.last_id → IsSound s → IsSound new
-IsSound-same_lanes new s lanes last sound =
-    let marked : Stock = record { lanes = new.lanes; overflow = s.overflow; last_id = new.last_id } in
+pub IsSoundBuffer-same_lanes : (new s : EventBuffer) → new.lanes ≡ s.lanes → new.last_id ≡ s.last_id → IsSoundBuffer s → IsSoundBuffer new
+IsSoundBuffer-same_lanes new s lanes last sound =
+    let marked : EventBuffer = record { lanes = new.lanes; overflow = s.overflow; last_id = new.last_id } in
     let same : marked ≡ s = ap₂ (λ (ls : List LaneState) (n : ℕ). record { lanes = ls; overflow = s.overflow; last_id = n }) lanes last in
-    let h : IsSound marked = IsSound-to marked s same sound in
+    let h : IsSoundBuffer marked = IsSoundBuffer-to marked s same sound in
     record { nine = h.nine; each = h.each; last_id_at_most = h.last_id_at_most }
 
 abbrev IdLess : Numbered → Numbered → Type 0
 IdLess x y = x.id < y.id
 
 abbrev CarriedIn : Lane → Numbered → Type 0
-CarriedIn of x = IsCarried (record { lane = of; row = x.row })
+CarriedIn of x = FitsLane (record { lane = of; row = x.row })
 
 AllPairs-drop : {A : Type 0} (R : A → A → Type 0) (n : ℕ) (xs : List A) → AllPairs R xs → AllPairs R (drop n xs)
 AllPairs-drop R n xs h i j d before low =
@@ -47,7 +47,7 @@ AllPairs-drop R n xs h i j d before low =
 
 -- some of its latest rows and the new one
 pushed : (number last : ℕ) (lane : LaneState) (n lost : ℕ) (row : Row) → IsSoundLane number last lane
-    → length (drop n lane.rows) < lane.capacity → lost ≤ MAX_ID → ((of : Lane) → lane_number of ≡ number → IsCarried (record { lane = of; row = row }))
+    → length (drop n lane.rows) < lane.capacity → lost ≤ MAX_ID → ((of : Lane) → lane_number of ≡ number → FitsLane (record { lane = of; row = row }))
     → IsSoundLane number (last + 1) (record { capacity = lane.capacity; rows = drop n lane.rows ++ (record { id = last + 1; row = row }) ∷ []; lost = lost })
 pushed number last lane n lost row sound room few fits =
     let x : Numbered = record { id = last + 1; row = row } in
@@ -64,7 +64,7 @@ pushed number last lane n lost row sound room few fits =
     }
 
 put_by : (number last : ℕ) (lane : LaneState) (row : Row) → IsSoundLane number last lane
-    → ((of : Lane) → lane_number of ≡ number → IsCarried (record { lane = of; row = row }))
+    → ((of : Lane) → lane_number of ≡ number → FitsLane (record { lane = of; row = row }))
     → (b : Bool) → is_full lane ≡ b
     → (let new : LaneState = cond b (moved_on lane (record { id = last + 1; row = row }))
     (added_in lane (record { id = last + 1; row = row }))
@@ -77,7 +77,7 @@ put_by number last lane row sound fits false room few =
     pushed number last lane 0 lane.lost row sound (leb-false lane.capacity (length lane.rows) room) few fits
 
 IsSoundLane-put_in : (number last : ℕ) (lane : LaneState) (row : Row) → IsSoundLane number last lane
-    → ((of : Lane) → lane_number of ≡ number → IsCarried (record { lane = of; row = row }))
+    → ((of : Lane) → lane_number of ≡ number → FitsLane (record { lane = of; row = row }))
     → (put_in lane (record { id = last + 1; row = row })).lost ≤ MAX_ID → IsSoundLane number (last + 1) (put_in lane (record { id = last + 1; row = row }))
 IsSoundLane-put_in number last lane row sound fits few = put_by number last lane row sound fits (is_full lane) refl few
 
@@ -94,15 +94,15 @@ IsSoundLane-later number last lane sound = record {
 }
 
 -- a row that fits one lane of a number fits each lane of that number
-pub fits_number : (x : LaneRow) → IsCarried x → (of : Lane) → lane_number of ≡ lane_number x.lane → IsCarried (record { lane = of; row = x.row })
+pub fits_number : (x : LaneRow) → FitsLane x → (of : Lane) → lane_number of ≡ lane_number x.lane → FitsLane (record { lane = of; row = x.row })
 fits_number x carried of same = record {
   of_its_kind = carried.of_its_kind ∙ same_kind x.lane.kind of.kind (x.lane.class - 1) (of.class - 1) (sym same);
   fits = carried.fits;
   index = carried.index;
 }
 
-pub IsSound-with_row : (s : Stock) (x : LaneRow) → IsSound s → IsCarried x → is_past (with_row s x) ≡ false → IsSound (with_row s x)
-IsSound-with_row s x sound carried within = record {
+pub IsSoundBuffer-with_row : (s : EventBuffer) (x : LaneRow) → IsSoundBuffer s → FitsLane x → is_past (with_row s x) ≡ false → IsSoundBuffer (with_row s x)
+IsSoundBuffer-with_row s x sound carried within = record {
   nine = nine';
   each = λ number low. at number low (cases_eq number n);
   last_id_at_most = last_id-from_test (with_row s x) within;
@@ -130,12 +130,12 @@ IsSound-with_row s x sound carried within = record {
     at number low (inr other) =
         subst (IsSoundLane number (s.last_id + 1)) (sym (get_or-set_other s.lanes n number new no_lane other)) (IsSoundLane-later number s.last_id (lane_at s number) (sound.each number low))
 
-pub IsSound-with_rows : (s : Stock) (xs : List LaneRow) → IsSound s → All IsCarried xs → exhausts s xs ≡ false → IsSound (with_rows s xs)
-IsSound-with_rows s [] sound carried within = sound
-IsSound-with_rows s (x ∷ xs) sound carried within =
-    IsSound-with_rows (with_row s x) xs
-    (IsSound-with_row s x sound (All-head IsCarried x xs carried) (is_past-before (with_row s x) xs within))
-    (All-tail IsCarried x xs carried) within
+pub IsSoundBuffer-with_rows : (s : EventBuffer) (xs : List LaneRow) → IsSoundBuffer s → All FitsLane xs → exhausts s xs ≡ false → IsSoundBuffer (with_rows s xs)
+IsSoundBuffer-with_rows s [] sound carried within = sound
+IsSoundBuffer-with_rows s (x ∷ xs) sound carried within =
+    IsSoundBuffer-with_rows (with_row s x) xs
+    (IsSoundBuffer-with_row s x sound (All-head FitsLane x xs carried) (is_past-before (with_row s x) xs within))
+    (All-tail FitsLane x xs carried) within
 
 -- ---- rows leave
 
@@ -167,8 +167,8 @@ length-lanes_above [] upto = refl
 length-lanes_above (lane ∷ lanes) [] = refl
 length-lanes_above (lane ∷ lanes) (u ∷ us) = ap suc (length-lanes_above lanes us)
 
-pub IsSound-without : (s : Stock) (upto : List ℕ) → length upto ≡ LANES → IsSound s → IsSound (without s upto)
-IsSound-without s upto long sound = record {
+pub IsSoundBuffer-without : (s : EventBuffer) (upto : List ℕ) → length upto ≡ LANES → IsSoundBuffer s → IsSoundBuffer (without s upto)
+IsSoundBuffer-without s upto long sound = record {
   nine = omega (arith, length-lanes_above s.lanes upto, sound.nine);
   each = λ number low.
       subst (IsSoundLane number s.last_id) (sym (get_or-lanes_above s.lanes upto number (omega (arith, sound.nine)) (omega (arith, sound.nine))))
@@ -187,8 +187,8 @@ IsSoundLane-emptied number last lane sound = record {
   lost_at_most = sound.lost_at_most;
 }
 
-pub IsSound-without_all : (s : Stock) → IsSound s → IsSound (without_all s)
-IsSound-without_all s sound = record {
+pub IsSoundBuffer-without_all : (s : EventBuffer) → IsSoundBuffer s → IsSoundBuffer (without_all s)
+IsSoundBuffer-without_all s sound = record {
   nine = omega (arith, length-map s.lanes emptied, sound.nine);
   each = λ number low.
       subst (IsSoundLane number s.last_id) (sym (get_or-map emptied s.lanes number no_lane))
@@ -198,8 +198,8 @@ IsSound-without_all s sound = record {
 
 -- ---- empty lanes
 
-pub IsSound-empty_stock : (capacities : List ℕ) → length capacities ≡ LANES → All (λ c. 1 ≤ c) capacities → IsSound (empty_stock capacities)
-IsSound-empty_stock capacities long least = record {
+pub IsSoundBuffer-empty_buffer : (capacities : List ℕ) → length capacities ≡ LANES → All (λ c. 1 ≤ c) capacities → IsSoundBuffer (empty_buffer capacities)
+IsSoundBuffer-empty_buffer capacities long least = record {
   nine = omega (arith, length-map capacities empty_lane);
   each = λ number low.
       let at : 1 ≤ get_or capacities number 0 = All-get_or (λ c. 1 ≤ c) capacities number 0 (omega arith) least in

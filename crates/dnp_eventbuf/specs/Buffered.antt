@@ -5,7 +5,7 @@ use Rattle.dnp_objects.specs.Lanes.{lane_number}
 use Rattle.dnp_objects.specs.declared.lane.LaneRow.{LaneRow}
 use Rattle.dnp_objects.specs.declared.row.Row.{Row}
 use Rattle.dnp_eventbuf.specs.declared.numbered.Numbered.{Numbered}
-use Rattle.dnp_eventbuf.specs.Stock.{LaneState, Stock, is_full}
+use Rattle.dnp_eventbuf.specs.EventBuffer.{LaneState, EventBuffer, is_full}
 
 -- a row that waits in a lane
 pub record Buffered : Type 0 where
@@ -35,7 +35,7 @@ buffered_from number [] = []
 buffered_from number (lane ∷ lanes) = map (buffered_as number) lane.rows ++ buffered_from (number + 1) lanes
 
 -- all rows, lane by lane
-abbrev pub buffered_in : Stock → List Buffered
+abbrev pub buffered_in : EventBuffer → List Buffered
 buffered_in s = buffered_from 0 s.lanes
 
 -- ---- up to the ids of a release: of each lane, by its number, the last id that goes
@@ -49,7 +49,7 @@ is_upto upto x = nat_le x.id (id_limit upto x.lane)
 -- ---- a row that comes
 
 -- what it is in its lane
-abbrev pub buffered_next : Stock → LaneRow → Buffered
+abbrev pub buffered_next : EventBuffer → LaneRow → Buffered
 buffered_next s x = record { id = s.last_id + 1; lane = lane_number x.lane; row = x.row }
 
 -- what a lane drops for it, if the lane is full

@@ -4,7 +4,7 @@ use Rattle.std.specs.Prelude.{◌≡◌, ℕ, ◌+◌, ◌-◌, ◌==◌, if◌t
 use Rattle.dnp_objects.specs.Lanes.{lane_number}
 use Rattle.dnp_objects.specs.declared.lane.LaneRow.{LaneRow}
 use Rattle.dnp_eventbuf.specs.declared.numbered.Numbered.{Numbered}
-use Rattle.dnp_eventbuf.specs.Stock.{LaneState}
+use Rattle.dnp_eventbuf.specs.EventBuffer.{LaneState}
 
 -- those of the rows that come for the lane of this number, where ids go on from `last`
 abbrev pub numbered_for : ℕ → ℕ → List LaneRow → List Numbered

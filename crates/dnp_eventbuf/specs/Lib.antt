@@ -2,12 +2,13 @@
 pub mod Archive
 pub mod Buffered
 pub mod Calls
-pub mod Carried
+pub mod Codes
+pub mod EventBuffer
+pub mod FitsLane
 pub mod Latest
 pub mod Restored
 pub mod Sides
 pub mod SinkCalls
 pub mod Sound
-pub mod Stock
 -- Words of private steps.
 pub mod steps

@@ -3,8 +3,8 @@ use Rattle.std.specs.Prelude.{◌≡◌, ℕ, ◌<◌, ◌≤◌, All, AllPairs,
 use Rattle.dnp_objects.specs.declared.limits.TheConstants.{LANES, MAX_ID}
 use Rattle.dnp_objects.specs.Lanes.{lane_number}
 use Rattle.dnp_objects.specs.declared.lane.Lane.{Lane}
-use Rattle.dnp_eventbuf.specs.Carried.{IsCarried}
-use Rattle.dnp_eventbuf.specs.Stock.{LaneState, Stock, lane_at}
+use Rattle.dnp_eventbuf.specs.FitsLane.{FitsLane}
+use Rattle.dnp_eventbuf.specs.EventBuffer.{LaneState, EventBuffer, lane_at}
 
 -- the lane of this number, where `last` is the last id used
 pub record IsSoundLane (number last : ℕ) (lane : LaneState) : Type 0 where
@@ -15,10 +15,10 @@ pub record IsSoundLane (number last : ℕ) (lane : LaneState) : Type 0 where
   pub from_1 : All (λ x. 1 ≤ x.id) lane.rows
   pub up_to_last : All (λ x. x.id ≤ last) lane.rows
   -- the lane's event object can carry each row
-  pub carried : (of : Lane) → lane_number of ≡ number → All (λ x. IsCarried (record { lane = of; row = x.row })) lane.rows
+  pub carried : (of : Lane) → lane_number of ≡ number → All (λ x. FitsLane (record { lane = of; row = x.row })) lane.rows
   pub lost_at_most : lane.lost ≤ MAX_ID
 
-pub record IsSound (s : Stock) : Type 0 where
+pub record IsSoundBuffer (s : EventBuffer) : Type 0 where
   pub nine : length s.lanes ≡ LANES
   pub each : (number : ℕ) → number < LANES → IsSoundLane number s.last_id (lane_at s number)
   pub last_id_at_most : s.last_id ≤ MAX_ID

@@ -2,7 +2,7 @@
 
 ghost use Rattle.std.specs.Prelude.{◌≡◌, ◌<◌, ◌+◌, ◌≤◌, ◌++◌, OnOk, OnErr, filter, length, map, nat_le, nat_lt, take, vec_capacity, vec_len};
 ghost use Rattle.std.specs.List.{AllPairs};
-ghost use Rattle.dnp_eventbuf.specs.Stock.{row_of};
+ghost use Rattle.dnp_eventbuf.specs.EventBuffer.{row_of};
 
 use crate::numbered::Numbered;
 use crate::rows::empty_for;

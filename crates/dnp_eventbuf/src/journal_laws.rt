@@ -2,7 +2,7 @@
 ghost use Rattle.std.specs.Prelude.{◌≡◌, ℕ, false, List, [], ◌++◌, length, map};
 ghost use Rattle.dnp_objects.specs.declared.row.Row.{Row};
 ghost use Rattle.dnp_eventbuf.specs.Archive.{Archive, IsSoundArchive, passes_limit, rows_over, with_events};
-ghost use Rattle.dnp_eventbuf.specs.Stock.{row_of};
+ghost use Rattle.dnp_eventbuf.specs.EventBuffer.{row_of};
 
 /// An append puts the events, all and in order, after the rows that were there.
 /// Appended in two calls they stand as in one.

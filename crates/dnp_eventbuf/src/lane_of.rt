@@ -2,7 +2,7 @@
 
 ghost use Rattle.std.specs.Prelude.{◌≡◌, ◌≢◌, ◌^◌, ◌+◌, ◌<◌, ◌≤◌, ◌++◌, IfOk, OnOk, OnErr, [], length, map, nat_lt, vec_len, vec_capacity, filter, take};
 ghost use Rattle.std.specs.List.{AllPairs, list_any};
-ghost use Rattle.dnp_eventbuf.specs.Stock.{is_full, put_in, dropped_from, empty_lane, emptied, above, up_to, last_of, row_of};
+ghost use Rattle.dnp_eventbuf.specs.EventBuffer.{is_full, put_in, dropped_from, empty_lane, emptied, above, up_to, last_of, row_of};
 ghost use Rattle.dnp_eventbuf.specs.steps.Tallies.{tally_of};
 
 use crate::in_order::{cut, first_into, push_rows};
@@ -20,7 +20,7 @@ pub struct LaneOf<L: OneLane + Drop> {
 }
 
 impl<L: OneLane + Drop> Model for LaneOf<L> {
-    ghost use Rattle.dnp_eventbuf.specs.Stock.{LaneState};
+    ghost use Rattle.dnp_eventbuf.specs.EventBuffer.{LaneState};
 
     ghost Value = { LaneState };
 

@@ -4,9 +4,9 @@ ghost use Rattle.std.specs.Prelude.{◌≡◌, ◌≢◌, Bool, false, IsTrue, O
 ghost use Rattle.dnp_objects.specs.Events.{IsEvent};
 ghost use Rattle.dnp_objects.specs.Lanes.{lane_number};
 ghost use Rattle.dnp_eventbuf.specs.Calls.{IsLanesCall};
-ghost use Rattle.dnp_eventbuf.specs.Carried.{IsCarried};
-ghost use Rattle.dnp_eventbuf.specs.Sound.{IsSound};
-ghost use Rattle.dnp_eventbuf.specs.Stock.{Stock, lane_at, with_rows, dropped_by, exhausts, offered, without, all_up_to, without_all, rows_in, last_of};
+ghost use Rattle.dnp_eventbuf.specs.FitsLane.{FitsLane};
+ghost use Rattle.dnp_eventbuf.specs.Sound.{IsSoundBuffer};
+ghost use Rattle.dnp_eventbuf.specs.EventBuffer.{EventBuffer, lane_at, with_rows, dropped_by, exhausts, offered, without, all_up_to, without_all, rows_in, last_of};
 
 use crate::numbered::{Numbered, Upto};
 use crate::rows::Rows;
@@ -24,11 +24,11 @@ pub trait Lanes {
     ghost use Rattle.dnp_objects.specs.declared.store.StoreFault.{StoreFault};
 
     /// What the lanes hold.
-    ghost contents: { Self → Stock };
+    ghost contents: { Self → EventBuffer };
 
     /// The lanes of others that the same store keeps, and that no call here touches: none where it keeps
     /// these nine alone.
-    ghost beside: { Self → List Stock };
+    ghost beside: { Self → List EventBuffer };
 
     /// Where they are kept, which no call changes, whatever it answers: of lanes that were lent out of a store
     /// which keeps others too, that store and their number in it.
@@ -54,7 +54,7 @@ pub trait Lanes {
     ///
     /// Exhausted exactly where an id or a count of lost rows would pass 2^62, else Memory or Device.
     fn append(&mut self, alloc: Global, rows: &[LaneRow]) -> Result<Vec<Row>, StoreFault>
-        requires { All IsCarried rows.now }
+        requires { All FitsLane rows.now }
         ensures place { place self.new ≡ place self.old }
         ensures call { IsLanesCall honest is_stopped contents beside self.old self.new result }
 
@@ -75,7 +75,7 @@ pub trait Lanes {
         rows: &[LaneRow],
         dropped: &mut Rows,
     ) -> Result<(), StoreFault>
-        requires { All IsCarried rows.now }
+        requires { All FitsLane rows.now }
         ensures place { place self.new ≡ place self.old }
         ensures call { IsLanesCall honest is_stopped contents beside self.old self.new result }
 
@@ -187,24 +187,24 @@ pub trait Lanes {
     /// How many rows the lane holds.
     fn len(&mut self, lane: Lane) -> u32
         ensures same { self.new ≡ self.old }
-        ensures sound { honest self.new → IsSound (contents self.new) }
+        ensures sound { honest self.new → IsSoundBuffer (contents self.new) }
         ensures value { honest self.new → result ≡ length (lane_at (contents self.new) (lane_number lane)).rows };
 
     /// The last id now in the lane, or 0 where it is empty.
     fn last(&mut self, lane: Lane) -> u64
         ensures same { self.new ≡ self.old }
-        ensures sound { honest self.new → IsSound (contents self.new) }
+        ensures sound { honest self.new → IsSoundBuffer (contents self.new) }
         ensures value { honest self.new → result ≡ last_of (lane_at (contents self.new) (lane_number lane)).rows };
 
     /// How many rows the lane has dropped.
     fn lost(&mut self, lane: Lane) -> u64
         ensures same { self.new ≡ self.old }
-        ensures sound { honest self.new → IsSound (contents self.new) }
+        ensures sound { honest self.new → IsSoundBuffer (contents self.new) }
         ensures value { honest self.new → result ≡ (lane_at (contents self.new) (lane_number lane)).lost };
 
     /// Whether a row was dropped, and some lane has been full since.
     fn raised(&mut self) -> bool
         ensures same { self.new ≡ self.old }
-        ensures sound { honest self.new → IsSound (contents self.new) }
+        ensures sound { honest self.new → IsSoundBuffer (contents self.new) }
         ensures value { honest self.new → result ≡ (contents self.new).overflow };
 }

@@ -11,6 +11,7 @@ mod lane_of;
 mod lanes;
 pub mod laws;
 pub mod link_laws;
+mod nine;
 mod nine_steps;
 mod numbered;
 mod one_lane;

@@ -1,15 +1,17 @@
 //! What is done to each of the nine lanes in memory.
 
-ghost use Rattle.std.specs.Prelude.{◌≡◌, ◌≢◌, ◌<◌, ◌≤◌, ◌+◌, OnOk, OnErr, All, List, length, map, [], ◌∷◌, ◌++◌, vec_len, vec_capacity};
+ghost use Rattle.std.specs.Prelude.{◌≡◌, ◌≢◌, ◌<◌, ◌≤◌, ◌+◌, false, OnOk, OnErr, All, List, length, map, [], ◌∷◌, ◌++◌, vec_len, vec_capacity};
 ghost use Rattle.std.specs.List.{AllPairs, list_any};
 ghost use Rattle.dnp_objects.specs.Lanes.{lane_number};
-ghost use Rattle.dnp_eventbuf.specs.Stock.{is_full, lanes_above, lanes_up_to, emptied, lane_rows};
+ghost use Rattle.dnp_eventbuf.specs.FitsLane.{FitsLane};
+ghost use Rattle.dnp_eventbuf.specs.Sound.{IsSoundBuffer};
+ghost use Rattle.dnp_eventbuf.specs.EventBuffer.{is_full, dropped_by, exhausts, with_rows, lanes_above, lanes_up_to, emptied, lane_rows};
 ghost use Rattle.dnp_objects.specs.declared.lane.LaneRow.{LaneRow as RowValue};
 ghost use Rattle.dnp_eventbuf.specs.declared.tally.Tally.{Tally as TallyValue};
 ghost use Rattle.dnp_eventbuf.specs.steps.Tallies.{tally_of, tally_at, drops_from};
 
 use crate::lane_of::LaneOf;
-use crate::numbered::Upto;
+use crate::numbered::{Numbered, Upto};
 use crate::one_lane::OneLane;
 use crate::tally::{Tally, drops};
 use dnp_objects::{LANES, LaneRow, MAX_ID, Row};
@@ -116,5 +118,33 @@ pub fn clear_all<L: OneLane + Drop>(lanes: &mut [LaneOf<L>; LANES])
 {
     for lane in lanes {
         lane.clear();
+    }
+}
+
+/// Puts the rows one by one, each into its lane, under the next id: a full lane drops its oldest row first, which is
+/// counted as an overflow, and for which there is room. It stands in its callers, as what it calls.
+#[inline(always)]
+pub fn put_all<L: OneLane + Drop>(
+    lanes: &mut [LaneOf<L>; LANES],
+    overflow: &mut bool,
+    last_id: &mut u64,
+    rows: &[LaneRow],
+    dropped: &mut Vec<Row>,
+)
+    requires sound { IsSoundBuffer (record { lanes = lanes.old; overflow = overflow.old; last_id = last_id.old }) }
+    requires carried { All FitsLane rows.now }
+    requires fits { exhausts (record { lanes = lanes.old; overflow = overflow.old; last_id = last_id.old }) rows.now ≡ false }
+    requires room { vec_len dropped.old + length (dropped_by (record { lanes = lanes.old; overflow = overflow.old; last_id = last_id.old }) rows.now) ≤ vec_capacity dropped.old }
+    ensures sound { IsSoundBuffer (record { lanes = lanes.new; overflow = overflow.new; last_id = last_id.new }) }
+    ensures with { record { lanes = lanes.new; overflow = overflow.new; last_id = last_id.new } ≡ with_rows (record { lanes = lanes.old; overflow = overflow.old; last_id = last_id.old }) rows.now }
+    ensures dropped { dropped.new.items ≡ dropped.old.items ++ dropped_by (record { lanes = lanes.old; overflow = overflow.old; last_id = last_id.old }) rows.now }
+{
+    for x in rows {
+        let id = *last_id + 1;
+        let lane = &mut lanes[x.lane.number()];
+        let was_full = lane.is_full();
+        lane.put(Numbered { id, row: x.row }, dropped);
+        *overflow |= was_full;
+        *last_id = id;
     }
 }

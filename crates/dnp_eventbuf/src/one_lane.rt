@@ -2,7 +2,7 @@
 
 ghost use Rattle.std.specs.Prelude.{◌≡◌, ◌≢◌, ◌+◌, ◌<◌, ◌≤◌, ◌++◌, IfOk, OnOk, OnErr, [], length, map, vec_len, vec_capacity};
 ghost use Rattle.std.specs.List.{AllPairs};
-ghost use Rattle.dnp_eventbuf.specs.Stock.{LaneState, is_full, put_in, dropped_from, empty_lane, emptied, above, last_of, row_of};
+ghost use Rattle.dnp_eventbuf.specs.EventBuffer.{LaneState, is_full, put_in, dropped_from, empty_lane, emptied, above, last_of, row_of};
 ghost use Rattle.dnp_eventbuf.specs.steps.Tallies.{tally_of};
 
 use crate::numbered::Numbered;

@@ -3,10 +3,10 @@
 ghost use Rattle.std.specs.Prelude.{◌≡◌, ◌≢◌, ◌<◌, ℕ, Bool, false, IsTrue, OnOk, OnErr, IfOk, IfErr, [], length, All};
 ghost use Rattle.dnp_objects.specs.Events.{IsEvent};
 ghost use Rattle.dnp_objects.specs.Lanes.{lane_number};
-ghost use Rattle.dnp_eventbuf.specs.Carried.{IsCarried};
+ghost use Rattle.dnp_eventbuf.specs.FitsLane.{FitsLane};
 ghost use Rattle.dnp_eventbuf.specs.Sides.{IsPairCall, IsSideCall, BothHave, EitherDrops, either_exhausts};
-ghost use Rattle.dnp_eventbuf.specs.Sound.{IsSound};
-ghost use Rattle.dnp_eventbuf.specs.Stock.{Stock, lane_at, with_rows, dropped_by, exhausts, offered, without, all_up_to, without_all, rows_in, last_of};
+ghost use Rattle.dnp_eventbuf.specs.Sound.{IsSoundBuffer};
+ghost use Rattle.dnp_eventbuf.specs.EventBuffer.{EventBuffer, lane_at, with_rows, dropped_by, exhausts, offered, without, all_up_to, without_all, rows_in, last_of};
 
 use crate::numbered::{Numbered, Upto};
 use crate::rows::Rows;
@@ -15,6 +15,19 @@ use std::alloc::Global;
 
 /// The centres that rows are kept for, numbered from 0.
 pub const CENTRES: u8 = 2;
+
+/// A call of the lanes for this centre, of a value that has those for the first centre as its `first` and those for
+/// the second as its `second`.
+#[macro_export]
+macro_rules! of_side {
+    ($pair:expr, $centre:expr, $call:ident($($word:expr),*)) => {
+        if $centre == 0 {
+            $pair.first.$call($($word),*)
+        } else {
+            $pair.second.$call($($word),*)
+        }
+    };
+}
 
 /// Nine lanes of rows for each of two centres, in one store, however they are kept: the two sides.
 ///
@@ -25,7 +38,7 @@ pub trait PairLanes {
     ghost use Rattle.dnp_objects.specs.declared.store.StoreFault.{StoreFault};
 
     /// What the lanes for a centre hold.
-    ghost contents: { Self → ℕ → Stock };
+    ghost contents: { Self → ℕ → EventBuffer };
 
     /// So far the store has given back what was written to it, nobody else has written, and it has not
     /// answered Device. Lanes in memory are always honest.
@@ -49,7 +62,7 @@ pub trait PairLanes {
         alloc: Global,
         rows: &[LaneRow],
     ) -> Result<(Vec<Row>, Vec<Row>), StoreFault>
-        requires { All IsCarried rows.now }
+        requires { All FitsLane rows.now }
         ensures call { IsPairCall honest is_stopped contents self.old self.new result }
 
         ensures appended { honest self.new → OnOk result (BothHave (contents self.old) rows.now (contents self.new)) }
@@ -69,7 +82,7 @@ pub trait PairLanes {
         rows: &[LaneRow],
     ) -> Result<Vec<Row>, StoreFault>
         requires centre { centre < CENTRES }
-        requires carried { All IsCarried rows.now }
+        requires carried { All FitsLane rows.now }
         ensures call { IsSideCall honest is_stopped contents centre self.old self.new result }
 
         ensures appended { honest self.new → OnOk result (contents self.new centre ≡ with_rows (contents self.old centre) rows.now) }
@@ -172,27 +185,27 @@ pub trait PairLanes {
     fn len(&mut self, centre: u8, lane: Lane) -> u32
         requires { centre < CENTRES }
         ensures same { self.new ≡ self.old }
-        ensures sound { honest self.new → IsSound (contents self.new centre) }
+        ensures sound { honest self.new → IsSoundBuffer (contents self.new centre) }
         ensures value { honest self.new → result ≡ length (lane_at (contents self.new centre) (lane_number lane)).rows };
 
     /// `Lanes::last` for this centre.
     fn last(&mut self, centre: u8, lane: Lane) -> u64
         requires { centre < CENTRES }
         ensures same { self.new ≡ self.old }
-        ensures sound { honest self.new → IsSound (contents self.new centre) }
+        ensures sound { honest self.new → IsSoundBuffer (contents self.new centre) }
         ensures value { honest self.new → result ≡ last_of (lane_at (contents self.new centre) (lane_number lane)).rows };
 
     /// `Lanes::lost` for this centre.
     fn lost(&mut self, centre: u8, lane: Lane) -> u64
         requires { centre < CENTRES }
         ensures same { self.new ≡ self.old }
-        ensures sound { honest self.new → IsSound (contents self.new centre) }
+        ensures sound { honest self.new → IsSoundBuffer (contents self.new centre) }
         ensures value { honest self.new → result ≡ (lane_at (contents self.new centre) (lane_number lane)).lost };
 
     /// `Lanes::raised` for this centre.
     fn raised(&mut self, centre: u8) -> bool
         requires { centre < CENTRES }
         ensures same { self.new ≡ self.old }
-        ensures sound { honest self.new → IsSound (contents self.new centre) }
+        ensures sound { honest self.new → IsSoundBuffer (contents self.new centre) }
         ensures value { honest self.new → result ≡ (contents self.new centre).overflow };
 }

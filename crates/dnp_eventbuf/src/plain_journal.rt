@@ -2,8 +2,8 @@ ghost use Rattle.std.specs.Prelude.{◌≡◌, ◌≢◌, ◌+◌, ◌<◌, ◌�
 ghost use Rattle.dnp_eventbuf.specs.Archive.{numbered, passes_limit, with_events};
 
 use crate::journal::JournalStore;
+use crate::nine::memory;
 use crate::numbered::Numbered;
-use crate::plain::memory;
 use crate::sink::Sink;
 use dnp_objects::{Row, StoreFault};
 use std::alloc::{AllocError, Global};

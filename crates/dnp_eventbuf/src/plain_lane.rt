@@ -2,7 +2,7 @@
 
 ghost use Rattle.std.specs.Prelude.{not, ◌&&◌, false, ◌≡◌, ◌^◌, ◌+◌, ◌-◌, ◌≤◌, slice_get, option_map, length, nat_lt, filter};
 ghost use Rattle.std.specs.VecDeque.{deque_len, deque_capacity};
-ghost use Rattle.dnp_eventbuf.specs.Stock.{is_full, put_in, above, last_of};
+ghost use Rattle.dnp_eventbuf.specs.EventBuffer.{is_full, put_in, above, last_of};
 
 use crate::numbered::Numbered;
 use crate::one_lane::OneLane;
@@ -25,7 +25,7 @@ pub struct PlainLane {
 impl Model for PlainLane {
     ghost use Rattle.std.specs.Prelude.{◌<◌, ◌≤◌};
     ghost use Rattle.std.specs.VecDeque.{deque_len, deque_capacity};
-    ghost use Rattle.dnp_eventbuf.specs.Stock.{LaneState};
+    ghost use Rattle.dnp_eventbuf.specs.EventBuffer.{LaneState};
 
     ghost Value = { LaneState };
 

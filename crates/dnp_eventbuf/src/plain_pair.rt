@@ -2,12 +2,14 @@
 
 ghost use Rattle.std.specs.Prelude.{◌≡◌, ◌≤◌, IfOk, All};
 ghost use Rattle.dnp_eventbuf.specs.Sides.{side_of};
-ghost use Rattle.dnp_eventbuf.specs.Stock.{empty_stock};
+ghost use Rattle.dnp_eventbuf.specs.EventBuffer.{empty_buffer};
 
 use crate::lanes::Lanes;
+use crate::nine::memory;
 use crate::numbered::{Numbered, Upto};
+use crate::of_side;
 use crate::pair::PairLanes;
-use crate::plain::{MAX_CAPACITY, PlainLanes, memory};
+use crate::plain::{MAX_CAPACITY, PlainLanes};
 use crate::rows::Rows;
 use dnp_objects::{LANES, Lane, LaneRow, Row, StoreFault};
 use std::alloc::{AllocError, Global};
@@ -29,8 +31,8 @@ impl PlainPair {
     ) -> Result<PlainPair, AllocError>
         requires first { All (λ capacity. (1 ≤ capacity) × (capacity ≤ MAX_CAPACITY)) first }
         requires second { All (λ capacity. (1 ≤ capacity) × (capacity ≤ MAX_CAPACITY)) second }
-        ensures first { IfOk result (λ pair. side_of pair 0 ≡ empty_stock first) }
-        ensures second { IfOk result (λ pair. side_of pair 1 ≡ empty_stock second) }
+        ensures first { IfOk result (λ pair. side_of pair 0 ≡ empty_buffer first) }
+        ensures second { IfOk result (λ pair. side_of pair 1 ≡ empty_buffer second) }
     {
         Ok(PlainPair {
             first: PlainLanes::new(alloc, first)?,
@@ -91,11 +93,7 @@ impl PairLanes for PlainPair {
         after: u64,
         most: usize,
     ) -> Result<Vec<Numbered>, StoreFault> {
-        if centre == 0 {
-            self.first.offer(alloc, lane, after, most)
-        } else {
-            self.second.offer(alloc, lane, after, most)
-        }
+        of_side!(self, centre, offer(alloc, lane, after, most))
     }
 
     fn offer_into(
@@ -145,34 +143,18 @@ impl PairLanes for PlainPair {
     }
 
     fn len(&mut self, centre: u8, lane: Lane) -> u32 {
-        if centre == 0 {
-            self.first.len(lane)
-        } else {
-            self.second.len(lane)
-        }
+        of_side!(self, centre, len(lane))
     }
 
     fn last(&mut self, centre: u8, lane: Lane) -> u64 {
-        if centre == 0 {
-            self.first.last(lane)
-        } else {
-            self.second.last(lane)
-        }
+        of_side!(self, centre, last(lane))
     }
 
     fn lost(&mut self, centre: u8, lane: Lane) -> u64 {
-        if centre == 0 {
-            self.first.lost(lane)
-        } else {
-            self.second.lost(lane)
-        }
+        of_side!(self, centre, lost(lane))
     }
 
     fn raised(&mut self, centre: u8) -> bool {
-        if centre == 0 {
-            self.first.raised()
-        } else {
-            self.second.raised()
-        }
+        of_side!(self, centre, raised())
     }
 }

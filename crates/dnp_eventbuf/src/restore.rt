@@ -1,7 +1,7 @@
 //! Lanes in memory that are put together again from what was stored of them.
 
 ghost use Rattle.std.specs.Prelude.{◌≡◌, ◌<◌, ◌≤◌, false, IsTrue};
-ghost use Rattle.dnp_eventbuf.specs.Carried.{IsCarried};
+ghost use Rattle.dnp_eventbuf.specs.FitsLane.{FitsLane};
 ghost use Rattle.dnp_eventbuf.specs.Restored.{with_lost, with_marks, with_old_row, fits_behind};
 
 use crate::numbered::Numbered;
@@ -33,7 +33,7 @@ impl PlainLanes {
     /// Puts a row back after the others of its lane, under the id that it had: whether it fits there.
     /// There has to be room for it, and its id has to be above theirs and at most the last one used.
     pub fn restore_row(&mut self, id: u64, x: LaneRow) -> bool
-        requires { IsCarried x }
+        requires { FitsLane x }
         ensures value { result ≡ fits_behind self.old id x }
         ensures put { IsTrue result → self.new ≡ with_old_row self.old id x }
         ensures same { result ≡ false → self.new ≡ self.old }

@@ -1,290 +1,30 @@
 //! Lanes in rings of memory.
 
-ghost use Rattle.std.specs.Prelude.{◌≡◌, ◌≢◌, ◌<◌, ◌≤◌, ◌+◌, false, IfOk, IfSome, IfNone, OnOk, OnErr, IsTrue, All, length, [], ◌++◌, vec_len, vec_capacity, ⊤};
-ghost use Rattle.dnp_objects.specs.Lanes.{lane_number};
-ghost use Rattle.dnp_eventbuf.specs.Carried.{IsCarried};
-ghost use Rattle.dnp_eventbuf.specs.Sound.{IsSound};
-ghost use Rattle.dnp_eventbuf.specs.Stock.{Stock, lane_at, dropped_from, empty_stock, with_row, with_rows, dropped_by, is_past, exhausts, without, all_up_to, without_all, rows_in};
+ghost use Rattle.std.specs.Prelude.{◌≡◌, ◌≤◌, IfOk, All};
+ghost use Rattle.dnp_eventbuf.specs.EventBuffer.{empty_buffer};
 
 use crate::lane_of::LaneOf;
-use crate::lanes::Lanes;
-use crate::nine_steps::{
-    any_full, clear_all, count_all_up_to, cut_all, drops_for, push_all, push_all_up_to,
-};
-use crate::numbered::{Numbered, Upto};
-use crate::plain::{MAX_CAPACITY, memory};
+use crate::nine::NineLanes;
+use crate::plain::MAX_CAPACITY;
 use crate::ring_lane::RingLane;
-use crate::rows::{Rows, empty_for};
-use dnp_objects::{LANES, Lane, LaneRow, MAX_ID, Row, StoreFault};
+use dnp_objects::LANES;
 use std::alloc::{AllocError, Global};
-use std::marker::Model;
-use std::mem;
 
 /// Nine lanes in memory, each a ring, which take their room as they are made and move no row.
-pub struct RingLanes {
-    /// The lanes, by their numbers.
-    pub(crate) lanes: [LaneOf<RingLane>; LANES],
-    /// Whether a row was dropped, and some lane has been full since.
-    pub(crate) overflow: bool,
-    /// The last id used, of all lanes; 0 before the first.
-    pub(crate) last_id: u64,
-}
-
-impl Model for RingLanes {
-    ghost use Rattle.dnp_eventbuf.specs.Sound.{IsSound};
-    ghost use Rattle.dnp_eventbuf.specs.Stock.{Stock};
-
-    ghost Value = { Stock };
-
-    ghost view = { λ a. record { lanes = a.lanes; overflow = a.overflow; last_id = a.last_id } };
-
-    ghost invariant = { λ a. IsSound (record { lanes = a.lanes; overflow = a.overflow; last_id = a.last_id }) };
-}
-
-impl Drop for RingLanes {
-    /// One call for whoever lets it go: its parts are looked at here alone.
-    fn drop(self) {
-        let RingLanes {
-            lanes: _,
-            overflow: _,
-            last_id: _,
-        } = self;
-    }
-}
+pub type RingLanes = NineLanes<RingLane>;
 
 impl RingLanes {
     /// Empty lanes that take this many rows each, 1 to `MAX_CAPACITY`. An error says that it ran out of
     /// memory.
     pub fn new(alloc: Global, capacities: [u32; LANES]) -> Result<RingLanes, AllocError>
         requires { All (λ capacity. (1 ≤ capacity) × (capacity ≤ MAX_CAPACITY)) capacities }
-        ensures { IfOk result (λ lanes. lanes ≡ empty_stock capacities) }
+        ensures { IfOk result (λ lanes. lanes ≡ empty_buffer capacities) }
     {
         let lanes = capacities.try_map(|capacity| LaneOf::<RingLane>::new(alloc, capacity))?;
-        Ok(RingLanes {
+        Ok(NineLanes {
             lanes,
             overflow: false,
             last_id: 0,
         })
-    }
-
-    /// How many rows the lanes would drop for these, or `None` where an id or a count of lost rows
-    /// would pass the limit.
-    pub fn drops(&self, rows: &[LaneRow]) -> Option<usize>
-        ensures sound { IsSound self.now }
-        ensures some { IfSome result (λ dropped. (dropped ≡ length (dropped_by self.now rows.now)) × (exhausts self.now rows.now ≡ false)) }
-        ensures none { IfNone result (IsTrue (exhausts self.now rows.now)) }
-    {
-        if rows.len() as u64 > MAX_ID - self.last_id {
-            return None;
-        }
-        drops_for(&self.lanes, rows)
-    }
-
-    /// Puts one row into its lane, under the next id, and adds the one that a full lane drops for it to those
-    /// that were dropped, which have room for it. It stands in its callers, as what it calls.
-    #[inline(always)]
-    fn put(&mut self, x: LaneRow, dropped: &mut Vec<Row>)
-        requires carried { IsCarried x }
-        requires fits { is_past (with_row self.old x) ≡ false }
-        requires room { vec_len dropped.old + length (dropped_from (lane_at self.old (lane_number x.lane))) ≤ vec_capacity dropped.old }
-        ensures with { self.new ≡ with_row self.old x }
-        ensures dropped { dropped.new.items ≡ dropped.old.items ++ dropped_from (lane_at self.old (lane_number x.lane)) }
-        ensures len { vec_len dropped.new ≡ vec_len dropped.old + length (dropped_from (lane_at self.old (lane_number x.lane))) }
-        ensures capacity { vec_capacity dropped.old ≤ vec_capacity dropped.new }
-    {
-        let id = self.last_id + 1;
-        let lane = &mut self.lanes[x.lane.number()];
-        let was_full = lane.is_full();
-        lane.put(Numbered { id, row: x.row }, dropped);
-        self.overflow |= was_full;
-        self.last_id = id;
-    }
-
-    /// Puts the rows one by one. There is room for those that are dropped.
-    #[inline(always)]
-    pub fn put_all(&mut self, rows: &[LaneRow], dropped: &mut Vec<Row>)
-        requires carried { All IsCarried rows.now }
-        requires fits { exhausts self.old rows.now ≡ false }
-        requires room { vec_len dropped.old + length (dropped_by self.old rows.now) ≤ vec_capacity dropped.old }
-        ensures sound { IsSound self.new }
-        ensures with { self.new ≡ with_rows self.old rows.now }
-        ensures dropped { dropped.new.items ≡ dropped.old.items ++ dropped_by self.old rows.now }
-    {
-        for x in rows {
-            self.put(*x, dropped);
-        }
-        // To read the last id is to know that the lanes are sound.
-        prove!(self.last_id <= MAX_ID);
-    }
-
-    /// The rows that a release takes: of each lane those with ids up to its number.
-    pub fn rows_up_to(&self, alloc: Global, upto: &Upto) -> Result<Vec<Row>, AllocError>
-        ensures sound { IsSound self.now }
-        ensures rows { IfOk result (λ rows. rows.items ≡ all_up_to self.now upto.now) }
-        ensures memory { OnErr result (all_up_to self.now upto.now ≢ []) }
-    {
-        let mut taken = Vec::new(alloc);
-        self.copy_up_to(alloc, upto, &mut taken)?;
-        Ok(taken)
-    }
-
-    /// The same, in place of what was in `taken`. Memory is asked for once at most, for just as many, where `taken`
-    /// has no room for them.
-    pub fn copy_up_to(
-        &self,
-        alloc: Global,
-        upto: &Upto,
-        taken: &mut Vec<Row>,
-    ) -> Result<(), AllocError>
-        ensures sound { IsSound self.now }
-        ensures rows { OnOk result (taken.new.items ≡ all_up_to self.now upto.now) }
-        ensures kept { OnErr result (taken.new.items ≡ taken.old.items) }
-        ensures memory { OnErr result (vec_capacity taken.old < length (all_up_to self.now upto.now)) }
-    {
-        let count = count_all_up_to(&self.lanes, upto);
-        empty_for(alloc, taken, count)?;
-        // (a vector that nobody else knows, so that its length needs no place in memory)
-        let mut rows = mem::replace(taken, Vec::new(alloc));
-        push_all_up_to(&self.lanes, upto, &mut rows);
-        *taken = rows;
-        Ok(())
-    }
-
-    /// Takes those rows out. The overflow ends if no lane is full then.
-    pub fn cut(&mut self, upto: &Upto)
-        ensures sound { IsSound self.new }
-        ensures without { self.new ≡ without self.old upto.now }
-    {
-        cut_all(&mut self.lanes, upto);
-        self.overflow = self.overflow && any_full(&self.lanes);
-    }
-
-    /// All rows, lane by lane.
-    pub fn all_rows(&self, alloc: Global) -> Result<Vec<Row>, AllocError>
-        ensures sound { IsSound self.now }
-        ensures rows { IfOk result (λ rows. rows.items ≡ rows_in self.now) }
-        ensures memory { OnErr result (rows_in self.now ≢ []) }
-    {
-        let mut taken = Vec::new(alloc);
-        push_all(&self.lanes, &mut taken)?;
-        Ok(taken)
-    }
-
-    /// Takes all rows out. The overflow ends; the counts of lost rows and the last id used stay.
-    pub fn clear(&mut self)
-        ensures sound { IsSound self.new }
-        ensures without { self.new ≡ without_all self.old }
-    {
-        clear_all(&mut self.lanes);
-        self.overflow = false;
-    }
-}
-
-impl Lanes for RingLanes {
-    ghost use Rattle.dnp_eventbuf.specs.Calls.{without_device};
-
-    ghost contents = { λ s. s };
-
-    ghost beside = { λ _. [] };
-
-    ghost Place = { ⊤ };
-
-    ghost place = { λ _. tt };
-
-    ghost honest = { λ _. ⊤ };
-
-    ghost is_stopped = { λ _. false };
-
-    ghost asks_memory = { false };
-
-    ghost may_fault = { without_device };
-
-    #[inline(always)]
-    fn append(&mut self, alloc: Global, rows: &[LaneRow]) -> Result<Vec<Row>, StoreFault> {
-        let count = self.drops(rows).ok_or(StoreFault::Exhausted)?;
-        let mut dropped = Vec::with_capacity(alloc, count).map_err(memory)?;
-        self.put_all(rows, &mut dropped);
-        Ok(dropped)
-    }
-
-    #[inline(always)]
-    fn append_into(
-        &mut self,
-        alloc: Global,
-        rows: &[LaneRow],
-        dropped: &mut Rows,
-    ) -> Result<(), StoreFault> {
-        let count = self.drops(rows).ok_or(StoreFault::Exhausted)?;
-        empty_for(alloc, &mut dropped.items, count).map_err(memory)?;
-        self.put_all(rows, &mut dropped.items);
-        Ok(())
-    }
-
-    fn offer(
-        &mut self,
-        alloc: Global,
-        lane: Lane,
-        after: u64,
-        most: usize,
-    ) -> Result<Vec<Numbered>, StoreFault> {
-        let mut rows = Vec::new(alloc);
-        self.offer_into(alloc, lane, after, most, &mut rows)?;
-        Ok(rows)
-    }
-
-    fn offer_into(
-        &mut self,
-        alloc: Global,
-        lane: Lane,
-        after: u64,
-        most: usize,
-        rows: &mut Vec<Numbered>,
-    ) -> Result<(), StoreFault> {
-        let lane = &self.lanes[lane.number()];
-        lane.offer_into(alloc, after, most, rows).map_err(memory)?;
-        Ok(())
-    }
-
-    fn release(&mut self, alloc: Global, upto: &Upto) -> Result<Vec<Row>, StoreFault> {
-        let taken = self.rows_up_to(alloc, upto).map_err(memory)?;
-        self.cut(upto);
-        Ok(taken)
-    }
-
-    fn release_into(
-        &mut self,
-        alloc: Global,
-        upto: &Upto,
-        taken: &mut Rows,
-    ) -> Result<(), StoreFault> {
-        self.copy_up_to(alloc, upto, &mut taken.items)
-            .map_err(memory)?;
-        self.cut(upto);
-        Ok(())
-    }
-
-    fn empty(&mut self, alloc: Global) -> Result<Vec<Row>, StoreFault> {
-        let taken = self.all_rows(alloc).map_err(memory)?;
-        self.clear();
-        Ok(taken)
-    }
-
-    fn len(&mut self, lane: Lane) -> u32 {
-        let lane = &self.lanes[lane.number()];
-        lane.len()
-    }
-
-    fn last(&mut self, lane: Lane) -> u64 {
-        let lane = &self.lanes[lane.number()];
-        lane.last()
-    }
-
-    fn lost(&mut self, lane: Lane) -> u64 {
-        let lane = &self.lanes[lane.number()];
-        lane.lost()
-    }
-
-    fn raised(&mut self) -> bool {
-        self.overflow
     }
 }

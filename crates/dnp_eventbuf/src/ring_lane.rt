@@ -2,7 +2,7 @@
 
 ghost use Rattle.std.specs.Prelude.{◌≡◌, ◌<◌, length};
 ghost use Rattle.std.specs.List.{AllPairs};
-ghost use Rattle.dnp_eventbuf.specs.Stock.{above};
+ghost use Rattle.dnp_eventbuf.specs.EventBuffer.{above};
 
 use crate::in_order::{cut, push_rows};
 use crate::numbered::Numbered;
@@ -24,7 +24,7 @@ pub struct RingLane {
 
 impl Model for RingLane {
     ghost use Rattle.std.specs.Prelude.{◌<◌, ◌≤◌, ◌^◌, length};
-    ghost use Rattle.dnp_eventbuf.specs.Stock.{LaneState};
+    ghost use Rattle.dnp_eventbuf.specs.EventBuffer.{LaneState};
 
     ghost Value = { LaneState };
 

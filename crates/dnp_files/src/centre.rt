@@ -3,7 +3,7 @@
 ghost use Rattle.dnp_concentrator.specs.Plan.{KeepsLimits};
 
 use crate::files;
-use crate::files::{Opens, Place};
+use crate::files::{Opens, StoreFile};
 use crate::planned::{look_at_book, look_at_journal};
 use crate::polls::{PollPace, Polls};
 use dnp_concentrator::{Centre, MAX_TIMER_MS, Plan};
@@ -21,9 +21,9 @@ use std::rt::{Clock, Files, HostRuntime};
 #[derive(Clone, Copy)]
 pub struct CentreWords<'a> {
     /// The file of the journal.
-    pub journal: Place<'a>,
+    pub journal: StoreFile<'a>,
     /// The file of the book of controls.
-    pub controls: Place<'a>,
+    pub controls: StoreFile<'a>,
     /// The TCP port of the concentrator.
     pub port: u16,
     /// The centre's link address, which says which of the two it is.
@@ -81,7 +81,7 @@ where
 /// The journal in its file.
 fn journal_there<S: Alter + Drop, R: AllocGlobal + Eprint + Files + Opens<Connection<S>>>(
     rt: &R,
-    place: &Place<'_>,
+    place: &StoreFile<'_>,
 ) -> Result<Journal<S>, ExitCode> {
     let conn = files::connection(rt, place)?;
     files::journal(rt, place, conn)

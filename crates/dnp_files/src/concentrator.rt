@@ -3,7 +3,7 @@
 
 ghost use Rattle.dnp_concentrator.specs.Plan.{KeepsLimits};
 
-use crate::files::{Opens, Place};
+use crate::files::{Opens, StoreFile};
 use crate::planned::{look_at_book, look_at_queue};
 use crate::rounds::{RoundPace, Rounds};
 use crate::{files, rounds};
@@ -21,9 +21,9 @@ use std::rt::{Clock, Files, HostRuntime};
 #[derive(Clone, Copy)]
 pub struct ConcentratorWords<'a> {
     /// The file of the queue.
-    pub queue: Place<'a>,
+    pub queue: StoreFile<'a>,
     /// The file of the book of controls.
-    pub controls: Place<'a>,
+    pub controls: StoreFile<'a>,
     /// The address at which centres connect.
     pub address: IpAddr,
     /// The TCP port for the first centre.

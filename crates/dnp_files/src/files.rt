@@ -33,7 +33,7 @@ impl Opens<Connection<FileStore<File>>> for HostRuntime {
 
 /// A file that a word of the command line names for a store, and what is to be done with it.
 #[derive(Clone, Copy)]
-pub struct Place<'a> {
+pub struct StoreFile<'a> {
     /// The path.
     pub path: &'a str,
     /// What the store is called, as "queue".
@@ -42,7 +42,7 @@ pub struct Place<'a> {
     pub new: bool,
 }
 
-impl<'a> Place<'a> {
+impl<'a> StoreFile<'a> {
     /// Says on standard error what is wrong with the file.
     pub(crate) fn say<R: Eprint>(&self, rt: &R, what: &str) {
         let _ = eprintln!(rt; "dnp: {}: {what}", self.path);
@@ -53,7 +53,7 @@ impl<'a> Place<'a> {
 /// error, and the exit status is told.
 pub(crate) fn connection<S: Alter, R: Eprint + Files + Opens<Connection<S>>>(
     rt: &R,
-    place: &Place<'_>,
+    place: &StoreFile<'_>,
 ) -> Result<Connection<S>, ExitCode> {
     if !place.new {
         is_there(rt, place)?;
@@ -65,7 +65,7 @@ pub(crate) fn connection<S: Alter, R: Eprint + Files + Opens<Connection<S>>>(
 }
 
 /// Looks whether the file can be read: to open a database that is not there would make it.
-fn is_there<R: Eprint + Files>(rt: &R, place: &Place<'_>) -> Result<(), ExitCode> {
+fn is_there<R: Eprint + Files>(rt: &R, place: &StoreFile<'_>) -> Result<(), ExitCode> {
     match fs::open(rt, place.path) {
         Ok(_) => Ok(()),
         Err(cause) => Err(lost(rt, place.path, &cause)),
@@ -74,7 +74,7 @@ fn is_there<R: Eprint + Files>(rt: &R, place: &Place<'_>) -> Result<(), ExitCode
 
 /// Says on standard error why the file's database can't be had, and gives the exit status: that of a refused input where
 /// the file is none, or is spoilt.
-fn no_database<R: Eprint>(rt: &R, place: &Place<'_>, error: &Error) -> ExitCode {
+fn no_database<R: Eprint>(rt: &R, place: &StoreFile<'_>, error: &Error) -> ExitCode {
     match error {
         Error::SqliteFailure(ErrorCode::NotADatabase | ErrorCode::DatabaseCorrupt) => {
             let _ = eprintln!(rt; "dnp: {}: no {}: {error}", place.path, place.store);
@@ -94,7 +94,7 @@ fn no_database<R: Eprint>(rt: &R, place: &Place<'_>, error: &Error) -> ExitCode 
 /// Says on standard error why a store does not begin in the database, and gives the exit status.
 fn no_store<S: Alter, R: Eprint>(
     rt: &R,
-    place: &Place<'_>,
+    place: &StoreFile<'_>,
     fault: OpenFault,
     conn: &Connection<S>,
 ) -> ExitCode {
@@ -125,7 +125,7 @@ fn no_store<S: Alter, R: Eprint>(
 }
 
 /// Says on standard error that a store works, but promises nothing, where its database has other tables too.
-fn look_round<R: Eprint>(rt: &R, place: &Place<'_>, owned: bool) {
+fn look_round<R: Eprint>(rt: &R, place: &StoreFile<'_>, owned: bool) {
     if !owned {
         place.say(
             rt,
@@ -138,7 +138,7 @@ fn look_round<R: Eprint>(rt: &R, place: &Place<'_>, owned: bool) {
 /// one; the second centre's lanes take so many rows then.
 fn migrated<S: Alter + Drop, R: AllocGlobal + Eprint>(
     rt: &R,
-    place: &Place<'_>,
+    place: &StoreFile<'_>,
     conn: Connection<S>,
     second: [u32; LANES],
 ) -> Result<Queue<S>, (OpenFault, Connection<S>)>
@@ -163,7 +163,7 @@ fn migrated<S: Alter + Drop, R: AllocGlobal + Eprint>(
 /// for two centres and opened, where that is asked for. Where there is none, that is said, and the exit status is told.
 pub(crate) fn queue<S: Alter + Drop, R: AllocGlobal + Eprint>(
     rt: &R,
-    place: &Place<'_>,
+    place: &StoreFile<'_>,
     conn: Connection<S>,
     first: [u32; LANES],
     second: [u32; LANES],
@@ -191,7 +191,7 @@ pub(crate) fn queue<S: Alter + Drop, R: AllocGlobal + Eprint>(
 /// The journal in a database, made or opened. Where there is none, that is said, and the exit status is told.
 pub(crate) fn journal<S: Alter + Drop, R: AllocGlobal + Eprint>(
     rt: &R,
-    place: &Place<'_>,
+    place: &StoreFile<'_>,
     conn: Connection<S>,
 ) -> Result<Journal<S>, ExitCode> {
     let begun = if place.new {
@@ -211,7 +211,7 @@ pub(crate) fn journal<S: Alter + Drop, R: AllocGlobal + Eprint>(
 /// The book of controls in a database, made or opened. Where there is none, that is said, and the exit status is told.
 pub(crate) fn book<S: Alter + Drop, R: AllocGlobal + Eprint>(
     rt: &R,
-    place: &Place<'_>,
+    place: &StoreFile<'_>,
     conn: Connection<S>,
 ) -> Result<ControlBook<S>, ExitCode> {
     let begun = if place.new {
@@ -231,7 +231,7 @@ pub(crate) fn book<S: Alter + Drop, R: AllocGlobal + Eprint>(
 /// The book of controls in its file, made or opened. Where there is none, that is said, and the exit status is told.
 pub(crate) fn book_there<S: Alter + Drop, R: AllocGlobal + Eprint + Files + Opens<Connection<S>>>(
     rt: &R,
-    place: &Place<'_>,
+    place: &StoreFile<'_>,
 ) -> Result<ControlBook<S>, ExitCode> {
     let conn = connection(rt, place)?;
     book(rt, place, conn)
@@ -240,7 +240,7 @@ pub(crate) fn book_there<S: Alter + Drop, R: AllocGlobal + Eprint + Files + Open
 /// Closes a database in good order, and tells whether it could; where it couldn't, that is said on standard error.
 fn close<S: Alter, R: Eprint + Opens<Connection<S>>>(
     rt: &R,
-    place: &Place<'_>,
+    place: &StoreFile<'_>,
     conn: Connection<S>,
 ) -> bool {
     match rt.close_database(conn) {
@@ -256,9 +256,9 @@ fn close<S: Alter, R: Eprint + Opens<Connection<S>>>(
 /// closed, which is said on standard error.
 pub(crate) fn close_both<S: Alter, R: Eprint + Opens<Connection<S>>>(
     rt: &R,
-    first: &Place<'_>,
+    first: &StoreFile<'_>,
     one: Connection<S>,
-    second: &Place<'_>,
+    second: &StoreFile<'_>,
     other: Connection<S>,
     status: ExitCode,
 ) -> ExitCode {

@@ -17,7 +17,7 @@ mod turn;
 
 pub use centre::{CentreWords, run_centre};
 pub use concentrator::{ConcentratorWords, run_concentrator};
-pub use files::Place;
+pub use files::StoreFile;
 pub use planned::has_output;
 pub use polls::PollPace;
 pub use rounds::RoundPace;

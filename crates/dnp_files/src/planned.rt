@@ -6,7 +6,7 @@ ghost use Rattle.dnp_concentrator.specs.IndexMap.{span_of};
 ghost use Rattle.dnp_concentrator.specs.Mapped.{command_above};
 ghost use Rattle.dnp_concentrator.specs.Plan.{map_of, spans_of};
 
-use crate::files::Place;
+use crate::files::StoreFile;
 use dnp_concentrator::{Plan, SubPlan};
 use dnp_controls::{Book, Entry};
 use dnp_eventbuf::{CENTRES, JournalStore, MAX_CAPACITY, PairLanes};
@@ -79,7 +79,7 @@ fn has_output_above(plan: &Plan, command: &Command) -> bool {
 }
 
 /// Says on standard error that a file can't be read, and gives the exit status of a fault.
-fn unread<R: Eprint>(rt: &R, place: &Place<'_>) -> ExitCode {
+fn unread<R: Eprint>(rt: &R, place: &StoreFile<'_>) -> ExitCode {
     place.say(
         rt,
         "its rows can't be read: out of memory, or its device failed",
@@ -88,7 +88,7 @@ fn unread<R: Eprint>(rt: &R, place: &Place<'_>) -> ExitCode {
 }
 
 /// Says on standard error which row is of no point of the plan, and gives the exit status of a refused input.
-fn no_point<R: Eprint>(rt: &R, place: &Place<'_>, id: u64, row: &Row) -> ExitCode {
+fn no_point<R: Eprint>(rt: &R, place: &StoreFile<'_>, id: u64, row: &Row) -> ExitCode {
     let _ = eprintln!(rt;
         "dnp: {}: row {id}, {row}: the plan has no such point",
         place.path
@@ -98,7 +98,7 @@ fn no_point<R: Eprint>(rt: &R, place: &Place<'_>, id: u64, row: &Row) -> ExitCod
 
 /// Says on standard error which row is of no point of the plan that has events, and gives the exit status of a refused
 /// input.
-fn no_event<R: Eprint>(rt: &R, place: &Place<'_>, id: u64, row: &Row) -> ExitCode {
+fn no_event<R: Eprint>(rt: &R, place: &StoreFile<'_>, id: u64, row: &Row) -> ExitCode {
     let _ = eprintln!(rt;
         "dnp: {}: row {id}, {row}: the plan has no such point with a class",
         place.path
@@ -110,7 +110,7 @@ fn no_event<R: Eprint>(rt: &R, place: &Place<'_>, id: u64, row: &Row) -> ExitCod
 /// no other, and so nothing that stands behind it. Where one isn't, that is said, and the exit status is told.
 pub(crate) fn look_at_queue<Q: PairLanes, R: AllocGlobal + Eprint>(
     rt: &R,
-    place: &Place<'_>,
+    place: &StoreFile<'_>,
     queue: &mut Q,
     centre: u8,
     plan: &Plan,
@@ -137,7 +137,7 @@ pub(crate) fn look_at_queue<Q: PairLanes, R: AllocGlobal + Eprint>(
 /// status is told.
 pub(crate) fn look_at_journal<J: JournalStore, R: AllocGlobal + Eprint>(
     rt: &R,
-    place: &Place<'_>,
+    place: &StoreFile<'_>,
     journal: &mut J,
     plan: &Plan,
 ) -> Result<(), ExitCode> {
@@ -163,7 +163,7 @@ pub(crate) fn look_at_journal<J: JournalStore, R: AllocGlobal + Eprint>(
 /// index, or `above` by the index there. Where one isn't, that is said, and the exit status is told.
 pub(crate) fn look_at_book<B: Book, R: AllocGlobal + Eprint>(
     rt: &R,
-    place: &Place<'_>,
+    place: &StoreFile<'_>,
     book: &mut B,
     plan: &Plan,
     above: bool,
@@ -196,7 +196,7 @@ fn is_planned(plan: &Plan, entry: &Entry, above: bool) -> bool {
 }
 
 /// Says on standard error which control is for no output of the plan, and gives the exit status of a refused input.
-fn no_output<R: Eprint>(rt: &R, place: &Place<'_>, entry: &Entry) -> ExitCode {
+fn no_output<R: Eprint>(rt: &R, place: &StoreFile<'_>, entry: &Entry) -> ExitCode {
     let _ = eprintln!(rt;
         "dnp: {}: control {}, {} {}: the plan has no such output",
         place.path, entry.id, entry.target, entry.command

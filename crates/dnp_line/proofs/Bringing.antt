@@ -3,7 +3,7 @@ use Rattle.std.proofs.Common.{◌≡◌, List, ℕ, refl, sym, ap, ◌∙◌, su
 use Rattle.std.specs.Prelude.{Option}
 use Rattle.dnp_line.specs.Lines.{LineState, HeldLine, front_of}
 use Rattle.dnp_line.specs.Ports.{PortState}
-use Rattle.dnp_line.specs.Ways.{Way, Hears, HearsIfAny, Brings}
+use Rattle.dnp_line.specs.Ways.{Way, HearsUnit, HearsIfAny, Brings}
 
 -- a call of a line that leaves it as `after` says, and gives this unit or none
 pub record IsGiven (after : LineState → LineState) (old new : HeldLine) (unit : Option (List ℕ)) : Type 0 where
@@ -12,7 +12,7 @@ pub record IsGiven (after : LineState → LineState) (old new : HeldLine) (unit 
 
 -- the port hears the unit
 pub brings : (after : LineState → LineState) (old new : HeldLine) (unit : List ℕ) (way : Way) (receiver : PortState) (given : List (List ℕ))
-    → IsGiven after old new (Some unit) → way.line ≡ old.state → Hears unit way.receiver receiver way.given given
+    → IsGiven after old new (Some unit) → way.line ≡ old.state → HearsUnit unit way.receiver receiver way.given given
     → Brings (after way.line) way (record way { line = new.state; receiver = receiver; given = given })
 brings after old new unit way receiver given g e h =
     let front : Some unit ≡ front_of way.line = g.front ∙ ap (λ (l : LineState). front_of l) (sym e) in

@@ -8,16 +8,16 @@ use Rattle.std.proofs.lemmas.List.{append-nil, take-append-le, reverse-append, l
 use Rattle.std.proofs.lemmas.List.FromFn.{length-map-range_with_len}
 use Rattle.dnp_linkframe.specs.Frames.{Spells}
 use Rattle.dnp_linkframe.specs.declared.frame.Frame.{Frame}
-use Rattle.dnp_linkstation.specs.Station.{ends, opposite, Stands as Answers}
-use Rattle.dnp_transport.specs.Assembly.{Stands}
+use Rattle.dnp_linkstation.specs.Station.{ends, opposite, AreHeard as Answers}
+use Rattle.dnp_transport.specs.Assembly.{ArePushed}
 use Rattle.dnp_transport.specs.Cuts.{cut_count, cut, cuts}
-use Rattle.dnp_transport.specs.Laws.{IsCarried, pushed_after}
+use Rattle.dnp_transport.specs.Laws.{IsAssembled, pushed_after}
 use Rattle.dnp_transport.specs.Series.{IsWhole}
 use Rattle.dnp_line.specs.Clear.{IsClear, all_sent, all_delivered}
 use Rattle.dnp_line.specs.Flows.{AreFacing, segment_total}
 use Rattle.dnp_line.specs.Lines.{LineState, line_of, quiet_line, is_broken, front_of, delivered_on}
 use Rattle.dnp_line.specs.Ports.{PortState, data_frame, moved_on, HasHistory, has_data, is_joined, Joins, TakesAfter, Takes}
-use Rattle.dnp_line.specs.Ways.{Way, Hears, AFrame, NoFrame, HearsIfAny, AreSpelled, Sends, SendsUnlessMute, Deliver, Happens, Runs}
+use Rattle.dnp_line.specs.Ways.{Way, HearsUnit, AFrame, NoFrame, HearsIfAny, AreSpelled, Sends, SendsUnlessMute, Deliver, Happens, Runs}
 use Rattle.dnp_line.specs.steps.Lower.{Lower}
 use Rattle.dnp_line.proofs.OnLine.{all_sent as all_sent_line}
 use Rattle.dnp_line.proofs.Hearing.{sent_joins, has_joined}
@@ -29,12 +29,12 @@ record HasTaken (s new : PortState) (x : List ℕ) (pushed given given' : List (
   facing : AreFacing s new
   heard : List Frame
   answers : Answers heard new.link
-  stands : Stands (x ∷ pushed) new.assembly
+  stands : ArePushed (x ∷ pushed) new.assembly
   none : ((g : List ℕ) → IsWhole (x ∷ pushed) g → ⊥) → given' ≡ given
   one : (g : List ℕ) → IsWhole (x ∷ pushed) g → given' ≡ given ++ g ∷ []
 
 has_taken : Lower → (s old new : PortState) (u x : List ℕ) (heard : List Frame) (pushed given given' : List (List ℕ)) → has_data x ≡ true
-    → AreFacing s old → Answers heard old.link → Stands pushed old.assembly → Spells u (data_frame s x) → Hears u old new given given'
+    → AreFacing s old → Answers heard old.link → ArePushed pushed old.assembly → Spells u (data_frame s x) → HearsUnit u old new given given'
     → HasTaken s new x pushed given given'
 has_taken low s old new u x heard pushed given given' some facing answers stands spells hears =
     elim hears [
@@ -67,7 +67,7 @@ delivered_from : (l : LineState) (u : List ℕ) (us : List (List ℕ)) → l.uni
 delivered_from l u us e = subst (λ (xs : List (List ℕ)). delivered_on (line_of xs l.lost) ≡ line_of us 0) (sym e) refl
 
 heard_front : (l : LineState) (u : List ℕ) (us : List (List ℕ)) (old new : PortState) (given given' : List (List ℕ)) → l.units ≡ u ∷ us
-    → HearsIfAny (front_of l) old new given given' → Hears u old new given given'
+    → HearsIfAny (front_of l) old new given given' → HearsUnit u old new given given'
 heard_front l u us old new given given' e h =
     subst (λ (xs : List (List ℕ)). HearsIfAny (slice_get xs 0) old new given given') e h
 
@@ -97,7 +97,7 @@ record HasCome (s : PortState) (x : List ℕ) (pushed us : List (List ℕ)) (w n
 
 one_comes : Lower → (s : PortState) (u x : List ℕ) (us : List (List ℕ)) (w new : Way) (heard : List Frame) (pushed : List (List ℕ))
     → has_data x ≡ true → w.line.units ≡ u ∷ us → Spells u (data_frame s x) → AreFacing s w.receiver → Answers heard w.receiver.link
-    → Stands pushed w.receiver.assembly → Happens w Deliver new → HasCome s x pushed us w new
+    → ArePushed pushed w.receiver.assembly → Happens w Deliver new → HasCome s x pushed us w new
 one_comes low s u x us w new heard pushed some units spells facing answers stands b =
     let is : new ≡ record w { line = delivered_on w.line; receiver = b.receiver; given = b.given } = b.after in
     record {
@@ -119,11 +119,11 @@ record HasDelivered (s : PortState) (f : List ℕ) (tail : List (List ℕ)) (w n
   sender : new.sender ≡ w.sender
   mute : new.mute ≡ w.mute
 
-delivers : Lower → (s : PortState) (f : List ℕ) (first : ℕ) (before : List (List ℕ)) → IsCarried before f first
+delivers : Lower → (s : PortState) (f : List ℕ) (first : ℕ) (before : List (List ℕ)) → IsAssembled before f first
     → length (cuts f first) ≡ cut_count (length f)
     → (done : List (List ℕ)) (x : List ℕ) (segs units tail : List (List ℕ)) (w new : Way) (heard : List Frame)
     → cuts f first ≡ done ++ x ∷ segs → HaveData (x ∷ segs) → w.line.units ≡ units ++ tail → AreSpelled s (x ∷ segs) units → AreFacing s w.receiver
-    → Answers heard w.receiver.link → Stands (pushed_after before done) w.receiver.assembly
+    → Answers heard w.receiver.link → ArePushed (pushed_after before done) w.receiver.assembly
     → Runs w (replicate (suc (length segs)) Deliver) new → HasDelivered s f tail w new
 delivers low s f first before carried as_many done x [] units tail w new heard cut_is have line spelled facing answers stands runs =
     let u : List ℕ = spelled.0 in
@@ -162,7 +162,7 @@ delivers low s f first before carried as_many done x (y ∷ segs) units tail w n
     let rest : HasDelivered s f tail next new =
     delivers low s f first before carried as_many done' y segs us tail next new come.taken.heard whole_cut have.1
     (ap (λ (l : LineState). l.units) come.line) spelled.3 come.taken.facing come.taken.answers
-    (subst (λ (p : List (List ℕ)). Stands p next.receiver.assembly) (sym (pushed_one before done x)) come.taken.stands) runs.2 in
+    (subst (λ (p : List (List ℕ)). ArePushed p next.receiver.assembly) (sym (pushed_one before done x)) come.taken.stands) runs.2 in
     record {
       given = rest.given ∙ ap (λ (g : List (List ℕ)). g ++ f ∷ []) (come.taken.none not_whole);
       line = rest.line;

@@ -5,15 +5,15 @@ use Rattle.std.specs.Prelude.{slice_get, Some}
 use Rattle.dnp_linkframe.specs.Frames.{Spells}
 use Rattle.dnp_linkframe.specs.declared.frame.Frame.{Frame}
 use Rattle.dnp_linkstation.specs.Control.{primary_function, frame_count_bit}
-use Rattle.dnp_linkstation.specs.Station.{Ends, ends, opposite, is_for, expected, answer_to, dropped, answer, Stands as Answers}
+use Rattle.dnp_linkstation.specs.Station.{Ends, ends, opposite, is_for, expected, answer_to, dropped, answer, AreHeard as Answers}
 use Rattle.dnp_linkstation.specs.declared.function.PrimaryFunction.{PrimaryFunction}
 use Rattle.dnp_linkstation.specs.declared.function.PrimaryFunction.TheVariants.{UnconfirmedUserData}
 use Rattle.dnp_linkstation.specs.declared.station.LinkAnswer.{LinkAnswer}
-use Rattle.dnp_transport.specs.Assembly.{Assembly, Stands}
+use Rattle.dnp_transport.specs.Assembly.{Assembly, ArePushed}
 use Rattle.dnp_transport.specs.Series.{IsOpen, IsWhole}
 use Rattle.dnp_line.specs.Comes.{ComesTo}
 use Rattle.dnp_line.specs.Ports.{PortState, data_frame, has_data, is_joined, Joins, TakesAfter, Takes}
-use Rattle.dnp_line.specs.Ways.{Way, Hears, AFrame, NoFrame}
+use Rattle.dnp_line.specs.Ways.{Way, HearsUnit, AFrame, NoFrame}
 use Rattle.dnp_line.specs.Flows.{AreFacing, IsSegment, IsBegun, AreGiven, HasHalfBuilt, Flows, MayGive, Nothing, One}
 use Rattle.dnp_line.specs.steps.Lower.{Lower}
 use Rattle.dnp_line.proofs.Coming.{ComesTo-push}
@@ -48,7 +48,7 @@ pub record IsHearing (w : Way) (gone : ℕ) (receiver : PortState) : Type 0 wher
   pub heard : List Frame
   pub answers : Answers heard receiver.link
   pub pushed : List (List ℕ)
-  pub stands : Stands pushed receiver.assembly
+  pub stands : ArePushed pushed receiver.assembly
   pub newest : (s : List (List ℕ)) → IsOpen pushed s → IsBegun w.sent gone s
 
 -- what came of the unit
@@ -96,7 +96,7 @@ heard_one w rest gone receiver given g port f at e =
     }
 
 pub has_heard : Lower → (w : Way) (rest : List (List ℕ)) (fl : Flows w rest) (u x : List ℕ) (receiver : PortState) (given : List (List ℕ))
-    → w.line.lost < BROKEN_LOSSES → IsSegment w.sent fl.gone x → Spells u (data_frame w.sender x) → Hears u w.receiver receiver w.given given
+    → w.line.lost < BROKEN_LOSSES → IsSegment w.sent fl.gone x → Spells u (data_frame w.sender x) → HearsUnit u w.receiver receiver w.given given
     → HasHeard w rest fl.gone receiver given
 has_heard low w rest fl u x receiver given few i spells heard =
     elim heard [
@@ -113,7 +113,7 @@ has_heard low w rest fl u x receiver given few i spells heard =
           let joins : Joins true p.pushed x w.receiver.assembly receiver.assembly taken.whole =
           has_joined (is_joined (ends w.receiver.link) p.heard sent_frame) p.pushed x w.receiver.assembly receiver.assembly
           taken.whole (sent_joins low w.sender w.receiver x p.heard fl.facing (ap (λ (l : List ℕ). has_data l) i.segment_is)) after.joins in
-          let stands : Stands (x ∷ p.pushed) receiver.assembly = joins.0 in
+          let stands : ArePushed (x ∷ p.pushed) receiver.assembly = joins.0 in
           let port : IsHearing w fl.gone receiver =
           record {
             facing = facing;

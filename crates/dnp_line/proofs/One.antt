@@ -3,8 +3,8 @@ use Rattle.std.proofs.Common.{◌≡◌, ℕ, Bool, true, false, List, ◌∷◌
 use Rattle.std.proofs.lemmas.Bool.{both_ways}
 use Rattle.dnp_linkframe.specs.declared.frame.Frame.{Frame}
 use Rattle.dnp_linkstation.specs.declared.station.LinkStation.{LinkStation}
-use Rattle.dnp_linkstation.specs.Station.{ends, Stands as Answers}
-use Rattle.dnp_transport.specs.Assembly.{Assembly, Stands, Shows}
+use Rattle.dnp_linkstation.specs.Station.{ends, AreHeard as Answers}
+use Rattle.dnp_transport.specs.Assembly.{Assembly, ArePushed, Shows}
 use Rattle.dnp_line.specs.Ports.{PortState, HasHistory, is_joined, Joins, TakesAfter, Takes, IsShown}
 use Rattle.dnp_line.specs.declared.port.Taken.{Taken}
 
@@ -14,10 +14,10 @@ abbrev pub OneStation : Type 0
 OneStation = (heard : List Frame) (a b : LinkStation) → ends a ≡ ends b → Answers heard a → Answers heard b → a ≡ b
 
 abbrev pub OneAssembly : Type 0
-OneAssembly = (pushed : List (List ℕ)) (a b : Assembly) → Stands pushed a → Stands pushed b → a ≡ b
+OneAssembly = (pushed : List (List ℕ)) (a b : Assembly) → ArePushed pushed a → ArePushed pushed b → a ≡ b
 
 abbrev pub OneShown : Type 0
-OneShown = (a : Assembly) (pushed other : List (List ℕ)) (octets octets' : List ℕ) → Stands pushed a → Stands other a → Shows pushed octets
+OneShown = (a : Assembly) (pushed other : List (List ℕ)) (octets octets' : List ℕ) → ArePushed pushed a → ArePushed other a → Shows pushed octets
     → Shows other octets' → octets ≡ octets'
 
 abbrev port_of : LinkStation → ℕ → Assembly → PortState
@@ -70,14 +70,14 @@ one_shown shown p octets octets' h s t =
     shown p.assembly h.pushed h.pushed octets octets' h.stands h.stands (s h.pushed h.stands) (t h.pushed h.stands)
 
 -- the history after a frame
-joined_history : (b : Bool) (pushed : List (List ℕ)) (user : List ℕ) (old new : Assembly) (whole : Bool) → Stands pushed old
-    → Joins b pushed user old new whole → (later : List (List ℕ)) × Stands later new
+joined_history : (b : Bool) (pushed : List (List ℕ)) (user : List ℕ) (old new : Assembly) (whole : Bool) → ArePushed pushed old
+    → Joins b pushed user old new whole → (later : List (List ℕ)) × ArePushed later new
 joined_history true pushed user old new whole h j = (user ∷ pushed, j.0)
-joined_history false pushed user old new whole h j = (pushed, subst (λ (a : Assembly). Stands pushed a) (sym j.0) h)
+joined_history false pushed user old new whole h j = (pushed, subst (λ (a : Assembly). ArePushed pushed a) (sym j.0) h)
 
 pub history_goes_on : (old new : PortState) (frame : Frame) (taken : Taken) → HasHistory old → Takes old frame new taken → HasHistory new
 history_goes_on old new frame taken h t =
     let a : TakesAfter h.heard h.pushed old frame new taken = t.after h.heard h.answers h.pushed h.stands in
-    let later : (pushed : List (List ℕ)) × Stands pushed new.assembly =
+    let later : (pushed : List (List ℕ)) × ArePushed pushed new.assembly =
     joined_history (is_joined (ends old.link) h.heard frame) h.pushed frame.user.items old.assembly new.assembly taken.whole h.stands a.joins in
     record { heard = frame ∷ h.heard; answers = a.answers; pushed = later.0; stands = later.1 }

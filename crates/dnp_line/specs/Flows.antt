@@ -3,9 +3,9 @@
 use Rattle.std.specs.Prelude.{◌≡◌, ℕ, suc, ◌+◌, ◌%◌, ◌<◌, ◌≤◌, false, if◌then◌else◌, List, [], ◌∷◌, ◌++◌, length, drop, slice_get, Some}
 use Rattle.dnp_linkframe.specs.Frames.{Spells}
 use Rattle.dnp_linkframe.specs.declared.frame.Frame.{Frame}
-use Rattle.dnp_linkstation.specs.Station.{ends, opposite, Stands as Answers}
+use Rattle.dnp_linkstation.specs.Station.{ends, opposite, AreHeard as Answers}
 use Rattle.dnp_linkstation.specs.declared.station.LinkStation.{LinkStation}
-use Rattle.dnp_transport.specs.Assembly.{Assembly, Stands}
+use Rattle.dnp_transport.specs.Assembly.{Assembly, ArePushed}
 use Rattle.dnp_transport.specs.Cuts.{cut_count, cut, begun_cuts}
 use Rattle.dnp_transport.specs.Series.{IsOpen}
 use Rattle.dnp_line.specs.Comes.{ComesTo}
@@ -82,7 +82,7 @@ pub record HasHalfBuilt (link : LinkStation) (assembly : Assembly) (sent : List 
   pub heard : List Frame
   pub answers : Answers heard link
   pub pushed : List (List ℕ)
-  pub stands : Stands pushed assembly
+  pub stands : ArePushed pushed assembly
   pub half_built : lost < BROKEN_LOSSES → (series : List (List ℕ)) → IsOpen pushed series → IsRecent sent gone lost series
 
 -- what holds of a way: what the receiver's port gave came of what was handed to the sender's port, and `rest` may

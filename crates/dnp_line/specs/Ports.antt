@@ -3,8 +3,8 @@
 use Rattle.std.specs.Prelude.{◌≡◌, ℕ, ◌+◌, ◌%◌, Bool, true, false, ◌&&◌, List, [], ◌∷◌, ◌↔◌, IsTrue}
 use Rattle.dnp_linkframe.specs.declared.frame.Frame.{Frame}
 use Rattle.dnp_linkstation.specs.declared.station.LinkStation.{LinkStation}
-use Rattle.dnp_linkstation.specs.Station.{Ends, ends, fresh, answer, sent, Stands as Answers}
-use Rattle.dnp_transport.specs.Assembly.{Assembly, Idle, Stands, Shows}
+use Rattle.dnp_linkstation.specs.Station.{Ends, ends, fresh, answer, sent, AreHeard as Answers}
+use Rattle.dnp_transport.specs.Assembly.{Assembly, Idle, ArePushed, Shows}
 use Rattle.dnp_transport.specs.Series.{IsWhole}
 use Rattle.dnp_line.specs.declared.port.Taken.{Taken}
 use Rattle.dnp_transport.specs.declared.limits.TheConstants.{SEGMENT_NUMBERS}
@@ -33,7 +33,7 @@ pub record HasHistory (p : PortState) : Type 0 where
   pub heard : List Frame
   pub answers : Answers heard p.link
   pub pushed : List (List ℕ)
-  pub stands : Stands pushed p.assembly
+  pub stands : ArePushed pushed p.assembly
 
 -- whether there are user data
 abbrev pub has_data : List ℕ → Bool
@@ -48,7 +48,7 @@ is_joined e heard frame = (answer e heard frame).up && has_data frame.user.items
 -- what was joined stays as it is, and nothing is completed.
 abbrev pub Joins : Bool → List (List ℕ) → List ℕ → Assembly → Assembly → Bool → Type 0
 Joins true pushed user old new whole =
-    Stands (user ∷ pushed) new × (IsTrue whole ↔ ((fragment : List ℕ) × IsWhole (user ∷ pushed) fragment))
+    ArePushed (user ∷ pushed) new × (IsTrue whole ↔ ((fragment : List ℕ) × IsWhole (user ∷ pushed) fragment))
 Joins false pushed user old new whole = (new ≡ old) × (whole ≡ false)
 
 -- the port takes a frame, after the frames that it heard and the strings that were pushed
@@ -61,12 +61,12 @@ pub record TakesAfter (heard : List Frame) (pushed : List (List ℕ)) (old : Por
 pub record Takes (old : PortState) (frame : Frame) (new : PortState) (taken : Taken) : Type 0 where
   pub same_number : new.number ≡ old.number
   pub same_ends : ends new.link ≡ ends old.link
-  pub after : (heard : List Frame) → Answers heard old.link → (pushed : List (List ℕ)) → Stands pushed old.assembly →
+  pub after : (heard : List Frame) → Answers heard old.link → (pushed : List (List ℕ)) → ArePushed pushed old.assembly →
       TakesAfter heard pushed old frame new taken
 
 -- the octets are the fragment that the last push into the port completed, or none
 abbrev pub IsShown : PortState → List ℕ → Type 0
-IsShown p octets = (pushed : List (List ℕ)) → Stands pushed p.assembly → Shows pushed octets
+IsShown p octets = (pushed : List (List ℕ)) → ArePushed pushed p.assembly → Shows pushed octets
 
 -- a port that forgot what it sent and took
 abbrev pub reset_of : PortState → PortState

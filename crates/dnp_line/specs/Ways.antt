@@ -87,15 +87,15 @@ SendsUnlessMute false fragment old new = Sends fragment old new
 
 -- the receiver's port gets a unit: where it reads as a frame the port takes that, and gives the fragment that this made
 -- whole, if it did
-pub data Hears (unit : List ℕ) (old new : PortState) (given given' : List (List ℕ)) : Type 0 where
+pub data HearsUnit (unit : List ℕ) (old new : PortState) (given given' : List (List ℕ)) : Type 0 where
   AFrame : (frame : Frame) → (taken : Taken) → (fragment : List ℕ) → Spells unit frame → Takes old frame new taken →
-      IsShown new fragment → given' ≡ (if taken.whole then given ++ fragment ∷ [] else given) → Hears unit old new given given'
-  NoFrame : (ReadsAsFrame unit → ⊥) → new ≡ old → given' ≡ given → Hears unit old new given given'
+      IsShown new fragment → given' ≡ (if taken.whole then given ++ fragment ∷ [] else given) → HearsUnit unit old new given given'
+  NoFrame : (ReadsAsFrame unit → ⊥) → new ≡ old → given' ≡ given → HearsUnit unit old new given given'
 
 -- the same for the unit that comes, if one does
 abbrev pub HearsIfAny : Option (List ℕ) → PortState → PortState → List (List ℕ) → List (List ℕ) → Type 0
 HearsIfAny None old new given given' = (new ≡ old) × (given' ≡ given)
-HearsIfAny (Some unit) old new given given' = Hears unit old new given given'
+HearsIfAny (Some unit) old new given given' = HearsUnit unit old new given given'
 
 -- the front unit comes to the receiver's port, and the line is left so
 pub record Brings (line : LineState) (old new : Way) : Type 0 where

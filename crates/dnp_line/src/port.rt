@@ -2,10 +2,10 @@
 ghost use Rattle.std.specs.Prelude.{◌≡◌, ℕ, ◌<◌, ◌≤◌, ◌↔◌, List, [], ◌∷◌, length, IsTrue, IfSome, IfNone};
 ghost use Rattle.dnp_linkframe.specs.declared.frame.Frame.{Frame as FrameValue};
 ghost use Rattle.dnp_linkframe.specs.Frames.{Spells};
-ghost use Rattle.dnp_transport.specs.Assembly.{Stands};
+ghost use Rattle.dnp_transport.specs.Assembly.{ArePushed};
 ghost use Rattle.dnp_transport.specs.Cuts.{cut_count, cut};
 ghost use Rattle.dnp_transport.specs.Series.{IsWhole};
-ghost use Rattle.dnp_linkstation.specs.Station.{Stands as Answers};
+ghost use Rattle.dnp_linkstation.specs.Station.{AreHeard as Answers};
 ghost use Rattle.dnp_line.specs.Ports.{new_port, data_frame, moved_on, HasHistory, Takes, IsShown, reset_of};
 
 use arrayvec::ArrayVec;
@@ -67,7 +67,7 @@ impl Port {
     pub fn new(own: u16, peer: u16, is_master: bool) -> Port
         ensures port { result ≡ new_port own peer is_master }
         ensures answers { Answers [] result.link }
-        ensures stands { Stands [] result.assembly }
+        ensures stands { ArePushed [] result.assembly }
     {
         Port {
             link: LinkStation::new(own, peer, is_master),
@@ -130,8 +130,8 @@ impl Port {
 
     /// Joins user data to those before them. Whether that completes a fragment.
     fn joins(&mut self, user: &[u8]) -> bool
-        ensures pushed { (before : List (List ℕ)) → Stands before self.old.assembly → Stands (user.now ∷ before) self.new.assembly }
-        ensures completed { (before : List (List ℕ)) → Stands before self.old.assembly →
+        ensures pushed { (before : List (List ℕ)) → ArePushed before self.old.assembly → ArePushed (user.now ∷ before) self.new.assembly }
+        ensures completed { (before : List (List ℕ)) → ArePushed before self.old.assembly →
             IsTrue result ↔ ((fragment : List ℕ) × IsWhole (user.now ∷ before) fragment) }
         ensures rest { self.new ≡ record self.old { assembly = self.new.assembly } }
     {
@@ -181,7 +181,7 @@ impl Port {
     pub fn reset(&mut self)
         ensures port { self.new ≡ reset_of self.old }
         ensures answers { Answers [] self.new.link }
-        ensures stands { Stands [] self.new.assembly }
+        ensures stands { ArePushed [] self.new.assembly }
     {
         self.link.reset();
         self.number = 0;

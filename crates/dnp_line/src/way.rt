@@ -4,7 +4,7 @@ ghost use Rattle.std.specs.Prelude.{◌≡◌, ℕ, ◌<◌, ◌≤◌, if◌the
 ghost use Rattle.dnp_transport.specs.Cuts.{cut_count};
 ghost use Rattle.dnp_line.specs.Lines.{room_of};
 ghost use Rattle.dnp_line.specs.Ports.{IsShown};
-ghost use Rattle.dnp_line.specs.Ways.{Way, Send, Deliver, Repeat, Lose, Damage, Clear, SenderReset, Hears, Happens};
+ghost use Rattle.dnp_line.specs.Ways.{Way, Send, Deliver, Repeat, Lose, Damage, Clear, SenderReset, HearsUnit, Happens};
 
 use crate::{Line, Port};
 use arrayvec::ArrayVec;
@@ -93,7 +93,7 @@ pub fn reset_sender(sender: &mut Port)
 /// Brings a unit to a port. Whether that completes a fragment.
 fn hear(port: &mut Port, unit: &[u8]) -> bool
     ensures { (given : List (List ℕ)) (fragment : List ℕ) → IsShown port.new fragment →
-        Hears unit.now port.old port.new given (if result then given ++ fragment ∷ [] else given) }
+        HearsUnit unit.now port.old port.new given (if result then given ++ fragment ∷ [] else given) }
 {
     match read_frame(unit) {
         Ok(frame) => port.take(&frame).whole,

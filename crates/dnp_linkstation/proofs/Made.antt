@@ -4,7 +4,7 @@ use Rattle.std.proofs.lemmas.Bool.{and_from, eq-eqb, cond-true}
 use Rattle.dnp_linkframe.specs.declared.frame.Frame.{Frame}
 use Rattle.dnp_linkstation.specs.declared.station.LinkStation.{LinkStation}
 use Rattle.dnp_linkstation.specs.Control.{primary_function, frame_count_bit}
-use Rattle.dnp_linkstation.specs.Station.{Ends, ends, is_for, expected, expected_next, Stands, answer, answer_to, dropped}
+use Rattle.dnp_linkstation.specs.Station.{Ends, ends, is_for, expected, expected_next, AreHeard, answer, answer_to, dropped}
 use Rattle.dnp_linkstation.specs.declared.control.TheConstants.{DIR, FCB, PRM}
 use Rattle.dnp_linkstation.specs.declared.function.TheConstants.{RESET_LINK_STATES, TEST_LINK_STATES}
 
@@ -55,19 +55,19 @@ made_of own peer m (Some true) = (asks own peer m resets ∷ [], sym (after_rese
 made_of own peer m (Some false) =
     (asks own peer m tests ∷ asks own peer m resets ∷ [], sym (after_test own peer m (asks own peer m resets ∷ []) (after_reset own peer m)))
 
-pub made : (station : LinkStation) → (frames : List Frame) × Stands frames station
+pub made : (station : LinkStation) → (frames : List Frame) × AreHeard frames station
 made station = made_of station.own station.peer station.is_master station.expected
 
 -- the station at these ends that awaits this
 abbrev station_of : Ends → Option Bool → LinkStation
 station_of e awaited = record { own = e.own; peer = e.peer; is_master = e.is_master; expected = awaited }
 
-pub one_station : (heard : List Frame) (a b : LinkStation) → ends a ≡ ends b → Stands heard a → Stands heard b → a ≡ b
+pub one_station : (heard : List Frame) (a b : LinkStation) → ends a ≡ ends b → AreHeard heard a → AreHeard heard b → a ≡ b
 one_station heard a b same h k =
     ap (λ (e : Ends). station_of e a.expected) same
     ∙ ap (λ (o : Option Bool). station_of (ends b) o) (h ∙ ap (λ (e : Ends). expected e heard) same ∙ sym k)
 
-pub same_answer : (station : LinkStation) (before other : List Frame) (frame : Frame) → Stands before station → Stands other station
+pub same_answer : (station : LinkStation) (before other : List Frame) (frame : Frame) → AreHeard before station → AreHeard other station
     → answer (ends station) before frame ≡ answer (ends station) other frame
 same_answer station before other frame h k =
     ap
@@ -77,7 +77,7 @@ same_answer station before other frame h k =
     else dropped)
     (sym h ∙ k)
 
-pub same_next : (station : LinkStation) (before other : List Frame) (frame : Frame) → Stands before station → Stands other station
+pub same_next : (station : LinkStation) (before other : List Frame) (frame : Frame) → AreHeard before station → AreHeard other station
     → expected (ends station) (frame ∷ before) ≡ expected (ends station) (frame ∷ other)
 same_next station before other frame h k =
     ap
@@ -87,10 +87,10 @@ same_next station before other frame h k =
     else o)
     (sym h ∙ k)
 
-pub next_station : (station new new' : LinkStation) (before other : List Frame) (frame : Frame) → Stands before station → Stands other station
-    → ends new ≡ ends station → ends new' ≡ ends station → Stands (frame ∷ before) new → Stands (frame ∷ other) new' → new ≡ new'
+pub next_station : (station new new' : LinkStation) (before other : List Frame) (frame : Frame) → AreHeard before station → AreHeard other station
+    → ends new ≡ ends station → ends new' ≡ ends station → AreHeard (frame ∷ before) new → AreHeard (frame ∷ other) new' → new ≡ new'
 next_station station new new' before other frame h k e e' x y =
-    let there : Stands (frame ∷ before) new' =
+    let there : AreHeard (frame ∷ before) new' =
     y ∙ ap (λ (d : Ends). expected d (frame ∷ other)) e'
     ∙ sym (same_next station before other frame h k)
     ∙ ap (λ (d : Ends). expected d (frame ∷ before)) (sym e') in

@@ -62,9 +62,9 @@ expected e (frame ∷ before) =
     then expected_next (primary_function frame.control) (frame_count_bit frame.control) (expected e before)
     else expected e before)
 
--- the station stands for these frames, the newest first: they came since it was new or reset
-abbrev pub Stands : List Frame → LinkStation → Type 0
-Stands frames station = station.expected ≡ expected (ends station) frames
+-- the station heard these frames, the newest first, since it was new or reset: it expects what they make it expect
+abbrev pub AreHeard : List Frame → LinkStation → Type 0
+AreHeard frames station = station.expected ≡ expected (ends station) frames
 
 -- a station that no frame came to since it was new or reset
 abbrev pub fresh : Ends → LinkStation

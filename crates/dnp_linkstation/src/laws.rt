@@ -2,7 +2,7 @@
 ghost use Rattle.std.specs.Prelude.{◌≡◌, ℕ, List, ◌∷◌, Bool, true, false, not, if◌then◌else◌, Some};
 ghost use Rattle.dnp_linkframe.specs.declared.frame.Frame.{Frame as FrameValue};
 ghost use Rattle.dnp_linkstation.specs.Control.{primary_function, frame_count_bit};
-ghost use Rattle.dnp_linkstation.specs.Station.{Ends, ends, opposite, is_for, counts, expected, is_same, sent, answer, Stands};
+ghost use Rattle.dnp_linkstation.specs.Station.{Ends, ends, opposite, is_for, counts, expected, is_same, sent, answer, AreHeard};
 ghost use Rattle.dnp_linkstation.specs.declared.station.LinkStation.{LinkStation as StationValue};
 ghost use Rattle.dnp_linkstation.specs.declared.function.PrimaryFunction.TheVariants.{ConfirmedUserData, UnconfirmedUserData};
 ghost use Rattle.dnp_linkstation.specs.declared.control.TheConstants as control;
@@ -27,18 +27,18 @@ pub fn what_is_sent_is_for_the_peer()
 
 /// Some frames, heard one after the other, make a station what it is, whatever it is: each station has a history.
 pub fn each_station_has_a_history()
-    ensures { (station : StationValue) → (heard : List FrameValue) × Stands heard station }
+    ensures { (station : StationValue) → (heard : List FrameValue) × AreHeard heard station }
 {}
 
 /// Some frames make one station at the ends of a link. Which of the lists of frames that make the same station was
 /// heard does not matter: the answer to the next frame, and the station after it, are the same after each.
 pub fn history_does_not_matter()
-    ensures one { (heard : List FrameValue) (a b : StationValue) → ends a ≡ ends b → Stands heard a → Stands heard b → a ≡ b }
+    ensures one { (heard : List FrameValue) (a b : StationValue) → ends a ≡ ends b → AreHeard heard a → AreHeard heard b → a ≡ b }
     ensures answers { (station : StationValue) (before other : List FrameValue) (frame : FrameValue) →
-        Stands before station → Stands other station → answer (ends station) before frame ≡ answer (ends station) other frame }
+        AreHeard before station → AreHeard other station → answer (ends station) before frame ≡ answer (ends station) other frame }
     ensures next { (station new new' : StationValue) (before other : List FrameValue) (frame : FrameValue) →
-        Stands before station → Stands other station → ends new ≡ ends station → ends new' ≡ ends station →
-        Stands (frame ∷ before) new → Stands (frame ∷ other) new' → new ≡ new' }
+        AreHeard before station → AreHeard other station → ends new ≡ ends station → ends new' ≡ ends station →
+        AreHeard (frame ∷ before) new → AreHeard (frame ∷ other) new' → new ≡ new' }
 {}
 
 /// The named bits of CONTROL are these, and a function is in the low four (IEEE Std 1815-2012, data link layer: control

@@ -2,7 +2,7 @@
 
 ghost use Rattle.std.specs.Prelude.{◌≡◌, ℕ, ◌+◌, ◌<◌, ◌≤◌, List, [], ◌∷◌, length, true, false, not};
 ghost use Rattle.dnp_linkstation.specs.Control.{primary_function, frame_count_bit};
-ghost use Rattle.dnp_linkstation.specs.Station.{ends, fresh, is_for, Stands, answer, sent, replies, direction, is_same, dropped};
+ghost use Rattle.dnp_linkstation.specs.Station.{ends, fresh, is_for, AreHeard, answer, sent, replies, direction, is_same, dropped};
 ghost use Rattle.dnp_linkframe.specs.declared.frame.Frame.{Frame as FrameValue};
 
 use crate::control::{DIR, FCB, PRM};
@@ -40,7 +40,7 @@ impl LinkStation {
     pub fn new(own: u16, peer: u16, is_master: bool) -> Self
         ensures fresh { result ≡ fresh (record { own = own; peer = peer; is_master = is_master }) }
         ensures ends { ends result ≡ record { own = own; peer = peer; is_master = is_master } }
-        ensures stands { Stands [] result }
+        ensures stands { AreHeard [] result }
     {
         LinkStation {
             own,
@@ -67,8 +67,8 @@ impl LinkStation {
     /// ignored. A reply has PRM 0, DFC 0 and the station's DIR.
     pub fn receive(&mut self, frame: &Frame) -> LinkAnswer
         ensures ends { ends self.new ≡ ends self.old }
-        ensures stands { (before : List FrameValue) → Stands before self.old → Stands (frame.now ∷ before) self.new }
-        ensures answers { (before : List FrameValue) → Stands before self.old → result ≡ answer (ends self.old) before frame.now }
+        ensures stands { (before : List FrameValue) → AreHeard before self.old → AreHeard (frame.now ∷ before) self.new }
+        ensures answers { (before : List FrameValue) → AreHeard before self.old → result ≡ answer (ends self.old) before frame.now }
         ensures dropped { is_for (ends self.old) frame.now ≡ false → (result ≡ dropped) × (self.new ≡ self.old) }
         ensures unconfirmed { is_for (ends self.old) frame.now ≡ true → primary_function frame.now.control ≡ PrimaryFunction.UnconfirmedUserData → (result.up ≡ true) × (result.reply ≡ None) × (self.new ≡ self.old) }
     {
@@ -133,7 +133,7 @@ impl LinkStation {
     pub fn reset(&mut self)
         ensures fresh { self.new ≡ fresh (ends self.old) }
         ensures ends { ends self.new ≡ ends self.old }
-        ensures stands { Stands [] self.new }
+        ensures stands { AreHeard [] self.new }
     {
         self.expected = None;
     }

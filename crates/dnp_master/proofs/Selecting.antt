@@ -21,7 +21,7 @@ use Rattle.dnp_master.specs.declared.task.Task.TheVariants.{Poll, ClearRestart, 
 use Rattle.dnp_objects.specs.Counts.{IsEqualityTest}
 use Rattle.dnp_objects.specs.Equality.{command_eq}
 use Rattle.dnp_objects.specs.declared.command.Command.{Command}
-use Rattle.dnp_master.specs.Selecting.{OperatesSelected, SelectsBySuccess, Stands}
+use Rattle.dnp_master.specs.Selecting.{OperatesSelected, SelectsBySuccess, StandsSelected}
 
 -- ---- asking
 
@@ -81,7 +81,7 @@ selects (Operate c) e iin command is = absurd (cc)
 
 awaited : (s : State) (now : ℕ) (a : Answered) (command : Command) (r : OpenRequest) → s.request ≡ Some r → (fin : Bool)
     → (cond fin (calls.ended s r a) (calls.going_on s now r a)).state.selected ≡ Some command
-    → Stands s (cond fin (calls.ended s r a) (calls.going_on s now r a)).outcome command
+    → StandsSelected s (cond fin (calls.ended s r a) (calls.going_on s now r a)).outcome command
 awaited s now a command r request true is =
     let found = selects r.task (echo_after (command_for r.task) r.echo a.headers) a.iin command is in
     inr (ap Some found.0, task_of s.request request)
@@ -97,7 +97,7 @@ awaited s now a command r request false is = inl is
 
 followed : (s : State) (now : ℕ) (a : Answered) (command : Command) (o : Bool) (k : Case) → ((r : OpenRequest) → k ≡ Awaited r → s.request ≡ Some r)
     → (cond o (calls.taken_as k s now a) (calls.unheeded s)).state.selected ≡ Some command
-    → Stands s (cond o (calls.taken_as k s now a) (calls.unheeded s)).outcome command
+    → StandsSelected s (cond o (calls.taken_as k s now a) (calls.unheeded s)).outcome command
 followed s now a command false k of is = inl is
 followed s now a command true Unheeded of is = inl is
 followed s now a command true Report of is = inl is

@@ -13,11 +13,11 @@ abbrev pub OperatesSelected : Type 0
 OperatesSelected = (s : State) (command : Command) (octets : List ℕ) → ask_answer s (Operate command) ≡ Ok octets → s.selected ≡ Some command
 
 -- it stood selected, or this is the outcome SUCCESS of its select
-abbrev pub Stands : State → Option Outcome → Command → Type 0
-Stands s outcome command =
+abbrev pub StandsSelected : State → Option Outcome → Command → Type 0
+StandsSelected s outcome command =
     (s.selected ≡ Some command) ⊎ ((outcome ≡ Some (Control 0)) × IfSome s.request (λ asked. asked.task ≡ Select command))
 
 -- a response makes a command stand selected only as the answer SUCCESS to its select
 abbrev pub SelectsBySuccess : Type 0
 SelectsBySuccess = (s : State) (now : ℕ) (a : Answered) (command : Command)
-    → (follow_of s now a).state.selected ≡ Some command → Stands s (follow_of s now a).outcome command
+    → (follow_of s now a).state.selected ≡ Some command → StandsSelected s (follow_of s now a).outcome command

@@ -6,7 +6,7 @@ use Rattle.dnp_objects.specs.Events.{IsEvent}
 use Rattle.dnp_objects.specs.declared.row.Row.{Row}
 use Rattle.dnp_master.specs.declared.gathering.Gathered.{Gathered}
 use Rattle.dnp_master.specs.declared.taking.Next.{Next}
-use Rattle.dnp_master.specs.declared.taking.Taken.{Taken}
+use Rattle.dnp_master.specs.declared.taking.SeenFragment.{SeenFragment}
 use Rattle.dnp_master.specs.declared.fault.MasterFault.{MasterFault}
 use Rattle.dnp_master.specs.declared.fault.MasterFault.TheVariants.{Memory, Device}
 use Rattle.dnp_master.specs.Calls.{Taking, has_rows}
@@ -23,14 +23,14 @@ abbrev pub statics_of : Gathered → List Row
 statics_of g = drop g.events g.rows.items
 
 -- the rows that were found in a fragment
-abbrev pub events_taken : Taken → List Row
+abbrev pub events_taken : SeenFragment → List Row
 events_taken t = events_of t.gathered
 
-abbrev pub statics_taken : Taken → List Row
+abbrev pub statics_taken : SeenFragment → List Row
 statics_taken t = statics_of t.gathered
 
 -- what was worked out, for this master
-abbrev pub taking_of : State → Taken → Taking
+abbrev pub taking_of : State → SeenFragment → Taking
 taking_of s t = record {
   state = with_next s t.next;
   events = events_taken t;
@@ -41,13 +41,13 @@ taking_of s t = record {
 }
 
 -- what is so of it
-pub record IsFit (t : Taken) : Type 0 where
+pub record IsFit (t : SeenFragment) : Type 0 where
   pub seq : t.next.seq < 16
   pub within : t.gathered.events ≤ vec_len t.gathered.rows
   pub carried : All IsEvent (events_taken t)
 
 -- what was found is what is wanted, or the rows found no memory
-pub record WorksOut (s : State) (wanted : Result Taking MasterFault) (answer : Result Taken MasterFault) : Type 0 where
+pub record WorksOut (s : State) (wanted : Result Taking MasterFault) (answer : Result SeenFragment MasterFault) : Type 0 where
   pub taken : IfOk answer (λ t. wanted ≡ Ok (taking_of s t))
   pub fit : IfOk answer IsFit
   pub refused : IfErr answer (λ e. (wanted ≡ Err e) ⊎ ((e ≡ Memory) × IsOkAnd wanted (λ t. has_rows t ≡ true)))

@@ -21,5 +21,5 @@ pub use fault::{AskFault, MasterFault};
 pub use master::Master;
 pub use outcome::Outcome;
 pub use requesting::Fragment;
-pub use taking::Taken;
+pub use taking::SeenFragment;
 pub use task::{Classes, Task};

@@ -12,7 +12,7 @@ use crate::actions::{Followed, MasterActions};
 use crate::fault::MasterFault;
 use crate::master::Master;
 use crate::request::Case;
-use crate::taking::{Taken, confirm_for};
+use crate::taking::{SeenFragment, confirm_for};
 use dnp_appfragment::Response;
 use dnp_eventbuf::{Rows, Sink};
 use dnp_objects::Row;
@@ -60,7 +60,12 @@ impl Master {
     ///
     /// Refused is, first of all, what is no response (`Malformed`), then an event of a point that the plan lacks,
     /// or that has no class (`Stranger`), and then being out of memory for the rows (`Memory`).
-    pub fn look(&mut self, alloc: Global, now: u64, octets: &[u8]) -> Result<Taken, MasterFault>
+    pub fn look(
+        &mut self,
+        alloc: Global,
+        now: u64,
+        octets: &[u8],
+    ) -> Result<SeenFragment, MasterFault>
         ensures same { self.new ≡ self.old }
         ensures looked { WorksOut self.old (receive_of self.old now octets.now) result }
     {
@@ -70,7 +75,7 @@ impl Master {
 
     /// Settles what `look` has found, its rows being stored: the master goes on, and its confirm may be sent. Told
     /// are the rows that the store dropped for them.
-    pub fn settle(&mut self, taken: Taken, dropped: Rows) -> MasterActions
+    pub fn settle(&mut self, taken: SeenFragment, dropped: Rows) -> MasterActions
         requires { IsFit taken }
         ensures after { self.new ≡ (taking_of self.old taken).state }
         ensures actions { result ≡ actions_of (taking_of self.old taken) dropped }

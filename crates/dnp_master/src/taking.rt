@@ -30,14 +30,14 @@ pub(crate) struct Next {
 /// What a fragment holds, and what it makes of the master once its rows are stored: what `Master::look` finds and
 /// `Master::settle` settles.
 #[derive(Drop)]
-pub struct Taken {
+pub struct SeenFragment {
     pub(crate) next: Next,
     pub(crate) gathered: Gathered,
     pub(crate) send: Option<[u8; 2]>,
     pub(crate) restart: bool,
 }
 
-impl Taken {
+impl SeenFragment {
     /// The events, in order. Each can be reported as one.
     pub fn events(&self) -> &[Row]
         requires { IsFit self.now }
@@ -216,13 +216,13 @@ impl Master {
         alloc: Global,
         next: Next,
         response: &Response<'_>,
-    ) -> Result<Taken, MasterFault>
+    ) -> Result<SeenFragment, MasterFault>
         requires { next.seq < 16 }
         ensures { WorksOut self.now (spec.if_from_plan self.now.plan (answered response.now)
             (spec.taking (answered response.now) (with_next self.now next) self.now.plan next.outcome)) result }
     {
         match Gathered::of(alloc, &self.plan, &response.headers) {
-            Ok(gathered) => Ok(Taken {
+            Ok(gathered) => Ok(SeenFragment {
                 next,
                 gathered,
                 send: confirm_for(response.control),
@@ -233,11 +233,11 @@ impl Master {
     }
 
     /// Nothing is taken.
-    fn take_nothing(&self, alloc: Global) -> Taken
+    fn take_nothing(&self, alloc: Global) -> SeenFragment
         ensures taking { taking_of self.now result ≡ spec.unheeded self.now }
         ensures fit { IsFit result }
     {
-        Taken {
+        SeenFragment {
             next: self.unchanged(),
             gathered: Gathered::none(alloc),
             send: None,
@@ -251,7 +251,7 @@ impl Master {
         alloc: Global,
         now: u64,
         response: &Response<'_>,
-    ) -> Result<Taken, MasterFault>
+    ) -> Result<SeenFragment, MasterFault>
         ensures { WorksOut self.now (spec.response_of self.now now (answered response.now)) result }
     {
         match self.case(response) {
@@ -265,7 +265,12 @@ impl Master {
 
     /// Octets came at this moment.
     #[tactic(auto, unfolding(crate::specs::Calls::receive_of))]
-    pub(crate) fn take(&self, alloc: Global, now: u64, octets: &[u8]) -> Result<Taken, MasterFault>
+    pub(crate) fn take(
+        &self,
+        alloc: Global,
+        now: u64,
+        octets: &[u8],
+    ) -> Result<SeenFragment, MasterFault>
         ensures { WorksOut self.now (spec.receive_of self.now now octets.now) result }
     {
         if !self.is_open {

@@ -6,12 +6,12 @@ use Rattle.std.proofs.lemmas.Bool.{cases_eq}
 use Rattle.std.proofs.lemmas.List.{get_or-replicate}
 use Rattle.std.proofs.lemmas.List.Elements.{filter_map-append}
 use Rattle.dnp_eventbuf.specs.declared.numbered.Numbered.{Numbered}
-use Rattle.dnp_eventbuf.specs.Sound.{IsSound}
-use Rattle.dnp_eventbuf.specs.Stock.{Stock, LaneState, lane_at, no_lane, row_of, up_to, lanes_up_to, all_up_to}
+use Rattle.dnp_eventbuf.specs.Sound.{IsSoundBuffer}
+use Rattle.dnp_eventbuf.specs.EventBuffer.{EventBuffer, LaneState, lane_at, no_lane, row_of, up_to, lanes_up_to, all_up_to}
 use Rattle.dnp_objects.specs.declared.limits.TheConstants.{LANES}
 use Rattle.dnp_objects.specs.declared.row.Row.{Row}
 use Rattle.dnp_appfragment.specs.Headers.{Head}
-use Rattle.dnp_outstation.specs.declared.offer.place.Place.{Place}
+use Rattle.dnp_outstation.specs.declared.offer.place.ReadPlace.{ReadPlace}
 use Rattle.dnp_outstation.specs.Forms.{may_in, may_each}
 use Rattle.dnp_outstation.specs.Items.{Item, Source, no_ids, event_of, rows_left, parts_left, part_of, items_left, enabled_lanes, lane_items}
 use Rattle.dnp_outstation.specs.Offer.{held_of, last_ids, offered_of, offered, pushed}
@@ -22,7 +22,7 @@ use Rattle.dnp_outstation.proofs.LaneRows.{Starts, starts_of_start, rows_at, row
 use Rattle.dnp_outstation.proofs.ReadLanes.{read_once, enabled_once}
 
 -- the ids of a lane's rows rise
-pub lane_rises : (s : Stock) (lane : ℕ) → IsSound s → lane < LANES → Rising 0 (lane_at s lane).rows
+pub lane_rises : (s : EventBuffer) (lane : ℕ) → IsSoundBuffer s → lane < LANES → Rising 0 (lane_at s lane).rows
 lane_rises s lane sound low =
     let l = sound.each lane low in
     rising_from 0 (lane_at s lane).rows l.rising (λ k d short. let h : 1 ≤ (get_or (lane_at s lane).rows k d).id = l.from_1 k d short in omega arith)
@@ -52,7 +52,7 @@ rows_upto rows items lane low rising starts =
 -- ---- of a READ
 
 -- the rows left of a tidy lane are a beginning of it
-left_starts : (s : Stock) (stood : ℕ) (given : List ℕ) (lane : ℕ) → IsSound s → IsTidy s given → lane < LANES
+left_starts : (s : EventBuffer) (stood : ℕ) (given : List ℕ) (lane : ℕ) → IsSoundBuffer s → IsTidy s given → lane < LANES
     → Starts (rows_left s stood given lane) (lane_at s lane).rows
 left_starts s stood given lane sound tidy low =
     let rows = (lane_at s lane).rows in
@@ -61,7 +61,8 @@ left_starts s stood given lane sound tidy low =
     let first : filter (upto stood) rows ++ filter (over stood) rows ≡ rows = upto_first stood 0 rows (lane_rises s lane sound low) in
     record { rest = filter (over stood) rows; is = sym first ∙ ap (λ (l : List Numbered). filter (upto stood) l ++ filter (over stood) rows) (sym all) }
 
-pub read_rows : (s : Source) (stood : ℕ) (place : Place) (headers : List Head) (lane : ℕ) → IsSound s.lanes → length place.given ≡ LANES → lane < LANES
+pub read_rows : (s : Source) (stood : ℕ) (place : ReadPlace) (headers : List Head) (lane : ℕ) → IsSoundBuffer s.lanes → length place.given ≡ LANES
+    → lane < LANES
     → Starts (rows_in_lane lane (held_of (may_in headers) (items_left s stood place headers))) (rows_left s.lanes stood place.given lane)
 read_rows s stood place headers lane sound nine low =
     let items = items_left s stood place headers in
@@ -71,7 +72,8 @@ read_rows s stood place headers lane sound nine low =
     (lane_rises s.lanes lane sound low) (omega arith)
     (read_once s place.count place.header headers lane))
 
-pub fragment_rows : (s : Source) (stood : ℕ) (place : Place) (headers : List Head) → IsSound s.lanes → IsTidy s.lanes place.given → length place.given ≡ LANES
+pub fragment_rows : (s : Source) (stood : ℕ) (place : ReadPlace) (headers : List Head) → IsSoundBuffer s.lanes → IsTidy s.lanes place.given
+    → length place.given ≡ LANES
     → AreRowsUpto s.lanes (offered s stood place headers).upto (held_of (may_in headers) (items_left s stood place headers))
 unfolding offered_of
 fragment_rows s stood place headers sound tidy nine = λ lane low.
@@ -83,7 +85,7 @@ fragment_rows s stood place headers sound tidy nine = λ lane low.
 
 -- ---- of an unsolicited response
 
-apart_lane : (s : Stock) (numbers : List ℕ) (lane : ℕ) → IsApart lane numbers → rows_in_lane lane (lane_items s numbers) ≡ []
+apart_lane : (s : EventBuffer) (numbers : List ℕ) (lane : ℕ) → IsApart lane numbers → rows_in_lane lane (lane_items s numbers) ≡ []
 apart_lane s [] lane apart = refl
 apart_lane s (number ∷ numbers) lane apart =
     let items = map (event_of 0 number) (lane_at s number).rows in
@@ -91,7 +93,7 @@ apart_lane s (number ∷ numbers) lane apart =
     ∙ ap (λ (l : List Numbered). l ++ rows_in_lane lane (lane_items s numbers)) (rows_elsewhere 0 lane number (lane_at s number).rows apart.0)
     ∙ apart_lane s numbers lane apart.1
 
-once_lane : (s : Stock) (numbers : List ℕ) (lane : ℕ) → IsOnce lane numbers → Starts (rows_in_lane lane (lane_items s numbers)) (lane_at s lane).rows
+once_lane : (s : EventBuffer) (numbers : List ℕ) (lane : ℕ) → IsOnce lane numbers → Starts (rows_in_lane lane (lane_items s numbers)) (lane_at s lane).rows
 once_lane s [] lane once = record { rest = (lane_at s lane).rows; is = refl }
 once_lane s (number ∷ numbers) lane once = by (once_lane s numbers lane once.1) (cases_eq number lane)
   where
@@ -121,7 +123,7 @@ once_lane s (number ∷ numbers) lane once = by (once_lane s numbers lane once.1
         (sym (split ∙ ap (λ (l : List Numbered). l ++ rows_in_lane lane (lane_items s numbers)) (rows_elsewhere 0 lane number (lane_at s number).rows other)))
         behind
 
-pub pushed_rows : (s : Stock) (enabled : List Bool) → IsSound s
+pub pushed_rows : (s : EventBuffer) (enabled : List Bool) → IsSoundBuffer s
     → AreRowsUpto s (pushed s enabled).upto (held_of may_each (lane_items s (enabled_lanes 0 enabled)))
 unfolding offered_of
 pushed_rows s enabled sound = λ lane low.
@@ -164,7 +166,7 @@ nine_below : AllBelow LANES lane_numbers
 nine_below = (omega arith, (omega arith, (omega arith, (omega arith, (omega arith, (omega arith, (omega arith, (omega arith, (omega arith, tt)))))))))
 
 -- a release of ids takes the rows up to them
-pub released_rows : (s : Stock) (ids : List ℕ) (items : List Item) → length s.lanes ≡ LANES → length ids ≡ LANES → AreRowsUpto s ids items
+pub released_rows : (s : EventBuffer) (ids : List ℕ) (items : List Item) → length s.lanes ≡ LANES → length ids ≡ LANES → AreRowsUpto s ids items
     → all_up_to s ids ≡ rows_by_lane items
 released_rows s ids items nine nine_ids are =
     each_lane s.lanes ids (nine_ids ∙ sym nine)

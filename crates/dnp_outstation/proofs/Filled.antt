@@ -3,7 +3,7 @@ use Rattle.std.proofs.Common.{◌≡◌, Bool, true, false, if◌then◌else◌,
 use Rattle.std.specs.List.{AllByRecursion}
 use Rattle.std.proofs.lemmas.List.{length-append, length-map}
 use Rattle.dnp_appfragment.specs.Headers.{Head}
-use Rattle.dnp_outstation.specs.declared.offer.place.Place.{Place}
+use Rattle.dnp_outstation.specs.declared.offer.place.ReadPlace.{ReadPlace}
 use Rattle.dnp_outstation.specs.declared.offer.writer.Writer.{Writer}
 use Rattle.dnp_outstation.specs.Forms.{in_groups, told_by}
 use Rattle.dnp_outstation.specs.Items.{Thing, Item}
@@ -21,7 +21,7 @@ use Rattle.dnp_outstation.proofs.Longest.{longest_is}
 use Rattle.dnp_outstation.proofs.Taken.{Holds, heads_are, empty_holds, put_holds, fits_is}
 
 -- what ends with these items
-ended_is : (is_last : Bool) (place : Place) (w : Writer) (items : List Laid) → Holds place w items → ended is_last w ≡ filled_with is_last place items
+ended_is : (is_last : Bool) (place : ReadPlace) (w : Writer) (items : List Laid) → Holds place w items → ended is_last w ≡ filled_with is_last place items
 ended_is is_last place w items holds =
     ap (λ (hs : List Head). let f : Filled = record { headers = hs; upto = w.upto; left = if is_last then None else Some w.place } in f)
     (heads_are place w items holds)
@@ -31,7 +31,7 @@ ended_is is_last place w items holds =
       upto = ids;
       left = if is_last then None else Some w.place;
     } in f) holds.upto_is
-    ∙ ap (λ (p : Place). let f : Filled = record {
+    ∙ ap (λ (p : ReadPlace). let f : Filled = record {
       headers = (filled_with is_last place items).headers;
       upto =
           (filled_with is_last place items).upto;
@@ -39,10 +39,10 @@ ended_is is_last place w items holds =
     } in f) holds.place_is
 
 -- the longest beginning of these items, put together
-abbrev offered_with : Place → List Laid → List Laid → Filled
+abbrev offered_with : ReadPlace → List Laid → List Laid → Filled
 offered_with place items held = filled_with (length held == length items) place held
 
-filled : (place : Place) (w : Writer) (items left : List Laid) → Holds place w items → fits w ≡ true → AllByRecursion IsTold left
+filled : (place : ReadPlace) (w : Writer) (items left : List Laid) → Holds place w items → fits w ≡ true → AllByRecursion IsTold left
     → fill_laid w left ≡ offered_with place (items ++ left) (longest fits_fragment (items ++ left))
 filled place w items [] holds fit told =
     let fits_all : fits_fragment items ≡ true = sym (fits_is place w items holds) ∙ fit in
@@ -103,7 +103,7 @@ all_told_so [] all = tt
 all_told_so (x ∷ xs) all = (told_so x all.0, all_told_so xs all.1)
 
 -- what is filled with events as they come is the longest beginning of them all in groups
-pub feed_offers : (may : ℕ → Bool) (place : Place) (items : List Item) → (let rows = in_groups may items in
+pub feed_offers : (may : ℕ → Bool) (place : ReadPlace) (items : List Item) → (let rows = in_groups may items in
     fill_laid (empty_from place) (laid_from Shut (map (opened may) items)) ≡ offered_with place rows (longest fits_fragment rows))
 feed_offers may place items =
     let rows = in_groups may items in
@@ -111,7 +111,7 @@ feed_offers may place items =
     ∙ filled place (empty_from place) [] rows (empty_holds place) refl (all_told_so rows (told_each may items))
 
 -- from a place on
-pub fill_offers : (may : ℕ → Bool) (place : Place) (items : List Item) → fill (empty_from place) (map (opened may) items) ≡ offered_of may place items
+pub fill_offers : (may : ℕ → Bool) (place : ReadPlace) (items : List Item) → fill (empty_from place) (map (opened may) items) ≡ offered_of may place items
 unfolding offered_of held_laid
 fill_offers may place items =
     let rows = in_groups may items in

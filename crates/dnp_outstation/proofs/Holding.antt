@@ -13,8 +13,8 @@ use Rattle.dnp_objects.specs.declared.row.Kind.{Kind}
 use Rattle.dnp_objects.specs.declared.row.Row.{Row}
 use Rattle.dnp_objects.specs.Lanes.{lane_number}
 use Rattle.dnp_eventbuf.specs.declared.numbered.Numbered.{Numbered}
-use Rattle.dnp_eventbuf.specs.Sound.{IsSound}
-use Rattle.dnp_eventbuf.specs.Stock.{Stock, LaneState, no_lane, lane_at, is_full, put_in, moved_on, added_in, with_row, with_rows, dropped_by, last_of, row_of}
+use Rattle.dnp_eventbuf.specs.Sound.{IsSoundBuffer}
+use Rattle.dnp_eventbuf.specs.EventBuffer.{EventBuffer, LaneState, no_lane, lane_at, is_full, put_in, moved_on, added_in, with_row, with_rows, dropped_by, last_of, row_of}
 use Rattle.dnp_outstation.specs.declared.held.NewRow.{NewRow}
 use Rattle.dnp_outstation.specs.declared.offer.writer.Writer.{Writer}
 use Rattle.dnp_outstation.specs.Items.{Item, event_of, class_lanes, enabled_lanes, lane_items}
@@ -119,7 +119,7 @@ new_rows : (lane : LaneState) (x : Numbered) (full : Bool) → is_full lane ≡ 
 new_rows lane x true is = ap (λ (b : Bool). (if b then moved_on lane x else added_in lane x).rows) is
 new_rows lane x false is = ap (λ (b : Bool). (if b then moved_on lane x else added_in lane x).rows) is
 
-pub rows_then : (s : Stock) (made : Option LaneRow) (lane : ℕ) → length s.lanes ≡ LANES → lane < LANES
+pub rows_then : (s : EventBuffer) (made : Option LaneRow) (lane : ℕ) → length s.lanes ≡ LANES → lane < LANES
     → (lane_at (with_rows s (option_to_list made)) lane).rows ≡ kept_of (lane_at s lane).rows (new_of s made) lane ++ more_of (new_of s made) lane
 rows_then s None lane nine low = sym (append-nil (lane_at s lane).rows)
 rows_then s (Some x) lane nine low = elim (cases_eq (lane_number x.lane) lane) [
@@ -166,7 +166,7 @@ last_new xs x = last_is (xs ++ x ∷ []) ∙ behind 0 xs
     behind low [] = refl
     behind low (y ∷ ys) = behind y.id ys
 
-pub last_then : (s : Stock) (x : LaneRow) → length s.lanes ≡ LANES → lane_number x.lane < LANES
+pub last_then : (s : EventBuffer) (x : LaneRow) → length s.lanes ≡ LANES → lane_number x.lane < LANES
     → last_of (lane_at (with_rows s (x ∷ [])) (lane_number x.lane)).rows ≡ s.last_id + 1
 last_then s x nine low =
     let lane : ℕ = lane_number x.lane in
@@ -178,7 +178,7 @@ last_then s x nine low =
     ∙ last_new (if full then drop 1 (lane_at s lane).rows else (lane_at s lane).rows) row
 
 -- a full lane drops a row
-pub dropped_then : (s : Stock) (x : LaneRow) (rows : List Row) → IsSound s → lane_number x.lane < LANES → rows ≡ dropped_by s (x ∷ [])
+pub dropped_then : (s : EventBuffer) (x : LaneRow) (rows : List Row) → IsSoundBuffer s → lane_number x.lane < LANES → rows ≡ dropped_by s (x ∷ [])
     → nat_lt 0 (length rows) ≡ is_full (lane_at s (lane_number x.lane))
 dropped_then s x rows sound low is =
     ap (λ (l : List Row). nat_lt 0 (length l)) is ∙ by (lane_at s (lane_number x.lane)) (is_full (lane_at s (lane_number x.lane))) refl
@@ -199,7 +199,8 @@ dropped_then s x rows sound low is =
 
 -- ---- whole lanes, one after the other
 
-pub lane_put : (s : Stock) (made : Option LaneRow) (new : Option NewRow) (lane : ℕ) (w w' : Writer) (fit : Bool) → IsSound s → lane < LANES → new ≡ new_of s made
+pub lane_put : (s : EventBuffer) (made : Option LaneRow) (new : Option NewRow) (lane : ℕ) (w w' : Writer) (fit : Bool) → IsSoundBuffer s → lane < LANES
+    → new ≡ new_of s made
     → Puts w (mark true (map (event_of 0 lane) (kept_of (lane_at s lane).rows new lane ++ more_of new lane))) fit w'
     → Puts w (mark true (lane_items (with_rows s (option_to_list made)) (lane ∷ []))) fit w'
 lane_put s made new lane w w' fit sound low new_is put =
@@ -212,21 +213,21 @@ lane_put s made new lane w w' fit sound low new_is put =
     in
     subst (λ (items : List Item). Puts w (mark true items) fit w') is put
 
-pub lanes_put : (t : Stock) (lanes others : List ℕ) (w v w' : Writer) (fit : Bool) → Puts w (mark true (lane_items t lanes)) true v
+pub lanes_put : (t : EventBuffer) (lanes others : List ℕ) (w v w' : Writer) (fit : Bool) → Puts w (mark true (lane_items t lanes)) true v
     → Puts v (mark true (lane_items t others)) fit w' → Puts w (mark true (lane_items t (lanes ++ others))) fit w'
 lanes_put t lanes others w v w' fit first second =
     subst (λ (items : List Marked). Puts w items fit w')
     (sym (ap (mark true) (lanes_both t lanes others) ∙ marked_both (lane_items t lanes) (lane_items t others)))
     (puts_both w v w' (mark true (lane_items t lanes)) (mark true (lane_items t others)) fit first second)
 
-pub lanes_full : (t : Stock) (lanes others : List ℕ) (w w' : Writer) → Puts w (mark true (lane_items t lanes)) false w'
+pub lanes_full : (t : EventBuffer) (lanes others : List ℕ) (w w' : Writer) → Puts w (mark true (lane_items t lanes)) false w'
     → Puts w (mark true (lane_items t (lanes ++ others))) false w'
 lanes_full t lanes others w w' first =
     subst (λ (items : List Marked). Puts w items false w')
     (sym (ap (mark true) (lanes_both t lanes others) ∙ marked_both (lane_items t lanes) (lane_items t others)))
     (puts_none_more w w' (mark true (lane_items t lanes)) (mark true (lane_items t others)) first)
 
-pub class_on : (t : Stock) (class : ℕ) (on : Bool) (w w' : Writer) (fit : Bool) → on ≡ true
+pub class_on : (t : EventBuffer) (class : ℕ) (on : Bool) (w w' : Writer) (fit : Bool) → on ≡ true
     → Puts w (mark true (lane_items t (class_lanes class))) fit w' → Puts w (mark true (lane_items t (if on then class_lanes class else []))) fit w'
 class_on t class on w w' fit is put = subst (λ (b : Bool). Puts w (mark true (lane_items t (if b then class_lanes class else []))) fit w') (sym is) put
 
@@ -242,7 +243,7 @@ three_classes (a ∷ b ∷ []) few = absurd (omega arith)
 three_classes (a ∷ b ∷ c ∷ d ∷ more) few = absurd (omega arith)
 
 -- the last class has rows
-pub third_has_rows : (s : Stock) (enabled : List Bool) → length enabled ≡ 3
+pub third_has_rows : (s : EventBuffer) (enabled : List Bool) → length enabled ≡ 3
     → has_rows_in s (if get_or enabled 2 false then class_lanes 2 else []) ≡ true → has_rows_in s (enabled_lanes 0 enabled) ≡ true
 third_has_rows s enabled few some =
     let on : ℕ → List ℕ = λ class. if get_or enabled class false then class_lanes class else [] in

@@ -1,7 +1,7 @@
 -- What a confirm does that isn't nothing: rows leave, a fragment goes on with the response, or a report is sent.
 use Rattle.std.proofs.Common.{◌≡◌, ◌≢◌, ℕ, ◌+◌, ◌%◌, Bool, true, false, ◌&&◌, if◌then◌else◌, List, [], ◌∷◌, ◌++◌, Option, None, Some, refl, ap, sym, subst, ◌∙◌}
 use Rattle.dnp_controls.specs.Panel.{Panel}
-use Rattle.dnp_eventbuf.specs.Stock.{without, all_up_to}
+use Rattle.dnp_eventbuf.specs.EventBuffer.{without, all_up_to}
 use Rattle.dnp_outstation.specs.declared.answer.Answer.{Answer}
 use Rattle.dnp_outstation.specs.declared.offer.writer.Writer.{Writer}
 use Rattle.dnp_outstation.specs.declared.session.Awaited.{Awaited}

@@ -7,11 +7,11 @@ use Rattle.dnp_objects.specs.declared.lane.Lane.{Lane}
 use Rattle.dnp_objects.specs.declared.limits.TheConstants.{LANES}
 use Rattle.dnp_objects.specs.declared.row.Kind.TheVariants.{Binary, Counter, Analog}
 use Rattle.dnp_eventbuf.specs.declared.numbered.Numbered.{Numbered}
-use Rattle.dnp_eventbuf.specs.Carried.{IsCarried}
-use Rattle.dnp_eventbuf.specs.Sound.{IsSound}
-use Rattle.dnp_eventbuf.specs.Stock.{Stock, lane_at}
+use Rattle.dnp_eventbuf.specs.FitsLane.{FitsLane}
+use Rattle.dnp_eventbuf.specs.Sound.{IsSoundBuffer}
+use Rattle.dnp_eventbuf.specs.EventBuffer.{EventBuffer, lane_at}
 use Rattle.dnp_appfragment.specs.Headers.{Head}
-use Rattle.dnp_outstation.specs.declared.offer.place.Place.{Place}
+use Rattle.dnp_outstation.specs.declared.offer.place.ReadPlace.{ReadPlace}
 use Rattle.dnp_outstation.specs.Forms.{CanGo, may_in, may_each, in_groups, laid}
 use Rattle.dnp_outstation.specs.Items.{Source, Static, statics_of, each_static, in_range, is_within, Part, part_of, Item, at_most, less, rows_left, event_of, event_items, present_of, given_after, part_items, items_of, part_after, parts_left, items_left, enabled_lanes, lane_items}
 use Rattle.dnp_outstation.specs.Items.Part.{RowsOf, StaticsOf}
@@ -117,17 +117,17 @@ items_are Q s stood given header (part ∷ parts) all are =
 held_are : (Q : Item → Type 0) (may : ℕ → Bool) (items : List Item) → All Q items → All Q (held_of may items)
 held_are Q may items all = subst (All Q) (held_begins may items) (All-take Q (length (held_of may items)) items all)
 
-left_are : (Q : Item → Type 0) (s : Source) (stood : ℕ) (place : Place) (headers : List Head) → AreAll Q s
+left_are : (Q : Item → Type 0) (s : Source) (stood : ℕ) (place : ReadPlace) (headers : List Head) → AreAll Q s
     → All Q (items_left s stood place headers)
 left_are Q s stood place headers all =
     items_are Q s stood place.given place.header (parts_left place.count (map (part_of s) (drop place.header headers))) all
     (left_parts Q place.count (map (part_of s) (drop place.header headers)) (are_parts Q s (drop place.header headers) all))
 
-read_are : (Q : Item → Type 0) (s : Source) (stood : ℕ) (place : Place) (headers : List Head) → AreAll Q s
+read_are : (Q : Item → Type 0) (s : Source) (stood : ℕ) (place : ReadPlace) (headers : List Head) → AreAll Q s
     → All Q (held_of (may_in headers) (items_left s stood place headers))
 read_are Q s stood place headers all = held_are Q (may_in headers) (items_left s stood place headers) (left_are Q s stood place headers all)
 
-lane_items_are : (Q : Item → Type 0) (s : Stock) (lanes : List ℕ) → ((lane : ℕ) → lane < LANES → All (λ x. Q (event_of 0 lane x)) (lane_at s lane).rows)
+lane_items_are : (Q : Item → Type 0) (s : EventBuffer) (lanes : List ℕ) → ((lane : ℕ) → lane < LANES → All (λ x. Q (event_of 0 lane x)) (lane_at s lane).rows)
     → AreLow lanes → All Q (lane_items s lanes)
 lane_items_are Q s [] all low = All-nil Q
 lane_items_are Q s (lane ∷ lanes) all low =
@@ -154,21 +154,21 @@ lane_of (suc (suc (suc (suc (suc (suc (suc (suc zero)))))))) low =
     (record { class = 3; kind = Analog; at_least_1 = omega arith; at_most_3 = omega arith }, refl)
 lane_of (suc (suc (suc (suc (suc (suc (suc (suc (suc n))))))))) low = absurd (omega arith)
 
-events_stand : (s : Stock) (lane : ℕ) → IsSound s → lane < LANES
+events_stand : (s : EventBuffer) (lane : ℕ) → IsSoundBuffer s → lane < LANES
     → All (λ x. (header : ℕ) → CanStand (event_of header lane x)) (lane_at s lane).rows
 events_stand s lane sound low =
     let of = lane_of lane low in
-    All-weaker (λ (x : Numbered). IsCarried (record { lane = of.0; row = x.row }))
+    All-weaker (λ (x : Numbered). FitsLane (record { lane = of.0; row = x.row }))
     (λ (x : Numbered). (header : ℕ) → CanStand (event_of header lane x))
     (λ x h header. (h.fits, h.index)) (lane_at s lane).rows ((sound.each lane low).carried of.0 of.1)
 
-all_stand : (s : Source) → IsSound s.lanes → AreWritable s → AreAll CanStand s
+all_stand : (s : Source) → IsSoundBuffer s.lanes → AreWritable s → AreAll CanStand s
 all_stand s sound writable = record {
   events = λ lane low. events_stand s.lanes lane sound low;
   present = λ asked group k d within header. writable asked group k d within;
 }
 
-pub left_stand : (s : Source) (stood : ℕ) (place : Place) (headers : List Head) → IsSound s.lanes → AreWritable s
+pub left_stand : (s : Source) (stood : ℕ) (place : ReadPlace) (headers : List Head) → IsSoundBuffer s.lanes → AreWritable s
     → All CanStand (items_left s stood place headers)
 left_stand s stood place headers sound writable = left_are CanStand s stood place headers (all_stand s sound writable)
 
@@ -185,19 +185,19 @@ laid_go may items all =
     (under rows (subst (AllByRecursion CanStand) (sym (grouped_items may items)) (recursion_from_All CanStand items all))) in
     λ k d less. record { stands = stand k d less; says = grouped_told may items k d less; tells = grouped_tell may items all k d less }
 
-pub held_stand : (s : Source) (stood : ℕ) (place : Place) (headers : List Head) → IsSound s.lanes → AreWritable s
+pub held_stand : (s : Source) (stood : ℕ) (place : ReadPlace) (headers : List Head) → IsSoundBuffer s.lanes → AreWritable s
     → All CanGo (held_laid (may_in headers) (items_left s stood place headers))
 held_stand s stood place headers sound writable =
     let items = items_left s stood place headers in
     held_are_laid CanGo (may_in headers) items (laid_go (may_in headers) items (left_stand s stood place headers sound writable))
 
-pub held_low : (s : Source) (stood : ℕ) (place : Place) (headers : List Head) → All IsLow (held_of (may_in headers) (items_left s stood place headers))
+pub held_low : (s : Source) (stood : ℕ) (place : ReadPlace) (headers : List Head) → All IsLow (held_of (may_in headers) (items_left s stood place headers))
 held_low s stood place headers = read_are IsLow s stood place headers (record {
   events = λ lane low k d within header. low;
   present = λ asked group k d within header. tt;
 })
 
-pub pushed_stand : (s : Stock) (enabled : List Bool) → IsSound s → length enabled ≤ 3
+pub pushed_stand : (s : EventBuffer) (enabled : List Bool) → IsSoundBuffer s → length enabled ≤ 3
     → All CanGo (held_laid may_each (lane_items s (enabled_lanes 0 enabled)))
 pushed_stand s enabled sound few =
     let items = lane_items s (enabled_lanes 0 enabled) in
@@ -205,7 +205,7 @@ pushed_stand s enabled sound few =
     (laid_go may_each items (lane_items_are CanStand s (enabled_lanes 0 enabled) (λ lane low k d within. events_stand s lane sound low k d within 0)
     (enabled_low 0 enabled (omega arith))))
 
-pub pushed_low : (s : Stock) (enabled : List Bool) → length enabled ≤ 3 → All IsLow (held_of may_each (lane_items s (enabled_lanes 0 enabled)))
+pub pushed_low : (s : EventBuffer) (enabled : List Bool) → length enabled ≤ 3 → All IsLow (held_of may_each (lane_items s (enabled_lanes 0 enabled)))
 pushed_low s enabled few =
     held_are IsLow may_each (lane_items s (enabled_lanes 0 enabled))
     (lane_items_are IsLow s (enabled_lanes 0 enabled) (λ lane low k d within. low) (enabled_low 0 enabled (omega arith)))

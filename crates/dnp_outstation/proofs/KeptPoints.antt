@@ -5,8 +5,8 @@ use Rattle.dnp_appfragment.specs.Fragments.{Asked}
 use Rattle.dnp_appfragment.specs.Meaning.{request_at}
 use Rattle.dnp_controls.specs.Panel.{Panel}
 use Rattle.dnp_controls.specs.Selecting.{deadline}
-use Rattle.dnp_eventbuf.specs.Stock.{without}
-use Rattle.dnp_outstation.specs.declared.offer.place.Place.{Place}
+use Rattle.dnp_eventbuf.specs.EventBuffer.{without}
+use Rattle.dnp_outstation.specs.declared.offer.place.ReadPlace.{ReadPlace}
 use Rattle.dnp_outstation.specs.declared.case.Case.{Case}
 use Rattle.dnp_outstation.specs.declared.case.Case.TheVariants.{PassedOver, Confirms, ConfirmsUnsolicited, Stray, Again, Waits, Asks}
 use Rattle.dnp_outstation.specs.declared.session.Reply.{Reply}
@@ -64,7 +64,7 @@ goes_on_keeps : (s : State) (o : Panel) (now seq : ℕ) (last : Option LastReque
 goes_on_keeps s o now seq None = record { points = refl; times = refl; none = refl }
 goes_on_keeps s o now seq (Some last) = go last.left
   where
-    go : (left : Option Place) → KeptIn s.core (goes_on s o now seq (Some (record { reply = last.reply; stood = last.stood; left = left })))
+    go : (left : Option ReadPlace) → KeptIn s.core (goes_on s o now seq (Some (record { reply = last.reply; stood = last.stood; left = left })))
     go None = record { points = refl; times = refl; none = refl }
     go (Some place) = by (request_at s.core.session.request) refl
       where

@@ -3,7 +3,7 @@ use Rattle.std.proofs.Common.{◌≡◌, ℕ, refl, subst, List, length, Option,
 use Rattle.dnp_appfragment.specs.Headers.{Head}
 use Rattle.dnp_controls.specs.Panel.{Panel}
 use Rattle.dnp_objects.specs.declared.limits.TheConstants.{LANES}
-use Rattle.dnp_outstation.specs.declared.offer.place.Place.{Place}
+use Rattle.dnp_outstation.specs.declared.offer.place.ReadPlace.{ReadPlace}
 use Rattle.dnp_outstation.specs.Forms.{may_in}
 use Rattle.dnp_outstation.specs.Items.{first_place, last_in, items_left}
 use Rattle.dnp_outstation.specs.Offer.{held_of, offered_of}
@@ -14,7 +14,7 @@ use Rattle.dnp_outstation.proofs.ContentOf.{IsContent, AnyHeaders, any_fine, con
 use Rattle.dnp_outstation.proofs.ContentOf.IsContent.{Reads, Plain}
 use Rattle.dnp_outstation.proofs.Reported.{nine_ids}
 
-pub read_ids : (s : State) (o : Panel) (stood : ℕ) (place : Place) (headers : List Head) → length (read_content s o stood place headers).upto ≡ LANES
+pub read_ids : (s : State) (o : Panel) (stood : ℕ) (place : ReadPlace) (headers : List Head) → length (read_content s o stood place headers).upto ≡ LANES
 unfolding offered_of
 read_ids s o stood place headers = nine_ids (held_of (may_in headers) (items_left (source_of s o) stood place headers))
 

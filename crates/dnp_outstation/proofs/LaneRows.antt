@@ -6,7 +6,7 @@ use Rattle.std.proofs.lemmas.Bool.{cases_eq}
 use Rattle.std.proofs.lemmas.List.{take-append-drop, get_or-set_same, get_or-set_other, length-set}
 use Rattle.std.proofs.lemmas.List.Elements.{filter_map-append}
 use Rattle.dnp_eventbuf.specs.declared.numbered.Numbered.{Numbered}
-use Rattle.dnp_eventbuf.specs.Stock.{Stock, lane_at}
+use Rattle.dnp_eventbuf.specs.EventBuffer.{EventBuffer, lane_at}
 use Rattle.dnp_outstation.specs.Items.{Thing, Item, Source, Static, Part, at_most, less, rows_left, event_of, event_items, present_of, given_after, part_items, items_of}
 use Rattle.dnp_outstation.specs.Items.Thing.{Event, Present}
 use Rattle.dnp_outstation.specs.Items.Part.{RowsOf, StaticsOf}
@@ -63,7 +63,7 @@ starts_most : {A : Type 0} (most : Option ℕ) (xs : List A) → Starts (at_most
 starts_most None xs = starts_all xs
 starts_most (Some n) xs = record { rest = drop n xs; is = sym (take-append-drop n xs) }
 
-apart_rows : (s : Stock) (stood : ℕ) (given : List ℕ) (header : ℕ) (most : Option ℕ) (numbers : List ℕ) (lane : ℕ) → IsApart lane numbers
+apart_rows : (s : EventBuffer) (stood : ℕ) (given : List ℕ) (header : ℕ) (most : Option ℕ) (numbers : List ℕ) (lane : ℕ) → IsApart lane numbers
     → rows_in_lane lane (event_items s stood given header most numbers) ≡ []
 apart_rows s stood given header most [] lane apart = refl
 apart_rows s stood given header most (number ∷ numbers) lane apart =
@@ -73,7 +73,7 @@ apart_rows s stood given header most (number ∷ numbers) lane apart =
     ∙ ap (λ (l : List Numbered). l ++ rows_in_lane lane more) (rows_elsewhere header lane number rows apart.0)
     ∙ apart_rows s stood given header (less most (length rows)) numbers lane apart.1
 
-event_rows : (s : Stock) (stood : ℕ) (given : List ℕ) (header : ℕ) (most : Option ℕ) (numbers : List ℕ) (lane : ℕ) → IsOnce lane numbers
+event_rows : (s : EventBuffer) (stood : ℕ) (given : List ℕ) (header : ℕ) (most : Option ℕ) (numbers : List ℕ) (lane : ℕ) → IsOnce lane numbers
     → Starts (rows_in_lane lane (event_items s stood given header most numbers)) (rows_left s stood given lane)
 event_rows s stood given header most [] lane once = record { rest = rows_left s stood given lane; is = refl }
 event_rows s stood given header most (number ∷ numbers) lane once =
@@ -199,7 +199,7 @@ filter_swap p q (x ∷ xs) = by (p x) (q x) refl refl (filter_swap p q xs)
     by a b pa qb same = left (q x) ∙ middle (p x) (q x) same ∙ sym (right (p x))
 
 -- a beginning of the rows left is given: what is left then stands after it
-pub left_behind : (s : Stock) (stood : ℕ) (given given' : List ℕ) (lane : ℕ) (xs rest : List Numbered) → Rising 0 (lane_at s lane).rows
+pub left_behind : (s : EventBuffer) (stood : ℕ) (given given' : List ℕ) (lane : ℕ) (xs rest : List Numbered) → Rising 0 (lane_at s lane).rows
     → slice_index given' lane ≡ last_or (slice_index given lane) xs → rows_left s stood given lane ≡ xs ++ rest → rows_left s stood given' lane ≡ rest
 left_behind s stood given given' lane xs rest rising last is =
     let rows = (lane_at s lane).rows in

@@ -7,11 +7,11 @@ use Rattle.std.proofs.lemmas.List.{get_or_append_left, length-append, get_or-map
 use Rattle.std.proofs.lemmas.List.Elements.{All-filter, All-contains, All-nil, All-cons, All-head, All-tail, All-replicate, All-from_get_or, All-weaker, filter_passes}
 use Rattle.dnp_objects.specs.declared.lane.LaneRow.{LaneRow}
 use Rattle.dnp_eventbuf.specs.declared.numbered.Numbered.{Numbered}
-use Rattle.dnp_eventbuf.specs.Sound.{IsSound}
-use Rattle.dnp_eventbuf.specs.Stock.{Stock, LaneState, lane_at, no_lane, emptied, above, with_rows, without, without_all}
+use Rattle.dnp_eventbuf.specs.Sound.{IsSoundBuffer}
+use Rattle.dnp_eventbuf.specs.EventBuffer.{EventBuffer, LaneState, lane_at, no_lane, emptied, above, with_rows, without, without_all}
 use Rattle.dnp_appfragment.specs.Headers.{Head}
 use Rattle.dnp_objects.specs.declared.limits.TheConstants.{LANES}
-use Rattle.dnp_outstation.specs.declared.offer.place.Place.{Place}
+use Rattle.dnp_outstation.specs.declared.offer.place.ReadPlace.{ReadPlace}
 use Rattle.dnp_outstation.specs.Forms.{may_in}
 use Rattle.dnp_outstation.specs.Items.{Item, Source, no_ids, given_after, place_after, rows_left, items_left}
 use Rattle.dnp_outstation.specs.Layout.{Laid, item_of}
@@ -27,7 +27,8 @@ All-first P xs ys all = λ k d low. subst P (get_or_append_left xs ys d k low) (
 
 -- ---- the rows of a fragment, in order
 
-pub given_rise : (s : Stock) (stood : ℕ) (given : List ℕ) (lane : ℕ) → IsSound s → lane < LANES → Rising (slice_index given lane) (rows_left s stood given lane)
+pub given_rise : (s : EventBuffer) (stood : ℕ) (given : List ℕ) (lane : ℕ) → IsSoundBuffer s → lane < LANES
+    → Rising (slice_index given lane) (rows_left s stood given lane)
 given_rise s stood given lane sound low =
     let rows = (lane_at s lane).rows in
     let id = slice_index given lane in
@@ -38,7 +39,7 @@ given_rise s stood given lane sound low =
     rising_from id (filter (upto stood) passed) (pairs_from 0 (filter (upto stood) passed) up)
     (All-filter (upto stood) (λ (x : Numbered). id < x.id) passed behind)
 
-held_rise : (s : Source) (stood : ℕ) (place : Place) (headers : List Head) (lane : ℕ) → IsSound s.lanes → length place.given ≡ LANES → lane < LANES
+held_rise : (s : Source) (stood : ℕ) (place : ReadPlace) (headers : List Head) (lane : ℕ) → IsSoundBuffer s.lanes → length place.given ≡ LANES → lane < LANES
     → Rising (slice_index place.given lane) (rows_in_lane lane (held_of (may_in headers) (items_left s stood place headers)))
 held_rise s stood place headers lane sound nine low =
     let held = rows_in_lane lane (held_of (may_in headers) (items_left s stood place headers)) in
@@ -46,7 +47,7 @@ held_rise s stood place headers lane sound nine low =
     rising_begins (slice_index place.given lane) held starts.rest
     (subst (Rising (slice_index place.given lane)) starts.is (given_rise s.lanes stood place.given lane sound low))
 
-held_stood : (s : Source) (stood : ℕ) (place : Place) (headers : List Head) (lane : ℕ) → IsSound s.lanes → length place.given ≡ LANES → lane < LANES
+held_stood : (s : Source) (stood : ℕ) (place : ReadPlace) (headers : List Head) (lane : ℕ) → IsSoundBuffer s.lanes → length place.given ≡ LANES → lane < LANES
     → All (λ x. x.id ≤ stood) (rows_in_lane lane (held_of (may_in headers) (items_left s stood place headers)))
 held_stood s stood place headers lane sound nine low =
     let P : Numbered → Type 0 = λ x. x.id ≤ stood in
@@ -58,7 +59,7 @@ held_stood s stood place headers lane sound nine low =
     (filter_passes (upto stood) passed) in
     All-first P held starts.rest (subst (All P) starts.is all)
 
-pub held_next : (s : Source) (stood : ℕ) (place : Place) (headers : List Head) → IsSound s.lanes → length place.given ≡ LANES
+pub held_next : (s : Source) (stood : ℕ) (place : ReadPlace) (headers : List Head) → IsSoundBuffer s.lanes → length place.given ≡ LANES
     → AreNext place.given stood (held_of (may_in headers) (items_left s stood place headers))
 held_next s stood place headers sound nine =
     let held = held_of (may_in headers) (items_left s stood place headers) in
@@ -70,7 +71,7 @@ held_next s stood place headers sound nine =
 
 -- ---- where the READ has come to
 
-place_given : (place : Place) (items : List Item) → (fold place_after place items).given ≡ fold given_after place.given items
+place_given : (place : ReadPlace) (items : List Item) → (fold place_after place items).given ≡ fold given_after place.given items
 place_given place [] = refl
 place_given place (x ∷ xs) = place_given (place_after place x) xs
 
@@ -83,26 +84,27 @@ chosen true x y is = cc
 chosen false x y is = cc
 
 -- the last id given in a lane after a fragment
-pub given_is : (s : Source) (stood : ℕ) (place next : Place) (headers : List Head) (lane : ℕ) → length place.given ≡ LANES → lane < LANES
+pub given_is : (s : Source) (stood : ℕ) (place next : ReadPlace) (headers : List Head) (lane : ℕ) → length place.given ≡ LANES → lane < LANES
     → (offered s stood place headers).left ≡ Some next
     → slice_index next.given lane ≡ last_or (slice_index place.given lane) (rows_in_lane lane (held_of (may_in headers) (items_left s stood place headers)))
 unfolding offered_of
 given_is s stood place next headers lane nine low is =
     let held = held_of (may_in headers) (items_left s stood place headers) in
     let p : fold place_after place held ≡ next = chosen (length held == length (items_left s stood place headers)) (fold place_after place held) next is in
-    ap (λ (q : Place). slice_index q.given lane) (sym p)
+    ap (λ (q : ReadPlace). slice_index q.given lane) (sym p)
     ∙ ap (λ (ids : List ℕ). slice_index ids lane) (place_given place held)
     ∙ last_given place.given held lane (omega arith)
 
-pub nine_after : (s : Source) (stood : ℕ) (place next : Place) (headers : List Head) → length place.given ≡ LANES → (offered s stood place headers).left ≡ Some next
+pub nine_after : (s : Source) (stood : ℕ) (place next : ReadPlace) (headers : List Head) → length place.given ≡ LANES
+    → (offered s stood place headers).left ≡ Some next
     → length next.given ≡ LANES
 unfolding offered_of
 nine_after s stood place next headers nine is =
     let held = held_of (may_in headers) (items_left s stood place headers) in
     let p : fold place_after place held ≡ next = chosen (length held == length (items_left s stood place headers)) (fold place_after place held) next is in
-    ap (λ (q : Place). length q.given) (sym p) ∙ ap length (place_given place held) ∙ length_given place.given held ∙ nine
+    ap (λ (q : ReadPlace). length q.given) (sym p) ∙ ap length (place_given place held) ∙ length_given place.given held ∙ nine
 
-pub moves_onward : (s : Source) (stood : ℕ) (place next : Place) (headers : List Head) → IsSound s.lanes → length place.given ≡ LANES
+pub moves_onward : (s : Source) (stood : ℕ) (place next : ReadPlace) (headers : List Head) → IsSoundBuffer s.lanes → length place.given ≡ LANES
     → (offered s stood place headers).left ≡ Some next
     → IsOnward place.given next.given
 moves_onward s stood place next headers sound nine is = record {
@@ -115,7 +117,7 @@ moves_onward s stood place next headers sound nine is = record {
       omega arith;
 }
 
-pub all_given : (s : Source) (stood : ℕ) (place next : Place) (headers : List Head) → IsSound s.lanes → length place.given ≡ LANES
+pub all_given : (s : Source) (stood : ℕ) (place next : ReadPlace) (headers : List Head) → IsSoundBuffer s.lanes → length place.given ≡ LANES
     → (offered s stood place headers).left ≡ Some next
     → AreGiven next.given (held_of (may_in headers) (items_left s stood place headers))
 all_given s stood place next headers sound nine is = λ lane low.
@@ -140,7 +142,7 @@ from_first low low' [] = inl refl
 from_first low low' (x ∷ xs) = inr refl
 
 -- of what a READ was given nothing is left but what its new fragment carries
-pub new_leaves_nothing : (s : Source) (stood : ℕ) (place next : Place) (headers : List Head) → IsSound s.lanes → IsTidy s.lanes place.given
+pub new_leaves_nothing : (s : Source) (stood : ℕ) (place next : ReadPlace) (headers : List Head) → IsSoundBuffer s.lanes → IsTidy s.lanes place.given
     → length place.given ≡ LANES
     → All (λ id. id ≤ s.lanes.last_id) place.given → (offered s stood place headers).left ≡ Some next
     → LeavesOnly s.lanes next.given (offered s stood place headers).upto
@@ -195,30 +197,30 @@ new_leaves_nothing s stood place next headers sound tidy nine used is = record {
 
 -- a release leaves of each lane the rows above its id
 abbrev pub LaneByLane : Type 0
-LaneByLane = (s : Stock) (upto : List ℕ) (lane : ℕ) → length upto ≡ length s.lanes → lane < length s.lanes
+LaneByLane = (s : EventBuffer) (upto : List ℕ) (lane : ℕ) → length upto ≡ length s.lanes → lane < length s.lanes
     → lane_at (without s upto) lane ≡ above (slice_index upto lane) (lane_at s lane)
 
 -- a release leaves only rows that stood there
 abbrev pub OnlyOldLeft : Type 0
-OnlyOldLeft = (s : Stock) (upto : List ℕ) (lane : ℕ) → All (Contains (lane_at s lane).rows) (lane_at (without s upto) lane).rows
+OnlyOldLeft = (s : EventBuffer) (upto : List ℕ) (lane : ℕ) → All (Contains (lane_at s lane).rows) (lane_at (without s upto) lane).rows
 
 -- a row that comes has an id over the last one used
 abbrev pub NewIds : Type 0
-NewIds = (s : Stock) (rows : List LaneRow) (lane : ℕ)
+NewIds = (s : EventBuffer) (rows : List LaneRow) (lane : ℕ)
     → All (λ x. Contains (lane_at s lane).rows x ⊎ (s.last_id < x.id)) (lane_at (with_rows s rows) lane).rows
 
 -- and the last one used rises by as many
 abbrev pub IdsRise : Type 0
-IdsRise = (s : Stock) (rows : List LaneRow) → (with_rows s rows).last_id ≡ s.last_id + length rows
+IdsRise = (s : EventBuffer) (rows : List LaneRow) → (with_rows s rows).last_id ≡ s.last_id + length rows
 
 -- a release keeps lanes sound
 abbrev pub StaySound : Type 0
-StaySound = (s : Stock) (upto : List ℕ) → IsSound s → length upto ≡ LANES → IsSound (without s upto)
+StaySound = (s : EventBuffer) (upto : List ℕ) → IsSoundBuffer s → length upto ≡ LANES → IsSoundBuffer (without s upto)
 
 -- ---- what a release leaves
 
 -- after the release of its ids nothing that was given is left
-pub released_is_tidy : LaneByLane → (s : Stock) (given ids : List ℕ) → length s.lanes ≡ LANES → LeavesOnly s given ids → IsTidy (without s ids) given
+pub released_is_tidy : LaneByLane → (s : EventBuffer) (given ids : List ℕ) → length s.lanes ≡ LANES → LeavesOnly s given ids → IsTidy (without s ids) given
 released_is_tidy by_lane s given ids nine leaves = λ lane low.
     let rows = (lane_at s lane).rows in
     let id = slice_index ids lane in
@@ -242,7 +244,7 @@ released_is_tidy by_lane s given ids nine leaves = λ lane low.
 
 -- ---- what changes of the lanes keep
 
-pub appended_leaves : NewIds → IdsRise → (s : Stock) (rows : List LaneRow) (given ids : List ℕ) → LeavesOnly s given ids
+pub appended_leaves : NewIds → IdsRise → (s : EventBuffer) (rows : List LaneRow) (given ids : List ℕ) → LeavesOnly s given ids
     → LeavesOnly (with_rows s rows) given ids
 appended_leaves new_ids rise s rows given ids leaves = record {
   nine = leaves.nine;
@@ -259,7 +261,7 @@ appended_leaves new_ids rise s rows given ids leaves = record {
       (lane_at (with_rows s rows) lane).rows (new_ids s rows lane);
 }
 
-pub released_leaves : OnlyOldLeft → (s : Stock) (others given ids : List ℕ) → LeavesOnly s given ids → LeavesOnly (without s others) given ids
+pub released_leaves : OnlyOldLeft → (s : EventBuffer) (others given ids : List ℕ) → LeavesOnly s given ids → LeavesOnly (without s others) given ids
 released_leaves left s others given ids leaves = record {
   nine = leaves.nine;
   nine_upto = leaves.nine_upto;
@@ -271,7 +273,7 @@ released_leaves left s others given ids leaves = record {
 }
 
 -- an emptied lane has no row
-pub no_row : (s : Stock) (P : Numbered → Type 0) (lane : ℕ) → All P (lane_at (without_all s) lane).rows
+pub no_row : (s : EventBuffer) (P : Numbered → Type 0) (lane : ℕ) → All P (lane_at (without_all s) lane).rows
 no_row s P lane = by (cases_lt lane (length s.lanes))
   where
     by : (lane < length s.lanes) ⊎ (length s.lanes ≤ lane) → All P (lane_at (without_all s) lane).rows
@@ -280,7 +282,7 @@ no_row s P lane = by (cases_lt lane (length s.lanes))
         subst (λ (l : LaneState). All P l.rows) (sym (get_or_past (map emptied s.lanes) lane no_lane (let e = length-map s.lanes emptied in omega arith)))
         (All-nil P)
 
-pub emptied_leaves : (s : Stock) (given ids : List ℕ) → LeavesOnly s given ids → LeavesOnly (without_all s) given ids
+pub emptied_leaves : (s : EventBuffer) (given ids : List ℕ) → LeavesOnly s given ids → LeavesOnly (without_all s) given ids
 emptied_leaves s given ids leaves = record {
   nine = leaves.nine;
   nine_upto = leaves.nine_upto;
@@ -289,18 +291,18 @@ emptied_leaves s given ids leaves = record {
 }
 
 -- where a READ begins, nothing was given
-pub begins_tidy : (s : Stock) → IsSound s → IsTidy s no_ids
+pub begins_tidy : (s : EventBuffer) → IsSoundBuffer s → IsTidy s no_ids
 begins_tidy s sound = λ lane low k d short.
     let first : 1 ≤ (get_or (lane_at s lane).rows k d).id = (sound.each lane low).from_1 k d short in
     let none : slice_index no_ids lane ≡ 0 = get_or-replicate LANES lane 0 0 low in
     omega arith
 
-pub begins_used : (s : Stock) → All (λ id. id ≤ s.last_id) no_ids
+pub begins_used : (s : EventBuffer) → All (λ id. id ≤ s.last_id) no_ids
 begins_used s = All-replicate (λ (id : ℕ). id ≤ s.last_id) LANES 0 (omega arith)
 
 -- ---- where nothing is left
 
-pub none_left : (may : ℕ → Bool) (place : Place) (items : List Item) → items ≡ []
+pub none_left : (may : ℕ → Bool) (place : ReadPlace) (items : List Item) → items ≡ []
     → offered_of may place items ≡ record { headers = []; upto = no_ids; left = None }
 unfolding offered_of
 none_left may place items none =
@@ -311,7 +313,7 @@ whole_by true x is = refl
 whole_by false x is = cc
 
 -- nothing is left exactly where all items are held
-pub left_none : (may : ℕ → Bool) (place : Place) (items : List Item) → ((offered_of may place items).left ≡ None) ↔ (held_of may items ≡ items)
+pub left_none : (may : ℕ → Bool) (place : ReadPlace) (items : List Item) → ((offered_of may place items).left ≡ None) ↔ (held_of may items ≡ items)
 unfolding offered_of
 left_none may place items = (
   (λ is. held_whole may items

@@ -4,8 +4,8 @@ use Rattle.std.specs.Prelude.{slice_get, unwrap_or, option_map}
 use Rattle.std.proofs.lemmas.Bool.{cases_lt, lt-ltb, ltb-true}
 use Rattle.std.proofs.lemmas.Bool.Decides.{nat_tests}
 use Rattle.dnp_eventbuf.specs.declared.numbered.Numbered.{Numbered}
-use Rattle.dnp_eventbuf.specs.Stock.{Stock, LaneState, lane_at, last_of}
-use Rattle.dnp_eventbuf.specs.Sound.{IsSound}
+use Rattle.dnp_eventbuf.specs.EventBuffer.{EventBuffer, LaneState, lane_at, last_of}
+use Rattle.dnp_eventbuf.specs.Sound.{IsSoundBuffer}
 use Rattle.dnp_objects.specs.declared.limits.TheConstants.{LANES}
 use Rattle.dnp_outstation.specs.Items.{class_lanes, last_in_class}
 use Rattle.dnp_outstation.specs.steps.Filling.{after_release, released_to, has_rows_in}
@@ -15,7 +15,8 @@ use Rattle.dnp_outstation.proofs.Pushing.{after_sound}
 use Rattle.dnp_outstation.proofs.Rising.{Rising, last_or, over, over_all, last_is_over, not_over}
 
 -- the rows over an id are left
-rows_after : LaneByLane → (s : Stock) (released : Option (List ℕ)) (lane : ℕ) → IsSound s → IfSome released (λ upto. length upto ≡ LANES) → lane < LANES
+rows_after : LaneByLane → (s : EventBuffer) (released : Option (List ℕ)) (lane : ℕ) → IsSoundBuffer s → IfSome released (λ upto. length upto ≡ LANES)
+    → lane < LANES
     → (lane_at (after_release s released) lane).rows ≡ filter (over (released_to released lane)) (lane_at s lane).rows
 rows_after by_lane s None lane sound nine low = sym (over_all 0 0 (lane_at s lane).rows (omega arith) (lane_rises s lane sound low))
 rows_after by_lane s (Some upto) lane sound nine low =
@@ -58,7 +59,7 @@ over_last id low (x ∷ xs) few rising = by (nat_lt id x.id) refl (λ less. over
       | inr most ↦ most
     ])
 
-pub last_after : LaneByLane → (s : Stock) (released : Option (List ℕ)) (lane last : ℕ) → IsSound s → IfSome released (λ upto. length upto ≡ LANES)
+pub last_after : LaneByLane → (s : EventBuffer) (released : Option (List ℕ)) (lane last : ℕ) → IsSoundBuffer s → IfSome released (λ upto. length upto ≡ LANES)
     → lane < LANES → last ≡ last_of (lane_at s lane).rows
     → last_of (lane_at (after_release s released) lane).rows ≡ (if nat_lt (released_to released lane) last then last else 0)
 last_after by_lane s released lane last sound nine low is =
@@ -86,12 +87,12 @@ last_tells (x ∷ xs) rising =
 one_of_three : (a b c : ℕ) → nat_lt 0 (max a (max b c)) ≡ (nat_lt 0 a || (nat_lt 0 b || (nat_lt 0 c || false)))
 one_of_three a b c = grind (arith, nat_tests)
 
-pub class_has_rows : StaySound → (s : Stock) (released : Option (List ℕ)) (class last : ℕ) (on : Bool) → IsSound s
+pub class_has_rows : StaySound → (s : EventBuffer) (released : Option (List ℕ)) (class last : ℕ) (on : Bool) → IsSoundBuffer s
     → IfSome released (λ upto. length upto ≡ LANES) → class < 3 → last ≡ last_in_class (after_release s released) class → on ≡ true
     → nat_lt 0 last ≡ has_rows_in (after_release s released) (if on then class_lanes class else [])
 class_has_rows stay s released class last on sound nine low is enabled =
-    let t : Stock = after_release s released in
-    let after : IsSound t = after_sound stay s released nine sound in
+    let t : EventBuffer = after_release s released in
+    let after : IsSoundBuffer t = after_sound stay s released nine sound in
     let at : ℕ → ℕ = λ lane. last_of (lane_at t lane).rows in
     let tells : (lane : ℕ) → lane < LANES → nat_lt 0 (at lane) ≡ nat_lt 0 (length (lane_at t lane).rows) =
     λ lane few. sym (last_tells (lane_at t lane).rows (lane_rises t lane after few)) in

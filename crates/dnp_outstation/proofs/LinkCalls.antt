@@ -9,7 +9,7 @@ use Rattle.dnp_pointdb.specs.declared.reading.Reading.{Reading}
 use Rattle.dnp_appfragment.specs.declared.function.Function.TheVariants as function
 use Rattle.dnp_appfragment.specs.Table.{function_octet}
 use Rattle.dnp_controls.specs.Panel.{Panel}
-use Rattle.dnp_eventbuf.specs.Stock.{with_rows, dropped_by}
+use Rattle.dnp_eventbuf.specs.EventBuffer.{with_rows, dropped_by}
 use Rattle.dnp_outstation.specs.declared.case.Case.TheVariants.{PassedOver}
 use Rattle.dnp_outstation.specs.Offer.{pushed}
 use Rattle.dnp_outstation.specs.State.{Core, State, Step, nothing, still, holds_read, is_free}

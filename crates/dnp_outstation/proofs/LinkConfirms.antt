@@ -4,8 +4,8 @@ use Rattle.dnp_appfragment.specs.declared.fault.AppFault.{AppFault}
 use Rattle.dnp_appfragment.specs.Fragments.{Asked}
 use Rattle.dnp_appfragment.specs.Meaning.{request_at}
 use Rattle.dnp_controls.specs.Panel.{Panel}
-use Rattle.dnp_eventbuf.specs.Stock.{without}
-use Rattle.dnp_outstation.specs.declared.offer.place.Place.{Place}
+use Rattle.dnp_eventbuf.specs.EventBuffer.{without}
+use Rattle.dnp_outstation.specs.declared.offer.place.ReadPlace.{ReadPlace}
 use Rattle.dnp_outstation.specs.declared.case.Case.{Case}
 use Rattle.dnp_outstation.specs.declared.case.Case.TheVariants.{PassedOver, Confirms, ConfirmsUnsolicited, Stray, Again, Waits, Asks}
 use Rattle.dnp_outstation.specs.declared.session.Reply.{Reply}
@@ -95,7 +95,7 @@ goes_on_lanes : (s : State) (o : Panel) (now seq : ℕ) (last : Option LastReque
 goes_on_lanes s o now seq None = refl
 goes_on_lanes s o now seq (Some last) = go last.left
   where
-    go : (left : Option Place) → (goes_on s o now seq (Some (record { reply = last.reply; stood = last.stood; left = left }))).state.lanes ≡ s.lanes
+    go : (left : Option ReadPlace) → (goes_on s o now seq (Some (record { reply = last.reply; stood = last.stood; left = left }))).state.lanes ≡ s.lanes
     go None = refl
     go (Some place) = by (request_at s.core.session.request) refl
       where
@@ -215,7 +215,7 @@ none_is_answered s o now octets w case awaited none =
     unsolicited_confirmed_is s o now octets w case awaited
     ∙ ap (λ (x : Step). at_end now (discarding s w.upto x)) (go s.core.session.last none)
   where
-    by : (reply : Reply) (stood : ℕ) (left : Option Place) → (let l : LastRequest = record { reply = reply; stood = stood; left = left } in
+    by : (reply : Reply) (stood : ℕ) (left : Option ReadPlace) → (let l : LastRequest = record { reply = reply; stood = stood; left = left } in
         holds_read (Some l) ≡ false → answers_held (unsolicited_confirmed s w) o now (Some l) ≡ still (unsolicited_confirmed s w))
     by Held stood left none = cc
     by Silent stood left none = refl

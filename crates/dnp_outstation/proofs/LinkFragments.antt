@@ -19,9 +19,9 @@ use Rattle.dnp_appfragment.specs.Table.{is_response}
 use Rattle.dnp_controls.specs.Panel.{Panel}
 use Rattle.dnp_eventbuf.specs.declared.numbered.Numbered.{Numbered}
 use Rattle.dnp_eventbuf.specs.Buffered.{Buffered, buffered_in, buffered_row, id_limit, is_upto}
-use Rattle.dnp_eventbuf.specs.Sound.{IsSound}
-use Rattle.dnp_eventbuf.specs.Stock.{Stock, lane_at, all_up_to}
-use Rattle.dnp_outstation.specs.declared.offer.place.Place.{Place}
+use Rattle.dnp_eventbuf.specs.Sound.{IsSoundBuffer}
+use Rattle.dnp_eventbuf.specs.EventBuffer.{EventBuffer, lane_at, all_up_to}
+use Rattle.dnp_outstation.specs.declared.offer.place.ReadPlace.{ReadPlace}
 use Rattle.dnp_outstation.specs.Forms.{CanGo, may_in, may_each}
 use Rattle.dnp_outstation.specs.Items.{Item, no_ids, first_place, last_in, items_left, enabled_lanes, lane_items}
 use Rattle.dnp_outstation.specs.Layout.{Laid, item_of, headers_of, fits_fragment}
@@ -46,14 +46,14 @@ use Rattle.dnp_outstation.proofs.Reported.{SpelledIsSaid, RowsAreSaid, Responses
 
 -- buffered rows have ids from 1 up to the last one used
 abbrev pub IdsAreUsed : Type 0
-IdsAreUsed = (s : Stock) → IsSound s → All (λ x. (1 ≤ x.id) × (x.id ≤ s.last_id)) (buffered_in s)
+IdsAreUsed = (s : EventBuffer) → IsSoundBuffer s → All (λ x. (1 ≤ x.id) × (x.id ≤ s.last_id)) (buffered_in s)
 
 -- what a fragment says, and what a release of its ids gives
 pub record ReportLaws : Type 0 where
   pub rows : RowsAreSaid
   pub response : ResponsesAreSaid
   pub spelled : SpelledIsSaid
-  pub given : (s : Stock) (upto : List ℕ) → length upto ≡ length s.lanes
+  pub given : (s : EventBuffer) (upto : List ℕ) → length upto ≡ length s.lanes
       → all_up_to s upto ≡ map buffered_row (filter (is_upto upto) (buffered_in s))
   pub ids : IdsAreUsed
 
@@ -64,7 +64,8 @@ last_within low most [] few all = few
 last_within low most (x ∷ xs) few all =
     last_within x.id most xs (All-head (λ (y : Numbered). y.id ≤ most) x xs all) (All-tail (λ (y : Numbered). y.id ≤ most) x xs all)
 
-ids_used : (s : Stock) (items : List Item) → IsSound s → AreRowsUpto s (last_ids items) items → (lane : ℕ) → id_limit (last_ids items) lane ≤ s.last_id
+ids_used : (s : EventBuffer) (items : List Item) → IsSoundBuffer s → AreRowsUpto s (last_ids items) items → (lane : ℕ)
+    → id_limit (last_ids items) lane ≤ s.last_id
 ids_used s items sound are lane = by (cases_lt lane LANES)
   where
     by : (lane < LANES) ⊎ (LANES ≤ lane) → id_limit (last_ids items) lane ≤ s.last_id
@@ -80,7 +81,8 @@ ids_used s items sound are lane = by (cases_lt lane LANES)
 
 -- ---- a response with these items
 
-reports : ReportLaws → (s : Stock) (answered : Answered) (held : List Laid) → IsSound s → answered.headers ≡ headers_of held → IsControl answered.control
+reports : ReportLaws → (s : EventBuffer) (answered : Answered) (held : List Laid) → IsSoundBuffer s → answered.headers ≡ headers_of held
+    → IsControl answered.control
     → is_response answered.function ≡ true
     → All CanGo held → All IsLow (map item_of held) → fits_fragment held ≡ true
     → AreRowsUpto s (last_ids (map item_of held)) (map item_of held)
@@ -97,7 +99,7 @@ reports law s answered held sound headers control function can low fit are = let
 }
 
 -- a fragment of a READ whose place is tidy
-read_reports : ReportLaws → (s : State) (o : Panel) (stood : ℕ) (place : Place) (headers : List Head) (answered : Answered) → IsSound s.lanes
+read_reports : ReportLaws → (s : State) (o : Panel) (stood : ℕ) (place : ReadPlace) (headers : List Head) (answered : Answered) → IsSoundBuffer s.lanes
     → AreWritable (source_of s o) → IsTidy s.lanes place.given → length place.given ≡ LANES
     → answered.headers ≡ (read_content s o stood place headers).headers → IsControl answered.control
     → is_response answered.function ≡ true → Reports s.lanes (response_octets answered) answered.control (read_content s o stood place headers).upto
@@ -109,7 +111,7 @@ read_reports law s o stood place headers answered sound writable tidy nine same 
     (held_low (source_of s o) stood place headers) (held_fits (may_in headers) items) (fragment_rows (source_of s o) stood place headers sound tidy nine)
 
 -- an unsolicited response
-pushed_reports : ReportLaws → (s : Stock) (enabled : List Bool) (answered : Answered) → IsSound s → length enabled ≤ 3
+pushed_reports : ReportLaws → (s : EventBuffer) (enabled : List Bool) (answered : Answered) → IsSoundBuffer s → length enabled ≤ 3
     → answered.headers ≡ (pushed s enabled).headers
     → IsControl answered.control → is_response answered.function ≡ true → Reports s (response_octets answered) answered.control (pushed s enabled).upto
 unfolding offered_of
@@ -149,7 +151,8 @@ none_upto ids (x ∷ xs) none all =
     not_at true within past = absurd (let w : x.id ≤ id_limit ids x.lane = within refl in omega arith)
     not_at false within past = refl
 
-no_rows_upto : IdsAreUsed → (s : Stock) (ids : List ℕ) → IsSound s → has_rows ids ≡ false → map buffered_row (filter (is_upto ids) (buffered_in s)) ≡ []
+no_rows_upto : IdsAreUsed → (s : EventBuffer) (ids : List ℕ) → IsSoundBuffer s → has_rows ids ≡ false
+    → map buffered_row (filter (is_upto ids) (buffered_in s)) ≡ []
 no_rows_upto used s ids sound none =
     let all : All (λ (x : Buffered). 1 ≤ x.id) (buffered_in s) =
     All-weaker (λ (x : Buffered). (1 ≤ x.id) × (x.id ≤ s.last_id)) (λ (x : Buffered). 1 ≤ x.id) (λ x h. h.0) (buffered_in s)
@@ -157,7 +160,7 @@ no_rows_upto used s ids sound none =
     ap (map buffered_row) (none_upto ids (buffered_in s) none all)
 
 -- a response with objects, of which none is an event
-plain_reports : ReportLaws → (s : Stock) (answered : Answered) (headers : List Head) → IsSound s → answered.headers ≡ headers
+plain_reports : ReportLaws → (s : EventBuffer) (answered : Answered) (headers : List Head) → IsSoundBuffer s → answered.headers ≡ headers
     → AreHeaders form.Response begin headers → rows_said headers ≡ [] → IsControl answered.control → is_response answered.function ≡ true
     → Reports s (response_octets answered) answered.control no_ids
 plain_reports law s answered headers sound same stand none control function =
@@ -179,7 +182,8 @@ abbrev IsReported : State → Content → Type 0
 IsReported s content = (answered : Answered) → answered.headers ≡ content.headers → IsControl answered.control → is_response answered.function ≡ true
     → Reports s.lanes (response_octets answered) answered.control content.upto
 
-is_reported : ReportLaws → (s : State) (o : Panel) (content : Content) → IsSound s.lanes → AreWritable (source_of s o) → IsContent HoldNoEvents s o content
+is_reported : ReportLaws → (s : State) (o : Panel) (content : Content) → IsSoundBuffer s.lanes → AreWritable (source_of s o)
+    → IsContent HoldNoEvents s o content
     → IsReported s content
 is_reported law s o _ sound writable (Reads headers) =
     λ answer same control function. read_reports law s o (last_in s.lanes) first_place headers answer sound writable
@@ -189,7 +193,7 @@ is_reported law s o _ sound writable (Plain bits headers fine) =
 
 -- ---- the fragments
 
-first_reports : ReportLaws → (s after : State) (o : Panel) (seq : ℕ) (content : Content) → IsSound s.lanes → AreWritable (source_of s o) → seq < 16
+first_reports : ReportLaws → (s after : State) (o : Panel) (seq : ℕ) (content : Content) → IsSoundBuffer s.lanes → AreWritable (source_of s o) → seq < 16
     → IsContent HoldNoEvents s o content → Reports s.lanes (fragment_of after true seq content) (control_for true seq content) content.upto
 first_reports law s after o seq content sound writable small made =
     is_reported law s o content sound writable made
@@ -205,20 +209,20 @@ abbrev Made : State → Panel → Option Content → Type 0
 Made s o c = IfSome c (IsContent HoldNoEvents s o)
 
 pub answer_reports : ReportLaws → RequestsAreRead → (s after : State) (o : Panel) (now : ℕ) (octets : List ℕ) (seq : ℕ) (content : Content)
-    → IsSound s.lanes → AreWritable (source_of s o) → All (λ octet. octet < 2 ^ 8) octets → seq < 16 → (content_at s o now octets).content ≡ Some content
+    → IsSoundBuffer s.lanes → AreWritable (source_of s o) → All (λ octet. octet < 2 ^ 8) octets → seq < 16 → (content_at s o now octets).content ≡ Some content
     → Reports s.lanes (fragment_of after true seq content) (control_for true seq content) content.upto
 answer_reports law reads s after o now octets seq content sound writable are small is =
     first_reports law s after o seq content sound writable small
     (subst (Made s o) is (content_done HoldNoEvents s o now octets (no_events_fine reads octets are)).content)
 
-pub held_reports : ReportLaws → (s after : State) (o : Panel) (octets : List ℕ) (seq : ℕ) (content : Content) → IsSound s.lanes
+pub held_reports : ReportLaws → (s after : State) (o : Panel) (octets : List ℕ) (seq : ℕ) (content : Content) → IsSoundBuffer s.lanes
     → AreWritable (source_of s o) → seq < 16 → (content_of s o octets).content ≡ Some content
     → Reports s.lanes (fragment_of after true seq content) (control_for true seq content) content.upto
 held_reports law s after o octets seq content sound writable small is =
     first_reports law s after o seq content sound writable small
     (subst (Made s o) is (content_answered HoldNoEvents s o no_headers delay_alone octets).done.content)
 
-pub further_reports : ReportLaws → (s : State) (o : Panel) (stood : ℕ) (place : Place) (headers : List Head) (seq : ℕ) → IsSound s.lanes
+pub further_reports : ReportLaws → (s : State) (o : Panel) (stood : ℕ) (place : ReadPlace) (headers : List Head) (seq : ℕ) → IsSoundBuffer s.lanes
     → AreWritable (source_of s o) → IsTidy s.lanes place.given → length place.given ≡ LANES → seq < 16
     → (let content = read_content s o stood place headers in Reports s.lanes (fragment_of s false seq content) (control_for false seq content) content.upto)
 further_reports law s o stood place headers seq sound writable tidy nine small =
@@ -230,7 +234,7 @@ further_reports law s o stood place headers seq sound writable tidy nine small =
 abbrev pub unsolicited_control : ℕ → ControlBits
 unsolicited_control seq = record { fir = true; fin = true; con = true; uns = true; seq = seq }
 
-pub unsolicited_reports : ReportLaws → (s : State) → IsSound s.lanes → length s.core.enabled ≤ 3 → s.core.session.next < 16
+pub unsolicited_reports : ReportLaws → (s : State) → IsSoundBuffer s.lanes → length s.core.enabled ≤ 3 → s.core.session.next < 16
     → (let content = content_from (pushed s.lanes s.core.enabled) in
     Reports s.lanes (unsolicited_of s content) (record { fir = true; fin = true; con = true; uns = true; seq = s.core.session.next }) content.upto)
 unsolicited_reports law s sound few small =
@@ -244,7 +248,7 @@ unsolicited_reports law s sound few small =
     })
     sound few refl small refl
 
-pub first_unsolicited_reports : ReportLaws → (s : State) → IsSound s.lanes → s.core.session.next < 16
+pub first_unsolicited_reports : ReportLaws → (s : State) → IsSoundBuffer s.lanes → s.core.session.next < 16
     → Reports s.lanes (unsolicited_of s (plain 0 [])) (record { fir = true; fin = true; con = true; uns = true; seq = s.core.session.next }) no_ids
 first_unsolicited_reports law s sound small =
     plain_reports law s.lanes
@@ -257,7 +261,8 @@ permutes_none : {A : Type 0} (xs : List A) → IsPermutation xs [] → xs ≡ []
 permutes_none xs same = nil_from_length xs (sym (length_permutation xs [] same))
 
 -- what asks for no confirm reports no rows
-pub unconfirmed_reports_none : IdsAreUsed → (s : Stock) (octets : List ℕ) (control : ControlBits) (ids : List ℕ) (r : Reports s octets control ids) → IsSound s
+pub unconfirmed_reports_none : IdsAreUsed → (s : EventBuffer) (octets : List ℕ) (control : ControlBits) (ids : List ℕ) (r : Reports s octets control ids)
+    → IsSoundBuffer s
     → has_rows ids ≡ false
     → rows_said r.answered.headers ≡ []
 unconfirmed_reports_none used s octets control ids r sound none =
@@ -265,7 +270,7 @@ unconfirmed_reports_none used s octets control ids r sound none =
     (subst (IsPermutation (rows_said r.answered.headers)) (no_rows_upto used s ids sound none) r.rows)
 
 -- where no item is left, the fragment is the last one, without objects and without a confirm
-pub emptied_ends : (s : State) (o : Panel) (stood seq : ℕ) (place : Place) (headers : List Head) (first : Bool)
+pub emptied_ends : (s : State) (o : Panel) (stood seq : ℕ) (place : ReadPlace) (headers : List Head) (first : Bool)
     → items_left (source_of s o) stood place headers ≡ []
     → (let content = read_content s o stood place headers in
     (content.headers ≡ []) × (control_for first seq content ≡ record { fir = first; fin = true; con = false; uns = false; seq = seq }))

@@ -5,7 +5,7 @@ use Rattle.dnp_objects.specs.declared.lane.LaneRow.{LaneRow}
 use Rattle.dnp_pointdb.specs.Database.{changed_of}
 use Rattle.dnp_pointdb.specs.declared.reading.Reading.{Reading}
 use Rattle.dnp_controls.specs.Selecting.{deadline}
-use Rattle.dnp_eventbuf.specs.Stock.{with_rows, dropped_by}
+use Rattle.dnp_eventbuf.specs.EventBuffer.{with_rows, dropped_by}
 use Rattle.dnp_outstation.specs.declared.session.Unsolicited.{Unsolicited}
 use Rattle.dnp_outstation.specs.State.{State, Step, nothing, sending, still, holds_read}
 use Rattle.dnp_outstation.specs.Content.{plain}

@@ -18,8 +18,8 @@ use Rattle.dnp_appfragment.specs.Fragments.{Asked}
 use Rattle.dnp_appfragment.specs.Meaning.{control_of, function_at, request_at}
 use Rattle.dnp_controls.specs.Panel.{Panel}
 use Rattle.dnp_controls.specs.Selecting.{deadline}
-use Rattle.dnp_eventbuf.specs.Stock.{with_rows, dropped_by, without}
-use Rattle.dnp_outstation.specs.declared.offer.place.Place.{Place}
+use Rattle.dnp_eventbuf.specs.EventBuffer.{with_rows, dropped_by, without}
+use Rattle.dnp_outstation.specs.declared.offer.place.ReadPlace.{ReadPlace}
 use Rattle.dnp_outstation.specs.declared.case.Case.{Case}
 use Rattle.dnp_outstation.specs.declared.case.Case.TheVariants.{PassedOver, Confirms, ConfirmsUnsolicited, Stray, Again, Waits, Asks}
 use Rattle.dnp_outstation.specs.declared.session.Reply.{Reply}
@@ -57,7 +57,7 @@ end_order now step is =
 -- ---- answers
 
 -- a first fragment leaves more only where it says so
-left_alone : (left : Option Place) → (is_some left || false) ≡ true → is_some left ≡ true
+left_alone : (left : Option ReadPlace) → (is_some left || false) ≡ true → is_some left ≡ true
 left_alone None more = more
 left_alone (Some place) more = refl
 
@@ -87,7 +87,7 @@ goes_on_order : (s : State) (o : Panel) (now seq : ℕ) (last : Option LastReque
 goes_on_order s o now seq None is reads = is
 goes_on_order s o now seq (Some last) is reads = go last.left reads
   where
-    go : (left : Option Place)
+    go : (left : Option ReadPlace)
         → (has_more (Some (record { reply = last.reply; stood = last.stood; left = left })) ≡ true
         → function_in s.core.session.request ≡ function_octet function.Read)
         → IsInOrder (goes_on s o now seq (Some (record { reply = last.reply; stood = last.stood; left = left }))).state.core

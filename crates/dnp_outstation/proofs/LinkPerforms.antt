@@ -10,8 +10,8 @@ use Rattle.dnp_appfragment.specs.Meaning.{request_at}
 use Rattle.dnp_appfragment.specs.Table.{function_octet}
 use Rattle.dnp_controls.specs.Panel.{Panel}
 use Rattle.dnp_controls.specs.Selecting.{Select}
-use Rattle.dnp_eventbuf.specs.Stock.{without}
-use Rattle.dnp_outstation.specs.declared.offer.place.Place.{Place}
+use Rattle.dnp_eventbuf.specs.EventBuffer.{without}
+use Rattle.dnp_outstation.specs.declared.offer.place.ReadPlace.{ReadPlace}
 use Rattle.dnp_outstation.specs.declared.case.Case.{Case}
 use Rattle.dnp_outstation.specs.declared.case.Case.TheVariants.{PassedOver, Confirms, ConfirmsUnsolicited, Stray, Again, Waits, Asks}
 use Rattle.dnp_outstation.specs.declared.session.Reply.{Reply}
@@ -53,7 +53,7 @@ goes_on_same : (s : State) (o : Panel) (now seq : ℕ) (last : Option LastReques
 goes_on_same s o now seq None = record { performed = refl; selects = refl }
 goes_on_same s o now seq (Some last) = go last.left
   where
-    go : (left : Option Place) → SameOutputs s (goes_on s o now seq (Some (record { reply = last.reply; stood = last.stood; left = left }))).state
+    go : (left : Option ReadPlace) → SameOutputs s (goes_on s o now seq (Some (record { reply = last.reply; stood = last.stood; left = left }))).state
     go None = record { performed = refl; selects = refl }
     go (Some place) = by (request_at s.core.session.request) refl
       where

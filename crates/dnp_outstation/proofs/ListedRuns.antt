@@ -12,7 +12,7 @@ use Rattle.dnp_objects.specs.declared.row.Row.{Row}
 use Rattle.dnp_appfragment.specs.Built.{with_objects, objects_put}
 use Rattle.dnp_eventbuf.specs.declared.numbered.Numbered.{Numbered}
 use Rattle.dnp_outstation.specs.declared.offer.grouping.Waiting.{Waiting}
-use Rattle.dnp_outstation.specs.declared.offer.place.Place.{Place}
+use Rattle.dnp_outstation.specs.declared.offer.place.ReadPlace.{ReadPlace}
 use Rattle.dnp_outstation.specs.declared.offer.writer.Writer.{Writer}
 use Rattle.dnp_outstation.specs.Forms.{is_in_reach, told_after, told_by}
 use Rattle.dnp_outstation.specs.Items.{event_of, given_after, place_after}
@@ -68,7 +68,7 @@ ids_are ids header lane x [] = refl
 ids_are ids header lane x (y ∷ ys) =
     ids_are (slice_set ids lane x.id) header lane y ys ∙ set-set ids lane x.id (last_row y ys).id
 
-place_is : (p : Place) (header lane : ℕ) (x : Numbered) (xs : List Numbered) → p.header ≡ header
+place_is : (p : ReadPlace) (header lane : ℕ) (x : Numbered) (xs : List Numbered) → p.header ≡ header
     → fold place_after p (map (event_of header lane) (x ∷ xs))
     ≡ record { header = header; count = min (p.count + length (x ∷ xs)) (2 ^ 32 - 1); given = slice_set p.given lane (last_row x xs).id }
 place_is p header lane x [] under =

@@ -12,8 +12,8 @@ use Rattle.dnp_objects.specs.declared.row.Kind.{Kind}
 use Rattle.dnp_objects.specs.declared.row.Kind.TheVariants.{Binary, Counter, Analog}
 use Rattle.dnp_appfragment.specs.Headers.{Head, number, spelled}
 use Rattle.dnp_appfragment.specs.Written.{is_point_object}
-use Rattle.dnp_eventbuf.specs.Sound.{IsSound}
-use Rattle.dnp_outstation.specs.declared.offer.place.Place.{Place}
+use Rattle.dnp_eventbuf.specs.Sound.{IsSoundBuffer}
+use Rattle.dnp_outstation.specs.declared.offer.place.ReadPlace.{ReadPlace}
 use Rattle.dnp_outstation.specs.Forms.{CanGo, may_in, laid, told_by}
 use Rattle.dnp_outstation.specs.Items.{Thing, Item, Source, items_left}
 use Rattle.dnp_outstation.specs.Items.Thing.{Event, Present}
@@ -105,7 +105,7 @@ held_some law may (x ∷ xs) can none =
     absurd (let fits : fits_fragment (take 1 rows) ≡ true = first_fits law rows (laid_go may (x ∷ xs) can) (omega arith) in cc)
 
 -- a READ goes on only after a fragment that holds something
-pub goes_on_behind_some : PutLaws → (s : Source) (stood : ℕ) (place next : Place) (headers : List Head) → IsSound s.lanes → AreWritable s
+pub goes_on_behind_some : PutLaws → (s : Source) (stood : ℕ) (place next : ReadPlace) (headers : List Head) → IsSoundBuffer s.lanes → AreWritable s
     → (offered s stood place headers).left ≡ Some next → held_of (may_in headers) (items_left s stood place headers) ≡ [] → ⊥
 goes_on_behind_some law s stood place next headers sound writable left none =
     let items = items_left s stood place headers in

@@ -4,7 +4,7 @@ use Rattle.dnp_objects.specs.Lanes.{lane_number}
 use Rattle.dnp_objects.specs.declared.lane.LaneRow.{LaneRow}
 use Rattle.dnp_objects.specs.declared.row.Row.{Row}
 use Rattle.dnp_eventbuf.specs.declared.numbered.Numbered.{Numbered}
-use Rattle.dnp_eventbuf.specs.Stock.{Stock, LaneState, no_lane, lane_at, is_full, dropped_from, dropped_by, lane_rows, rows_in, row_of, offered, up_to, lanes_up_to, all_up_to}
+use Rattle.dnp_eventbuf.specs.EventBuffer.{EventBuffer, LaneState, no_lane, lane_at, is_full, dropped_from, dropped_by, lane_rows, rows_in, row_of, offered, up_to, lanes_up_to, all_up_to}
 
 -- two lists that are none together are none
 pub first_none : {A : Type 0} (xs ys : List A) → xs ++ ys ≡ [] → xs ≡ []
@@ -31,11 +31,11 @@ take_none zero = refl
 take_none (suc n) = refl
 
 -- a lane without rows offers none
-pub lane_offers_none : (s : Stock) (number after most : ℕ) → (lane_at s number).rows ≡ [] → offered s number after most ≡ []
+pub lane_offers_none : (s : EventBuffer) (number after most : ℕ) → (lane_at s number).rows ≡ [] → offered s number after most ≡ []
 lane_offers_none s number after most none =
     ap (λ (rows : List Numbered). take most (filter (λ x. nat_lt after x.id) rows)) none ∙ take_none most
 
-pub none_offered : (s : Stock) (number after most : ℕ) → rows_in s ≡ [] → offered s number after most ≡ []
+pub none_offered : (s : EventBuffer) (number after most : ℕ) → rows_in s ≡ [] → offered s number after most ≡ []
 none_offered s number after most none = lane_offers_none s number after most (none_in s.lanes number none)
 
 -- where there are no rows, none is dropped for one that comes
@@ -46,7 +46,7 @@ dropped_none lane none = by (is_full lane) (ap (λ (rows : List Numbered). map r
     by true is = is
     by false is = refl
 
-pub none_dropped : (s : Stock) (made : Option LaneRow) → rows_in s ≡ [] → dropped_by s (option_to_list made) ≡ []
+pub none_dropped : (s : EventBuffer) (made : Option LaneRow) → rows_in s ≡ [] → dropped_by s (option_to_list made) ≡ []
 none_dropped s None none = refl
 none_dropped s (Some x) none =
     let number = lane_number x.lane in
@@ -59,9 +59,9 @@ none_up_to (lane ∷ lanes) (u ∷ us) none =
     let here : up_to u lane ≡ [] = ap (λ (rows : List Numbered). map row_of (filter (λ x. nat_le x.id u) rows)) (none_mapped lane.rows (first_none (map row_of lane.rows) (lane_rows lanes) none)) in
     ap (λ (rows : List Row). rows ++ lanes_up_to lanes us) here ∙ none_up_to lanes us (second_none (map row_of lane.rows) (lane_rows lanes) none)
 
-pub none_released : (s : Stock) (upto : List ℕ) → rows_in s ≡ [] → all_up_to s upto ≡ []
+pub none_released : (s : EventBuffer) (upto : List ℕ) → rows_in s ≡ [] → all_up_to s upto ≡ []
 none_released s upto none = none_up_to s.lanes upto none
 
 -- the other way round: what is released stands in the lanes
-pub released_is_there : (s : Stock) (upto : List ℕ) → all_up_to s upto ≢ [] → rows_in s ≢ []
+pub released_is_there : (s : EventBuffer) (upto : List ℕ) → all_up_to s upto ≢ [] → rows_in s ≢ []
 released_is_there s upto some none = some (none_released s upto none)

@@ -4,10 +4,10 @@ use Rattle.std.proofs.Common.{zero, suc, add-one, drop, length, Option}
 use Rattle.std.specs.Prelude.{slice_get}
 use Rattle.std.specs.Option.{option_map_or}
 use Rattle.std.proofs.lemmas.List.{map-append}
-use Rattle.dnp_eventbuf.specs.Stock.{Stock}
+use Rattle.dnp_eventbuf.specs.EventBuffer.{EventBuffer}
 use Rattle.dnp_eventbuf.specs.declared.numbered.Numbered.{Numbered}
 use Rattle.dnp_appfragment.specs.Headers.{Head}
-use Rattle.dnp_outstation.specs.declared.offer.place.Place.{Place}
+use Rattle.dnp_outstation.specs.declared.offer.place.ReadPlace.{ReadPlace}
 use Rattle.dnp_outstation.specs.declared.offer.writer.Writer.{Writer}
 use Rattle.dnp_outstation.specs.Forms.{leaves_open, may_in}
 use Rattle.dnp_outstation.specs.Items.{Source, Static, Part, Item, at_most, less, rows_left, event_of, event_items, present_of, part_of, part_after, part_items, parts_left, items_of, items_left, given_after}
@@ -41,7 +41,7 @@ presents_marked : (may : ℕ → Bool) (header : ℕ) (statics : List Static)
 presents_marked may header [] = refl
 presents_marked may header (x ∷ xs) = ap (λ (l : List Marked). marked (may header) (present_of header x) ∷ l) (presents_marked may header xs)
 
-events_marked : (may : ℕ → Bool) (s : Stock) (stood : ℕ) (given : List ℕ) (header : ℕ) (most : Option ℕ) (lanes : List ℕ)
+events_marked : (may : ℕ → Bool) (s : EventBuffer) (stood : ℕ) (given : List ℕ) (header : ℕ) (most : Option ℕ) (lanes : List ℕ)
     → map (opened may) (event_items s stood given header most lanes) ≡ mark (may header) (event_items s stood given header most lanes)
 events_marked may s stood given header most [] = refl
 events_marked may s stood given header most (lane ∷ lanes) =
@@ -146,7 +146,7 @@ pub ended_full : (w v : Writer) (items : List Marked) → Puts w items false v �
 ended_full w v items put = sym (put []) ∙ ap (fill w) (append-nil items)
 
 -- what a READ's headers are filled with from a place on is what is offered there
-pub filled_offered : (s : Source) (stood : ℕ) (place : Place) (headers left : List Head) (w w' : Writer) (is_last : Bool)
+pub filled_offered : (s : Source) (stood : ℕ) (place : ReadPlace) (headers left : List Head) (w w' : Writer) (is_last : Bool)
     → w ≡ empty_from place → left ≡ drop w.place.header headers
     → ended is_last w' ≡ fill w (map (opened (may_in headers)) (items_of s stood (reached w) w.place.header (parts_left w.place.count (map (part_of s) left))))
     → ended is_last w' ≡ offered s stood place headers

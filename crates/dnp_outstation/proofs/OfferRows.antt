@@ -8,9 +8,9 @@ use Rattle.std.proofs.lemmas.List.Elements.{All-filter, All-take, All-weaker}
 use Rattle.std.proofs.lemmas.List.Kept.{AllPairs-filter}
 use Rattle.std.proofs.lemmas.List.{length-take, get_or-take, take_all, take-append-drop, map-append}
 use Rattle.dnp_eventbuf.specs.declared.numbered.Numbered.{Numbered}
-use Rattle.dnp_eventbuf.specs.Stock.{Stock, lane_at, offered, without}
-use Rattle.dnp_eventbuf.specs.Carried.{IsCarried}
-use Rattle.dnp_eventbuf.specs.Sound.{IsSound}
+use Rattle.dnp_eventbuf.specs.EventBuffer.{EventBuffer, lane_at, offered, without}
+use Rattle.dnp_eventbuf.specs.FitsLane.{FitsLane}
+use Rattle.dnp_eventbuf.specs.Sound.{IsSoundBuffer}
 use Rattle.dnp_objects.specs.Lanes.{lane_number}
 use Rattle.dnp_objects.specs.declared.lane.Lane.{Lane}
 use Rattle.dnp_objects.specs.declared.limits.TheConstants.{LANES}
@@ -82,7 +82,7 @@ last_stood stood rows last rising = all_stood stood rows (λ k d less. by k d le
 
 -- ---- rows that are left after a release
 
-pub left_after : (s : Stock) (upto : List ℕ) (number after over : ℕ)
+pub left_after : (s : EventBuffer) (upto : List ℕ) (number after over : ℕ)
     → ((most : ℕ) → offered (without s upto) number after most ≡ offered s number over most)
     → filter (λ x. nat_lt after x.id) (lane_at (without s upto) number).rows ≡ filter (λ x. nat_lt over x.id) (lane_at s number).rows
 left_after s upto number after over law =
@@ -91,9 +91,9 @@ left_after s upto number after over law =
     sym (take_all (length old + length new) new (omega arith)) ∙ law (length old + length new) ∙ take_all (length old + length new) old (omega arith)
 
 -- the rows over an id that stood, at most so many, are those that a header may still give
-pub rows_given : (s : Stock) (released : Option (List ℕ)) (stood : ℕ) (given : List ℕ) (number : ℕ) (most : Option ℕ) → IsSound s → number < LANES
+pub rows_given : (s : EventBuffer) (released : Option (List ℕ)) (stood : ℕ) (given : List ℕ) (number : ℕ) (most : Option ℕ) → IsSoundBuffer s → number < LANES
     → IfSome released (λ upto. length upto ≡ LANES)
-    → ((t : Stock) (upto : List ℕ) (n after limit : ℕ) → length upto ≡ length t.lanes → n < length t.lanes → offered (without t upto) n after limit
+    → ((t : EventBuffer) (upto : List ℕ) (n after limit : ℕ) → length upto ≡ length t.lanes → n < length t.lanes → offered (without t upto) n after limit
     ≡ offered t n (max after (get_or upto n 0)) limit)
     → filter (stood_at stood) (at_most most (filter (λ x. nat_lt (over_of given released number) x.id) (lane_at s number).rows))
     ≡ at_most most (rows_left (after_release s released) stood given number)
@@ -119,18 +119,18 @@ rows_given s released stood given number most sound low nine law =
 
 -- ---- the first rows of a lane
 
-pub lane_kinds : (s : Stock) (lane : Lane) (after most : ℕ) → IsSound s → lane_number lane < LANES
+pub lane_kinds : (s : EventBuffer) (lane : Lane) (after most : ℕ) → IsSoundBuffer s → lane_number lane < LANES
     → All (λ x. x.row.kind ≡ lane.kind) (offered s (lane_number lane) after most)
 lane_kinds s lane after most sound low =
     let P : Numbered → Type 0 = λ x. x.row.kind ≡ lane.kind in
     let rows : List Numbered = (lane_at s (lane_number lane)).rows in
     All-take P most (filter (λ x. nat_lt after x.id) rows)
     (All-filter (λ (x : Numbered). nat_lt after x.id) P rows
-    (All-weaker (λ (x : Numbered). IsCarried (record { lane = lane; row = x.row })) P (λ x h. h.of_its_kind) rows
+    (All-weaker (λ (x : Numbered). FitsLane (record { lane = lane; row = x.row })) P (λ x h. h.of_its_kind) rows
     ((sound.each (lane_number lane) low).carried lane refl)))
 
 -- their ids rise
-pub rises_offered : (s : Stock) (number after most : ℕ) → IsSound s → number < LANES → Rises (offered s number after most)
+pub rises_offered : (s : EventBuffer) (number after most : ℕ) → IsSoundBuffer s → number < LANES → Rises (offered s number after most)
 rises_offered s number after most sound low =
     let rows : List Numbered = filter (λ x. nat_lt after x.id) (lane_at s number).rows in
     let whole : Rises rows = AllPairs-filter (λ (x y : Numbered). x.id < y.id) (λ x. nat_lt after x.id) (lane_at s number).rows (sound.each number low).rising in

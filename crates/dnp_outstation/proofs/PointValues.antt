@@ -16,7 +16,7 @@ use Rattle.dnp_pointdb.specs.declared.state.PointState.{PointState}
 use Rattle.dnp_pointdb.specs.Events.{row_of}
 use Rattle.dnp_pointdb.specs.Ranges.{is_carried}
 use Rattle.dnp_pointdb.specs.Sound.{IsSoundPoint, static_object}
-use Rattle.dnp_outstation.specs.declared.offer.place.Place.{Place}
+use Rattle.dnp_outstation.specs.declared.offer.place.ReadPlace.{ReadPlace}
 use Rattle.dnp_outstation.specs.declared.offer.writer.Run.{Run}
 use Rattle.dnp_outstation.specs.declared.offer.writer.Run.TheVariants.{OfBlock}
 use Rattle.dnp_outstation.specs.declared.offer.writer.Writer.{Writer}
@@ -66,14 +66,14 @@ counts_add c n most = omega arith
 counts_stay : (c most : ℕ) → min (min (c + 1) most + 0) most ≡ min (c + 1) most
 counts_stay c most = omega arith
 
-place_more : (place : Place) (header n : ℕ) → passed_by (passed place header) header n ≡ passed_by place header (n + 1)
+place_more : (place : ReadPlace) (header n : ℕ) → passed_by (passed place header) header n ≡ passed_by place header (n + 1)
 place_more place header n =
     let before = cond (place.header == header) place.count 0 in
     let count = ap (λ (t : Bool). min (cond t (min (before + 1) (2 ^ 32 - 1)) 0 + n) (2 ^ 32 - 1)) (eq-eqb header header refl)
     ∙ counts_add before n (2 ^ 32 - 1) in
     (λ i. record { header = header; count = count i; given = place.given })
 
-place_stays : (place : Place) (header : ℕ) → passed_by (passed place header) header 0 ≡ passed place header
+place_stays : (place : ReadPlace) (header : ℕ) → passed_by (passed place header) header 0 ≡ passed place header
 place_stays place header =
     let before = cond (place.header == header) place.count 0 in
     let count = ap (λ (t : Bool). min (cond t (min (before + 1) (2 ^ 32 - 1)) 0 + 0) (2 ^ 32 - 1)) (eq-eqb header header refl)

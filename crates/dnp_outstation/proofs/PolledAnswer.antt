@@ -11,7 +11,7 @@ use Rattle.dnp_appfragment.specs.declared.fault.AppFault.{AppFault}
 use Rattle.dnp_appfragment.specs.declared.function.Function.TheVariants as function
 use Rattle.dnp_controls.specs.Panel.{Panel}
 use Rattle.dnp_controls.specs.Selecting.{deadline}
-use Rattle.dnp_eventbuf.specs.Sound.{IsSound}
+use Rattle.dnp_eventbuf.specs.Sound.{IsSoundBuffer}
 use Rattle.dnp_objects.specs.Objects.{content_of, objects}
 use Rattle.dnp_objects.specs.declared.limits.TheConstants.{MAX_FRAGMENT}
 use Rattle.dnp_outstation.specs.Calls.{connection_after, received}
@@ -23,7 +23,7 @@ use Rattle.dnp_outstation.specs.Said.{AreWritable}
 use Rattle.dnp_outstation.specs.State.{Core, State, Step, holds_read, is_free, is_quiet}
 use Rattle.dnp_outstation.specs.declared.case.Case.{Case}
 use Rattle.dnp_outstation.specs.declared.case.Case.TheVariants.{Again, Asks, PassedOver, Waits}
-use Rattle.dnp_outstation.specs.declared.offer.place.Place.{Place}
+use Rattle.dnp_outstation.specs.declared.offer.place.ReadPlace.{ReadPlace}
 use Rattle.dnp_outstation.specs.declared.session.Awaited.{Awaited}
 use Rattle.dnp_outstation.specs.declared.session.Unsolicited.{Unsolicited}
 use Rattle.dnp_outstation.specs.Polled.{Offers, are_all_polled, poll_octets, poll_request, polled_headers, polled_rows}
@@ -39,9 +39,9 @@ pub record OfferLaws : Type 0 where
   pub is_control : ControlLaw
   pub is_request : (asked : Asked) → IsControl asked.control → is_response asked.function ≡ false
       → AreHeaders (form_of asked.function) begin asked.headers → request_at (request_octets asked) ≡ Ok asked
-  pub is_answer : (answered : Answered) (s : Source) (stood : ℕ) (place : Place) (headers : List Head)
+  pub is_answer : (answered : Answered) (s : Source) (stood : ℕ) (place : ReadPlace) (headers : List Head)
       → answered.headers ≡ (offered s stood place headers).headers → IsControl answered.control
-      → is_response answered.function ≡ true → IsSound s.lanes → AreWritable s → response_at (response_octets answered) ≡ Ok answered
+      → is_response answered.function ≡ true → IsSoundBuffer s.lanes → AreWritable s → response_at (response_octets answered) ≡ Ok answered
 
 -- ---- a quiet outstation
 
@@ -141,7 +141,7 @@ ends_still now step none =
     by false b c started = refl
 
 -- what may be sent then says what is polled
-module _ (laws : OfferLaws) (s : State) (o : Panel) (now seq : ℕ) (low : seq < 16) (sound : IsSound s.lanes) (writable : AreWritable (source_of s o))
+module _ (laws : OfferLaws) (s : State) (o : Panel) (now seq : ℕ) (low : seq < 16) (sound : IsSoundBuffer s.lanes) (writable : AreWritable (source_of s o))
     (quiet : IsQuiet s.core) where
   found : IsOffered s.lanes (offered (source_of s o) (last_in s.lanes) first_place polled_headers)
   found = read_offered (source_of s o) sound
@@ -153,7 +153,7 @@ module _ (laws : OfferLaws) (s : State) (o : Panel) (now seq : ℕ) (low : seq <
         no_rows_polled s.lanes sound (ap has_rows (sym found.upto) ∙ both.1),
       )
     where
-      none_left : (left : Option Place) → is_some left ≡ false → is_none left ≡ true
+      none_left : (left : Option ReadPlace) → is_some left ≡ false → is_none left ≡ true
       none_left None e = refl
       none_left (Some place) e = absurd (cc)
 

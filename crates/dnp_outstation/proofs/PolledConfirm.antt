@@ -5,8 +5,8 @@ use Rattle.dnp_appfragment.specs.Fragments.{confirmation, request_octets}
 use Rattle.dnp_appfragment.specs.Table.{function_octet}
 use Rattle.dnp_appfragment.specs.declared.function.Function.TheVariants as function
 use Rattle.dnp_controls.specs.Panel.{Panel}
-use Rattle.dnp_eventbuf.specs.Sound.{IsSound}
-use Rattle.dnp_eventbuf.specs.Stock.{all_up_to, without}
+use Rattle.dnp_eventbuf.specs.Sound.{IsSoundBuffer}
+use Rattle.dnp_eventbuf.specs.EventBuffer.{all_up_to, without}
 use Rattle.dnp_objects.specs.declared.limits.TheConstants.{MAX_FRAGMENT}
 use Rattle.dnp_outstation.specs.Calls.{connection_after}
 use Rattle.dnp_outstation.specs.Connection.{awaited_number, case_of, control_in, function_in, is_number}
@@ -16,7 +16,7 @@ use Rattle.dnp_outstation.specs.declared.case.Case.{Case}
 use Rattle.dnp_outstation.specs.declared.case.Case.TheVariants.{Confirms, ConfirmsUnsolicited, PassedOver, Stray}
 use Rattle.dnp_outstation.specs.declared.session.Awaited.{Awaited}
 use Rattle.dnp_outstation.specs.declared.session.Unsolicited.{Unsolicited}
-use Rattle.dnp_outstation.specs.Polled.{Awaits, Releases, confirm_octets, polled_ids}
+use Rattle.dnp_outstation.specs.Polled.{Awaits, ReleasesPolled, confirm_octets, polled_ids}
 use Rattle.dnp_outstation.proofs.PolledAnswer.{ControlLaw}
 use Rattle.dnp_outstation.proofs.PolledOrder.{released_is}
 
@@ -65,8 +65,8 @@ confirms_report law c seq w low opens waits same =
     ∙ ap (λ (o : Option Unsolicited). if is_number (option_map (λ x. x.seq) o) seq then ConfirmsUnsolicited else Stray) waits
     ∙ ap (λ (b : Bool). if b then ConfirmsUnsolicited else Stray) (eq-eqb w.seq seq same)
 
-pub releases_rows : ConfirmLaws → (s : State) (o : Panel) (now seq : ℕ) → seq < 16 → IsSound s.lanes → s.core.is_open ≡ true
-    → Awaits seq (polled_ids s.lanes) s → Releases s (connection_after s o now (confirm_octets seq))
+pub releases_rows : ConfirmLaws → (s : State) (o : Panel) (now seq : ℕ) → seq < 16 → IsSoundBuffer s.lanes → s.core.is_open ≡ true
+    → Awaits seq (polled_ids s.lanes) s → ReleasesPolled s (connection_after s o now (confirm_octets seq))
 releases_rows laws s o now seq low sound opens awaits =
     let r = laws.releases s o now (confirm_octets seq) awaits.wait (confirms laws.is_control s seq (polled_ids s.lanes) low opens awaits) awaits.is in
     record {

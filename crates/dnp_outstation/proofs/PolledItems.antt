@@ -7,8 +7,8 @@ use Rattle.std.proofs.lemmas.List.{get_or-replicate, map-append}
 use Rattle.std.proofs.lemmas.List.Elements.{filter_map-append}
 use Rattle.dnp_objects.specs.declared.limits.TheConstants.{LANES}
 use Rattle.dnp_eventbuf.specs.declared.numbered.Numbered.{Numbered}
-use Rattle.dnp_eventbuf.specs.Sound.{IsSound}
-use Rattle.dnp_eventbuf.specs.Stock.{Stock, lane_at, last_of}
+use Rattle.dnp_eventbuf.specs.Sound.{IsSoundBuffer}
+use Rattle.dnp_eventbuf.specs.EventBuffer.{EventBuffer, lane_at, last_of}
 use Rattle.dnp_outstation.specs.Items.{Item, Part, Source, class_lanes, event_items, event_of, first_place, given_after, items_left, items_of, lane_items, last_in, no_ids, rows_left}
 use Rattle.dnp_outstation.specs.Items.Part.{RowsOf}
 use Rattle.dnp_outstation.specs.Laws.{row_in, rows_in_lane}
@@ -42,7 +42,7 @@ in_last a b c n few = at_right a (max b c) n (at_right b c n few)
 same_last : (n : ℕ) → n ≤ n
 same_last n = omega arith
 
-abbrev last_at : Stock → ℕ → ℕ
+abbrev last_at : EventBuffer → ℕ → ℕ
 last_at s lane = last_of (lane_at s lane).rows
 
 -- the last id of a class, by its three lanes
@@ -71,7 +71,7 @@ of_nine last (suc (suc (suc (suc (suc (suc (suc (suc zero)))))))) low =
 of_nine last (suc (suc (suc (suc (suc (suc (suc (suc (suc n))))))))) low = absurd (omega arith)
 
 -- where nothing was given of a lane, all of its rows are left
-all_left : (s : Stock) (given : List ℕ) (lane : ℕ) → IsSound s → lane < LANES → slice_index given lane ≡ 0
+all_left : (s : EventBuffer) (given : List ℕ) (lane : ℕ) → IsSoundBuffer s → lane < LANES → slice_index given lane ≡ 0
     → rows_left s (last_in s) given lane ≡ (lane_at s lane).rows
 all_left s given lane sound low none =
     let rows : List Numbered = (lane_at s lane).rows in
@@ -82,7 +82,7 @@ all_left s given lane sound low none =
 
 -- ---- the rows of some lanes, for one header of the READ
 
-abbrev pub of_lanes : Stock → ℕ → List ℕ → List Item
+abbrev pub of_lanes : EventBuffer → ℕ → List ℕ → List Item
 of_lanes s header [] = []
 of_lanes s header (lane ∷ lanes) = map (event_of header lane) (lane_at s lane).rows ++ of_lanes s header lanes
 
@@ -91,7 +91,7 @@ abbrev AreUngiven : List ℕ → List ℕ → Type 0
 AreUngiven given [] = Unit {0}
 AreUngiven given (lane ∷ lanes) = (lane < LANES) × (slice_index given lane ≡ 0) × AreUngiven given lanes
 
-all_items : (s : Stock) (given : List ℕ) (header : ℕ) (lanes : List ℕ) → IsSound s → AreUngiven given lanes
+all_items : (s : EventBuffer) (given : List ℕ) (header : ℕ) (lanes : List ℕ) → IsSoundBuffer s → AreUngiven given lanes
     → event_items s (last_in s) given header None lanes ≡ of_lanes s header lanes
 all_items s given header [] sound free = refl
 all_items s given header (lane ∷ lanes) sound free =
@@ -99,7 +99,7 @@ all_items s given header (lane ∷ lanes) sound free =
     (all_left s given lane sound free.0 free.1)
     ∙ ap (λ (items : List Item). map (event_of header lane) (lane_at s lane).rows ++ items) (all_items s given header lanes sound free.2)
 
-apart_rows : (s : Stock) (header : ℕ) (numbers : List ℕ) (lane : ℕ) → IsApart lane numbers → rows_in_lane lane (of_lanes s header numbers) ≡ []
+apart_rows : (s : EventBuffer) (header : ℕ) (numbers : List ℕ) (lane : ℕ) → IsApart lane numbers → rows_in_lane lane (of_lanes s header numbers) ≡ []
 apart_rows s header [] lane apart = refl
 apart_rows s header (number ∷ numbers) lane apart =
     filter_map-append (row_in lane) (map (event_of header number) (lane_at s number).rows) (of_lanes s header numbers)
@@ -108,7 +108,7 @@ apart_rows s header (number ∷ numbers) lane apart =
     ∙ apart_rows s header numbers lane apart.1
 
 -- what other lanes give leaves a lane ungiven
-still_none : (s : Stock) (given : List ℕ) (header : ℕ) (numbers : List ℕ) (lane : ℕ) → lane < length given → IsApart lane numbers
+still_none : (s : EventBuffer) (given : List ℕ) (header : ℕ) (numbers : List ℕ) (lane : ℕ) → lane < length given → IsApart lane numbers
     → slice_index given lane ≡ 0 → slice_index (fold given_after given (of_lanes s header numbers)) lane ≡ 0
 still_none s given header numbers lane low apart none =
     last_given given (of_lanes s header numbers) lane low
@@ -120,22 +120,22 @@ behind_class class lane past = ((λ e. omega arith), ((λ e. omega arith), ((λ 
 
 -- ---- the READ
 
-abbrev given_first : Stock → List ℕ
+abbrev given_first : EventBuffer → List ℕ
 given_first s = fold given_after no_ids (of_lanes s 0 (class_lanes 0))
 
-abbrev given_second : Stock → List ℕ
+abbrev given_second : EventBuffer → List ℕ
 given_second s = fold given_after (given_first s) (of_lanes s 1 (class_lanes 1))
 
-abbrev pub by_class : Stock → List Item
+abbrev pub by_class : EventBuffer → List Item
 by_class s = of_lanes s 0 (class_lanes 0) ++ (of_lanes s 1 (class_lanes 1) ++ (of_lanes s 2 (class_lanes 2) ++ []))
 
-nine_first : (s : Stock) → length (given_first s) ≡ LANES
+nine_first : (s : EventBuffer) → length (given_first s) ≡ LANES
 nine_first s = length_given no_ids (of_lanes s 0 (class_lanes 0))
 
-free_first : (s : Stock) (lane : ℕ) → 3 ≤ lane → lane < LANES → slice_index no_ids lane ≡ 0 → slice_index (given_first s) lane ≡ 0
+free_first : (s : EventBuffer) (lane : ℕ) → 3 ≤ lane → lane < LANES → slice_index no_ids lane ≡ 0 → slice_index (given_first s) lane ≡ 0
 free_first s lane past low none = still_none s no_ids 0 (class_lanes 0) lane low (behind_class 0 lane (omega arith)) none
 
-free_second : (s : Stock) (lane : ℕ) → 6 ≤ lane → lane < LANES → slice_index no_ids lane ≡ 0 → slice_index (given_second s) lane ≡ 0
+free_second : (s : EventBuffer) (lane : ℕ) → 6 ≤ lane → lane < LANES → slice_index no_ids lane ≡ 0 → slice_index (given_second s) lane ≡ 0
 free_second s lane past low none =
     still_none s (given_first s) 1 (class_lanes 1) lane (omega (arith, nine_first s)) (behind_class 1 lane (omega arith))
     (free_first s lane (omega arith) low none)
@@ -143,9 +143,9 @@ free_second s lane past low none =
 none_given : (lane : ℕ) → lane < LANES → slice_index no_ids lane ≡ 0
 none_given lane low = get_or-replicate LANES lane 0 0 low
 
-pub read_items : (s : Source) → IsSound s.lanes → items_left s (last_in s.lanes) first_place polled_headers ≡ by_class s.lanes
+pub read_items : (s : Source) → IsSoundBuffer s.lanes → items_left s (last_in s.lanes) first_place polled_headers ≡ by_class s.lanes
 read_items s sound =
-    let k : Stock = s.lanes in
+    let k : EventBuffer = s.lanes in
     let stood : ℕ = last_in k in
     let rest : List Part = RowsOf (class_lanes 2) None ∷ [] in
     let more : List Part = RowsOf (class_lanes 1) None ∷ rest in
@@ -182,20 +182,20 @@ plain_lane : (header lane : ℕ) (rows : List Numbered) → map plain_item (map 
 plain_lane header lane [] = refl
 plain_lane header lane (x ∷ xs) = ap (λ (items : List Item). event_of 0 lane x ∷ items) (plain_lane header lane xs)
 
-plain_lanes : (s : Stock) (header : ℕ) (lanes : List ℕ) → map plain_item (of_lanes s header lanes) ≡ lane_items s lanes
+plain_lanes : (s : EventBuffer) (header : ℕ) (lanes : List ℕ) → map plain_item (of_lanes s header lanes) ≡ lane_items s lanes
 plain_lanes s header [] = refl
 plain_lanes s header (lane ∷ lanes) =
     map-append plain_item (map (event_of header lane) (lane_at s lane).rows) (of_lanes s header lanes)
     ∙ ap (λ (items : List Item). items ++ map plain_item (of_lanes s header lanes)) (plain_lane header lane (lane_at s lane).rows)
     ∙ ap (λ (items : List Item). map (event_of 0 lane) (lane_at s lane).rows ++ items) (plain_lanes s header lanes)
 
-lanes_joined : (s : Stock) (xs ys : List ℕ) → lane_items s (xs ++ ys) ≡ lane_items s xs ++ lane_items s ys
+lanes_joined : (s : EventBuffer) (xs ys : List ℕ) → lane_items s (xs ++ ys) ≡ lane_items s xs ++ lane_items s ys
 lanes_joined s [] ys = refl
 lanes_joined s (x ∷ xs) ys =
     let own : List Item = map (event_of 0 x) (lane_at s x).rows in
     ap (λ (items : List Item). own ++ items) (lanes_joined s xs ys) ∙ sym (append_assoc own (lane_items s xs) (lane_items s ys))
 
-pub plain_read : (s : Stock) → map plain_item (by_class s) ≡ polled_items s
+pub plain_read : (s : EventBuffer) → map plain_item (by_class s) ≡ polled_items s
 plain_read s =
     let one : List Item = of_lanes s 0 (class_lanes 0) in
     let two : List Item = of_lanes s 1 (class_lanes 1) in

@@ -5,8 +5,8 @@ use Rattle.std.specs.List.{AllByRecursion, cons_option, flat_map}
 use Rattle.std.proofs.lemmas.List.{length-map, take-map}
 use Rattle.dnp_appfragment.specs.Headers.{Head, head_after, spelled}
 use Rattle.dnp_appfragment.specs.Items.{Item as Object, item_octets}
-use Rattle.dnp_eventbuf.specs.Sound.{IsSound}
-use Rattle.dnp_eventbuf.specs.Stock.{Stock, lane_at}
+use Rattle.dnp_eventbuf.specs.Sound.{IsSoundBuffer}
+use Rattle.dnp_eventbuf.specs.EventBuffer.{EventBuffer, lane_at}
 use Rattle.dnp_eventbuf.specs.declared.numbered.Numbered.{Numbered}
 use Rattle.dnp_objects.specs.declared.limits.TheConstants.{MAX_FRAGMENT}
 use Rattle.dnp_objects.specs.declared.row.Row.{Row}
@@ -51,13 +51,13 @@ lane_are_rows : (header lane : ℕ) (rows : List Numbered) → AreRows (map (eve
 lane_are_rows header lane [] = tt
 lane_are_rows header lane (x ∷ xs) = (tt, lane_are_rows header lane xs)
 
-lanes_are_rows : (s : Stock) (header : ℕ) (lanes : List ℕ) → AreRows (of_lanes s header lanes)
+lanes_are_rows : (s : EventBuffer) (header : ℕ) (lanes : List ℕ) → AreRows (of_lanes s header lanes)
 lanes_are_rows s header [] = tt
 lanes_are_rows s header (lane ∷ lanes) =
     rows_joined (map (event_of header lane) (lane_at s lane).rows) (of_lanes s header lanes) (lane_are_rows header lane (lane_at s lane).rows)
     (lanes_are_rows s header lanes)
 
-read_are_rows : (s : Stock) → AreRows (by_class s)
+read_are_rows : (s : EventBuffer) → AreRows (by_class s)
 read_are_rows s =
     let one : List Item = of_lanes s 0 (class_lanes 0) in
     let two : List Item = of_lanes s 1 (class_lanes 1) in
@@ -258,13 +258,13 @@ lane_open : (header lane : ℕ) (rows : List Numbered) → true ≡ polled_may h
 lane_open header lane [] is = tt
 lane_open header lane (x ∷ xs) is = (is, lane_open header lane xs is)
 
-lanes_open : (s : Stock) (header : ℕ) (lanes : List ℕ) → true ≡ polled_may header → AllByRecursion LeavesOpen (of_lanes s header lanes)
+lanes_open : (s : EventBuffer) (header : ℕ) (lanes : List ℕ) → true ≡ polled_may header → AllByRecursion LeavesOpen (of_lanes s header lanes)
 lanes_open s header [] is = tt
 lanes_open s header (lane ∷ lanes) is =
     joined_open (map (event_of header lane) (lane_at s lane).rows) (of_lanes s header lanes) (lane_open header lane (lane_at s lane).rows is)
     (lanes_open s header lanes is)
 
-all_leave_open : (s : Stock) → AllByRecursion LeavesOpen (by_class s)
+all_leave_open : (s : EventBuffer) → AllByRecursion LeavesOpen (by_class s)
 all_leave_open s =
     let one : List Item = of_lanes s 0 (class_lanes 0) in
     let two : List Item = of_lanes s 1 (class_lanes 1) in
@@ -273,13 +273,13 @@ all_leave_open s =
     (joined_open two (three ++ []) (lanes_open s 1 (class_lanes 1) refl) (joined_open three [] (lanes_open s 2 (class_lanes 2) refl) tt))
 
 -- what the first fragment of the READ holds
-pub record IsPolled (s : Stock) (items : List Item) : Type 0 where
+pub record IsPolled (s : EventBuffer) (items : List Item) : Type 0 where
   pub headers : headers_of (held_laid polled_may items) ≡ headers_of (polled_held s)
   pub upto : last_ids (held_of polled_may items) ≡ polled_ids s
   pub rows : events_in (held_of polled_may items) ≡ polled_rows s
   pub all : (length (held_of polled_may items) == length items) ≡ are_all_polled s
 
-class_polled : (s : Stock) → IsPolled s (by_class s)
+class_polled : (s : EventBuffer) → IsPolled s (by_class s)
 class_polled s =
     let items : List Item = by_class s in
     let held : List Item = held_of polled_may items in
@@ -297,11 +297,11 @@ class_polled s =
       all = ap (λ (n : ℕ). n == length items) held_long ∙ ap (λ (n : ℕ). length (held_of may_each (polled_items s)) == n) long;
     }
 
-pub read_polled : (s : Source) → IsSound s.lanes → IsPolled s.lanes (items_left s (last_in s.lanes) first_place polled_headers)
+pub read_polled : (s : Source) → IsSoundBuffer s.lanes → IsPolled s.lanes (items_left s (last_in s.lanes) first_place polled_headers)
 read_polled s sound = subst (IsPolled s.lanes) (sym (read_items s sound)) (class_polled s.lanes)
 
 -- as it is offered
-pub record IsOffered (s : Stock) (f : Filled) : Type 0 where
+pub record IsOffered (s : EventBuffer) (f : Filled) : Type 0 where
   pub headers : f.headers ≡ headers_of (polled_held s)
   pub upto : f.upto ≡ polled_ids s
   pub last : is_none f.left ≡ are_all_polled s
@@ -310,7 +310,7 @@ none_by : {A : Type 0} (b : Bool) (x : A) → is_none (if b then None else Some 
 none_by true x = refl
 none_by false x = refl
 
-pub read_offered : (s : Source) → IsSound s.lanes → IsOffered s.lanes (offered s (last_in s.lanes) first_place polled_headers)
+pub read_offered : (s : Source) → IsSoundBuffer s.lanes → IsOffered s.lanes (offered s (last_in s.lanes) first_place polled_headers)
 unfolding offered_of
 read_offered s sound =
     let items : List Item = items_left s (last_in s.lanes) first_place polled_headers in

@@ -5,8 +5,8 @@ use Rattle.std.specs.List.{filter, list_any, range_with_len}
 use Rattle.std.proofs.lemmas.Bool.{cases_eq, cases_lt, lt-ltb, or_parts}
 use Rattle.std.proofs.lemmas.List.{get_or_past}
 use Rattle.std.proofs.lemmas.List.Elements.{filter_map-append}
-use Rattle.dnp_eventbuf.specs.Sound.{IsSound}
-use Rattle.dnp_eventbuf.specs.Stock.{LaneState, Stock, lane_at, lanes_up_to, no_lane, row_of, up_to}
+use Rattle.dnp_eventbuf.specs.Sound.{IsSoundBuffer}
+use Rattle.dnp_eventbuf.specs.EventBuffer.{LaneState, EventBuffer, lane_at, lanes_up_to, no_lane, row_of, up_to}
 use Rattle.dnp_eventbuf.specs.declared.numbered.Numbered.{Numbered}
 use Rattle.dnp_objects.specs.declared.limits.TheConstants.{LANES}
 use Rattle.dnp_objects.specs.declared.row.Row.{Row}
@@ -41,18 +41,18 @@ none_up_to (lane ∷ lanes) (id ∷ ids) rising none =
     by few (inl some) = absurd (let t : nat_lt 0 id ≡ true = lt-ltb 0 id some in cc)
     by few (inr none) = omega arith
 
-pub no_rows_polled : (s : Stock) → IsSound s → has_rows (polled_ids s) ≡ false → polled_rows s ≡ []
+pub no_rows_polled : (s : EventBuffer) → IsSoundBuffer s → has_rows (polled_ids s) ≡ false → polled_rows s ≡ []
 no_rows_polled s sound none =
     sym (released_is s sound)
     ∙ none_up_to s.lanes (polled_ids s) (λ k low. lane_rises s k sound (omega (arith, low, sound.nine))) none
 
 -- ---- no rows at all
 
-abbrev AreEmpty : Stock → List ℕ → Type 0
+abbrev AreEmpty : EventBuffer → List ℕ → Type 0
 AreEmpty s [] = Unit {0}
 AreEmpty s (lane ∷ lanes) = ((lane_at s lane).rows ≡ []) × AreEmpty s lanes
 
-lanes_empty : (s : Stock) (lanes : List ℕ) → events_in (lane_items s lanes) ≡ [] → AreEmpty s lanes
+lanes_empty : (s : EventBuffer) (lanes : List ℕ) → events_in (lane_items s lanes) ≡ [] → AreEmpty s lanes
 lanes_empty s [] none = tt
 lanes_empty s (lane ∷ lanes) none =
     let own : List Item = map (event_of 0 lane) (lane_at s lane).rows in
@@ -62,7 +62,7 @@ lanes_empty s (lane ∷ lanes) none =
       lanes_empty s lanes (second_none (events_in own) (events_in rest) parts),
     )
 
-empty_at : (s : Stock) (from n lane : ℕ) → AreEmpty s (range_with_len from n) → from ≤ lane → lane < from + n → (lane_at s lane).rows ≡ []
+empty_at : (s : EventBuffer) (from n lane : ℕ) → AreEmpty s (range_with_len from n) → from ≤ lane → lane < from + n → (lane_at s lane).rows ≡ []
 empty_at s from zero lane all low high = absurd (omega arith)
 empty_at s from (suc n) lane all low high = by (cases_eq from lane) (λ past. empty_at s (from + 1) n lane all.1 past (omega arith))
   where
@@ -70,7 +70,7 @@ empty_at s from (suc n) lane all low high = by (cases_eq from lane) (λ past. em
     by (inl same) behind = subst (λ (k : ℕ). (lane_at s k).rows ≡ []) same all.0
     by (inr other) behind = behind (omega arith)
 
-none_in_lanes : (s : Stock) → IsSound s → events_in (polled_items s) ≡ [] → (lane : ℕ) → (lane_at s lane).rows ≡ []
+none_in_lanes : (s : EventBuffer) → IsSoundBuffer s → events_in (polled_items s) ≡ [] → (lane : ℕ) → (lane_at s lane).rows ≡ []
 none_in_lanes s sound none lane = by (cases_lt lane LANES)
   where
     by : (lane < LANES) ⊎ (LANES ≤ lane) → (lane_at s lane).rows ≡ []
@@ -80,11 +80,11 @@ none_in_lanes s sound none lane = by (cases_lt lane LANES)
 whole : (may : ℕ → Bool) (items : List Item) → (length (held_of may items) == length items) ≡ true → held_of may items ≡ items
 whole may items all = held_whole may items (eqb-true (length (held_of may items)) (length items) all)
 
-pub lanes_are_empty : (s : Stock) → IsSound s → are_all_polled s ≡ true → polled_rows s ≡ [] → (lane : ℕ) → (lane_at s lane).rows ≡ []
+pub lanes_are_empty : (s : EventBuffer) → IsSoundBuffer s → are_all_polled s ≡ true → polled_rows s ≡ [] → (lane : ℕ) → (lane_at s lane).rows ≡ []
 lanes_are_empty s sound all none =
     none_in_lanes s sound (ap events_in (sym (whole may_each (polled_items s) all)) ∙ none)
 
-pub none_enabled : (s : Stock) (lanes : List ℕ) → ((lane : ℕ) → (lane_at s lane).rows ≡ [])
+pub none_enabled : (s : EventBuffer) (lanes : List ℕ) → ((lane : ℕ) → (lane_at s lane).rows ≡ [])
     → list_any (λ lane. nat_lt 0 (length (lane_at s lane).rows)) lanes ≡ false
 none_enabled s [] empty = refl
 none_enabled s (lane ∷ lanes) empty =

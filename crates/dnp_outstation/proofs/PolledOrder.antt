@@ -3,8 +3,8 @@ use Rattle.std.proofs.Common.{◌≡◌, ◌⊎◌, inl, inr, Bool, true, false,
 use Rattle.std.specs.List.{flat_map}
 use Rattle.std.proofs.lemmas.List.{take-map}
 use Rattle.std.proofs.lemmas.List.Elements.{filter_map-append}
-use Rattle.dnp_eventbuf.specs.Sound.{IsSound}
-use Rattle.dnp_eventbuf.specs.Stock.{Stock, all_up_to, lane_at, row_of}
+use Rattle.dnp_eventbuf.specs.Sound.{IsSoundBuffer}
+use Rattle.dnp_eventbuf.specs.EventBuffer.{EventBuffer, all_up_to, lane_at, row_of}
 use Rattle.dnp_eventbuf.specs.declared.numbered.Numbered.{Numbered}
 use Rattle.dnp_objects.specs.declared.row.Row.{Row}
 use Rattle.dnp_outstation.specs.Forms.{may_each}
@@ -36,14 +36,14 @@ none_of_none zero = refl
 none_of_none (suc n) = refl
 
 -- the first rows of a lane, and then the first ones of those after it
-begins_lane : (s : Stock) (n lane : ℕ) (lanes : List ℕ) (b : Begins n (map (event_of 0 lane) (lane_at s lane).rows) (lane_items s lanes))
+begins_lane : (s : EventBuffer) (n lane : ℕ) (lanes : List ℕ) (b : Begins n (map (event_of 0 lane) (lane_at s lane).rows) (lane_items s lanes))
     → take n (lane_items s (lane ∷ lanes)) ≡ map (event_of 0 lane) (take n (lane_at s lane).rows) ++ take b.more (lane_items s lanes)
 begins_lane s n lane lanes b =
     b.is ∙ ap (λ (items : List Item). items ++ take b.more (lane_items s lanes)) (take-map (event_of 0 lane) n (lane_at s lane).rows)
 
 -- ---- rows of one lane
 
-apart_first : (s : Stock) (n lane : ℕ) (numbers : List ℕ) → IsApart lane numbers → rows_in_lane lane (take n (lane_items s numbers)) ≡ []
+apart_first : (s : EventBuffer) (n lane : ℕ) (numbers : List ℕ) → IsApart lane numbers → rows_in_lane lane (take n (lane_items s numbers)) ≡ []
 apart_first s n lane [] apart = ap (rows_in_lane lane) (none_of_none n)
 apart_first s n lane (number ∷ numbers) apart =
     let b = begins n (map (event_of 0 number) (lane_at s number).rows) (lane_items s numbers) in
@@ -86,7 +86,7 @@ AreAmong (lane ∷ lanes) (number ∷ numbers) =
     ((lane ≡ number) × IsApart lane lanes × IsApart lane numbers × AreAmong lanes numbers)
     ⊎ (IsApart number (lane ∷ lanes) × AreAmong (lane ∷ lanes) numbers)
 
-in_order : (s : Stock) (n : ℕ) (lanes numbers : List ℕ) → AreAmong lanes numbers
+in_order : (s : EventBuffer) (n : ℕ) (lanes numbers : List ℕ) → AreAmong lanes numbers
     → rows_over (take n (lane_items s lanes)) numbers ≡ events_in (take n (lane_items s lanes))
 in_order s n [] numbers among =
     ap (λ (items : List Item). rows_over items numbers) (none_of_none n) ∙ over_none numbers ∙ ap events_in (sym (none_of_none n))
@@ -172,7 +172,7 @@ enabled_among class (false ∷ bs) (suc more) few =
 
 -- ---- what is held of them
 
-held_in_order : (s : Stock) (enabled : List Bool) → length enabled ≤ 3
+held_in_order : (s : EventBuffer) (enabled : List Bool) → length enabled ≤ 3
     → (let items : List Item = lane_items s (enabled_lanes 0 enabled) in rows_by_lane (held_of may_each items) ≡ events_in (held_of may_each items))
 held_in_order s enabled few =
     let items : List Item = lane_items s (enabled_lanes 0 enabled) in
@@ -180,16 +180,17 @@ held_in_order s enabled few =
     ∙ in_order s (length (held_of may_each items)) (enabled_lanes 0 enabled) lane_numbers (enabled_among 0 enabled 3 few)
     ∙ ap events_in (held_begins may_each items)
 
-held_upto : (s : Stock) (enabled : List Bool) → IsSound s → AreRowsUpto s (reported s enabled).ids (held_of may_each (lane_items s (enabled_lanes 0 enabled)))
+held_upto : (s : EventBuffer) (enabled : List Bool) → IsSoundBuffer s → AreRowsUpto s (reported s enabled).ids
+    (held_of may_each (lane_items s (enabled_lanes 0 enabled)))
 unfolding offered_of
 held_upto s enabled sound = pushed_rows s enabled sound
 
-pub reported_released : (s : Stock) (enabled : List Bool) → IsSound s → length enabled ≤ 3
+pub reported_released : (s : EventBuffer) (enabled : List Bool) → IsSoundBuffer s → length enabled ≤ 3
     → all_up_to s (reported s enabled).ids ≡ (reported s enabled).rows
 reported_released s enabled sound few =
     let held : List Item = held_of may_each (lane_items s (enabled_lanes 0 enabled)) in
     released_rows s (reported s enabled).ids held sound.nine (nine_ids held) (held_upto s enabled sound) ∙ held_in_order s enabled few
 
 -- a poll is of all classes
-pub released_is : (s : Stock) → IsSound s → all_up_to s (polled_ids s) ≡ polled_rows s
+pub released_is : (s : EventBuffer) → IsSoundBuffer s → all_up_to s (polled_ids s) ≡ polled_rows s
 released_is s sound = reported_released s (true ∷ true ∷ true ∷ []) sound (omega arith)

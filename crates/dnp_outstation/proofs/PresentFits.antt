@@ -12,7 +12,7 @@ use Rattle.dnp_pointdb.specs.declared.reading.Reading.{Reading}
 use Rattle.dnp_pointdb.specs.Database.{blocks_of}
 use Rattle.dnp_pointdb.specs.Events.{row_of}
 use Rattle.dnp_pointdb.specs.Ranges.{is_carried}
-use Rattle.dnp_pointdb.specs.Sound.{IsSound, IsSoundBlock, IsSoundPoint, static_object}
+use Rattle.dnp_pointdb.specs.Sound.{IsSoundDatabase, IsSoundBlock, IsSoundPoint, static_object}
 use Rattle.dnp_outstation.specs.Items.{Source, Static, statics_from, statics_in, output_row, outputs_from}
 use Rattle.dnp_outstation.specs.Said.{AreWritable}
 use Rattle.dnp_outstation.proofs.OfferPresent.{point_fits, output_fits}
@@ -51,7 +51,7 @@ outputs_fit status index (suc n) shown few =
     (output_fits status index (output_row status index) (shown index (omega arith)) refl, omega arith)
     (outputs_fit status (index + 1) n (λ k low. shown k (omega arith)) (omega arith))
 
-pub present_can_be_written : ReadingsFit → (s : Source) → IsSound s.points → s.panel.outputs ≤ 2 ^ 16
+pub present_can_be_written : ReadingsFit → (s : Source) → IsSoundDatabase s.points → s.panel.outputs ≤ 2 ^ 16
     → ((index : ℕ) → index < s.panel.outputs → s.panel.status index < 2 ^ 8) → AreWritable s
 present_can_be_written fit s sound few shown = λ asked group. by asked (group == 1) (group == 10) (group == 20) (group == 30)
   where

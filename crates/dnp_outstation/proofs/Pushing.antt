@@ -14,8 +14,8 @@ use Rattle.dnp_appfragment.specs.Headers.{Head, spelled}
 use Rattle.dnp_appfragment.specs.Joining.{joined}
 use Rattle.dnp_eventbuf.specs.declared.numbered.Numbered.{Numbered}
 use Rattle.dnp_objects.specs.declared.limits.TheConstants.{LANES, MAX_FRAGMENT, MAX_ID}
-use Rattle.dnp_eventbuf.specs.Stock.{Stock, lane_at}
-use Rattle.dnp_eventbuf.specs.Sound.{IsSound}
+use Rattle.dnp_eventbuf.specs.EventBuffer.{EventBuffer, lane_at}
+use Rattle.dnp_eventbuf.specs.Sound.{IsSoundBuffer}
 use Rattle.dnp_outstation.specs.declared.offer.writer.Writer.{Writer}
 use Rattle.dnp_outstation.specs.Forms.{may_each}
 use Rattle.dnp_outstation.specs.Items.{Item, no_ids, first_place, place_after, given_after, rows_left, event_of, event_items, class_lanes, enabled_lanes, lane_items}
@@ -36,8 +36,8 @@ use Rattle.dnp_outstation.proofs.Taken.{put_is}
 
 -- ---- the rows of a class
 
-pub after_sound : StaySound → (s : Stock) (released : Option (List ℕ)) → IfSome released (λ upto. length upto ≡ LANES) → IsSound s
-    → IsSound (after_release s released)
+pub after_sound : StaySound → (s : EventBuffer) (released : Option (List ℕ)) → IfSome released (λ upto. length upto ≡ LANES) → IsSoundBuffer s
+    → IsSoundBuffer (after_release s released)
 after_sound stay s None nine sound = sound
 after_sound stay s (Some upto) nine sound = stay s upto sound nine
 
@@ -49,14 +49,14 @@ all_stood stood (x ∷ xs) low =
     ap (λ (b : Bool). cond b (x ∷ filter (stood_at stood) xs) (filter (stood_at stood) xs)) (le-leb x.id stood first)
     ∙ ap (λ (rows : List Numbered). x ∷ rows) (all_stood stood xs (λ k d short. low (suc k) d (omega arith)))
 
-each_left : (s : Stock) (stood lane : ℕ) → IsSound s → s.last_id ≤ stood → lane < LANES → rows_left s stood no_ids lane ≡ (lane_at s lane).rows
+each_left : (s : EventBuffer) (stood lane : ℕ) → IsSoundBuffer s → s.last_id ≤ stood → lane < LANES → rows_left s stood no_ids lane ≡ (lane_at s lane).rows
 each_left s stood lane sound high low =
     let rows : List Numbered = (lane_at s lane).rows in
     ap (λ (id : ℕ). filter (stood_at stood) (filter (over id) rows)) (get_or-replicate LANES lane 0 0 low)
     ∙ ap (filter (stood_at stood)) (over_all 0 0 rows (omega arith) (lane_rises s lane sound low))
     ∙ all_stood stood rows (λ k d short. let h : (get_or rows k d).id ≤ s.last_id = (sound.each lane low).up_to_last k d short in omega arith)
 
-lanes_left : (s : Stock) (stood : ℕ) (lanes : List ℕ) → IsSound s → s.last_id ≤ stood → All (λ lane. lane < LANES) lanes
+lanes_left : (s : EventBuffer) (stood : ℕ) (lanes : List ℕ) → IsSoundBuffer s → s.last_id ≤ stood → All (λ lane. lane < LANES) lanes
     → event_items s stood no_ids 0 None lanes ≡ lane_items s lanes
 lanes_left s stood [] sound high low = refl
 lanes_left s stood (lane ∷ lanes) sound high low =
@@ -72,12 +72,12 @@ class_below class low =
     (All-cons P (3 * class + 1) ((3 * class + 2) ∷ []) (omega arith) (All-cons P (3 * class + 2) [] (omega arith) (All-nil P)))
 
 -- a READ of a class that begins, with no bound of ids, gives the rows of its lanes as they are after the release
-pub class_left : StaySound → (s : Stock) (released : Option (List ℕ)) (stood class : ℕ) (lanes : List ℕ) → IsSound s
+pub class_left : StaySound → (s : EventBuffer) (released : Option (List ℕ)) (stood class : ℕ) (lanes : List ℕ) → IsSoundBuffer s
     → IfSome released (λ upto. length upto ≡ LANES) → MAX_ID ≤ stood → class < 3 → lanes ≡ class_lanes class
     → event_items (after_release s released) stood no_ids 0 None lanes ≡ lane_items (after_release s released) (class_lanes class)
 class_left stay s released stood class lanes sound nine high low lanes_are =
-    let t : Stock = after_release s released in
-    let after : IsSound t = after_sound stay s released nine sound in
+    let t : EventBuffer = after_release s released in
+    let after : IsSoundBuffer t = after_sound stay s released nine sound in
     ap (λ (numbers : List ℕ). event_items t stood no_ids 0 None numbers) lanes_are
     ∙ lanes_left t stood (class_lanes class) after (omega (arith, after.last_id_at_most)) (class_below class low)
 
@@ -90,7 +90,7 @@ class_at enabled class number few is low =
     let short : class < length enabled = omega arith in
     rw (add-one, is) (drop-cons enabled class false short)
 
-pub lanes_both : (s : Stock) (lanes others : List ℕ) → lane_items s (lanes ++ others) ≡ lane_items s lanes ++ lane_items s others
+pub lanes_both : (s : EventBuffer) (lanes others : List ℕ) → lane_items s (lanes ++ others) ≡ lane_items s lanes ++ lane_items s others
 lanes_both s [] others = refl
 lanes_both s (lane ∷ lanes) others =
     let rows : List Item = map (event_of 0 lane) (lane_at s lane).rows in
@@ -100,7 +100,7 @@ lanes_both s (lane ∷ lanes) others =
 abbrev lanes_if : Bool → ℕ → List ℕ
 lanes_if on class = if on then class_lanes class else []
 
-class_first : (s : Stock) (class : ℕ) (on : Bool) (left others : List Bool) → left ≡ on ∷ others
+class_first : (s : EventBuffer) (class : ℕ) (on : Bool) (left others : List Bool) → left ≡ on ∷ others
     → mark true (lane_items s (enabled_lanes class left))
     ≡ mark true (lane_items s (lanes_if on class)) ++ mark true (lane_items s (enabled_lanes (class + 1) others))
 class_first s class on left others is =
@@ -109,7 +109,7 @@ class_first s class on left others is =
     ∙ map-append (marked true) (lane_items s (lanes_if on class)) (lane_items s (enabled_lanes (class + 1) others))
 
 -- the rows of a class were put, if it is enabled, and the others are left
-pub class_put : (s : Stock) (class : ℕ) (on : Bool) (left others : List Bool) (w w' : Writer) (fit : Bool) (more : List Marked)
+pub class_put : (s : EventBuffer) (class : ℕ) (on : Bool) (left others : List Bool) (w w' : Writer) (fit : Bool) (more : List Marked)
     → left ≡ on ∷ others → Puts w (mark true (lane_items s (lanes_if on class))) fit w' → fit ≡ true
     → fill w' (mark true (lane_items s (enabled_lanes (class + 1) others)) ++ more) ≡ fill w (mark true (lane_items s (enabled_lanes class left)) ++ more)
 class_put s class on left others w w' fit more left_is put fits =
@@ -117,7 +117,7 @@ class_put s class on left others w w' fit more left_is put fits =
     ∙ ap (λ (items : List Marked). fill w (items ++ more)) (sym (class_first s class on left others left_is))
 
 -- not all of them fitted
-pub class_full : (s : Stock) (class : ℕ) (on : Bool) (left others : List Bool) (w w' : Writer) (fit : Bool) (more : List Marked)
+pub class_full : (s : EventBuffer) (class : ℕ) (on : Bool) (left others : List Bool) (w w' : Writer) (fit : Bool) (more : List Marked)
     → left ≡ on ∷ others → Puts w (mark true (lane_items s (lanes_if on class))) fit w' → fit ≡ false
     → fill w (mark true (lane_items s (enabled_lanes class left)) ++ more) ≡ ended false w'
 class_full s class on left others w w' fit more left_is put full =
@@ -166,7 +166,7 @@ filled_as f g w (x ∷ xs) same =
     ∙ ap (λ (u : Writer). cond (fits u) (fill_laid u xs) (ended false w)) (sym (put_as g w x))
 
 -- what the rows of the enabled classes are filled with
-pub filled_pushed : (s : Stock) (enabled : List Bool) (w w' : Writer) (is_last : Bool) → w ≡ empty_for function.UnsolicitedResponse first_place
+pub filled_pushed : (s : EventBuffer) (enabled : List Bool) (w w' : Writer) (is_last : Bool) → w ≡ empty_for function.UnsolicitedResponse first_place
     → ended is_last w' ≡ fill w (mark true (lane_items s (enabled_lanes 0 enabled))) → ended is_last w' ≡ pushed s enabled
 filled_pushed s enabled w w' is_last empty is =
     let items : List Item = lane_items s (enabled_lanes 0 enabled) in

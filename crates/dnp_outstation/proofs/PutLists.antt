@@ -14,7 +14,7 @@ use Rattle.dnp_appfragment.specs.Headers.{Head, is_common}
 use Rattle.dnp_appfragment.specs.Written.{event, relative}
 use Rattle.dnp_eventbuf.specs.declared.numbered.Numbered.{Numbered}
 use Rattle.dnp_outstation.specs.declared.offer.grouping.Waiting.{Waiting}
-use Rattle.dnp_outstation.specs.declared.offer.place.Place.{Place}
+use Rattle.dnp_outstation.specs.declared.offer.place.ReadPlace.{ReadPlace}
 use Rattle.dnp_outstation.specs.declared.offer.writer.Run.TheVariants.{OfLane}
 use Rattle.dnp_outstation.specs.declared.offer.writer.Writer.{Writer}
 use Rattle.dnp_outstation.specs.Forms.{told_by}
@@ -174,7 +174,7 @@ some_filled law w header lane told (x ∷ xs) more n stands put few =
 
 -- ---- the last ids, and how much longer the fragment is
 
-given_is : (p : Place) (items : List Item) → (fold place_after p items).given ≡ fold given_after p.given items
+given_is : (p : ReadPlace) (items : List Item) → (fold place_after p items).given ≡ fold given_after p.given items
 given_is p [] = refl
 given_is p (x ∷ xs) = given_is (place_after p x) xs
 

@@ -12,9 +12,9 @@ use Rattle.dnp_appfragment.specs.Headers.{Head, AreHeaders, begin}
 use Rattle.dnp_appfragment.specs.declared.table.Form.TheVariants as form
 use Rattle.dnp_appfragment.specs.Meaning.{response_at}
 use Rattle.dnp_appfragment.specs.Table.{is_response}
-use Rattle.dnp_eventbuf.specs.Sound.{IsSound}
-use Rattle.dnp_eventbuf.specs.Stock.{Stock, all_up_to}
-use Rattle.dnp_outstation.specs.declared.offer.place.Place.{Place}
+use Rattle.dnp_eventbuf.specs.Sound.{IsSoundBuffer}
+use Rattle.dnp_eventbuf.specs.EventBuffer.{EventBuffer, all_up_to}
+use Rattle.dnp_outstation.specs.declared.offer.place.ReadPlace.{ReadPlace}
 use Rattle.dnp_outstation.specs.Forms.{CanGo, may_in, may_each}
 use Rattle.dnp_outstation.specs.Items.{Item, Source, no_ids, items_left, enabled_lanes, lane_items}
 use Rattle.dnp_outstation.specs.Layout.{Laid, item_of, headers_of, fits_fragment}
@@ -62,7 +62,7 @@ pub nine_ids : (items : List Item) → length (last_ids items) ≡ LANES
 nine_ids items = length_given no_ids items
 
 -- the rows said of items are those that a release of their ids takes
-pub said_and_released : RowsAreSaid → (s : Stock) (held : List Laid) → IsSound s → All CanGo held → All IsLow (map item_of held)
+pub said_and_released : RowsAreSaid → (s : EventBuffer) (held : List Laid) → IsSoundBuffer s → All CanGo held → All IsLow (map item_of held)
     → fits_fragment held ≡ true → AreRowsUpto s (last_ids (map item_of held)) (map item_of held)
     → IsPermutation (rows_said (headers_of held)) (all_up_to s (last_ids (map item_of held)))
 said_and_released said s held sound can low fit are =
@@ -71,7 +71,8 @@ said_and_released said s held sound can low fit are =
     (subst (λ (rows : List Row). IsPermutation (events_in items) rows) (sym (released_rows s (last_ids items) items sound.nine (nine_ids items) are))
     (same_by_lanes items (recursion_from_All IsLow items low)))
 
-pub fragment_says : RowsAreSaid → (s : Source) (stood : ℕ) (place : Place) (headers : List Head) → IsSound s.lanes → AreWritable s → IsTidy s.lanes place.given
+pub fragment_says : RowsAreSaid → (s : Source) (stood : ℕ) (place : ReadPlace) (headers : List Head) → IsSoundBuffer s.lanes → AreWritable s
+    → IsTidy s.lanes place.given
     → length place.given ≡ LANES
     → IsPermutation (rows_said (offered s stood place headers).headers) (all_up_to s.lanes (offered s stood place headers).upto)
 unfolding offered_of
@@ -80,7 +81,7 @@ fragment_says said s stood place headers sound writable tidy nine =
     said_and_released said s.lanes (held_laid (may_in headers) items) sound (held_stand s stood place headers sound writable)
     (held_low s stood place headers) (held_fits (may_in headers) items) (fragment_rows s stood place headers sound tidy nine)
 
-pub pushed_says : RowsAreSaid → (s : Stock) (enabled : List Bool) → IsSound s → length enabled ≤ 3
+pub pushed_says : RowsAreSaid → (s : EventBuffer) (enabled : List Bool) → IsSoundBuffer s → length enabled ≤ 3
     → IsPermutation (rows_said (pushed s enabled).headers) (all_up_to s (pushed s enabled).upto)
 unfolding offered_of
 pushed_says said s enabled sound few =
@@ -88,9 +89,9 @@ pushed_says said s enabled sound few =
     said_and_released said s (held_laid may_each items) sound (pushed_stand s enabled sound few) (pushed_low s enabled few) (held_fits may_each items)
     (pushed_rows s enabled sound)
 
-pub fragment_is : ResponsesAreSaid → (answered : Answered) (s : Source) (stood : ℕ) (place : Place) (headers : List Head)
+pub fragment_is : ResponsesAreSaid → (answered : Answered) (s : Source) (stood : ℕ) (place : ReadPlace) (headers : List Head)
     → answered.headers ≡ (offered s stood place headers).headers
-    → IsControl answered.control → is_response answered.function ≡ true → IsSound s.lanes → AreWritable s
+    → IsControl answered.control → is_response answered.function ≡ true → IsSoundBuffer s.lanes → AreWritable s
     → response_at (response_octets answered) ≡ Ok answered
 unfolding offered_of
 fragment_is said answered s stood place headers same control function sound writable =
@@ -98,8 +99,8 @@ fragment_is said answered s stood place headers same control function sound writ
     said answered (held_laid (may_in headers) items) same control function (held_stand s stood place headers sound writable)
     (held_fits (may_in headers) items)
 
-pub pushed_is : ResponsesAreSaid → (answered : Answered) (s : Stock) (enabled : List Bool) → answered.headers ≡ (pushed s enabled).headers
-    → IsControl answered.control → is_response answered.function ≡ true → IsSound s → length enabled ≤ 3
+pub pushed_is : ResponsesAreSaid → (answered : Answered) (s : EventBuffer) (enabled : List Bool) → answered.headers ≡ (pushed s enabled).headers
+    → IsControl answered.control → is_response answered.function ≡ true → IsSoundBuffer s → length enabled ≤ 3
     → response_at (response_octets answered) ≡ Ok answered
 unfolding offered_of
 pushed_is said answered s enabled same control function sound few =

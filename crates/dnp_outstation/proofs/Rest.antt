@@ -4,7 +4,7 @@ use Rattle.std.specs.Prelude.{slice_set}
 use Rattle.std.specs.List.{filter}
 use Rattle.std.proofs.lemmas.List.{get_or-set_same, get_or-set_other}
 use Rattle.dnp_eventbuf.specs.declared.numbered.Numbered.{Numbered}
-use Rattle.dnp_eventbuf.specs.Stock.{Stock, lane_at}
+use Rattle.dnp_eventbuf.specs.EventBuffer.{EventBuffer, lane_at}
 use Rattle.dnp_outstation.specs.Items.{Item, at_most, less, rows_left, event_of, event_items}
 use Rattle.dnp_outstation.proofs.LaneRows.{IsApart, IsOnce, AreLow, left_behind}
 use Rattle.dnp_outstation.proofs.Rising.{Rising}
@@ -50,7 +50,7 @@ less_count (Some m) n = ap (λ (k : ℕ). Some k) (let same : m - n - 1 ≡ m - 
 
 -- ---- the rows of a lane
 
-module _ (s : Stock) (stood : ℕ) (header : ℕ) where
+module _ (s : EventBuffer) (stood : ℕ) (header : ℕ) where
   next_left : (given : List ℕ) (lane : ℕ) (r : Numbered) (rs : List Numbered) → Rising 0 (lane_at s lane).rows → lane < length given
       → rows_left s stood given lane ≡ r ∷ rs → rows_left s stood (slice_set given lane r.id) lane ≡ rs
   next_left given lane r rs rising low is =

@@ -8,9 +8,9 @@ use Rattle.dnp_appfragment.specs.declared.table.Form.{Form}
 use Rattle.dnp_appfragment.specs.declared.header.Range.{Range}
 use Rattle.dnp_appfragment.specs.declared.header.Range.TheVariants as range
 use Rattle.dnp_appfragment.specs.Headers.{Head, NumbersFit, Context, AreHeaders, context_after}
-use Rattle.dnp_eventbuf.specs.Sound.{IsSound}
+use Rattle.dnp_eventbuf.specs.Sound.{IsSoundBuffer}
 use Rattle.dnp_objects.specs.declared.limits.TheConstants.{LANES}
-use Rattle.dnp_outstation.specs.declared.offer.place.Place.{Place}
+use Rattle.dnp_outstation.specs.declared.offer.place.ReadPlace.{ReadPlace}
 use Rattle.dnp_outstation.specs.Forms.{may_in}
 use Rattle.dnp_outstation.specs.Items.{Source, Static, Item, Part, class_lanes, kind_lanes, statics_of, each_static, in_range, is_within, limit_of, less, event_items, part_of, present_of, given_after, place_after, part_items, items_of, part_after, parts_left, items_left}
 use Rattle.dnp_outstation.specs.Items.Part.{RowsOf, StaticsOf}
@@ -100,7 +100,7 @@ record PartNext (s : Source) (stood : ℕ) (given : List ℕ) (header count : �
   pub here : x.header ≡ header
   pub rest : part_items s stood (given_after given x) header (part_after (count + 1) part) ≡ xs
 
-part_next : (s : Source) (stood : ℕ) (given : List ℕ) (header count : ℕ) (part : Part) (x : Item) (xs : List Item) → IsSound s.lanes
+part_next : (s : Source) (stood : ℕ) (given : List ℕ) (header count : ℕ) (part : Part) (x : Item) (xs : List Item) → IsSoundBuffer s.lanes
     → length given ≡ LANES → HasLow LANES part → ((lane : ℕ) → HasOnce lane part)
     → part_items s stood given header (part_after count part) ≡ x ∷ xs → PartNext s stood given header count part x xs
 part_next s stood given header count (RowsOf lanes most) x xs sound nine low once is =
@@ -133,7 +133,7 @@ part_next s stood given header count (StaticsOf statics) x xs sound nine low onc
 
 -- ---- what is left of a READ
 
-abbrev at_place : ℕ → ℕ → List ℕ → Place
+abbrev at_place : ℕ → ℕ → List ℕ → ReadPlace
 at_place header count given = record { header = header; count = count; given = given }
 
 drop_more : (n : ℕ) (all : List Head) (h : Head) (hs : List Head) → drop n all ≡ h ∷ hs → drop (n + 1) all ≡ hs
@@ -154,7 +154,7 @@ fresh_count header count n far =
     none true = refl
     none false = refl
 
-module _ (s : Source) (stood : ℕ) (headers : List Head) (sound : IsSound s.lanes) (few : AreFewPresent s)
+module _ (s : Source) (stood : ℕ) (headers : List Head) (sound : IsSoundBuffer s.lanes) (few : AreFewPresent s)
     (fit : All (λ h. NumbersFit h.range) headers) where
   -- the first item was given
   record ItemNext (header count : ℕ) (given : List ℕ) (x : Item) (xs : List Item) : Type 0 where
@@ -212,7 +212,7 @@ module _ (s : Source) (stood : ℕ) (headers : List Head) (sound : IsSound s.lan
           }
 
   -- these items were given
-  pub given_rest : (items rest : List Item) (place : Place) → length place.given ≡ LANES → items_left s stood place headers ≡ items ++ rest
+  pub given_rest : (items rest : List Item) (place : ReadPlace) → length place.given ≡ LANES → items_left s stood place headers ≡ items ++ rest
       → items_left s stood (fold place_after place items) headers ≡ rest
   given_rest [] rest place nine is = is
   given_rest (x ∷ xs) rest place nine is =
@@ -221,7 +221,7 @@ module _ (s : Source) (stood : ℕ) (headers : List Head) (sound : IsSound s.lan
       given_rest xs rest (place_after place x) (length_given place.given (x ∷ []) ∙ nine) next.rest
 
   -- a fragment was given
-  pub fragment_rest : (place left : Place) → length place.given ≡ LANES → (offered s stood place headers).left ≡ Some left
+  pub fragment_rest : (place left : ReadPlace) → length place.given ≡ LANES → (offered s stood place headers).left ≡ Some left
       → items_left s stood place headers ≡ held_of (may_in headers) (items_left s stood place headers) ++ items_left s stood left headers
   unfolding offered_of
   fragment_rest place left nine is =
@@ -230,13 +230,13 @@ module _ (s : Source) (stood : ℕ) (headers : List Head) (sound : IsSound s.lan
       let to : fold place_after place held ≡ left = chosen (length held == length items) (fold place_after place held) left is in
       let first : items ≡ held ++ drop (length held) items = held_first (may_in headers) items in
       let rest = given_rest held (drop (length held) items) place nine first in
-      first ∙ ap (λ (l : List Item). held ++ l) (sym rest ∙ ap (λ (p : Place). items_left s stood p headers) to)
+      first ∙ ap (λ (l : List Item). held ++ l) (sym rest ∙ ap (λ (p : ReadPlace). items_left s stood p headers) to)
 
-  abbrev left_at : Option Place → List Item
+  abbrev left_at : Option ReadPlace → List Item
   left_at None = []
   left_at (Some place) = items_left s stood place headers
 
-  all_held : (fragments : List (List Item)) (at : Option Place) → ((place : Place) → at ≡ Some place → length place.given ≡ LANES)
+  all_held : (fragments : List (List Item)) (at : Option ReadPlace) → ((place : ReadPlace) → at ≡ Some place → length place.given ≡ LANES)
       → AreHeldFrom s stood headers at fragments → flat_map (λ (held : List Item). held) fragments ≡ left_at at
   all_held [] None nine are = refl
   all_held [] (Some place) nine are = absurd are
@@ -248,7 +248,7 @@ module _ (s : Source) (stood : ℕ) (headers : List Head) (sound : IsSound s.lan
       ∙ ap (λ (l : List Item). held_of (may_in headers) items ++ l) next
       ∙ by (offered s stood place headers).left refl
     where
-      by : (left : Option Place) → (offered s stood place headers).left ≡ left
+      by : (left : Option ReadPlace) → (offered s stood place headers).left ≡ left
           → held_of (may_in headers) (items_left s stood place headers) ++ left_at left ≡ items_left s stood place headers
       by None last =
           append-nil (held_of (may_in headers) (items_left s stood place headers))
@@ -256,10 +256,10 @@ module _ (s : Source) (stood : ℕ) (headers : List Head) (sound : IsSound s.lan
       by (Some left) is = sym (fragment_rest place left (nine place refl) is)
 
   -- all fragments were
-  pub fragments_hold : (place : Place) (fragments : List (List Item)) → length place.given ≡ LANES
+  pub fragments_hold : (place : ReadPlace) (fragments : List (List Item)) → length place.given ≡ LANES
       → AreHeldFrom s stood headers (Some place) fragments → flat_map (λ (held : List Item). held) fragments ≡ items_left s stood place headers
   fragments_hold place fragments nine are =
-      all_held fragments (Some place) (λ p is. let same : place ≡ p = some_is place p is in ap (λ (q : Place). length q.given) (sym same) ∙ nine) are
+      all_held fragments (Some place) (λ p is. let same : place ≡ p = some_is place p is in ap (λ (q : ReadPlace). length q.given) (sym same) ∙ nine) are
     where
-      some_is : (p q : Place) → Some p ≡ Some q → p ≡ q
+      some_is : (p q : ReadPlace) → Some p ≡ Some q → p ≡ q
       some_is p q is = cc

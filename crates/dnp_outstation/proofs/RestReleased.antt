@@ -6,10 +6,10 @@ use Rattle.std.proofs.lemmas.Bool.{ltb-true, lt-ltb}
 use Rattle.std.proofs.lemmas.List.{get_or-replicate}
 use Rattle.dnp_appfragment.specs.Headers.{Head}
 use Rattle.dnp_eventbuf.specs.declared.numbered.Numbered.{Numbered}
-use Rattle.dnp_eventbuf.specs.Sound.{IsSound}
-use Rattle.dnp_eventbuf.specs.Stock.{LaneState, lane_at, without}
+use Rattle.dnp_eventbuf.specs.Sound.{IsSoundBuffer}
+use Rattle.dnp_eventbuf.specs.EventBuffer.{LaneState, lane_at, without}
 use Rattle.dnp_objects.specs.declared.limits.TheConstants.{LANES}
-use Rattle.dnp_outstation.specs.declared.offer.place.Place.{Place}
+use Rattle.dnp_outstation.specs.declared.offer.place.ReadPlace.{ReadPlace}
 use Rattle.dnp_outstation.specs.Forms.{may_in}
 use Rattle.dnp_outstation.specs.Items.{Source, Item, Part, no_ids, at_most, less, part_of, event_of, event_items, given_after, rows_left, part_items, items_of, parts_left, items_left}
 use Rattle.dnp_outstation.specs.Items.Part.{RowsOf, StaticsOf}
@@ -43,7 +43,7 @@ over_twice low high (x ∷ xs) less = by (over low x) refl (over high x) refl (o
 
 -- ---- what a release leaves
 
-module _ (by_lane : LaneByLane) (s : Source) (stood : ℕ) (upto : List ℕ) (sound : IsSound s.lanes) (nine_upto : length upto ≡ LANES) where
+module _ (by_lane : LaneByLane) (s : Source) (stood : ℕ) (upto : List ℕ) (sound : IsSoundBuffer s.lanes) (nine_upto : length upto ≡ LANES) where
   -- every lane was given past the rows that are released
   abbrev IsPast : List ℕ → Type 0
   IsPast given = (lane : ℕ) → lane < LANES → slice_index upto lane ≤ slice_index given lane
@@ -101,7 +101,7 @@ module _ (by_lane : LaneByLane) (s : Source) (stood : ℕ) (upto : List ℕ) (so
       (items_same given' (header + 1) parts (length_given given items ∙ nine) low.1 (λ lane. (once lane).1) (past_part given header part parts nine once past))
 
 -- of a fragment
-pub released_rest : LaneByLane → (s : Source) (stood : ℕ) (headers : List Head) (place left : Place) → IsSound s.lanes → length place.given ≡ LANES
+pub released_rest : LaneByLane → (s : Source) (stood : ℕ) (headers : List Head) (place left : ReadPlace) → IsSoundBuffer s.lanes → length place.given ≡ LANES
     → (offered s stood place headers).left ≡ Some left
     → items_left (record s { lanes = without s.lanes (offered s stood place headers).upto }) stood left headers ≡ items_left s stood left headers
 unfolding offered_of

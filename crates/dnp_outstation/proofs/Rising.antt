@@ -36,7 +36,7 @@ pub rising_begins : (low : ℕ) (xs rest : List Numbered) → Rising low (xs ++ 
 rising_begins low [] rest rising = tt
 rising_begins low (x ∷ xs) rest rising = (rising.0, rising_begins x.id xs rest rising.1)
 
--- ---- from what a stock says
+-- ---- from what a buffer says
 
 pub rising_from : (low : ℕ) (xs : List Numbered) → AllPairs (λ x y. x.id < y.id) xs → All (λ x. low < x.id) xs → Rising low xs
 rising_from low [] pairs all = tt

@@ -16,7 +16,7 @@ use Rattle.dnp_appfragment.specs.Items.{Item as Object, item_octets}
 use Rattle.dnp_appfragment.specs.Joining.{joined}
 use Rattle.dnp_appfragment.specs.Written.{common_head}
 use Rattle.dnp_objects.specs.declared.limits.TheConstants.{MAX_FRAGMENT}
-use Rattle.dnp_outstation.specs.declared.offer.place.Place.{Place}
+use Rattle.dnp_outstation.specs.declared.offer.place.ReadPlace.{ReadPlace}
 use Rattle.dnp_outstation.specs.declared.offer.writer.Run.{Run}
 use Rattle.dnp_outstation.specs.declared.offer.writer.Run.TheVariants.{NoRun}
 use Rattle.dnp_outstation.specs.declared.offer.writer.Writer.{Writer}
@@ -48,7 +48,7 @@ pub record IsEmpty (b : Built) (run : Run) (items : List Laid) : Type 0 where
   pub run_is : run ≡ NoRun
 
 -- a writer that began at a place and has taken these items
-pub record Holds (place : Place) (w : Writer) (items : List Laid) : Type 0 where
+pub record Holds (place : ReadPlace) (w : Writer) (items : List Laid) : Type 0 where
   pub place_is : w.place ≡ fold place_after place (map item_of items)
   pub upto_is : w.upto ≡ fold given_after no_ids (map item_of items)
   pub stands : IsEmpty w.builder w.run items ⊎ Stands w.builder w.run items
@@ -72,14 +72,14 @@ all_heads b run items s =
     ∙ sym (s.headers [])
     ∙ ap headers_of (append-nil items)
 
-pub heads_are : (place : Place) (w : Writer) (items : List Laid) → Holds place w items → heads w.builder ≡ headers_of items
+pub heads_are : (place : ReadPlace) (w : Writer) (items : List Laid) → Holds place w items → heads w.builder ≡ headers_of items
 heads_are place w items holds = go holds.stands
   where
     go : IsEmpty w.builder w.run items ⊎ Stands w.builder w.run items → heads w.builder ≡ headers_of items
     go (inl empty) = ap heads empty.builder_is ∙ ap headers_of (sym empty.items_are)
     go (inr s) = all_heads w.builder w.run items s
 
-function_is : (place : Place) (w : Writer) (items : List Laid) → Holds place w items → w.builder.function ≡ function.Response
+function_is : (place : ReadPlace) (w : Writer) (items : List Laid) → Holds place w items → w.builder.function ≡ function.Response
 function_is place w items holds = go holds.stands
   where
     go : IsEmpty w.builder w.run items ⊎ Stands w.builder w.run items → w.builder.function ≡ function.Response
@@ -344,10 +344,10 @@ few b first more run_is small = go first.item.thing run_is
 
 -- ---- one item more
 
-pub put_holds : (place : Place) (w : Writer) (items : List Laid) (y : Laid) → Holds place w items → fits w ≡ true → IsTold y
+pub put_holds : (place : ReadPlace) (w : Writer) (items : List Laid) (y : Laid) → Holds place w items → fits w ≡ true → IsTold y
     → Holds place (put_laid w y) (items ++ y ∷ [])
 put_holds place w items y holds fit told = subst (λ (v : Writer). Holds place v (items ++ y ∷ [])) (sym (put_is w y)) (record {
-  place_is = ap (λ (p : Place). place_after p y.item) holds.place_is
+  place_is = ap (λ (p : ReadPlace). place_after p y.item) holds.place_is
       ∙ sym (fold_push place_after place (map item_of items) y.item)
       ∙ ap (fold place_after place) (sym (map_push item_of items y));
   upto_is = ap (λ (ids : List ℕ). given_after ids y.item) holds.upto_is
@@ -369,10 +369,10 @@ put_holds place w items y holds fit told = subst (λ (v : Writer). Holds place v
     after (inl empty) = was_empty w items y empty told
     after (inr s) = by s (goes_on (last_item s.first s.more) y) refl
 
-pub empty_holds : (place : Place) → Holds place (empty_from place) []
+pub empty_holds : (place : ReadPlace) → Holds place (empty_from place) []
 empty_holds place = record { place_is = refl; upto_is = refl; stands = inl (record { items_are = refl; builder_is = refl; run_is = refl }) }
 
-pub fits_is : (place : Place) (w : Writer) (items : List Laid) → Holds place w items → fits w ≡ fits_fragment items
+pub fits_is : (place : ReadPlace) (w : Writer) (items : List Laid) → Holds place w items → fits w ≡ fits_fragment items
 fits_is place w items holds =
     let front : size w.builder ≡ 4 + length (spelled (heads w.builder)) =
     ap (λ (f : Function). front_size f + length (spelled (heads w.builder))) (function_is place w items holds) in

@@ -12,9 +12,9 @@ use Rattle.dnp_appfragment.specs.Headers.{Head}
 use Rattle.dnp_appfragment.specs.Meaning.{request_at}
 use Rattle.dnp_controls.specs.Panel.{Panel}
 use Rattle.dnp_controls.specs.Selecting.{deadline}
-use Rattle.dnp_eventbuf.specs.Sound.{IsSound}
-use Rattle.dnp_eventbuf.specs.Stock.{Stock, with_rows, dropped_by, without, without_all}
-use Rattle.dnp_outstation.specs.declared.offer.place.Place.{Place}
+use Rattle.dnp_eventbuf.specs.Sound.{IsSoundBuffer}
+use Rattle.dnp_eventbuf.specs.EventBuffer.{EventBuffer, with_rows, dropped_by, without, without_all}
+use Rattle.dnp_outstation.specs.declared.offer.place.ReadPlace.{ReadPlace}
 use Rattle.dnp_outstation.specs.declared.case.Case.{Case}
 use Rattle.dnp_outstation.specs.declared.case.Case.TheVariants.{PassedOver, Confirms, ConfirmsUnsolicited, Stray, Again, Waits, Asks}
 use Rattle.dnp_outstation.specs.declared.session.Reply.{Reply}
@@ -41,26 +41,26 @@ use Rattle.dnp_outstation.proofs.Left.{StaySound, begins_tidy, begins_used, new_
 -- ---- lanes that change
 
 -- whatever leaves only a fragment's rows leaves only these after the change
-abbrev pub Keeps : Stock → Stock → Type 0
+abbrev pub Keeps : EventBuffer → EventBuffer → Type 0
 Keeps old new = (given upto : List ℕ) → LeavesOnly old given upto → LeavesOnly new given upto
 
 -- by the laws of what is left, and of sound lanes
 abbrev pub AppendsKeep : Type 0
-AppendsKeep = (s : Stock) (rows : List LaneRow) → Keeps s (with_rows s rows)
+AppendsKeep = (s : EventBuffer) (rows : List LaneRow) → Keeps s (with_rows s rows)
 
 abbrev pub ReleasesKeep : Type 0
-ReleasesKeep = (s : Stock) (others : List ℕ) → Keeps s (without s others)
+ReleasesKeep = (s : EventBuffer) (others : List ℕ) → Keeps s (without s others)
 
 pub record ReleaseLaws : Type 0 where
   pub sound : StaySound
   pub kept : ReleasesKeep
-  pub tidy : (s : Stock) (given upto : List ℕ) → length s.lanes ≡ LANES → LeavesOnly s given upto → IsTidy (without s upto) given
+  pub tidy : (s : EventBuffer) (given upto : List ℕ) → length s.lanes ≡ LANES → LeavesOnly s given upto → IsTidy (without s upto) given
 
-last_kept : (old new : Stock) (left : Option Place) (upto : List ℕ) → Keeps old new → IsLastGiven old left upto → IsLastGiven new left upto
+last_kept : (old new : EventBuffer) (left : Option ReadPlace) (upto : List ℕ) → Keeps old new → IsLastGiven old left upto → IsLastGiven new left upto
 last_kept old new None upto keeps is = tt
 last_kept old new (Some place) upto keeps is = keeps place.given upto is
 
-reply_kept : (old new : Stock) (last : LastRequest) → Keeps old new → IsFirstGiven old last → IsFirstGiven new last
+reply_kept : (old new : EventBuffer) (last : LastRequest) → Keeps old new → IsFirstGiven old last → IsFirstGiven new last
 reply_kept old new last keeps is = go last.reply is
   where
     go : (reply : Reply) → (let l : LastRequest = record { reply = reply; stood = last.stood; left = last.left } in IsFirstGiven old l → IsFirstGiven new l)
@@ -69,17 +69,17 @@ reply_kept old new last keeps is = go last.reply is
     go (First f) is = last_kept old new last.left f.upto keeps is
     go Further is = tt
 
-abbrev FirstIs : Stock → Option LastRequest → Type 0
+abbrev FirstIs : EventBuffer → Option LastRequest → Type 0
 FirstIs s last = IfSome last (IsFirstGiven s)
 
-abbrev AwaitedIs : Stock → Option Awaited → Option LastRequest → Type 0
+abbrev AwaitedIs : EventBuffer → Option Awaited → Option LastRequest → Type 0
 AwaitedIs s awaited last = IfSome awaited (λ w. IfSome last (λ l. IsLastGiven s l.left w.upto))
 
-first_kept : (old new : Stock) (last : Option LastRequest) → Keeps old new → FirstIs old last → FirstIs new last
+first_kept : (old new : EventBuffer) (last : Option LastRequest) → Keeps old new → FirstIs old last → FirstIs new last
 first_kept old new None keeps is = tt
 first_kept old new (Some last) keeps is = reply_kept old new last keeps is
 
-awaited_kept : (old new : Stock) (awaited : Option Awaited) (last : Option LastRequest) → Keeps old new → AwaitedIs old awaited last
+awaited_kept : (old new : EventBuffer) (awaited : Option Awaited) (last : Option LastRequest) → Keeps old new → AwaitedIs old awaited last
     → AwaitedIs new awaited last
 awaited_kept old new None last keeps is = tt
 awaited_kept old new (Some w) None keeps is = tt
@@ -87,7 +87,7 @@ awaited_kept old new (Some w) (Some last) keeps is = last_kept old new last.left
 
 -- ---- content
 
-abbrev IsGiven : Stock → Content → Type 0
+abbrev IsGiven : EventBuffer → Content → Type 0
 IsGiven s content = IsLastGiven s content.left content.upto
 
 if_some : {A : Type 0} (P : A → Type 0) (o : Option A) → ((x : A) → o ≡ Some x → P x) → IfSome o P
@@ -95,27 +95,29 @@ if_some P None each = tt
 if_some P (Some x) each = each x refl
 
 -- of a READ that begins here or goes on where only rows of its last fragment were left
-read_given : (s : State) (o : Panel) (stood : ℕ) (place : Place) (headers : List Head) → IsSound s.lanes → IsTidy s.lanes place.given → length place.given ≡ LANES
+read_given : (s : State) (o : Panel) (stood : ℕ) (place : ReadPlace) (headers : List Head) → IsSoundBuffer s.lanes → IsTidy s.lanes place.given
+    → length place.given ≡ LANES
     → All (λ id. id ≤ s.lanes.last_id) place.given → IsGiven s.lanes (read_content s o stood place headers)
 read_given s o stood place headers sound tidy nine used =
-    if_some (λ (next : Place). LeavesOnly s.lanes next.given (offered (source_of s o) stood place headers).upto)
+    if_some (λ (next : ReadPlace). LeavesOnly s.lanes next.given (offered (source_of s o) stood place headers).upto)
     (offered (source_of s o) stood place headers).left
     (λ next is. new_leaves_nothing (source_of s o) stood place next headers sound tidy nine used is)
 
-first_given : (s : State) (o : Panel) (headers : List Head) → IsSound s.lanes → IsGiven s.lanes (read_content s o (last_in s.lanes) first_place headers)
+first_given : (s : State) (o : Panel) (headers : List Head) → IsSoundBuffer s.lanes → IsGiven s.lanes (read_content s o (last_in s.lanes) first_place headers)
 first_given s o headers sound = read_given s o (last_in s.lanes) first_place headers sound (begins_tidy s.lanes sound) refl (begins_used s.lanes)
 
-content_given : (s : State) (o : Panel) (content : Content) → IsSound s.lanes → IsContent AnyHeaders s o content → IsGiven s.lanes content
+content_given : (s : State) (o : Panel) (content : Content) → IsSoundBuffer s.lanes → IsContent AnyHeaders s o content → IsGiven s.lanes content
 content_given s o _ sound (Reads headers) = first_given s o headers sound
 content_given s o _ sound (Plain bits headers fine) = tt
 
 -- ---- a response is sent
 
-awaited_if : (s : Stock) (b : Bool) (w : Awaited) (last : LastRequest) → IsLastGiven s last.left w.upto → AwaitedIs s (if b then Some w else None) (Some last)
+awaited_if : (s : EventBuffer) (b : Bool) (w : Awaited) (last : LastRequest) → IsLastGiven s last.left w.upto
+    → AwaitedIs s (if b then Some w else None) (Some last)
 awaited_if s true w last is = is
 awaited_if s false w last is = tt
 
-replied_tidy : (s : State) (o : Panel) (now seq : ℕ) (x : Executed) → IsSound s.lanes → IsDone AnyHeaders s o x
+replied_tidy : (s : State) (o : Panel) (now seq : ℕ) (x : Executed) → IsSoundBuffer s.lanes → IsDone AnyHeaders s o x
     → IfSome s.core.session.unsolicited (λ w. length w.upto ≡ LANES) → LeavesNothing (replied now seq x).state
 replied_tidy s o now seq x sound done unsolicited = go x.content done.content
   where
@@ -131,7 +133,7 @@ replied_tidy s o now seq x sound done unsolicited = go x.content done.content
     go None given = record { awaited = none_left x.state.core.session.awaited; first = tt; unsolicited = unsolicited' }
     go (Some content) given =
         let here : IsGiven x.state.lanes content =
-        subst (λ (lanes : Stock). IsGiven lanes content) (sym done.keeps.lanes) (content_given s o content sound given) in
+        subst (λ (lanes : EventBuffer). IsGiven lanes content) (sym done.keeps.lanes) (content_given s o content sound given) in
         record {
           awaited = awaited_if x.state.lanes (asks_confirm content)
               (record { seq = seq; upto = content.upto; ends = deadline now x.state.core.times.confirm_ms })
@@ -147,7 +149,7 @@ replied_tidy s o now seq x sound done unsolicited = go x.content done.content
 
 -- ---- what comes from the master
 
-asks_tidy : (s : State) (o : Panel) (now : ℕ) (octets : List ℕ) → IsSound s.lanes → LeavesNothing s → LeavesNothing (on_request s o now octets).state
+asks_tidy : (s : State) (o : Panel) (now : ℕ) (octets : List ℕ) → IsSoundBuffer s.lanes → LeavesNothing s → LeavesNothing (on_request s o now octets).state
 asks_tidy s o now octets sound tidy =
     replied_tidy (asked s octets) o now (control_in octets).seq (content_at (asked s octets) o now octets) sound
     (content_done AnyHeaders (asked s octets) o now octets (any_fine octets)) tidy.unsolicited
@@ -175,7 +177,7 @@ again_tidy s now octets last is tidy = go last.reply (subst (FirstIs s.lanes) is
         by false = tidy
 
 -- the state after a release of what was awaited
-marked_first : (s : Stock) (last : Option LastRequest) → FirstIs s last → FirstIs s (option_map marked last)
+marked_first : (s : EventBuffer) (last : Option LastRequest) → FirstIs s last → FirstIs s (option_map marked last)
 marked_first s None is = tt
 marked_first s (Some last) is = go last.reply is
   where
@@ -187,13 +189,14 @@ marked_first s (Some last) is = go last.reply is
     go Further is = tt
 
 -- a place from which the response may go on
-record IsTidyPlace (s : Stock) (place : Place) : Type 0 where
-  sound : IsSound s
+record IsTidyPlace (s : EventBuffer) (place : ReadPlace) : Type 0 where
+  sound : IsSoundBuffer s
   tidy : IsTidy s place.given
   nine : length place.given ≡ LANES
   used : All (λ id. id ≤ s.last_id) place.given
 
-place_tidy : ReleaseLaws → (s : Stock) (place : Place) (upto : List ℕ) → IsSound s → LeavesOnly s place.given upto → IsTidyPlace (without s upto) place
+place_tidy : ReleaseLaws → (s : EventBuffer) (place : ReadPlace) (upto : List ℕ) → IsSoundBuffer s → LeavesOnly s place.given upto
+    → IsTidyPlace (without s upto) place
 place_tidy law s place upto sound leaves = record {
   sound = law.sound s upto sound leaves.nine_upto;
   tidy = law.tidy s place.given upto sound.nine leaves;
@@ -201,7 +204,7 @@ place_tidy law s place upto sound leaves = record {
   used = leaves.used;
 }
 
-further_tidy : (s : State) (o : Panel) (now stood seq : ℕ) (place : Place) (headers : List Head) → IsTidyPlace s.lanes place → LeavesNothing s
+further_tidy : (s : State) (o : Panel) (now stood seq : ℕ) (place : ReadPlace) (headers : List Head) → IsTidyPlace s.lanes place → LeavesNothing s
     → LeavesNothing (responds_further s now stood seq (read_content s o stood place headers)).state
 further_tidy s o now stood seq place headers at tidy =
     let content = read_content s o stood place headers in
@@ -218,7 +221,7 @@ goes_on_tidy : (s : State) (o : Panel) (now seq : ℕ) (last : Option LastReques
 goes_on_tidy s o now seq None places tidy = tidy
 goes_on_tidy s o now seq (Some last) places tidy = go last.left places
   where
-    go : (left : Option Place) → IfSome left (IsTidyPlace s.lanes)
+    go : (left : Option ReadPlace) → IfSome left (IsTidyPlace s.lanes)
         → LeavesNothing (goes_on s o now seq (Some (record { reply = last.reply; stood = last.stood; left = left }))).state
     go None at = tidy
     go (Some place) at = by (request_at s.core.session.request) refl
@@ -228,16 +231,16 @@ goes_on_tidy s o now seq (Some last) places tidy = go last.left places
         by (Ok r) is = rw is (further_tidy s o now last.stood seq place r.headers at tidy)
         by (Err fault) is = rw is tidy
 
-marked_places : ReleaseLaws → (s : Stock) (last : Option LastRequest) (upto : List ℕ) → IsSound s → IfSome last (λ l. IsLastGiven s l.left upto)
+marked_places : ReleaseLaws → (s : EventBuffer) (last : Option LastRequest) (upto : List ℕ) → IsSoundBuffer s → IfSome last (λ l. IsLastGiven s l.left upto)
     → IfSome (option_map marked last) (λ l. IfSome l.left (IsTidyPlace (without s upto)))
 marked_places law s None upto sound given = tt
 marked_places law s (Some last) upto sound given = go last.left given
   where
-    go : (left : Option Place) → IsLastGiven s left upto → IfSome left (IsTidyPlace (without s upto))
+    go : (left : Option ReadPlace) → IsLastGiven s left upto → IfSome left (IsTidyPlace (without s upto))
     go None given = tt
     go (Some place) given = place_tidy law s place upto sound given
 
-confirms_tidy : ReleaseLaws → (s : State) (o : Panel) (now : ℕ) (w : Awaited) → IsSound s.lanes
+confirms_tidy : ReleaseLaws → (s : State) (o : Panel) (now : ℕ) (w : Awaited) → IsSoundBuffer s.lanes
     → IfSome s.core.session.last (λ l. IsLastGiven s.lanes l.left w.upto) → LeavesNothing s → LeavesNothing (on_confirm s o now w).state
 confirms_tidy law s o now w sound given tidy =
     let after : State = record (with_session s (confirmed s.core.session)) { lanes = without s.lanes w.upto } in
@@ -249,7 +252,7 @@ confirms_tidy law s o now w sound given tidy =
     })
 
 -- a held READ is answered
-held_tidy : (s : State) (o : Panel) (now : ℕ) (last : Option LastRequest) → IsSound s.lanes → LeavesNothing s
+held_tidy : (s : State) (o : Panel) (now : ℕ) (last : Option LastRequest) → IsSoundBuffer s.lanes → LeavesNothing s
     → LeavesNothing (answers_held s o now last).state
 held_tidy s o now None sound tidy = tidy
 held_tidy s o now (Some last) sound tidy = go last.reply
@@ -262,7 +265,7 @@ held_tidy s o now (Some last) sound tidy = go last.reply
     go (First f) = tidy
     go Further = tidy
 
-unsolicited_confirms_tidy : ReleaseLaws → (s : State) (o : Panel) (now : ℕ) (w : Unsolicited) → IsSound s.lanes → length w.upto ≡ LANES → LeavesNothing s
+unsolicited_confirms_tidy : ReleaseLaws → (s : State) (o : Panel) (now : ℕ) (w : Unsolicited) → IsSoundBuffer s.lanes → length w.upto ≡ LANES → LeavesNothing s
     → LeavesNothing (on_unsolicited_confirm s o now w).state
 unsolicited_confirms_tidy law s o now w sound nine tidy =
     let lanes = without s.lanes w.upto in
@@ -277,7 +280,7 @@ unsolicited_confirms_tidy law s o now w sound nine tidy =
 
 -- ---- the end of a call
 
-pushed_nine : (s : Stock) (enabled : List Bool) → length (pushed s enabled).upto ≡ LANES
+pushed_nine : (s : EventBuffer) (enabled : List Bool) → length (pushed s enabled).upto ≡ LANES
 unfolding offered_of
 pushed_nine s enabled = length_given no_ids (held_of may_each (lane_items s (enabled_lanes 0 enabled)))
 
@@ -296,7 +299,7 @@ end_tidy now step tidy =
 
 -- ---- the calls
 
-answered_tidy : ReleaseLaws → (s : State) (o : Panel) (now : ℕ) (octets : List ℕ) (case : Case) → IsSound s.lanes → LeavesNothing s
+answered_tidy : ReleaseLaws → (s : State) (o : Panel) (now : ℕ) (octets : List ℕ) (case : Case) → IsSoundBuffer s.lanes → LeavesNothing s
     → LeavesNothing (answered_by s o now octets case).state
 answered_tidy law s o now octets PassedOver sound tidy = tidy
 answered_tidy law s o now octets Confirms sound tidy = go s.core.session.awaited tidy.awaited
@@ -318,7 +321,7 @@ answered_tidy law s o now octets Again sound tidy = go s.core.session.last refl
 answered_tidy law s o now octets Waits sound tidy = record { awaited = tt; first = tt; unsolicited = tidy.unsolicited }
 answered_tidy law s o now octets Asks sound tidy = asks_tidy s o now octets sound tidy
 
-received_by : ReleaseLaws → (s : State) (o : Panel) (now : ℕ) (octets : List ℕ) (case : Case) → IsSound s.lanes → LeavesNothing s
+received_by : ReleaseLaws → (s : State) (o : Panel) (now : ℕ) (octets : List ℕ) (case : Case) → IsSoundBuffer s.lanes → LeavesNothing s
     → LeavesNothing (received s o now octets case).state
 received_by law s o now octets PassedOver sound tidy = tidy
 received_by law s o now octets Confirms sound tidy = end_tidy now (answered_by s o now octets Confirms) (answered_tidy law s o now octets Confirms sound tidy)
@@ -329,7 +332,7 @@ received_by law s o now octets Again sound tidy = end_tidy now (answered_by s o 
 received_by law s o now octets Waits sound tidy = end_tidy now (answered_by s o now octets Waits) (answered_tidy law s o now octets Waits sound tidy)
 received_by law s o now octets Asks sound tidy = end_tidy now (answered_by s o now octets Asks) (answered_tidy law s o now octets Asks sound tidy)
 
-pub received_tidy : ReleaseLaws → (s : State) (o : Panel) (now : ℕ) (octets : List ℕ) → IsSound s.lanes → LeavesNothing s
+pub received_tidy : ReleaseLaws → (s : State) (o : Panel) (now : ℕ) (octets : List ℕ) → IsSoundBuffer s.lanes → LeavesNothing s
     → LeavesNothing (connection_after s o now octets).state
 received_tidy law s o now octets sound tidy = received_by law s o now octets (case_of s.core octets) sound tidy
 
@@ -396,7 +399,7 @@ ticked_tidy s now tidy = by s.core.is_open
 
 -- ---- the lanes alone change
 
-lanes_tidy : (s : State) (lanes : Stock) → Keeps s.lanes lanes → LeavesNothing s → LeavesNothing (record s { lanes = lanes })
+lanes_tidy : (s : State) (lanes : EventBuffer) → Keeps s.lanes lanes → LeavesNothing s → LeavesNothing (record s { lanes = lanes })
 lanes_tidy s lanes keeps tidy = record {
   awaited = awaited_kept s.lanes lanes s.core.session.awaited s.core.session.last keeps tidy.awaited;
   first = first_kept s.lanes lanes s.core.session.last keeps tidy.first;
@@ -439,7 +442,7 @@ restarted_tidy s keep = begun_tidy (restart_of s keep) refl
 
 -- ---- what a further fragment finds
 
-pub goes_on_tidily : ReleaseLaws → (s : State) (w : Awaited) (last : LastRequest) (place : Place) → IsSound s.lanes → LeavesNothing s
+pub goes_on_tidily : ReleaseLaws → (s : State) (w : Awaited) (last : LastRequest) (place : ReadPlace) → IsSoundBuffer s.lanes → LeavesNothing s
     → s.core.session.awaited ≡ Some w → s.core.session.last ≡ Some last → last.left ≡ Some place
     → IsTidy (without s.lanes w.upto) place.given × (length place.given ≡ LANES)
 goes_on_tidily law s w last place sound tidy awaited_is last_is left_is =
@@ -448,6 +451,6 @@ goes_on_tidily law s w last place sound tidy awaited_is last_is left_is =
     in
     let of_last : IsLastGiven s.lanes last.left w.upto =
     subst (λ (o : Option LastRequest). IfSome o (λ l. IsLastGiven s.lanes l.left w.upto)) last_is given in
-    let of_place : LeavesOnly s.lanes place.given w.upto = subst (λ (o : Option Place). IsLastGiven s.lanes o w.upto) left_is of_last in
+    let of_place : LeavesOnly s.lanes place.given w.upto = subst (λ (o : Option ReadPlace). IsLastGiven s.lanes o w.upto) left_is of_last in
     let at = place_tidy law s.lanes place w.upto sound of_place in
     (at.tidy, at.nine)

@@ -10,10 +10,10 @@ use Rattle.dnp_appfragment.specs.Meaning.{control_of, request_at}
 use Rattle.dnp_appfragment.specs.Table.{function_octet}
 use Rattle.dnp_controls.specs.Panel.{Panel}
 use Rattle.dnp_controls.specs.Selecting.{deadline}
-use Rattle.dnp_eventbuf.specs.Stock.{lane_at, without, all_up_to}
+use Rattle.dnp_eventbuf.specs.EventBuffer.{lane_at, without, all_up_to}
 use Rattle.dnp_objects.specs.declared.limits.TheConstants.{MAX_FRAGMENT}
 use Rattle.dnp_outstation.specs.State.{Core, State, Step, nothing, sending, still, new_session, with_session, holds_read, is_free}
-use Rattle.dnp_outstation.specs.declared.offer.place.Place.{Place}
+use Rattle.dnp_outstation.specs.declared.offer.place.ReadPlace.{ReadPlace}
 use Rattle.dnp_outstation.specs.declared.case.Case.{Case}
 use Rattle.dnp_outstation.specs.declared.case.Case.TheVariants.{PassedOver, Confirms, ConfirmsUnsolicited, Stray, Again, Waits, Asks}
 use Rattle.dnp_outstation.specs.declared.session.Reply.{Reply}
@@ -196,7 +196,7 @@ abbrev pub goes_on : State → Panel → ℕ → ℕ → Option LastRequest → 
 goes_on s o now seq None = still s
 goes_on s o now seq (Some last) = from_place last.left
   where
-    from_place : Option Place → Step
+    from_place : Option ReadPlace → Step
     from_place None = still s
     from_place (Some place) = of_request (request_at s.core.session.request)
       where

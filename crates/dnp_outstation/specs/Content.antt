@@ -15,10 +15,10 @@ use Rattle.dnp_appfragment.specs.declared.iin.Iin.{Iin}
 use Rattle.dnp_appfragment.specs.Fragments.{Asked}
 use Rattle.dnp_appfragment.specs.Headers.{Head, head_of}
 use Rattle.dnp_appfragment.specs.Meaning.{request_at}
-use Rattle.dnp_eventbuf.specs.Stock.{Stock, lane_at, last_of}
+use Rattle.dnp_eventbuf.specs.EventBuffer.{EventBuffer, lane_at, last_of}
 use Rattle.dnp_controls.specs.Panel.{Panel}
 use Rattle.dnp_outstation.specs.State.{State}
-use Rattle.dnp_outstation.specs.declared.offer.place.Place.{Place}
+use Rattle.dnp_outstation.specs.declared.offer.place.ReadPlace.{ReadPlace}
 use Rattle.dnp_outstation.specs.Items.{Source, no_ids, first_place, last_in, is_inside}
 use Rattle.dnp_outstation.specs.Offer.{Filled, offered}
 
@@ -30,7 +30,7 @@ pub record Content : Type 0 where
   pub headers : List Head
   pub bits : ℕ
   pub upto : List ℕ
-  pub left : Option Place
+  pub left : Option ReadPlace
 
 -- the only fragment of a response, without events
 abbrev pub plain : ℕ → List Head → Content
@@ -67,11 +67,11 @@ abbrev pub weight_of : Bool → ℕ → ℕ
 weight_of set weight = if set then weight else 0
 
 -- a lane holds a row that isn't in the fragment
-abbrev pub is_over : Stock → List ℕ → ℕ → Bool
+abbrev pub is_over : EventBuffer → List ℕ → ℕ → Bool
 is_over lanes upto lane = nat_lt (slice_index upto lane) (last_of (lane_at lanes lane).rows)
 
 -- a class holds rows that aren't in the fragment
-abbrev pub holds_more : Stock → List ℕ → ℕ → Bool
+abbrev pub holds_more : EventBuffer → List ℕ → ℕ → Bool
 holds_more lanes upto class = is_over lanes upto (3 * class) || (is_over lanes upto (3 * class + 1) || is_over lanes upto (3 * class + 2))
 
 -- IIN1: bits 1 to 3 tell of rows of the classes 1 to 3, bit 7 of a restart. IIN2: those bits, and whether a lane has
@@ -107,7 +107,7 @@ abbrev pub content_from : Filled → Content
 content_from f = record { headers = f.headers; bits = 0; upto = f.upto; left = f.left }
 
 -- the fragment of a READ that begins at a place
-abbrev pub read_content : State → Panel → ℕ → Place → List Head → Content
+abbrev pub read_content : State → Panel → ℕ → ReadPlace → List Head → Content
 read_content s o stood place headers = content_from (offered (source_of s o) stood place headers)
 
 -- each range has to lie inside the points

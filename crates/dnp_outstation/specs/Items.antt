@@ -14,15 +14,15 @@ use Rattle.dnp_pointdb.specs.Database.{Database, blocks_of, state_at}
 use Rattle.dnp_pointdb.specs.Events.{row_of}
 use Rattle.dnp_pointdb.specs.Sound.{static_object}
 use Rattle.dnp_eventbuf.specs.declared.numbered.Numbered.{Numbered}
-use Rattle.dnp_eventbuf.specs.Stock.{Stock, lane_at, last_of}
+use Rattle.dnp_eventbuf.specs.EventBuffer.{EventBuffer, lane_at, last_of}
 use Rattle.dnp_controls.specs.Panel.{Panel}
-use Rattle.dnp_outstation.specs.declared.offer.place.Place.{Place}
+use Rattle.dnp_outstation.specs.declared.offer.place.ReadPlace.{ReadPlace}
 
 -- where the rows and values come from
 pub record Source : Type 0 where
   pub points : Database
   pub panel : Panel
-  pub lanes : Stock
+  pub lanes : EventBuffer
 
 -- ---- present values
 
@@ -137,11 +137,11 @@ abbrev pub no_ids : List ℕ
 no_ids = replicate LANES 0
 
 -- where a READ begins
-abbrev pub first_place : Place
+abbrev pub first_place : ReadPlace
 first_place = record { header = 0; count = 0; given = no_ids }
 
 -- one item more of this header was given
-abbrev pub passed : Place → ℕ → Place
+abbrev pub passed : ReadPlace → ℕ → ReadPlace
 passed place header = record {
   header = header;
   count = min ((if place.header == header then place.count else 0) + 1) (2 ^ 32 - 1);
@@ -167,13 +167,13 @@ abbrev pub less : Option ℕ → ℕ → Option ℕ
 less most n = option_map (λ m. m - n) most
 
 -- the rows of a lane over the last one that was given, but for those that came after the READ was first answered
-abbrev pub rows_left : Stock → ℕ → List ℕ → ℕ → List Numbered
+abbrev pub rows_left : EventBuffer → ℕ → List ℕ → ℕ → List Numbered
 rows_left s stood given lane = filter (λ x. nat_le x.id stood) (filter (λ x. nat_lt (slice_index given lane) x.id) (lane_at s lane).rows)
 
 abbrev pub event_of : ℕ → ℕ → Numbered → Item
 event_of header lane row = record { header = header; thing = Event lane row }
 
-abbrev pub event_items : Stock → ℕ → List ℕ → ℕ → Option ℕ → List ℕ → List Item
+abbrev pub event_items : EventBuffer → ℕ → List ℕ → ℕ → Option ℕ → List ℕ → List Item
 event_items s stood given header most [] = []
 event_items s stood given header most (lane ∷ lanes) =
     map (event_of header lane) (at_most most (rows_left s stood given lane))
@@ -191,7 +191,7 @@ given_after given x = after x.thing
     after (Present static) = given
 
 -- where a READ has come to with this item
-abbrev pub place_after : Place → Item → Place
+abbrev pub place_after : ReadPlace → Item → ReadPlace
 place_after place x = record (passed place x.header) { given = given_after place.given x }
 
 abbrev pub part_items : Source → ℕ → List ℕ → ℕ → Part → List Item
@@ -214,16 +214,16 @@ parts_left count [] = []
 parts_left count (part ∷ parts) = part_after count part ∷ parts
 
 -- all items left of a READ that has come to this place
-abbrev pub items_left : Source → ℕ → Place → List Head → List Item
+abbrev pub items_left : Source → ℕ → ReadPlace → List Head → List Item
 items_left s stood place headers =
     items_of s stood place.given place.header (parts_left place.count (map (part_of s) (drop place.header headers)))
 
 -- the last id that is in the lanes of a class, and in all lanes
-abbrev pub last_in_class : Stock → ℕ → ℕ
+abbrev pub last_in_class : EventBuffer → ℕ → ℕ
 last_in_class s class =
     max (last_of (lane_at s (3 * class)).rows) (max (last_of (lane_at s (3 * class + 1)).rows) (last_of (lane_at s (3 * class + 2)).rows))
 
-abbrev pub last_in : Stock → ℕ
+abbrev pub last_in : EventBuffer → ℕ
 last_in s = max (last_in_class s 0) (max (last_in_class s 1) (last_in_class s 2))
 
 -- ---- the items of an unsolicited response: the lanes of the enabled classes, in order
@@ -232,6 +232,6 @@ abbrev pub enabled_lanes : ℕ → List Bool → List ℕ
 enabled_lanes class [] = []
 enabled_lanes class (b ∷ bs) = (if b then class_lanes class else []) ++ enabled_lanes (class + 1) bs
 
-abbrev pub lane_items : Stock → List ℕ → List Item
+abbrev pub lane_items : EventBuffer → List ℕ → List Item
 lane_items s [] = []
 lane_items s (lane ∷ lanes) = map (event_of 0 lane) (lane_at s lane).rows ++ lane_items s lanes

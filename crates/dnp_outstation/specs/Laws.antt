@@ -5,9 +5,9 @@ use Rattle.std.specs.List.{filter_map, flat_map, range_with_len}
 use Rattle.dnp_objects.specs.declared.limits.TheConstants.{LANES}
 use Rattle.dnp_objects.specs.declared.row.Row.{Row}
 use Rattle.dnp_eventbuf.specs.declared.numbered.Numbered.{Numbered}
-use Rattle.dnp_eventbuf.specs.Stock.{Stock, lane_at, row_of}
+use Rattle.dnp_eventbuf.specs.EventBuffer.{EventBuffer, lane_at, row_of}
 use Rattle.dnp_appfragment.specs.Headers.{Head}
-use Rattle.dnp_outstation.specs.declared.offer.place.Place.{Place}
+use Rattle.dnp_outstation.specs.declared.offer.place.ReadPlace.{ReadPlace}
 use Rattle.dnp_outstation.specs.Items.{Source, Thing, Item, statics_of, items_left}
 use Rattle.dnp_outstation.specs.Items.Thing.{Event, Present}
 use Rattle.dnp_outstation.specs.Forms.{may_in}
@@ -44,7 +44,7 @@ abbrev pub rows_by_lane : List Item → List Row
 rows_by_lane items = flat_map (λ lane. map row_of (rows_in_lane lane items)) lane_numbers
 
 -- lane by lane, these items' rows are those that stand in the lanes with ids up to the lane's number
-abbrev pub AreRowsUpto : Stock → List ℕ → List Item → Type 0
+abbrev pub AreRowsUpto : EventBuffer → List ℕ → List Item → Type 0
 AreRowsUpto s upto items = (lane : ℕ) → lane < LANES
     → rows_in_lane lane items ≡ filter (λ x. nat_le x.id (slice_index upto lane)) (lane_at s lane).rows
 
@@ -75,7 +75,7 @@ abbrev pub AreFewPresent : Source → Type 0
 AreFewPresent s = (asked group : ℕ) → length (statics_of s asked group) ≤ 2 ^ 16
 
 -- these are what the fragments of a response hold, one after the other, from a place on
-abbrev pub AreHeldFrom : Source → ℕ → List Head → Option Place → List (List Item) → Type 0
+abbrev pub AreHeldFrom : Source → ℕ → List Head → Option ReadPlace → List (List Item) → Type 0
 AreHeldFrom s stood headers None [] = ⊤
 AreHeldFrom s stood headers None (held ∷ others) = ⊥
 AreHeldFrom s stood headers (Some place) [] = ⊥
@@ -85,11 +85,11 @@ AreHeldFrom s stood headers (Some place) (held ∷ others) =
 -- ---- what stands in the lanes of what was given
 
 -- nothing that was given before is left: each row of a lane has an id over the last one that was given
-abbrev pub IsTidy : Stock → List ℕ → Type 0
+abbrev pub IsTidy : EventBuffer → List ℕ → Type 0
 IsTidy s given = (lane : ℕ) → lane < LANES → All (λ x. slice_index given lane < x.id) (lane_at s lane).rows
 
 -- of what was given nothing is left but what the fragment with these ids carries, and no id is given twice
-pub record LeavesOnly (s : Stock) (given upto : List ℕ) : Type 0 where
+pub record LeavesOnly (s : EventBuffer) (given upto : List ℕ) : Type 0 where
   pub nine : length given ≡ LANES
   pub nine_upto : length upto ≡ LANES
   pub used : All (λ id. id ≤ s.last_id) given

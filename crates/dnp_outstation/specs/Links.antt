@@ -15,7 +15,7 @@ use Rattle.dnp_appfragment.specs.Table.{function_octet}
 use Rattle.dnp_controls.specs.Panel.{Panel}
 use Rattle.dnp_controls.specs.Selecting.{Select, GoesWith, IsRunning}
 use Rattle.dnp_eventbuf.specs.Buffered.{buffered_in, buffered_row, id_limit, is_upto}
-use Rattle.dnp_eventbuf.specs.Stock.{Stock, without, all_up_to}
+use Rattle.dnp_eventbuf.specs.EventBuffer.{EventBuffer, without, all_up_to}
 use Rattle.dnp_outstation.specs.declared.case.Case.{Case}
 use Rattle.dnp_outstation.specs.declared.case.Case.TheVariants.{PassedOver, Confirms, ConfirmsUnsolicited, Stray, Again, Waits, Asks}
 use Rattle.dnp_outstation.specs.declared.session.LastRequest.{LastRequest}
@@ -32,7 +32,7 @@ use Rattle.dnp_outstation.specs.Connection.{is_looked_at, control_in, function_i
 
 -- the octets are read as a response with this control octet, whose event rows are, but for order, those that stand in
 -- the lanes with ids up to these; each of these ids was used
-pub record Reports (s : Stock) (octets : List ℕ) (control : ControlBits) (upto : List ℕ) : Type 0 where
+pub record Reports (s : EventBuffer) (octets : List ℕ) (control : ControlBits) (upto : List ℕ) : Type 0 where
   pub answered : Answered
   pub read : response_at octets ≡ Ok answered
   pub control_is : answered.control ≡ control

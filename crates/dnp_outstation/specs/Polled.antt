@@ -7,7 +7,7 @@ use Rattle.dnp_appfragment.specs.Headers.{Head, head_of}
 use Rattle.dnp_appfragment.specs.Meaning.{response_at}
 use Rattle.dnp_appfragment.specs.declared.function.Function.TheVariants as function
 use Rattle.dnp_appfragment.specs.declared.header.Range.TheVariants as range
-use Rattle.dnp_eventbuf.specs.Stock.{Stock, without}
+use Rattle.dnp_eventbuf.specs.EventBuffer.{EventBuffer, without}
 use Rattle.dnp_outstation.specs.Forms.{may_each}
 use Rattle.dnp_outstation.specs.Items.{Item, enabled_lanes, lane_items, no_ids}
 use Rattle.dnp_outstation.specs.Laws.{lane_numbers}
@@ -48,14 +48,14 @@ abbrev pub portion_of : List Item → Portion
 portion_of items = record { rows = events_in (held_of may_each items); ids = last_ids (held_of may_each items) }
 
 -- all rows of the lanes, one lane after another
-abbrev pub polled_items : Stock → List Item
+abbrev pub polled_items : EventBuffer → List Item
 polled_items lanes = lane_items lanes lane_numbers
 
-abbrev pub polled : Stock → Portion
+abbrev pub polled : EventBuffer → Portion
 polled lanes = portion_of (polled_items lanes)
 
 -- what an unsolicited response has: those of the enabled classes
-abbrev pub reported : Stock → List Bool → Portion
+abbrev pub reported : EventBuffer → List Bool → Portion
 reported lanes enabled = portion_of (lane_items lanes (enabled_lanes 0 enabled))
 
 abbrev pub no_rows : Portion
@@ -63,17 +63,17 @@ no_rows = record { rows = []; ids = no_ids }
 
 -- ---- the parts of a poll
 
-abbrev pub polled_held : Stock → List Laid
+abbrev pub polled_held : EventBuffer → List Laid
 polled_held lanes = held_laid may_each (polled_items lanes)
 
-abbrev pub polled_rows : Stock → List Row
+abbrev pub polled_rows : EventBuffer → List Row
 polled_rows lanes = (polled lanes).rows
 
-abbrev pub polled_ids : Stock → List ℕ
+abbrev pub polled_ids : EventBuffer → List ℕ
 polled_ids lanes = (polled lanes).ids
 
 -- they are all that the lanes hold
-abbrev pub are_all_polled : Stock → Bool
+abbrev pub are_all_polled : EventBuffer → Bool
 are_all_polled lanes = length (held_of may_each (polled_items lanes)) == length (polled_items lanes)
 
 -- ---- what becomes of it
@@ -104,7 +104,7 @@ pub record Offers (seq : ℕ) (old : State) (step : Step) : Type 0 where
   pub none : con ≡ false → polled_rows old.lanes ≡ []
 
 -- That confirm takes just those rows out of the lanes, and nothing else is done.
-pub record Releases (old : State) (step : Step) : Type 0 where
+pub record ReleasesPolled (old : State) (step : Step) : Type 0 where
   pub lanes : step.state.lanes ≡ without old.lanes (polled_ids old.lanes)
   pub discarded : step.does.discarded ≡ polled_rows old.lanes
   pub performed : step.state.performed ≡ old.performed

@@ -4,7 +4,7 @@ use Rattle.std.specs.Prelude.{◌≡◌, ◌≢◌, ◌⊎◌, ℕ, Bool, true, 
 use Rattle.dnp_appfragment.specs.Table.{function_octet}
 use Rattle.dnp_appfragment.specs.declared.function.Function.TheVariants as function
 use Rattle.dnp_controls.specs.Panel.{Panel}
-use Rattle.dnp_eventbuf.specs.Stock.{Stock, dropped_by, exhausts, rows_in}
+use Rattle.dnp_eventbuf.specs.EventBuffer.{EventBuffer, dropped_by, exhausts, rows_in}
 use Rattle.dnp_objects.specs.declared.command.Command.{Command}
 use Rattle.dnp_objects.specs.declared.lane.LaneRow.{LaneRow}
 use Rattle.dnp_pointdb.specs.declared.fault.ChangeFault.{ChangeFault}
@@ -39,6 +39,6 @@ pub record ReadingRunsOut (s : State) (made : Result (Option LaneRow) ChangeFaul
 
 -- where no unsolicited response may begin, it is so for a row that is dropped, if the lanes ask for no memory, and only where
 -- they have the numbers
-pub record UnreadyRunsOut (honest : Type 0) (asks_memory : Bool) (lanes : Stock) (made : Result (Option LaneRow) ChangeFault) : Type 0 where
+pub record UnreadyRunsOut (honest : Type 0) (asks_memory : Bool) (lanes : EventBuffer) (made : Result (Option LaneRow) ChangeFault) : Type 0 where
   pub dropped : asks_memory ≡ false → IfOk made (λ row. dropped_by lanes (option_to_list row) ≢ [])
   pub numbers : honest → IfOk made (λ row. exhausts lanes (option_to_list row) ≡ false)

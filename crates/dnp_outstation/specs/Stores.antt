@@ -1,15 +1,15 @@
 -- Definition: what a call of an outstation leaves of its lanes and of its outputs, which it owns or which are lent to it.
 use Rattle.std.specs.Prelude.{◌≡◌, ◌≢◌, ◌⊎◌, Bool, false, IsTrue, List, [], OnOk, OnErr, IfErr, Result, Err}
 use Rattle.dnp_controls.specs.Panel.{Panel}
-use Rattle.dnp_eventbuf.specs.Stock.{Stock, rows_in}
+use Rattle.dnp_eventbuf.specs.EventBuffer.{EventBuffer, rows_in}
 use Rattle.dnp_objects.specs.declared.command.Command.{Command}
 use Rattle.dnp_objects.specs.declared.store.StoreFault.{StoreFault}
 use Rattle.dnp_objects.specs.declared.store.StoreFault.TheVariants.{Exhausted, Memory, Device}
 
 -- of lanes: they stay where they are kept, and so does what stands beside them; all of them stay where the call is
 -- refused; the fault `device` alone stops them
-pub record KeepsLanes {Store Place Answer Fault : Type 0} (honest : Store → Type 0) (is_stopped : Store → Bool) (contents : Store → Stock)
-    (others : Store → List Stock) (kept : Store → Place) (device : Fault) (old new : Store) (answer : Result Answer Fault) : Type 0 where
+pub record KeepsLanes {Store Place Answer Fault : Type 0} (honest : Store → Type 0) (is_stopped : Store → Bool) (contents : Store → EventBuffer)
+    (others : Store → List EventBuffer) (kept : Store → Place) (device : Fault) (old new : Store) (answer : Result Answer Fault) : Type 0 where
   pub held : honest new → honest old
   pub place : kept new ≡ kept old
   pub beside : honest new → others new ≡ others old
@@ -17,8 +17,9 @@ pub record KeepsLanes {Store Place Answer Fault : Type 0} (honest : Store → Ty
   pub runs_on : answer ≢ Err device → is_stopped new ≡ is_stopped old
 
 -- of lanes that the call only looks at, whatever it answers
-pub record IsLook {Store Place Answer : Type 0} (honest : Store → Type 0) (is_stopped : Store → Bool) (contents : Store → Stock)
-    (others : Store → List Stock) (kept : Store → Place) (asks_memory : Bool) (may_fault : StoreFault → Bool) (old new : Store) (answer : Result Answer StoreFault) : Type 0 where
+pub record IsLook {Store Place Answer : Type 0} (honest : Store → Type 0) (is_stopped : Store → Bool) (contents : Store → EventBuffer)
+    (others : Store → List EventBuffer) (kept : Store → Place) (asks_memory : Bool) (may_fault : StoreFault → Bool) (old new : Store)
+    (answer : Result Answer StoreFault) : Type 0 where
   pub held : honest new → honest old
   pub same : honest new → contents new ≡ contents old
   pub place : kept new ≡ kept old
@@ -34,8 +35,9 @@ pub record IsLook {Store Place Answer : Type 0} (honest : Store → Type 0) (is_
   pub faults : IfErr answer (λ e. IsTrue (may_fault e))
 
 -- of lanes from which the call releases rows: they stay where it is refused
-pub record Releases {Store Place Answer : Type 0} (honest : Store → Type 0) (is_stopped : Store → Bool) (contents : Store → Stock)
-    (others : Store → List Stock) (kept : Store → Place) (asks_memory : Bool) (may_fault : StoreFault → Bool) (old new : Store) (answer : Result Answer StoreFault) : Type 0 where
+pub record IsReleaseCall {Store Place Answer : Type 0} (honest : Store → Type 0) (is_stopped : Store → Bool) (contents : Store → EventBuffer)
+    (others : Store → List EventBuffer) (kept : Store → Place) (asks_memory : Bool) (may_fault : StoreFault → Bool) (old new : Store)
+    (answer : Result Answer StoreFault) : Type 0 where
   pub held : honest new → honest old
   pub place : kept new ≡ kept old
   pub beside : honest new → others new ≡ others old

@@ -1,9 +1,9 @@
 -- Definition: what stands in the lanes of what a connection gave (IEEE Std 1815-2012, application layer: responses of
 -- several fragments, confirms).
 use Rattle.std.specs.Prelude.{◌≡◌, ℕ, List, length, Option, IfSome, ⊤}
-use Rattle.dnp_eventbuf.specs.Stock.{Stock}
+use Rattle.dnp_eventbuf.specs.EventBuffer.{EventBuffer}
 use Rattle.dnp_objects.specs.declared.limits.TheConstants.{LANES}
-use Rattle.dnp_outstation.specs.declared.offer.place.Place.{Place}
+use Rattle.dnp_outstation.specs.declared.offer.place.ReadPlace.{ReadPlace}
 use Rattle.dnp_outstation.specs.declared.session.Reply.{Reply}
 use Rattle.dnp_outstation.specs.declared.session.Reply.TheVariants.{Held, Silent, First, Further}
 use Rattle.dnp_outstation.specs.declared.session.LastRequest.{LastRequest}
@@ -12,11 +12,11 @@ use Rattle.dnp_outstation.specs.State.{State}
 
 -- the fragment with these ids is the last one given of a response that goes on at this place, if it goes on: of all
 -- that the response gave only its rows are left
-abbrev pub IsLastGiven : Stock → Option Place → List ℕ → Type 0
+abbrev pub IsLastGiven : EventBuffer → Option ReadPlace → List ℕ → Type 0
 IsLastGiven s left upto = IfSome left (λ place. LeavesOnly s place.given upto)
 
 -- so it is of the first fragment, as long as no other was sent
-abbrev pub IsFirstGiven : Stock → LastRequest → Type 0
+abbrev pub IsFirstGiven : EventBuffer → LastRequest → Type 0
 IsFirstGiven s last = by_reply last.reply
   where
     by_reply : Reply → Type 0

@@ -1,6 +1,6 @@
 //! What a fragment of a response says beside its headers.
 
-use crate::offer::place::Place;
+use crate::offer::place::ReadPlace;
 
 /// What a request may switch: whether a restart is still to be told of, and the classes 1 to 3 whose
 /// unsolicited responses are enabled.
@@ -20,7 +20,7 @@ pub(crate) struct Answer {
     /// The last id in the lanes as the request was first answered.
     pub stood: u64,
     /// Where the next fragment begins, if there is one.
-    pub left: Option<Place>,
+    pub left: Option<ReadPlace>,
     /// The time that the request writes, in milliseconds since 1970-01-01 00:00 UTC.
     pub time: Option<u64>,
 }

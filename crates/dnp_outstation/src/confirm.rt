@@ -7,13 +7,13 @@ ghost use Rattle.dnp_appfragment.specs.declared.function.Function.TheVariants as
 ghost use Rattle.dnp_appfragment.specs.Meaning.{request_at};
 ghost use Rattle.dnp_controls.specs.Panel.{Panel};
 ghost use Rattle.dnp_controls.specs.Selecting.{deadline};
-ghost use Rattle.dnp_eventbuf.specs.Stock.{without};
+ghost use Rattle.dnp_eventbuf.specs.EventBuffer.{without};
 ghost use Rattle.dnp_outstation.specs.steps.Answering.{goes_on_by, went_on, KeepsWhole, answers_held_by, switched_by};
 ghost use Rattle.dnp_outstation.specs.Calls.{with_that};
 ghost use Rattle.dnp_outstation.specs.Connection.{goes_on, on_confirm, confirmed, at_end, control_in, answers_held, on_unsolicited_confirm};
 ghost use Rattle.dnp_outstation.specs.State.{Core, State, nothing, with_session, is_free};
 ghost use Rattle.dnp_outstation.specs.Station.{state_of, actions_of, HasRoom};
-ghost use Rattle.dnp_outstation.specs.Stores.{IsLook, Releases};
+ghost use Rattle.dnp_outstation.specs.Stores.{IsLook, IsReleaseCall};
 ghost use Rattle.dnp_outstation.specs.steps.Filling.{after_release};
 ghost use Rattle.dnp_outstation.specs.Items.{last_in};
 
@@ -141,7 +141,7 @@ impl OutstationCore {
         outputs: &O,
         now: u64,
     ) -> Result<(), StoreFault>
-        ensures releases { Releases L.honest L.is_stopped L.contents L.beside L.place L.asks_memory L.may_fault lanes.old lanes.new result }
+        ensures releases { IsReleaseCall L.honest L.is_stopped L.contents L.beside L.place L.asks_memory L.may_fault lanes.old lanes.new result }
         ensures confirmed { L.honest lanes.new → OnOk result ((p : Panel) → let s = state_of self.old (L.contents lanes.old) p in
             at_end now (with_that s s.core.session.awaited (on_confirm s (O.panel outputs.now) now))
             ≡ record { state = state_of self.new (L.contents lanes.new) p; does = actions_of actions.new }) }
@@ -305,7 +305,7 @@ impl OutstationCore {
         outputs: &O,
         now: u64,
     ) -> Result<(), StoreFault>
-        ensures releases { Releases L.honest L.is_stopped L.contents L.beside L.place L.asks_memory L.may_fault lanes.old lanes.new result }
+        ensures releases { IsReleaseCall L.honest L.is_stopped L.contents L.beside L.place L.asks_memory L.may_fault lanes.old lanes.new result }
         ensures confirmed { L.honest lanes.new → OnOk result ((p : Panel) → let s = state_of self.old (L.contents lanes.old) p in
             at_end now (with_that s s.core.session.unsolicited (on_unsolicited_confirm s (O.panel outputs.now) now))
             ≡ record { state = state_of self.new (L.contents lanes.new) p; does = actions_of actions.new }) }

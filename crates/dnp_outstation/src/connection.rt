@@ -7,7 +7,7 @@ ghost use Rattle.dnp_outstation.specs.steps.Answering.{KeepsWhole, first_in};
 ghost use Rattle.dnp_outstation.specs.State.{new_session, holds_read};
 ghost use Rattle.dnp_outstation.specs.Connection.{is_last_request, is_number, awaited_number, confirmed, new_request, no_response, held};
 
-use crate::kept::{Kept, KeptRequest};
+use crate::kept::{KeptFragment, KeptRequest};
 use crate::sequence::SequenceNumber;
 use crate::session::{FirstFragment, LastRequest, Reply, Session};
 use dnp_appfragment::Function;
@@ -27,8 +27,8 @@ impl Session {
     {
         Session {
             request: KeptRequest::new(),
-            response: Kept::new(),
-            unsolicited_response: Kept::new(),
+            response: KeptFragment::new(),
+            unsolicited_response: KeptFragment::new(),
             last: None,
             awaited: None,
             unsolicited: None,

@@ -3,7 +3,7 @@
 ghost use Rattle.std.specs.Prelude.{All, ◌⊎◌, ◌≡◌, ◌≢◌, ◌<◌, ◌≤◌, ℕ, [], true, false, IsErr, IfErr, IfSome, OnOk, OnErr, IsTrue, None, Err, length, option_map};
 ghost use Rattle.dnp_appfragment.specs.declared.function.Function.TheVariants as function;
 ghost use Rattle.dnp_controls.specs.Selecting.{deadline};
-ghost use Rattle.dnp_eventbuf.specs.Stock.{rows_in};
+ghost use Rattle.dnp_eventbuf.specs.EventBuffer.{rows_in};
 ghost use Rattle.dnp_objects.specs.declared.limits.TheConstants.{MAX_FRAGMENT};
 ghost use Rattle.dnp_outstation.specs.steps.Answering.{content_by, KeepsWhole};
 ghost use Rattle.dnp_outstation.specs.Connection.{on_request, at_end, replied};

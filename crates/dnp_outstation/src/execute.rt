@@ -11,7 +11,7 @@ ghost use Rattle.dnp_appfragment.specs.Whole.{request};
 ghost use Rattle.dnp_outstation.specs.steps.Answering.{executed_by};
 ghost use Rattle.dnp_appfragment.specs.Table.{function_octet};
 ghost use Rattle.dnp_outstation.specs.Connection.{function_in};
-ghost use Rattle.dnp_outstation.specs.Items.{Source, last_in as last_in_stock, first_place, is_inside};
+ghost use Rattle.dnp_outstation.specs.Items.{Source, last_in as last_in_buffer, first_place, is_inside};
 ghost use Rattle.dnp_outstation.specs.steps.Filling.{after_release, empty_from};
 ghost use Rattle.dnp_outstation.specs.declared.offer.writer.Writer.{Writer as WriterValue};
 ghost use Rattle.dnp_outstation.specs.State.{State};
@@ -23,7 +23,7 @@ use crate::answer::{Answer, Switches};
 use crate::offer::fetched::Fetched;
 use crate::offer::inside::are_inside;
 use crate::offer::parts::put_parts;
-use crate::offer::place::Place;
+use crate::offer::place::ReadPlace;
 use crate::offer::writer::Writer;
 use crate::released::last_left;
 use byteorder::{ByteOrder, LittleEndian};
@@ -46,7 +46,7 @@ const OBJECT_UNKNOWN: u8 = 0x02;
 pub(crate) const PARAMETER_ERROR: u8 = 0x04;
 
 /// Where a READ begins.
-pub(crate) const FIRST_PLACE: Place = Place {
+pub(crate) const FIRST_PLACE: ReadPlace = ReadPlace {
     header: 0,
     count: 0,
     given: [0; LANES],
@@ -189,7 +189,7 @@ pub(crate) fn plain(bits: u8, switches: Switches, stood: u64) -> Answer
 }
 
 /// Where the READ of which this fragment is a part goes on, if it does.
-pub(crate) fn left(is_last: bool, place: Place) -> Option<Place>
+pub(crate) fn left(is_last: bool, place: ReadPlace) -> Option<ReadPlace>
     ensures { result ≡ (if is_last then None else Some place) }
 {
     if is_last { None } else { Some(place) }
@@ -211,7 +211,7 @@ fn read<L: Lanes, O: Outputs>(
 ) -> Result<Answer, StoreFault>
     requires empty { writer.old ≡ empty_from first_place }
     requires few { length headers.now.headers < 2 ^ 64 }
-    requires stood { L.honest lanes.old → stood ≡ last_in_stock (after_release (L.contents lanes.old) released.now) }
+    requires stood { L.honest lanes.old → stood ≡ last_in_buffer (after_release (L.contents lanes.old) released.now) }
     ensures look { IsLook L.honest L.is_stopped L.contents L.beside L.place L.asks_memory L.may_fault lanes.old lanes.new result }
     ensures executed { L.honest lanes.new → IfOk result (λ a. (s : State) → s.core.points ≡ points.now → s.core.restart ≡ switches.restart → s.core.enabled ≡ switches.enabled
         → s.lanes ≡ after_release (L.contents lanes.old) released.now → read_executed s (O.panel outputs.now) headers.now.headers ≡ executed_by s writer.new a) }
@@ -323,7 +323,7 @@ pub(crate) fn execute_after<L: Lanes, O: Outputs>(
     ensures look { IsLook L.honest L.is_stopped L.contents L.beside L.place L.asks_memory L.may_fault lanes.old lanes.new result }
     ensures executed { L.honest lanes.new → IfOk result (λ a. (s : State) → s.core.points ≡ points.now → s.core.restart ≡ switches.restart → s.core.enabled ≡ switches.enabled
         → s.lanes ≡ after_release (L.contents lanes.old) released.now → content_of s (O.panel outputs.now) octets.now ≡ executed_by s writer.new a) }
-    ensures stood { L.honest lanes.new → IfOk result (λ a. a.stood ≡ last_in_stock (after_release (L.contents lanes.old) released.now)) }
+    ensures stood { L.honest lanes.new → IfOk result (λ a. a.stood ≡ last_in_buffer (after_release (L.contents lanes.old) released.now)) }
     ensures small { IfOk result (λ a. a.bits < 8) }
     // What goes on is of a request that was read.
     ensures goes_on { IfOk result (λ a. IsSome a.left → IsTrue (is_ok (request_at octets.now))) }
@@ -372,7 +372,7 @@ pub(crate) fn execute<L: Lanes, O: Outputs>(
     ensures look { IsLook L.honest L.is_stopped L.contents L.beside L.place L.asks_memory L.may_fault lanes.old lanes.new result }
     ensures executed { L.honest lanes.new → IfOk result (λ a. (s : State) → s.core.points ≡ points.now → s.core.restart ≡ switches.restart → s.core.enabled ≡ switches.enabled
         → s.lanes ≡ L.contents lanes.old → content_of s (O.panel outputs.now) octets.now ≡ executed_by s writer.new a) }
-    ensures stood { L.honest lanes.new → IfOk result (λ a. a.stood ≡ last_in_stock (L.contents lanes.old)) }
+    ensures stood { L.honest lanes.new → IfOk result (λ a. a.stood ≡ last_in_buffer (L.contents lanes.old)) }
     ensures small { IfOk result (λ a. a.bits < 8) }
     // What goes on is of a request that was read.
     ensures goes_on { IfOk result (λ a. IsSome a.left → IsTrue (is_ok (request_at octets.now))) }

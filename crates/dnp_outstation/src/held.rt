@@ -7,9 +7,9 @@ ghost use Rattle.dnp_objects.specs.Events.{IsEvent};
 ghost use Rattle.dnp_appfragment.specs.declared.function.Function.TheVariants as function;
 ghost use Rattle.dnp_appfragment.specs.Table.{is_response};
 ghost use Rattle.dnp_eventbuf.specs.declared.numbered.Numbered.{Numbered as NumberedRow};
-ghost use Rattle.dnp_eventbuf.specs.Carried.{IsCarried};
-ghost use Rattle.dnp_eventbuf.specs.Sound.{IsSound};
-ghost use Rattle.dnp_eventbuf.specs.Stock.{Stock, lane_at, with_rows, dropped_by};
+ghost use Rattle.dnp_eventbuf.specs.FitsLane.{FitsLane};
+ghost use Rattle.dnp_eventbuf.specs.Sound.{IsSoundBuffer};
+ghost use Rattle.dnp_eventbuf.specs.EventBuffer.{EventBuffer, lane_at, with_rows, dropped_by};
 ghost use Rattle.dnp_objects.specs.declared.limits.TheConstants.{LANES};
 ghost use Rattle.dnp_outstation.specs.steps.Filling.{empty_for, ended, has_rows_in};
 ghost use Rattle.dnp_outstation.specs.steps.Holding.{AreFirst, IsLaneHeld, IsClassHeld, IsHeld, AreClassEvents, AreEvents, new_of, kept_of, more_of};
@@ -29,19 +29,39 @@ use std::alloc::Global;
 const DROPPED: usize = 1;
 
 /// The first rows of the lanes of a class.
-#[derive(Drop)]
 pub struct HeldClass {
     pub binary: Vec<Numbered>,
     pub counter: Vec<Numbered>,
     pub analog: Vec<Numbered>,
 }
 
+impl Drop for HeldClass {
+    /// One call for whoever lets it go: its parts are looked at here alone.
+    fn drop(self) {
+        let HeldClass {
+            binary: _,
+            counter: _,
+            analog: _,
+        } = self;
+    }
+}
+
 /// The first rows of the lanes of each class that is enabled.
-#[derive(Drop)]
 pub struct HeldRows {
     pub first: HeldClass,
     pub second: HeldClass,
     pub third: HeldClass,
+}
+
+impl Drop for HeldRows {
+    /// One call for whoever lets it go: its parts are looked at here alone.
+    fn drop(self) {
+        let HeldRows {
+            first: _,
+            second: _,
+            third: _,
+        } = self;
+    }
 }
 
 /// A row that was appended: the number of its lane, the row as it stands there, and whether that lane
@@ -70,8 +90,7 @@ fn held_lane<L: Lanes>(
         None => unreachable!(),
     };
     let held = enough(lane.kind, MAX_FRAGMENT) + DROPPED;
-    let rows = lanes.offer(alloc, lane, 0, held)?;
-    Ok(rows)
+    lanes.offer(alloc, lane, 0, held)
 }
 
 /// Reads the first rows of the lanes of a class, if it is enabled. Classes count from 0 here.
@@ -132,10 +151,10 @@ pub(crate) fn held_rows<L: Lanes>(
 
 /// The row that was appended, if there was one, and for which these rows were dropped.
 fn new_row<L: Lanes>(lanes: &mut L, made: &Option<LaneRow>, dropped: &[Row]) -> Option<NewRow>
-    requires { IfSome made.now IsCarried }
+    requires { IfSome made.now FitsLane }
     ensures same { lanes.new ≡ lanes.old }
     ensures event { IfSome result (λ new. IsEvent new.row.row) }
-    ensures value { L.honest lanes.new → (s : Stock) → IsSound s → L.contents lanes.new ≡ with_rows s (option_to_list made.now)
+    ensures value { L.honest lanes.new → (s : EventBuffer) → IsSoundBuffer s → L.contents lanes.new ≡ with_rows s (option_to_list made.now)
         → dropped.now ≡ dropped_by s (option_to_list made.now) → result ≡ new_of s made.now }
 {
     let Some(made) = made else {
@@ -212,7 +231,7 @@ impl Writer {
         requires response { IsTrue (is_response self.old.builder.function) }
         requires events { AreClassEvents held.now }
         requires event { IfSome new.now (λ new. IsEvent new.row.row) }
-        ensures written { (s : Stock) (made : Option LaneRowValue) → IsSound s → new.now ≡ new_of s made → (is_enabled ≡ true → IsClassHeld s class held.now)
+        ensures written { (s : EventBuffer) (made : Option LaneRowValue) → IsSoundBuffer s → new.now ≡ new_of s made → (is_enabled ≡ true → IsClassHeld s class held.now)
             → Puts self.old (mark true (lane_items (with_rows s (option_to_list made)) (if is_enabled then class_lanes class else []))) result self.new }
         ensures response { self.new.builder.function ≡ self.old.builder.function }
     {
@@ -241,9 +260,9 @@ pub(crate) fn put_held<L: Lanes>(
 ) -> bool
     requires response { IsTrue (is_response writer.old.builder.function) }
     requires events { AreEvents held.now }
-    requires carried { IfSome made.now IsCarried }
+    requires carried { IfSome made.now FitsLane }
     ensures same { lanes.new ≡ lanes.old }
-    ensures pushed { L.honest lanes.new → (s : Stock) → IsHeld s enabled held.now → L.contents lanes.new ≡ with_rows s (option_to_list made.now)
+    ensures pushed { L.honest lanes.new → (s : EventBuffer) → IsHeld s enabled held.now → L.contents lanes.new ≡ with_rows s (option_to_list made.now)
         → dropped.now ≡ dropped_by s (option_to_list made.now) → writer.old ≡ empty_for function.UnsolicitedResponse first_place
         → ended result writer.new ≡ pushed (with_rows s (option_to_list made.now)) enabled }
     ensures response { writer.new.builder.function ≡ writer.old.builder.function }

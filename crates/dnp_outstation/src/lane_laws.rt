@@ -4,7 +4,7 @@ ghost use Rattle.std.specs.Prelude.{◌≡◌, ℕ, List, [], length, Some};
 ghost use Rattle.dnp_appfragment.specs.Headers.{Head};
 ghost use Rattle.dnp_controls.specs.Panel.{Panel};
 ghost use Rattle.dnp_objects.specs.declared.limits.TheConstants.{LANES};
-ghost use Rattle.dnp_outstation.specs.declared.offer.place.Place.{Place};
+ghost use Rattle.dnp_outstation.specs.declared.offer.place.ReadPlace.{ReadPlace};
 ghost use Rattle.dnp_outstation.specs.Calls.{connection_after, opened_of, tick_of};
 ghost use Rattle.dnp_outstation.specs.Connection.{at_end};
 ghost use Rattle.dnp_outstation.specs.Content.{Content, content_of, read_content};
@@ -19,7 +19,7 @@ pub fn fragments_have_an_id_for_each_lane()
         → (content_at s o now octets).content ≡ Some content → length content.upto ≡ LANES }
     ensures held { (s : State) (o : Panel) (octets : List ℕ) (content : Content)
         → (content_of s o octets).content ≡ Some content → length content.upto ≡ LANES }
-    ensures further { (s : State) (o : Panel) (stood : ℕ) (place : Place) (headers : List Head)
+    ensures further { (s : State) (o : Panel) (stood : ℕ) (place : ReadPlace) (headers : List Head)
         → length (read_content s o stood place headers).upto ≡ LANES }
 {}
 

@@ -13,9 +13,9 @@ ghost use Rattle.dnp_appfragment.specs.Headers.{Head};
 ghost use Rattle.dnp_appfragment.specs.Items.{HoldAll};
 ghost use Rattle.dnp_appfragment.specs.Meaning.{response_at};
 ghost use Rattle.dnp_appfragment.specs.Table.{is_response};
-ghost use Rattle.dnp_eventbuf.specs.Sound.{IsSound};
-ghost use Rattle.dnp_eventbuf.specs.Stock.{Stock, all_up_to, with_rows, without, without_all};
-ghost use Rattle.dnp_outstation.specs.declared.offer.place.Place.{Place};
+ghost use Rattle.dnp_eventbuf.specs.Sound.{IsSoundBuffer};
+ghost use Rattle.dnp_eventbuf.specs.EventBuffer.{EventBuffer, all_up_to, with_rows, without, without_all};
+ghost use Rattle.dnp_outstation.specs.declared.offer.place.ReadPlace.{ReadPlace};
 ghost use Rattle.dnp_outstation.specs.declared.session.Awaited.{Awaited};
 ghost use Rattle.dnp_outstation.specs.declared.session.LastRequest.{LastRequest};
 ghost use Rattle.dnp_outstation.specs.Forms.{CanGo, may_in, may_each, laid};
@@ -41,20 +41,20 @@ use dnp_eventbuf::laws::{a_release_is_lane_by_lane, ids_are_used_once, lanes_sta
 pub fn a_fragment_holds_as_much_as_fits()
     ensures longest { (may : ℕ → Bool) (items : List Item) → IsLongest fits_fragment (laid may items) (held_laid may items) }
     ensures grows { (held more : List Laid) → response_size held ≤ response_size (held ++ more) }
-    ensures last { (may : ℕ → Bool) (place : Place) (items : List Item) → ((offered_of may place items).left ≡ None) ↔ (held_of may items ≡ items) }
-    ensures empty { (may : ℕ → Bool) (place : Place) → offered_of may place [] ≡ record { headers = []; upto = no_ids; left = None } }
+    ensures last { (may : ℕ → Bool) (place : ReadPlace) (items : List Item) → ((offered_of may place items).left ≡ None) ↔ (held_of may items ≡ items) }
+    ensures empty { (may : ℕ → Bool) (place : ReadPlace) → offered_of may place [] ≡ record { headers = []; upto = no_ids; left = None } }
 {}
 
 /// Lane by lane, the event rows that a fragment carries are those that stand in the lanes with ids up to
 /// its number for the lane, if nothing that the READ was given before is left there; likewise an
 /// unsolicited response. So a release of these numbers takes what was carried and nothing else.
 pub fn a_fragment_carries_the_rows_up_to_its_ids()
-    ensures fragment { (s : Source) (stood : ℕ) (place : Place) (headers : List Head) → IsSound s.lanes
+    ensures fragment { (s : Source) (stood : ℕ) (place : ReadPlace) (headers : List Head) → IsSoundBuffer s.lanes
         → IsTidy s.lanes place.given → length place.given ≡ LANES
         → AreRowsUpto s.lanes (offered s stood place headers).upto (held_of (may_in headers) (items_left s stood place headers)) }
-    ensures unsolicited { (s : Stock) (enabled : List Bool) → IsSound s
+    ensures unsolicited { (s : EventBuffer) (enabled : List Bool) → IsSoundBuffer s
         → AreRowsUpto s (pushed s enabled).upto (held_of may_each (lane_items s (enabled_lanes 0 enabled))) }
-    ensures released { (s : Stock) (upto : List ℕ) (items : List Item) → length s.lanes ≡ LANES → length upto ≡ LANES
+    ensures released { (s : EventBuffer) (upto : List ℕ) (items : List Item) → length s.lanes ≡ LANES → length upto ≡ LANES
         → AreRowsUpto s upto items → all_up_to s upto ≡ rows_by_lane items }
 {}
 
@@ -62,11 +62,11 @@ pub fn a_fragment_carries_the_rows_up_to_its_ids()
 /// fragment rise, they are after all that were given before, and none came after the READ was first
 /// answered.
 pub fn a_row_stands_once_in_a_response()
-    ensures next { (s : Source) (stood : ℕ) (place : Place) (headers : List Head) → IsSound s.lanes
+    ensures next { (s : Source) (stood : ℕ) (place : ReadPlace) (headers : List Head) → IsSoundBuffer s.lanes
         → length place.given ≡ LANES → AreNext place.given stood (held_of (may_in headers) (items_left s stood place headers)) }
-    ensures onward { (s : Source) (stood : ℕ) (place left : Place) (headers : List Head) → IsSound s.lanes
+    ensures onward { (s : Source) (stood : ℕ) (place left : ReadPlace) (headers : List Head) → IsSoundBuffer s.lanes
         → length place.given ≡ LANES → (offered s stood place headers).left ≡ Some left → IsOnward place.given left.given }
-    ensures given { (s : Source) (stood : ℕ) (place left : Place) (headers : List Head) → IsSound s.lanes
+    ensures given { (s : Source) (stood : ℕ) (place left : ReadPlace) (headers : List Head) → IsSoundBuffer s.lanes
         → length place.given ≡ LANES → (offered s stood place headers).left ≡ Some left
         → AreGiven left.given (held_of (may_in headers) (items_left s stood place headers)) }
     ensures once { (given later : List ℕ) (stood : ℕ) (items others : List Item) → AreGiven given items
@@ -77,19 +77,19 @@ pub fn a_row_stands_once_in_a_response()
 /// that one's release nothing at all: so it is from a new fragment on, whatever is appended, released or
 /// emptied. Where a READ begins nothing was given.
 pub fn nothing_else_given_is_left()
-    ensures begins { (s : Stock) → IsSound s → IsTidy s no_ids }
-    ensures begins_used { (s : Stock) → All (λ id. id ≤ s.last_id) no_ids }
-    ensures new { (s : Source) (stood : ℕ) (place left : Place) (headers : List Head) → IsSound s.lanes
+    ensures begins { (s : EventBuffer) → IsSoundBuffer s → IsTidy s no_ids }
+    ensures begins_used { (s : EventBuffer) → All (λ id. id ≤ s.last_id) no_ids }
+    ensures new { (s : Source) (stood : ℕ) (place left : ReadPlace) (headers : List Head) → IsSoundBuffer s.lanes
         → IsTidy s.lanes place.given → length place.given ≡ LANES → All (λ id. id ≤ s.lanes.last_id) place.given
         → (offered s stood place headers).left ≡ Some left
         → LeavesOnly s.lanes left.given (offered s stood place headers).upto }
-    ensures released { (s : Stock) (given upto : List ℕ) → length s.lanes ≡ LANES → LeavesOnly s given upto
+    ensures released { (s : EventBuffer) (given upto : List ℕ) → length s.lanes ≡ LANES → LeavesOnly s given upto
         → IsTidy (without s upto) given }
-    ensures appended { (s : Stock) (rows : List LaneRow) (given upto : List ℕ) → LeavesOnly s given upto
+    ensures appended { (s : EventBuffer) (rows : List LaneRow) (given upto : List ℕ) → LeavesOnly s given upto
         → LeavesOnly (with_rows s rows) given upto }
-    ensures others_released { (s : Stock) (others given upto : List ℕ) → LeavesOnly s given upto
+    ensures others_released { (s : EventBuffer) (others given upto : List ℕ) → LeavesOnly s given upto
         → LeavesOnly (without s others) given upto }
-    ensures emptied { (s : Stock) (given upto : List ℕ) → LeavesOnly s given upto
+    ensures emptied { (s : EventBuffer) (given upto : List ℕ) → LeavesOnly s given upto
         → LeavesOnly (without_all s) given upto }
 {
     a_release_is_lane_by_lane();
@@ -107,9 +107,9 @@ pub fn octets_say_what_is_held()
         → fits_fragment held ≡ true → response_at (response_octets answered) ≡ Ok answered }
     ensures rows { (held : List Laid) → All CanGo held → fits_fragment held ≡ true
         → rows_said (headers_of held) ≡ events_in (map item_of held) }
-    ensures written { (s : Source) (stood : ℕ) (place : Place) (headers : List Head) → IsSound s.lanes → AreWritable s
+    ensures written { (s : Source) (stood : ℕ) (place : ReadPlace) (headers : List Head) → IsSoundBuffer s.lanes → AreWritable s
         → All CanGo (held_laid (may_in headers) (items_left s stood place headers)) }
-    ensures some { (s : Source) (stood : ℕ) (place left : Place) (headers : List Head) → IsSound s.lanes → AreWritable s
+    ensures some { (s : Source) (stood : ℕ) (place left : ReadPlace) (headers : List Head) → IsSoundBuffer s.lanes → AreWritable s
         → (offered s stood place headers).left ≡ Some left → held_of (may_in headers) (items_left s stood place headers) ≢ [] }
 {
     a_header_holds_what_was_put();
@@ -124,19 +124,19 @@ pub fn octets_say_what_is_held()
 /// A fragment is read as itself, and the event rows that its headers say are, but for order, those that a
 /// release of its ids takes; likewise an unsolicited response.
 pub fn a_release_takes_what_the_octets_said()
-    ensures read { (answered : Answered) (s : Source) (stood : ℕ) (place : Place) (headers : List Head)
+    ensures read { (answered : Answered) (s : Source) (stood : ℕ) (place : ReadPlace) (headers : List Head)
         → answered.headers ≡ (offered s stood place headers).headers → IsControl answered.control
-        → is_response answered.function ≡ true → IsSound s.lanes → AreWritable s
+        → is_response answered.function ≡ true → IsSoundBuffer s.lanes → AreWritable s
         → response_at (response_octets answered) ≡ Ok answered }
-    ensures fragment { (s : Source) (stood : ℕ) (place : Place) (headers : List Head) → IsSound s.lanes → AreWritable s
+    ensures fragment { (s : Source) (stood : ℕ) (place : ReadPlace) (headers : List Head) → IsSoundBuffer s.lanes → AreWritable s
         → IsTidy s.lanes place.given → length place.given ≡ LANES
         → IsPermutation (rows_said (offered s stood place headers).headers)
         (all_up_to s.lanes (offered s stood place headers).upto) }
-    ensures unsolicited_read { (answered : Answered) (s : Stock) (enabled : List Bool)
+    ensures unsolicited_read { (answered : Answered) (s : EventBuffer) (enabled : List Bool)
         → answered.headers ≡ (pushed s enabled).headers → IsControl answered.control
-        → is_response answered.function ≡ true → IsSound s → length enabled ≤ 3
+        → is_response answered.function ≡ true → IsSoundBuffer s → length enabled ≤ 3
         → response_at (response_octets answered) ≡ Ok answered }
-    ensures unsolicited { (s : Stock) (enabled : List Bool) → IsSound s → length enabled ≤ 3
+    ensures unsolicited { (s : EventBuffer) (enabled : List Bool) → IsSoundBuffer s → length enabled ≤ 3
         → IsPermutation (rows_said (pushed s enabled).headers) (all_up_to s (pushed s enabled).upto) }
 {
     octets_say_what_is_held();
@@ -145,11 +145,11 @@ pub fn a_release_takes_what_the_octets_said()
 /// So it is at all times: where a connection begins, and after each call and each change of the lanes. So where
 /// a response goes on after a confirm, nothing that it gave before is left.
 pub fn calls_leave_nothing_else_given()
-    ensures further { (s : State) (w : Awaited) (last : LastRequest) (place : Place) → IsSound s.lanes → LeavesNothing s
+    ensures further { (s : State) (w : Awaited) (last : LastRequest) (place : ReadPlace) → IsSoundBuffer s.lanes → LeavesNothing s
         → s.core.session.awaited ≡ Some w → s.core.session.last ≡ Some last → last.left ≡ Some place
         → IsTidy (without s.lanes w.upto) place.given × (length place.given ≡ LANES) }
     ensures opened { (s : State) (now : ℕ) → LeavesNothing (opened_of s now).state }
-    ensures received { (s : State) (o : Panel) (now : ℕ) (octets : List ℕ) → IsSound s.lanes → LeavesNothing s
+    ensures received { (s : State) (o : Panel) (now : ℕ) (octets : List ℕ) → IsSoundBuffer s.lanes → LeavesNothing s
         → LeavesNothing (connection_after s o now octets).state }
     ensures ticked { (s : State) (now : ℕ) → LeavesNothing s → LeavesNothing (tick_of s now).state }
     ensures changed { (s : State) (now : ℕ) (kind : Kind) (index : ℕ) (reading : Reading) (made : Option LaneRow)

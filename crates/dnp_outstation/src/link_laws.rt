@@ -14,10 +14,10 @@ ghost use Rattle.dnp_pointdb.specs.declared.reading.Reading.{Reading};
 ghost use Rattle.dnp_pointdb.specs.Sound as points;
 ghost use Rattle.dnp_controls.specs.Panel.{Panel};
 ghost use Rattle.dnp_controls.specs.Selecting.{Select, deadline};
-ghost use Rattle.dnp_eventbuf.specs.Sound.{IsSound};
-ghost use Rattle.dnp_eventbuf.specs.Stock.{Stock};
+ghost use Rattle.dnp_eventbuf.specs.Sound.{IsSoundBuffer};
+ghost use Rattle.dnp_eventbuf.specs.EventBuffer.{EventBuffer};
 ghost use Rattle.dnp_outstation.specs.declared.case.Case.TheVariants as case;
-ghost use Rattle.dnp_outstation.specs.declared.offer.place.Place.{Place};
+ghost use Rattle.dnp_outstation.specs.declared.offer.place.ReadPlace.{ReadPlace};
 ghost use Rattle.dnp_outstation.specs.declared.session.Awaited.{Awaited};
 ghost use Rattle.dnp_outstation.specs.declared.session.LastRequest.{LastRequest};
 ghost use Rattle.dnp_outstation.specs.declared.session.Reply.TheVariants as reply;
@@ -48,22 +48,22 @@ use dnp_pointdb::laws::readings_fit_their_static_objects;
 /// nothing that was given before is left, and an unsolicited response, the empty first one too.
 pub fn fragments_report_the_rows_up_to_their_ids()
     ensures answer { (s after : State) (o : Panel) (now : ℕ) (octets : List ℕ) (seq : ℕ) (content : Content)
-        → IsSound s.lanes → AreWritable (source_of s o) → All (λ octet. octet < 2 ^ 8) octets → seq < 16
+        → IsSoundBuffer s.lanes → AreWritable (source_of s o) → All (λ octet. octet < 2 ^ 8) octets → seq < 16
         → (content_at s o now octets).content ≡ Some content
         → Reports s.lanes (fragment_of after true seq content) (control_for true seq content) content.upto }
-    ensures held { (s after : State) (o : Panel) (octets : List ℕ) (seq : ℕ) (content : Content) → IsSound s.lanes
+    ensures held { (s after : State) (o : Panel) (octets : List ℕ) (seq : ℕ) (content : Content) → IsSoundBuffer s.lanes
         → AreWritable (source_of s o) → seq < 16 → (content_of s o octets).content ≡ Some content
         → Reports s.lanes (fragment_of after true seq content) (control_for true seq content) content.upto }
-    ensures further { (s : State) (o : Panel) (stood : ℕ) (place : Place) (headers : List Head) (seq : ℕ)
-        → IsSound s.lanes → AreWritable (source_of s o) → IsTidy s.lanes place.given → length place.given ≡ LANES → seq < 16
+    ensures further { (s : State) (o : Panel) (stood : ℕ) (place : ReadPlace) (headers : List Head) (seq : ℕ)
+        → IsSoundBuffer s.lanes → AreWritable (source_of s o) → IsTidy s.lanes place.given → length place.given ≡ LANES → seq < 16
         → (let content = read_content s o stood place headers in
         Reports s.lanes (fragment_of s false seq content) (control_for false seq content) content.upto) }
-    ensures unsolicited { (s : State) → IsSound s.lanes → length s.core.enabled ≤ 3
+    ensures unsolicited { (s : State) → IsSoundBuffer s.lanes → length s.core.enabled ≤ 3
         → s.core.session.next < 16
         → (let content = content_from (pushed s.lanes s.core.enabled) in
         Reports s.lanes (unsolicited_of s content)
         (record { fir = true; fin = true; con = true; uns = true; seq = s.core.session.next }) content.upto) }
-    ensures first_unsolicited { (s : State) → IsSound s.lanes → s.core.session.next < 16
+    ensures first_unsolicited { (s : State) → IsSoundBuffer s.lanes → s.core.session.next < 16
         → Reports s.lanes (unsolicited_of s (plain 0 []))
         (record { fir = true; fin = true; con = true; uns = true; seq = s.core.session.next }) no_ids }
 {
@@ -76,7 +76,7 @@ pub fn fragments_report_the_rows_up_to_their_ids()
 
 /// What a READ may give can be written where the points are sound and outputs show octets at indexes of 16 bits.
 pub fn what_is_sound_can_be_written()
-    ensures { (s : Source) → points.IsSound s.points → s.panel.outputs ≤ 2 ^ 16
+    ensures { (s : Source) → points.IsSoundDatabase s.points → s.panel.outputs ≤ 2 ^ 16
         → ((index : ℕ) → index < s.panel.outputs → s.panel.status index < 2 ^ 8) → AreWritable s }
 {
     readings_fit_their_static_objects();
@@ -85,10 +85,10 @@ pub fn what_is_sound_can_be_written()
 /// A fragment that asks for no confirm reports no rows. Where a READ has no item left, the fragment is the
 /// last one, without objects and without a confirm.
 pub fn what_asks_no_confirm_reports_no_rows()
-    ensures none { (s : Stock) (octets : List ℕ) (control : ControlBits) (upto : List ℕ)
-        (reports : Reports s octets control upto) → IsSound s → has_rows upto ≡ false
+    ensures none { (s : EventBuffer) (octets : List ℕ) (control : ControlBits) (upto : List ℕ)
+        (reports : Reports s octets control upto) → IsSoundBuffer s → has_rows upto ≡ false
         → rows_said reports.answered.headers ≡ [] }
-    ensures emptied { (s : State) (o : Panel) (stood seq : ℕ) (place : Place) (headers : List Head) (first : Bool)
+    ensures emptied { (s : State) (o : Panel) (stood seq : ℕ) (place : ReadPlace) (headers : List Head) (first : Bool)
         → items_left (source_of s o) stood place headers ≡ []
         → (let content = read_content s o stood place headers in (content.headers ≡ [])
         × (control_for first seq content ≡ record { fir = first; fin = true; con = false; uns = false; seq = seq })) }

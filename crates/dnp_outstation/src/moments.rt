@@ -49,8 +49,7 @@ fn write_opening<L: Lanes>(
         writer.restart_unsolicited();
         return Ok(true);
     }
-    let starts = write_ending(writer, alloc, lanes, fetched, is_on, enabled, &None)?;
-    Ok(starts)
+    write_ending(writer, alloc, lanes, fetched, is_on, enabled, &None)
 }
 
 impl Session {

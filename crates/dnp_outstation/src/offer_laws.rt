@@ -3,10 +3,10 @@ ghost use Rattle.std.specs.Prelude.{◌≡◌, ◌-◌, ◌^◌, ◌++◌, ℕ, 
 ghost use Rattle.std.specs.List.{flat_map};
 ghost use Rattle.dnp_appfragment.specs.Fragments.{Asked, IsRequest};
 ghost use Rattle.dnp_appfragment.specs.Headers.{Head, NumbersFit};
-ghost use Rattle.dnp_eventbuf.specs.Sound.{IsSound};
-ghost use Rattle.dnp_eventbuf.specs.Stock.{without};
+ghost use Rattle.dnp_eventbuf.specs.Sound.{IsSoundBuffer};
+ghost use Rattle.dnp_eventbuf.specs.EventBuffer.{without};
 ghost use Rattle.dnp_objects.specs.declared.limits.TheConstants.{LANES};
-ghost use Rattle.dnp_outstation.specs.declared.offer.place.Place.{Place};
+ghost use Rattle.dnp_outstation.specs.declared.offer.place.ReadPlace.{ReadPlace};
 ghost use Rattle.dnp_outstation.specs.Forms.{CanTell, in_groups, may_in, told_by};
 ghost use Rattle.dnp_outstation.specs.Groups.{Group, IsCut, cut};
 ghost use Rattle.dnp_outstation.specs.Items.{Source, Item, no_ids, first_place, part_of, part_after, items_of, items_left};
@@ -39,13 +39,13 @@ pub fn what_tells_its_time_after_a_common_one_can()
 /// The rows, the present values and the headers are the same for each fragment here. A release of a fragment's
 /// rows leaves what is left after it as it is. Numbers of headers are of one or two octets, as they are read.
 pub fn nothing_is_skipped_between_fragments()
-    ensures rest { (s : Source) (stood : ℕ) (headers : List Head) (place left : Place) → IsSound s.lanes → AreFewPresent s
+    ensures rest { (s : Source) (stood : ℕ) (headers : List Head) (place left : ReadPlace) → IsSoundBuffer s.lanes → AreFewPresent s
         → All (λ h. NumbersFit h.range) headers → length place.given ≡ LANES → (offered s stood place headers).left ≡ Some left
         → items_left s stood place headers ≡ held_of (may_in headers) (items_left s stood place headers) ++ items_left s stood left headers }
-    ensures all { (s : Source) (stood : ℕ) (headers : List Head) (place : Place) (fragments : List (List Item)) → IsSound s.lanes → AreFewPresent s
+    ensures all { (s : Source) (stood : ℕ) (headers : List Head) (place : ReadPlace) (fragments : List (List Item)) → IsSoundBuffer s.lanes → AreFewPresent s
         → All (λ h. NumbersFit h.range) headers → length place.given ≡ LANES → AreHeldFrom s stood headers (Some place) fragments
         → flat_map (λ (held : List Item). held) fragments ≡ items_left s stood place headers }
-    ensures released { (s : Source) (stood : ℕ) (headers : List Head) (place left : Place) → IsSound s.lanes
+    ensures released { (s : Source) (stood : ℕ) (headers : List Head) (place left : ReadPlace) → IsSoundBuffer s.lanes
         → length place.given ≡ LANES → (offered s stood place headers).left ≡ Some left
         → items_left (record s { lanes = without s.lanes (offered s stood place headers).upto }) stood left headers ≡ items_left s stood left headers }
     ensures read { (octets : List ℕ) (asked : Asked) → IsRequest octets asked → All (λ h. NumbersFit h.range) asked.headers }

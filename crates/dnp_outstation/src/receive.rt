@@ -3,7 +3,7 @@
 ghost use Rattle.std.specs.Prelude.{All, ◌⊎◌, ◌≡◌, ◌≢◌, ◌≤◌, [], true, false, length, IsErr, IfErr, OnOk, OnErr, IsTrue, Err};
 ghost use Rattle.dnp_appfragment.specs.declared.function.Function.TheVariants as function;
 ghost use Rattle.dnp_appfragment.specs.Table.{function_octet};
-ghost use Rattle.dnp_eventbuf.specs.Stock.{rows_in};
+ghost use Rattle.dnp_eventbuf.specs.EventBuffer.{rows_in};
 ghost use Rattle.dnp_outstation.specs.Calls.{connection_after, performed_in};
 ghost use Rattle.dnp_outstation.specs.Connection.{is_looked_at, case_of, function_in};
 ghost use Rattle.dnp_outstation.specs.declared.case.Case.TheVariants as case;
@@ -63,22 +63,27 @@ impl OutstationCore {
             → reads_inside (state_of self.old (L.contents lanes.old) (O.panel outputs.old)) (O.panel outputs.old) octets.now ≡ true }
     {
         match self.case(octets) {
-            Case::PassedOver => actions.set_nothing(),
-            Case::Stray => self.end_only(actions, alloc, lanes, now)?,
-            Case::Confirms => self.confirm(actions, alloc, lanes, outputs, now)?,
-            Case::ConfirmsUnsolicited => {
-                self.confirm_unsolicited(actions, alloc, lanes, outputs, now)?
+            Case::PassedOver => {
+                actions.set_nothing();
+                Ok(())
             }
-            Case::Again => self.again(actions, alloc, lanes, now, octets)?,
-            Case::Waits => self.wait(actions, octets),
+            Case::Stray => self.end_only(actions, alloc, lanes, now),
+            Case::Confirms => self.confirm(actions, alloc, lanes, outputs, now),
+            Case::ConfirmsUnsolicited => {
+                self.confirm_unsolicited(actions, alloc, lanes, outputs, now)
+            }
+            Case::Again => self.again(actions, alloc, lanes, now, octets),
+            Case::Waits => {
+                self.wait(actions, octets);
+                Ok(())
+            }
             Case::Asks => {
                 if is_control(octets) {
-                    self.control(actions, alloc, lanes, outputs, now, octets)?
+                    self.control(actions, alloc, lanes, outputs, now, octets)
                 } else {
-                    self.ask(actions, alloc, lanes, outputs, now, octets)?
+                    self.ask(actions, alloc, lanes, outputs, now, octets)
                 }
             }
         }
-        Ok(())
     }
 }

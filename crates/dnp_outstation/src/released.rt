@@ -1,7 +1,7 @@
 //! What the lanes say without a refusal of what they will hold after a release, if there is one.
 
 ghost use Rattle.std.specs.Prelude.{◌≡◌, ◌<◌, ◌+◌, ◌*◌, if◌then◌else◌, [], IfSome, length};
-ghost use Rattle.dnp_eventbuf.specs.Stock.{lane_at, last_of};
+ghost use Rattle.dnp_eventbuf.specs.EventBuffer.{lane_at, last_of};
 ghost use Rattle.dnp_objects.specs.declared.limits.TheConstants.{LANES};
 ghost use Rattle.dnp_outstation.specs.Connection.{has_enabled_rows};
 ghost use Rattle.dnp_outstation.specs.steps.Filling.{after_release, released_to, has_rows_in};

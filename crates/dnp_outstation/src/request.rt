@@ -4,7 +4,7 @@ ghost use Rattle.std.specs.Prelude.{All, ◌⊎◌, true, ◌≡◌, ◌≤◌, 
 ghost use Rattle.dnp_appfragment.specs.declared.function.Function.TheVariants as function;
 ghost use Rattle.dnp_appfragment.specs.Table.{function_octet};
 ghost use Rattle.dnp_controls.specs.Panel.{Panel};
-ghost use Rattle.dnp_eventbuf.specs.Stock.{Stock};
+ghost use Rattle.dnp_eventbuf.specs.EventBuffer.{EventBuffer};
 ghost use Rattle.dnp_objects.specs.declared.limits.TheConstants.{MAX_FRAGMENT};
 ghost use Rattle.dnp_outstation.specs.Calls.{with_that};
 ghost use Rattle.dnp_outstation.specs.Connection.{function_in, waiting, on_request, on_again, at_end};
@@ -137,7 +137,7 @@ impl OutstationCore {
     pub(crate) fn wait(&mut self, actions: &mut Actions, octets: &[u8])
         requires some { 2 ≤ length octets.now }
         requires few { length octets.now ≤ MAX_FRAGMENT }
-        ensures waits { (lanes : Stock) (p : Panel) (now : ℕ) → let s = state_of self.old lanes p in
+        ensures waits { (lanes : EventBuffer) (p : Panel) (now : ℕ) → let s = state_of self.old lanes p in
             at_end now (still (record s { core = waiting s.core octets.now }))
             ≡ record { state = state_of self.new lanes p; does = actions_of actions.new } }
         ensures whole { All (λ fragment. 4 ≤ length fragment) (actions_of actions.new).send }

@@ -13,7 +13,7 @@ ghost use Rattle.dnp_outstation.specs.Station.{actions_of, HasRoom};
 use crate::actions::Actions;
 use crate::answer::Answer;
 use crate::indications::indications;
-use crate::kept::Kept;
+use crate::kept::KeptFragment;
 use crate::offer::writer::Writer;
 use crate::sequence::SequenceNumber;
 use crate::session::{Awaited, FirstFragment, LastRequest, Reply, Session};
@@ -78,7 +78,7 @@ fn front_of<L: Lanes>(
     Front { control, iin }
 }
 
-impl Kept {
+impl KeptFragment {
     /// Keeps the fragment that stands in the writer, with this front.
     fn keep_sent(&mut self, writer: &mut Writer, front: Front)
         requires { writer.old.builder.function ≡ function.Response }

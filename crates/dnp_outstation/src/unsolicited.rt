@@ -14,7 +14,7 @@ ghost use Rattle.dnp_outstation.specs.State.{State, Step};
 
 use crate::connection::deadline;
 use crate::indications::indications;
-use crate::kept::Kept;
+use crate::kept::KeptFragment;
 use crate::offer::writer::Writer;
 use crate::session::{Session, Unsolicited};
 use dnp_appfragment::{Builder, Control, Iin};
@@ -32,7 +32,7 @@ pub enum AtTimer {
 }
 
 /// Keeps what stands in the builder, with this control octet and these indications.
-fn keep_response(kept: &mut Kept, builder: &mut Builder, control: Control, iin: Iin)
+fn keep_response(kept: &mut KeptFragment, builder: &mut Builder, control: Control, iin: Iin)
     requires { builder.old.function ≡ function.UnsolicitedResponse }
     ensures value { kept.new ≡ response_octets (record { control = control; function = function.UnsolicitedResponse; iin = iin; headers = heads builder.old }) }
     ensures whole { 4 ≤ length kept.new }

@@ -15,7 +15,7 @@ use Rattle.dnp_pointdb.specs.declared.fault.ChangeFault.{ChangeFault}
 use Rattle.dnp_pointdb.specs.Ranges.{is_in_range, is_carried, is_in_time}
 use Rattle.dnp_pointdb.specs.Events.{row_of, lane_of, differs}
 use Rattle.dnp_pointdb.specs.Database.{Database, state_in, state_at, checked, made_from, answer_in, answer_of}
-use Rattle.dnp_pointdb.specs.Sound.{IsSound, IsSoundPoint, static_object}
+use Rattle.dnp_pointdb.specs.Sound.{IsSoundDatabase, IsSoundPoint, static_object}
 use Rattle.dnp_pointdb.proofs.Changes.{tested}
 use Rattle.dnp_pointdb.proofs.Ranges.{to_true}
 use Rattle.dnp_pointdb.proofs.Sound.{point_is_sound}
@@ -44,7 +44,7 @@ of_some : {A : Type 0} (P Q : A → Type 0) → ((x : A) → P x → Q x) → (f
 of_some P Q step None h = tt
 of_some P Q step (Some x) h = step x h
 
-pub kept_fits : (database : Database) (kind : Kind) (asked index : ℕ) → IsSound database
+pub kept_fits : (database : Database) (kind : Kind) (asked index : ℕ) → IsSoundDatabase database
     → IfSome (state_at database kind index)
     (λ state. Fits (static_object kind asked).0 (static_object kind asked).1 (row_of kind index state.reading))
 kept_fits database kind asked index sound =

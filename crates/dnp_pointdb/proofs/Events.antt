@@ -13,7 +13,7 @@ use Rattle.dnp_objects.specs.declared.lane.LaneRow.{LaneRow}
 use Rattle.dnp_objects.specs.Lanes.{IsLane}
 use Rattle.dnp_pointdb.specs.declared.point.Point.{Point}
 use Rattle.dnp_pointdb.specs.declared.reading.Reading.{Reading}
-use Rattle.dnp_pointdb.specs.declared.reading.Report.{Report}
+use Rattle.dnp_pointdb.specs.declared.reading.LastReport.{LastReport}
 use Rattle.dnp_pointdb.specs.Events.{differs, distance, lane_of, row_of, event_of}
 use Rattle.dnp_pointdb.specs.Database.{lost_flags}
 
@@ -34,7 +34,7 @@ is_event true (suc (suc zero)) kind row = (λ h. (refl, omega arith, omega arith
 is_event true (suc (suc (suc zero))) kind row = (λ h. (refl, omega arith, omega arith), λ h. search rules)
 is_event true (suc (suc (suc (suc n)))) kind row = (λ h. absurd (no_event h), λ h. absurd (omega (arith, h.2)))
 
-differing : (point : Point) (last : Report) (reading : Reading)
+differing : (point : Point) (last : LastReport) (reading : Reading)
     → (differs point last reading ≡ true) ↔ ((reading.flags ≢ last.flags) ⊎ (point.deadband < distance reading.value last.value))
 differing point last reading = by_numbers reading.flags last.flags point.deadband (distance reading.value last.value)
   where
@@ -49,7 +49,7 @@ differing point last reading = by_numbers reading.flags last.flags point.deadban
     by_numbers : (a b d m : ℕ) → (not (a == b) || nat_lt d m ≡ true) ↔ ((a ≢ b) ⊎ (d < m))
     by_numbers a b d m = by_flags a b d m (eqb_tells a b)
 
-pub event_exactly : (kind : Kind) (index : ℕ) (point : Point) (last : Report) (reading : Reading)
+pub event_exactly : (kind : Kind) (index : ℕ) (point : Point) (last : LastReport) (reading : Reading)
     → IsSome (event_of kind index point last reading)
     ↔ ((1 ≤ point.class) × (point.class ≤ CLASSES)
     × ((reading.flags ≢ last.flags) ⊎ (point.deadband < distance reading.value last.value)))
@@ -67,7 +67,7 @@ row_in_lane true (suc (suc zero)) kind row = ((refl, refl), refl)
 row_in_lane true (suc (suc (suc zero))) kind row = ((refl, refl), refl)
 row_in_lane true (suc (suc (suc (suc n)))) kind row = tt
 
-pub event_row : (kind : Kind) (index : ℕ) (point : Point) (last : Report) (reading : Reading)
+pub event_row : (kind : Kind) (index : ℕ) (point : Point) (last : LastReport) (reading : Reading)
     → IfSome (event_of kind index point last reading)
     (λ made. IsLane made.lane point.class kind × (made.row ≡ row_of kind index reading))
 event_row kind index point last reading = row_in_lane (differs point last reading) point.class kind (row_of kind index reading)

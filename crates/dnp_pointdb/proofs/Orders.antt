@@ -7,7 +7,7 @@ use Rattle.std.proofs.lemmas.List.{get_or-map, length-map, length-set, map-set, 
 use Rattle.std.proofs.lemmas.List.Elements.{All-push, Contains-append_left}
 use Rattle.std.proofs.lemmas.List.Quantifiers.{Any-push}
 use Rattle.std.proofs.lemmas.List.Sorted.{All-permutation, Contains-permutation}
-use Rattle.dnp_pointdb.specs.declared.order.Place.{Place}
+use Rattle.dnp_pointdb.specs.declared.order.BlockPlace.{BlockPlace}
 use Rattle.dnp_pointdb.specs.declared.point.Block.{Block}
 use Rattle.dnp_pointdb.specs.declared.state.PointState.{PointState}
 use Rattle.dnp_pointdb.specs.declared.state.BlockState.{BlockState}
@@ -19,16 +19,16 @@ use Rattle.dnp_pointdb.proofs.Places.{covers_low, covers_high}
 -- ---- the places, block after block
 
 -- those of the first n blocks that have points
-pub record Placed (es : List Extent) (n : ℕ) (order : List Place) : Type 0 where
+pub record Placed (es : List Extent) (n : ℕ) (order : List BlockPlace) : Type 0 where
   pub listed : All (IsPlaceOf es) order
   pub complete : (j : ℕ) → j < n → HoldsAt (λ e. 0 < e.count → Any (λ place. place.block ≡ j) order) es j
 
-any_more : (P : Place → Type 0) (xs ys : List Place) → Any P xs → Any P (xs ++ ys)
+any_more : (P : BlockPlace → Type 0) (xs ys : List BlockPlace) → Any P xs → Any P (xs ++ ys)
 any_more P xs ys found =
     let more : Contains (xs ++ ys) found.1 = Contains-append_left xs ys found.1 (found.0, found.2, found.3) in
     (more.0, found.1, more.1, more.2, found.4)
 
-pub placed_push : (es : List Extent) (n : ℕ) (order : List Place) (place : Place) → Placed es n order → n < length es
+pub placed_push : (es : List Extent) (n : ℕ) (order : List BlockPlace) (place : BlockPlace) → Placed es n order → n < length es
     → place.block ≡ n → 0 < place.count → HoldsAt (λ e. (e.first ≡ place.first) × (e.count ≡ place.count)) es n
     → Placed es (n + 1) (order ++ place ∷ [])
 placed_push es n order place p lt number some is = record {
@@ -45,7 +45,7 @@ placed_push es n order place p lt number some is = record {
   ];
 }
 
-pub placed_skip : (es : List Extent) (n : ℕ) (order : List Place) → Placed es n order
+pub placed_skip : (es : List Extent) (n : ℕ) (order : List BlockPlace) → Placed es n order
     → HoldsAt (λ e. e.count ≡ 0) es n → Placed es (n + 1) order
 placed_skip es n order p empty = record {
   listed = p.listed;
@@ -58,12 +58,12 @@ placed_skip es n order p empty = record {
   ];
 }
 
-any_moved : (P : Place → Type 0) (xs ys : List Place) → IsPermutation xs ys → Any P xs → Any P ys
+any_moved : (P : BlockPlace → Type 0) (xs ys : List BlockPlace) → IsPermutation xs ys → Any P xs → Any P ys
 any_moved P xs ys moves found =
     let moved : Contains ys found.1 = Contains-permutation xs ys found.1 moves (found.0, found.2, found.3) in
     (moved.0, found.1, moved.1, moved.2, found.4)
 
-pub placed_sorted : (es : List Extent) (n : ℕ) (order order' : List Place) → Placed es n order → length es ≤ n
+pub placed_sorted : (es : List Extent) (n : ℕ) (order order' : List BlockPlace) → Placed es n order → length es ≤ n
     → IsPermutation order order' → IsNonDecreasingBy (λ place. place.first) order' → AreApart es → IsOrder es order'
 placed_sorted es n order order' p all moves rising apart = record {
   rising = rising;
@@ -133,7 +133,7 @@ apart_new blocks none = subst (λ (es : List Extent). AreApart es) (sym (extents
 
 -- ---- what leaves the order as it is
 
-pub order_kept : (before after : List BlockState) (order : List Place) → IsOrder (extents before) order
+pub order_kept : (before after : List BlockState) (order : List BlockPlace) → IsOrder (extents before) order
     → extents after ≡ extents before → IsOrder (extents after) order
 order_kept before after order o same = subst (λ (es : List Extent). IsOrder es order) (sym same) o
 

@@ -7,7 +7,7 @@ use Rattle.std.specs.List.Sorted.{IsPartitionPoint}
 use Rattle.std.proofs.lemmas.Bool.{cases_lt, cases_order}
 use Rattle.std.proofs.lemmas.List.{get_or_default}
 use Rattle.std.proofs.lemmas.Bool.Decides.{nat_tests}
-use Rattle.dnp_pointdb.specs.declared.order.Place.{Place}
+use Rattle.dnp_pointdb.specs.declared.order.BlockPlace.{BlockPlace}
 use Rattle.dnp_pointdb.specs.steps.Order.{Extent, covers, place_in, IsOrder, AreApart}
 
 -- ---- the test
@@ -80,19 +80,19 @@ one_block es index i j d d' apart i_in j_in of_i of_j =
     ]
 
 -- a place of the order is of a block that begins and ends where it says
-listed_first : (es : List Extent) (order : List Place) (m : ℕ) (d : Place) (e : Extent) → IsOrder es order → m < length order
+listed_first : (es : List Extent) (order : List BlockPlace) (m : ℕ) (d : BlockPlace) (e : Extent) → IsOrder es order → m < length order
     → (get_or es (get_or order m d).block e).first ≡ (get_or order m d).first
 listed_first es order m d e o lt = ((o.listed m d lt).2 e).0
 
-listed_count : (es : List Extent) (order : List Place) (m : ℕ) (d : Place) (e : Extent) → IsOrder es order → m < length order
+listed_count : (es : List Extent) (order : List BlockPlace) (m : ℕ) (d : BlockPlace) (e : Extent) → IsOrder es order → m < length order
     → (get_or es (get_or order m d).block e).count ≡ (get_or order m d).count
 listed_count es order m d e o lt = ((o.listed m d lt).2 e).1
 
-listed_in : (es : List Extent) (order : List Place) (m : ℕ) (d : Place) → IsOrder es order → m < length order
+listed_in : (es : List Extent) (order : List BlockPlace) (m : ℕ) (d : BlockPlace) → IsOrder es order → m < length order
     → (get_or order m d).block < length es
 listed_in es order m d o lt = (o.listed m d lt).1
 
-listed_some : (es : List Extent) (order : List Place) (m : ℕ) (d : Place) → IsOrder es order → m < length order
+listed_some : (es : List Extent) (order : List BlockPlace) (m : ℕ) (d : BlockPlace) → IsOrder es order → m < length order
     → 0 < (get_or order m d).count
 listed_some es order m d o lt = (o.listed m d lt).0
 
@@ -101,7 +101,7 @@ nothing : Extent
 nothing = record { first = 0; count = 0 }
 
 -- the place at m has the index
-pub found_at : (es : List Extent) (order : List Place) (index m : ℕ) (d : Place) → IsOrder es order → m < length order
+pub found_at : (es : List Extent) (order : List BlockPlace) (index m : ℕ) (d : BlockPlace) → IsOrder es order → m < length order
     → (get_or order m d).first ≤ index → index < (get_or order m d).first + (get_or order m d).count
     → place_in es index ≡ Some ((get_or order m d).block, index - (get_or order m d).first)
 found_at es order index m d o lt low high =
@@ -114,23 +114,23 @@ found_at es order index m d o lt low high =
     ∙ ap (λ (n : ℕ). Some (b, index - n)) first
 
 -- a block that has points stands in the order
-pub record Standing (es : List Extent) (order : List Place) (j : ℕ) : Type 0 where
+pub record Standing (es : List Extent) (order : List BlockPlace) (j : ℕ) : Type 0 where
   pub at : ℕ
   pub in_order : at < length order
-  pub block_is : (e : Place) → (get_or order at e).block ≡ j
+  pub block_is : (e : BlockPlace) → (get_or order at e).block ≡ j
 
-standing : (es : List Extent) (order : List Place) (j : ℕ) (d : Extent) → IsOrder es order → j < length es
+standing : (es : List Extent) (order : List BlockPlace) (j : ℕ) (d : Extent) → IsOrder es order → j < length es
     → 0 < (get_or es j d).count → Standing es order j
 standing es order j d o lt some =
     let found : Any (λ place. place.block ≡ j) order = o.complete j lt d some in
     record {
       at = found.0;
       in_order = found.2;
-      block_is = λ e. ap (λ (p : Place). p.block) (get_or_default order found.0 e found.1 found.2 ∙ found.3) ∙ found.4;
+      block_is = λ e. ap (λ (p : BlockPlace). p.block) (get_or_default order found.0 e found.1 found.2 ∙ found.3) ∙ found.4;
     }
 
 -- no block has the index if those that begin up to it end before it; m is the last of them
-not_this : (es : List Extent) (order : List Place) (index n m j : ℕ) (d : Extent) (e : Place) → IsOrder es order → j < length es
+not_this : (es : List Extent) (order : List BlockPlace) (index n m j : ℕ) (d : Extent) (e : BlockPlace) → IsOrder es order → j < length es
     → n ≡ suc m → n ≤ length order
     → ((k : ℕ) → n ≤ k → k < length order → index < (get_or order k e).first)
     → (get_or order m e).first ≤ index → (get_or order m e).first + (get_or order m e).count ≤ index
@@ -161,7 +161,7 @@ not_this es order index n m j d e o lt after n_in above low high has =
     let one_count : (get_or es b d).count ≡ (get_or es j d).count = ap (λ (i : ℕ). (get_or es i d).count) one in
     omega arith
 
-pub missed_at : (es : List Extent) (order : List Place) (index n m : ℕ) (e : Place) → IsOrder es order
+pub missed_at : (es : List Extent) (order : List BlockPlace) (index n m : ℕ) (e : BlockPlace) → IsOrder es order
     → n ≡ suc m → n ≤ length order
     → ((k : ℕ) → n ≤ k → k < length order → index < (get_or order k e).first)
     → (get_or order m e).first ≤ index → (get_or order m e).first + (get_or order m e).count ≤ index
@@ -173,7 +173,7 @@ missed_at es order index n m e o after n_in above low high =
     ])
 
 -- nor if none begins up to it
-before_all : (es : List Extent) (order : List Place) (index j : ℕ) (d : Extent) (e : Place) → IsOrder es order → j < length es
+before_all : (es : List Extent) (order : List BlockPlace) (index j : ℕ) (d : Extent) (e : BlockPlace) → IsOrder es order → j < length es
     → ((k : ℕ) → k < length order → index < (get_or order k e).first)
     → covers (get_or es j d) index ≡ true → ⊥
 before_all es order index j d e o lt above has =
@@ -184,7 +184,7 @@ before_all es order index j d e o lt above has =
     ap (λ (b : ℕ). (get_or es b d).first) (sym (s.block_is e)) ∙ listed_first es order s.at e d o s.in_order in
     omega (arith, above s.at s.in_order)
 
-pub missed_before : (es : List Extent) (order : List Place) (index : ℕ) (e : Place) → IsOrder es order
+pub missed_before : (es : List Extent) (order : List BlockPlace) (index : ℕ) (e : BlockPlace) → IsOrder es order
     → ((k : ℕ) → k < length order → index < (get_or order k e).first)
     → place_in es index ≡ None
 missed_before es order index e o above =
@@ -195,17 +195,17 @@ missed_before es order index e o above =
 
 -- ---- where the places that begin up to an index end
 
-abbrev pub begins : ℕ → Place → Bool
+abbrev pub begins : ℕ → BlockPlace → Bool
 begins index place = nat_le place.first index
 
-pub begun_below : (order : List Place) (index n : ℕ) → IsPartitionPoint (λ p. begins index p ≡ true) (λ p. begins index p ≡ false) order n
-    → (k : ℕ) (e : Place) → k < n → (get_or order k e).first ≤ index
+pub begun_below : (order : List BlockPlace) (index n : ℕ) → IsPartitionPoint (λ p. begins index p ≡ true) (λ p. begins index p ≡ false) order n
+    → (k : ℕ) (e : BlockPlace) → k < n → (get_or order k e).first ≤ index
 begun_below order index n split k e lt =
     let at : begins index (get_or order k e) ≡ true = split.0 k e (omega arith) lt in
     grind (arith, nat_tests)
 
-pub begun_above : (order : List Place) (index n : ℕ) → IsPartitionPoint (λ p. begins index p ≡ true) (λ p. begins index p ≡ false) order n
-    → (k : ℕ) (e : Place) → n ≤ k → k < length order → index < (get_or order k e).first
+pub begun_above : (order : List BlockPlace) (index n : ℕ) → IsPartitionPoint (λ p. begins index p ≡ true) (λ p. begins index p ≡ false) order n
+    → (k : ℕ) (e : BlockPlace) → n ≤ k → k < length order → index < (get_or order k e).first
 begun_above order index n split k e le lt =
     let at : begins index (get_or order k e) ≡ false = split.1 k e le lt in
     grind (arith, nat_tests)

@@ -12,7 +12,7 @@ use Rattle.dnp_pointdb.specs.declared.state.PointState.{PointState}
 use Rattle.dnp_pointdb.specs.declared.state.BlockState.{BlockState}
 use Rattle.dnp_pointdb.specs.declared.fault.PlanFault.TheVariants.{Overlap}
 use Rattle.dnp_pointdb.specs.Blocks.{HasIndex, ShareIndex}
-use Rattle.dnp_pointdb.specs.Plan.{Plan, IsSound}
+use Rattle.dnp_pointdb.specs.Plan.{Plan, IsSoundPlan}
 use Rattle.dnp_pointdb.specs.Plan as plan_words
 use Rattle.dnp_pointdb.specs.Database.{new_state, new_block, new_database, has_index, state_in, state_at, blocks_of}
 use Rattle.dnp_pointdb.specs.steps.Order.{extent}
@@ -99,7 +99,7 @@ blocks-new plan Binary = refl
 blocks-new plan Counter = refl
 blocks-new plan Analog = refl
 
-pub there : (plan : Plan) (kind : Kind) (index : ℕ) (block : Block) → IsSound plan → Contains (plan_words.blocks_of plan kind) block → HasIndex block index
+pub there : (plan : Plan) (kind : Kind) (index : ℕ) (block : Block) → IsSoundPlan plan → Contains (plan_words.blocks_of plan kind) block → HasIndex block index
     → option_map (λ (state : PointState). state.point) (state_at (new_database plan) kind index) ≡ slice_get block.points (index - block.base)
 there plan kind index block sound found has =
     ap (λ (bs : List BlockState). option_map (λ (state : PointState). state.point) (state_in bs index)) (blocks-new plan kind)

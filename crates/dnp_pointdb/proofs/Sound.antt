@@ -23,7 +23,7 @@ use Rattle.dnp_pointdb.specs.Plan as plan_words
 use Rattle.dnp_pointdb.specs.Ranges.{is_carried, is_in_time, is_in_range}
 use Rattle.dnp_pointdb.specs.Database.{Database, blocks_of, with_blocks, each_kind, has_index, state_in, state_at, updated, updated_in, new_state, new_block, new_database, changed_state, changed_in, changed_of, set_state, set_in, set_of, lost_flags, lost_reading, lost_state, lost_block, lost_of, restarted_state, restarted_block, restarted}
 use Rattle.dnp_pointdb.specs.steps.Order.{Extent, extent, extents, covers, AreApart}
-use Rattle.dnp_pointdb.specs.Sound.{IsSoundPoint, IsSoundBlock, ShareNoIndex, AreSound, IsSound}
+use Rattle.dnp_pointdb.specs.Sound.{IsSoundPoint, IsSoundBlock, ShareNoIndex, AreSoundBlocks, IsSoundDatabase}
 use Rattle.dnp_pointdb.proofs.Ranges.{both}
 use Rattle.dnp_pointdb.proofs.Places.{covers_true, covers_cases}
 use Rattle.dnp_pointdb.proofs.Readings.{read_in-none}
@@ -179,38 +179,38 @@ updated_blocks kind f step (b ∷ bs) index all =
         (All-cons (IsSoundBlock kind) b (updated_in f bs index) here rest)
 
 updated_sound : (kind : Kind) (f : PointState → PointState) → ((s : PointState) → IsSoundPoint kind s → IsSoundPoint kind (f s))
-    → (bs : List BlockState) (index : ℕ) → AreSound kind bs → AreSound kind (updated_in f bs index)
+    → (bs : List BlockState) (index : ℕ) → AreSoundBlocks kind bs → AreSoundBlocks kind (updated_in f bs index)
 updated_sound kind f step bs index s = record {
   each = updated_blocks kind f step bs index s.each;
   apart = apart_kept bs (updated_in f bs index) (extents-updated_in f bs index) s.apart;
 }
 
-if_sound : (kind : Kind) (t : Bool) (bs cs : List BlockState) → AreSound kind bs → (t ≡ true → AreSound kind cs)
-    → AreSound kind (cond t cs bs)
+if_sound : (kind : Kind) (t : Bool) (bs cs : List BlockState) → AreSoundBlocks kind bs → (t ≡ true → AreSoundBlocks kind cs)
+    → AreSoundBlocks kind (cond t cs bs)
 if_sound kind true bs cs before after = after refl
 if_sound kind false bs cs before after = before
 
-changed_sound : (kind : Kind) (bs : List BlockState) (index : ℕ) (reading : Reading) → AreSound kind bs
-    → AreSound kind (changed_in bs kind index reading)
+changed_sound : (kind : Kind) (bs : List BlockState) (index : ℕ) (reading : Reading) → AreSoundBlocks kind bs
+    → AreSoundBlocks kind (changed_in bs kind index reading)
 changed_sound kind bs index reading s =
     if_sound kind (is_in_range kind reading) bs (updated_in (changed_state kind index reading) bs index) s
     (λ in_range. updated_sound kind (changed_state kind index reading)
     (λ state p. read_point kind reading state (changed_state kind index reading state) in_range refl refl p) bs index s)
 
-set_sound : (kind : Kind) (bs : List BlockState) (index : ℕ) (reading : Reading) → AreSound kind bs
-    → AreSound kind (set_in bs kind index reading)
+set_sound : (kind : Kind) (bs : List BlockState) (index : ℕ) (reading : Reading) → AreSoundBlocks kind bs
+    → AreSoundBlocks kind (set_in bs kind index reading)
 set_sound kind bs index reading s =
     if_sound kind (is_in_range kind reading) bs (updated_in (set_state reading) bs index) s
     (λ in_range. updated_sound kind (set_state reading)
     (λ state p. read_point kind reading state (set_state reading state) in_range refl refl p) bs index s)
 
-lost_sound : (kind : Kind) (bs : List BlockState) (number : ℕ) → AreSound kind bs → AreSound kind (updated lost_block bs number)
+lost_sound : (kind : Kind) (bs : List BlockState) (number : ℕ) → AreSoundBlocks kind bs → AreSoundBlocks kind (updated lost_block bs number)
 lost_sound kind bs number s = record {
   each = all_updated (IsSoundBlock kind) lost_block (lost_sound_block kind) bs number s.each;
   apart = apart_kept bs (updated lost_block bs number) (extents-updated_lost bs number) s.apart;
 }
 
-restarted_sound : (kind : Kind) (bs : List BlockState) → AreSound kind bs → AreSound kind (map restarted_block bs)
+restarted_sound : (kind : Kind) (bs : List BlockState) → AreSoundBlocks kind bs → AreSoundBlocks kind (map restarted_block bs)
 restarted_sound kind bs s = record {
   each = all_mapped (IsSoundBlock kind) (IsSoundBlock kind) restarted_block (restarted_sound_block kind) bs s.each;
   apart = apart_kept bs (map restarted_block bs) (extents-restarted bs) s.apart;
@@ -252,7 +252,7 @@ all_right kind blocks classes few narrow k d lt =
     }
 
 new_sound : (kind : Kind) (blocks : List Block) → (Any (HasWrongPoint kind) blocks → ⊥) → (Any HasTooMany blocks → ⊥) → (Any IsTooWide blocks → ⊥)
-    → (ShareIndex blocks → ⊥) → AreSound kind (map new_block blocks)
+    → (ShareIndex blocks → ⊥) → AreSoundBlocks kind (map new_block blocks)
 new_sound kind blocks classes few narrow apart = record {
   each = all_mapped IsRight (IsSoundBlock kind) new_block (right_block kind) blocks (all_right kind blocks classes few narrow);
   apart = apart_blocks (map new_block blocks) (apart_new blocks apart);
@@ -260,68 +260,68 @@ new_sound kind blocks classes few narrow apart = record {
 
 -- ---- the database
 
-kind_is_sound : (plan : Plan) → plan_words.IsSound plan → (kind : Kind) → AreSound kind (map new_block (plan_words.blocks_of plan kind))
+kind_is_sound : (plan : Plan) → plan_words.IsSoundPlan plan → (kind : Kind) → AreSoundBlocks kind (map new_block (plan_words.blocks_of plan kind))
 kind_is_sound plan sound kind =
     new_sound kind (plan_words.blocks_of plan kind) (λ h. sound Class (kind, h)) (λ h. sound TooMany (kind, h))
     (λ h. sound TooWide (kind, h)) (λ h. sound Overlap (kind, h))
 
-pub new_is_sound : (plan : Plan) → plan_words.IsSound plan → IsSound (new_database plan)
+pub new_is_sound : (plan : Plan) → plan_words.IsSoundPlan plan → IsSoundDatabase (new_database plan)
 new_is_sound plan sound Binary = kind_is_sound plan sound Binary
 new_is_sound plan sound Counter = kind_is_sound plan sound Counter
 new_is_sound plan sound Analog = kind_is_sound plan sound Analog
 
 -- banks that are those of a plan
-pub new_banks_are_sound : (plan : Plan) (binary counter analog : List BlockState) → plan_words.IsSound plan
+pub new_banks_are_sound : (plan : Plan) (binary counter analog : List BlockState) → plan_words.IsSoundPlan plan
     → binary ≡ map new_block (plan_words.blocks_of plan Binary) → counter ≡ map new_block (plan_words.blocks_of plan Counter)
-    → analog ≡ map new_block (plan_words.blocks_of plan Analog) → IsSound (record { banks = binary ∷ counter ∷ analog ∷ [] })
+    → analog ≡ map new_block (plan_words.blocks_of plan Analog) → IsSoundDatabase (record { banks = binary ∷ counter ∷ analog ∷ [] })
 new_banks_are_sound plan binary counter analog sound b c a Binary =
-    subst (λ (bs : List BlockState). AreSound Binary bs) (sym b) (kind_is_sound plan sound Binary)
+    subst (λ (bs : List BlockState). AreSoundBlocks Binary bs) (sym b) (kind_is_sound plan sound Binary)
 new_banks_are_sound plan binary counter analog sound b c a Counter =
-    subst (λ (bs : List BlockState). AreSound Counter bs) (sym c) (kind_is_sound plan sound Counter)
+    subst (λ (bs : List BlockState). AreSoundBlocks Counter bs) (sym c) (kind_is_sound plan sound Counter)
 new_banks_are_sound plan binary counter analog sound b c a Analog =
-    subst (λ (bs : List BlockState). AreSound Analog bs) (sym a) (kind_is_sound plan sound Analog)
+    subst (λ (bs : List BlockState). AreSoundBlocks Analog bs) (sym a) (kind_is_sound plan sound Analog)
 
 -- a change of the blocks of one kind
-sound_with : (database : Database) (kind : Kind) (change : List BlockState → List BlockState) → change [] ≡ [] → IsSound database
-    → AreSound kind (change (blocks_of database kind)) → IsSound (with_blocks database kind (change (blocks_of database kind)))
+sound_with : (database : Database) (kind : Kind) (change : List BlockState → List BlockState) → change [] ≡ [] → IsSoundDatabase database
+    → AreSoundBlocks kind (change (blocks_of database kind)) → IsSoundDatabase (with_blocks database kind (change (blocks_of database kind)))
 sound_with database kind change none sound now other =
     let after : Database = with_blocks database kind (change (blocks_of database kind)) in
     elim (same_or_not kind other) [
-      | inl same ↦ subst (λ (k : Kind). AreSound k (blocks_of after k)) same
-          (subst (λ (bs : List BlockState). AreSound kind bs) (sym (blocks_of-same change none database kind)) now)
-      | inr apart ↦ subst (λ (bs : List BlockState). AreSound other bs)
+      | inl same ↦ subst (λ (k : Kind). AreSoundBlocks k (blocks_of after k)) same
+          (subst (λ (bs : List BlockState). AreSoundBlocks kind bs) (sym (blocks_of-same change none database kind)) now)
+      | inr apart ↦ subst (λ (bs : List BlockState). AreSoundBlocks other bs)
           (sym (blocks_of-other database kind other (change (blocks_of database kind)) apart)) (sound other)
     ]
 
-pub changed_is_sound : (database : Database) (kind : Kind) (index : ℕ) (reading : Reading) → IsSound database
-    → IsSound (changed_of database kind index reading)
+pub changed_is_sound : (database : Database) (kind : Kind) (index : ℕ) (reading : Reading) → IsSoundDatabase database
+    → IsSoundDatabase (changed_of database kind index reading)
 changed_is_sound database kind index reading sound =
     sound_with database kind (λ bs. changed_in bs kind index reading) (read_in-none (changed_state kind index reading) (is_in_range kind reading) index) sound
     (changed_sound kind (blocks_of database kind) index reading (sound kind))
 
-pub set_is_sound : (database : Database) (kind : Kind) (index : ℕ) (reading : Reading) → IsSound database
-    → IsSound (set_of database kind index reading)
+pub set_is_sound : (database : Database) (kind : Kind) (index : ℕ) (reading : Reading) → IsSoundDatabase database
+    → IsSoundDatabase (set_of database kind index reading)
 set_is_sound database kind index reading sound =
     sound_with database kind (λ bs. set_in bs kind index reading) (read_in-none (set_state reading) (is_in_range kind reading) index) sound
     (set_sound kind (blocks_of database kind) index reading (sound kind))
 
 -- a change of the blocks of each kind
 sound_each : (change : List BlockState → List BlockState) → change [] ≡ []
-    → ((kind : Kind) (bs : List BlockState) → AreSound kind bs → AreSound kind (change bs))
-    → (database : Database) → IsSound database → IsSound (each_kind change database)
+    → ((kind : Kind) (bs : List BlockState) → AreSoundBlocks kind bs → AreSoundBlocks kind (change bs))
+    → (database : Database) → IsSoundDatabase database → IsSoundDatabase (each_kind change database)
 sound_each change none keeps database sound kind =
-    subst (λ (bs : List BlockState). AreSound kind bs) (sym (blocks_of-each change none database kind))
+    subst (λ (bs : List BlockState). AreSoundBlocks kind bs) (sym (blocks_of-each change none database kind))
     (keeps kind (blocks_of database kind) (sound kind))
 
-pub lost_is_sound : (database : Database) (number : ℕ) → IsSound database → IsSound (lost_of database number)
+pub lost_is_sound : (database : Database) (number : ℕ) → IsSoundDatabase database → IsSoundDatabase (lost_of database number)
 lost_is_sound database number sound =
     sound_each (λ bs. updated lost_block bs number) refl (λ kind bs s. lost_sound kind bs number s) database sound
 
-pub restarted_is_sound : (database : Database) → IsSound database → IsSound (restarted database)
+pub restarted_is_sound : (database : Database) → IsSoundDatabase database → IsSoundDatabase (restarted database)
 restarted_is_sound database sound = sound_each (map restarted_block) refl restarted_sound database sound
 
-pub sound_same : (now database : Database) → now ≡ database → IsSound database → IsSound now
-sound_same now database same sound = subst (λ (d : Database). IsSound d) (sym same) sound
+pub sound_same : (now database : Database) → now ≡ database → IsSoundDatabase database → IsSoundDatabase now
+sound_same now database same sound = subst (λ (d : Database). IsSoundDatabase d) (sym same) sound
 
 -- ---- a point of a sound database
 
@@ -340,7 +340,7 @@ sound_in kind (b ∷ bs) index all =
     by_test false is rest =
         subst (λ (o : Option PointState). IfSome o (IsSoundPoint kind)) (sym (state_in-cons b bs index false is)) rest
 
-pub point_is_sound : (database : Database) (kind : Kind) (index : ℕ) → IsSound database
+pub point_is_sound : (database : Database) (kind : Kind) (index : ℕ) → IsSoundDatabase database
     → IfSome (state_at database kind index) (IsSoundPoint kind)
 point_is_sound database kind index sound = sound_in kind (blocks_of database kind) index (sound kind).each
 
@@ -358,7 +358,7 @@ state_at_block (b ∷ bs) (suc n) index d inside has before =
     state_in-cons b bs index false lacks
     ∙ state_at_block bs n index d (omega arith) has (λ i lt of_i. before (suc i) (omega arith) of_i)
 
-pub point_at_index : (database : Database) (kind : Kind) (block : BlockState) (place : ℕ) → IsSound database
+pub point_at_index : (database : Database) (kind : Kind) (block : BlockState) (place : ℕ) → IsSoundDatabase database
     → Contains (blocks_of database kind) block → place < length block.points
     → state_at database kind (block.base + place) ≡ slice_get block.points place
 point_at_index database kind block place sound found lt =

@@ -11,26 +11,26 @@ use Rattle.dnp_objects.specs.declared.lane.Lane.{Lane}
 use Rattle.dnp_objects.specs.declared.lane.LaneRow.{LaneRow}
 use Rattle.dnp_pointdb.specs.declared.point.Point.{Point}
 use Rattle.dnp_pointdb.specs.declared.reading.Reading.{Reading}
-use Rattle.dnp_pointdb.specs.declared.reading.Report.{Report}
+use Rattle.dnp_pointdb.specs.declared.reading.LastReport.{LastReport}
 use Rattle.dnp_pointdb.specs.Ranges.{is_in_range}
 
 -- a point that was never read: value 0, flags 02 (RESTART), no time
 abbrev pub first_reading : Reading
 first_reading = record { value = pos 0; flags = 2; time = None }
 
-abbrev pub first_report : Report
+abbrev pub first_report : LastReport
 first_report = record { value = pos 0; flags = 2 }
 
 -- what the next event is measured against once this reading was reported; its time does not count
-abbrev pub report_of : Reading → Report
-report_of reading = record { value = reading.value; flags = reading.flags }
+abbrev pub last_report_of : Reading → LastReport
+last_report_of reading = record { value = reading.value; flags = reading.flags }
 
 -- how far two values are apart
 abbrev pub distance : ℤ → ℤ → ℕ
 distance x y = unsigned_abs (x -ℤ y)
 
 -- other flags than the last report's, or a value further from it than the deadband
-abbrev pub differs : Point → Report → Reading → Bool
+abbrev pub differs : Point → LastReport → Reading → Bool
 differs point last reading =
     not (reading.flags == last.flags) || nat_lt point.deadband (distance reading.value last.value)
 
@@ -54,16 +54,16 @@ row_of kind index reading = record {
 
 -- the row that a change of the point makes, in the lane of its class and kind; none where the reading
 -- does not differ, or the class has no lane
-abbrev pub event_of : Kind → ℕ → Point → Report → Reading → Option LaneRow
+abbrev pub event_of : Kind → ℕ → Point → LastReport → Reading → Option LaneRow
 event_of kind index point last reading =
     (if differs point last reading
     then option_map (λ lane. record { lane = lane; row = row_of kind index reading }) (lane_of point.class kind)
     else None)
 
 -- the last report after that change: this reading's where a row was made
-abbrev pub report_after : Kind → ℕ → Point → Report → Reading → Report
+abbrev pub report_after : Kind → ℕ → Point → LastReport → Reading → LastReport
 report_after kind index point last reading =
-    (if is_some (event_of kind index point last reading) then report_of reading else last)
+    (if is_some (event_of kind index point last reading) then last_report_of reading else last)
 
 -- ---- the events of one point
 
@@ -74,7 +74,7 @@ pub data Happening : Type 0 where
 
 -- the events that these happenings make, in their order, after this last report. A reading out of
 -- range does nothing.
-abbrev pub happened : Kind → ℕ → Point → Report → List Happening → List LaneRow
+abbrev pub happened : Kind → ℕ → Point → LastReport → List Happening → List LaneRow
 happened kind index point last [] = []
 happened kind index point last (Restarts ∷ more) = happened kind index point first_report more
 happened kind index point last (Reads reading ∷ more) =

@@ -65,5 +65,5 @@ abbrev pub IsFirst : Plan → PlanFault → Type 0
 IsFirst plan fault = IsFirstOf place (IsPlanFault plan) fault
 
 -- nothing is wrong with the blocks
-abbrev pub IsSound : Plan → Type 0
-IsSound plan = (fault : PlanFault) → IsPlanFault plan fault → ⊥
+abbrev pub IsSoundPlan : Plan → Type 0
+IsSoundPlan plan = (fault : PlanFault) → IsPlanFault plan fault → ⊥

@@ -30,13 +30,13 @@ ShareNoIndex block other =
     (index : ℕ) → has_index block index ≡ true → has_index other index ≡ true → ⊥
 
 -- the blocks of a kind are sound, and each index belongs to one of them at most
-pub record AreSound (kind : Kind) (blocks : List BlockState) : Type 0 where
+pub record AreSoundBlocks (kind : Kind) (blocks : List BlockState) : Type 0 where
   pub each : All (IsSoundBlock kind) blocks
   pub apart : AllPairs ShareNoIndex blocks
 
 -- and so in each kind
-abbrev pub IsSound : Database → Type 0
-IsSound database = (kind : Kind) → AreSound kind (blocks_of database kind)
+abbrev pub IsSoundDatabase : Database → Type 0
+IsSoundDatabase database = (kind : Kind) → AreSoundBlocks kind (blocks_of database kind)
 
 -- the object that a present value of this kind is written as, by group and variation, where this variation was asked
 -- for, 0 for any: whatever was, the one with flags and the widest value

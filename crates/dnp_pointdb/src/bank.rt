@@ -7,7 +7,7 @@ ghost use Rattle.dnp_pointdb.specs.declared.state.PointState.{PointState as Stat
 ghost use Rattle.dnp_pointdb.specs.Database as spec;
 
 use crate::fault::ChangeFault;
-use crate::order::{Place, find, order_of};
+use crate::order::{BlockPlace, find, order_of};
 use crate::place::PointPlace;
 use crate::point::Block;
 use crate::reading::Reading;
@@ -22,7 +22,7 @@ pub struct Bank {
     /// The blocks, in the plan's order.
     blocks: Vec<BlockState>,
     /// Those of the blocks that have points, by rising base.
-    order: Vec<Place>,
+    order: Vec<BlockPlace>,
     /// The number of the block in which the last reading without an event was set: such readings come in runs, so that
     /// the next one mostly is of that block too. It may be any number.
     near: usize,

@@ -8,7 +8,7 @@ ghost use Rattle.dnp_pointdb.specs.PointPlaces.{IsPlace};
 ghost use Rattle.dnp_pointdb.specs.Database as spec;
 ghost use Rattle.dnp_pointdb.specs.Plan as plan_words;
 ghost use Rattle.dnp_pointdb.specs.Ranges.{is_in_range};
-ghost use Rattle.dnp_pointdb.specs.Sound.{IsSound, IsSoundPoint, AreSound};
+ghost use Rattle.dnp_pointdb.specs.Sound.{IsSoundDatabase, IsSoundPoint, AreSoundBlocks};
 
 use crate::bank::Bank;
 use crate::fault::ChangeFault;
@@ -34,13 +34,13 @@ pub struct PointDb {
 
 impl Model for PointDb {
     ghost use Rattle.dnp_pointdb.specs.Database.{Database};
-    ghost use Rattle.dnp_pointdb.specs.Sound.{IsSound};
+    ghost use Rattle.dnp_pointdb.specs.Sound.{IsSoundDatabase};
 
     ghost Value = { Database };
 
     ghost view = { λ database. record { banks = database.banks } };
 
-    ghost invariant = { λ database. IsSound (record { banks = database.banks }) };
+    ghost invariant = { λ database. IsSoundDatabase (record { banks = database.banks }) };
 }
 
 impl Drop for PointDb {
@@ -58,7 +58,7 @@ impl PointDb {
     /// value 0 and the flags 02 (RESTART), and no time. An error says that it ran out of memory.
     pub fn new(alloc: Global, plan: PointPlan) -> Result<PointDb, AllocError>
         ensures value { IfOk result (λ database. database ≡ spec.new_database plan) }
-        ensures sound { IfOk result IsSound }
+        ensures sound { IfOk result IsSoundDatabase }
     {
         let banks = [
             bank_of(alloc, &plan, Kind::Binary)?,
@@ -71,7 +71,7 @@ impl PointDb {
     /// The points of a kind.
     fn bank(&self, kind: Kind) -> &Bank
         ensures value { result.now ≡ spec.blocks_of self.now kind }
-        ensures sound { IsSound self.now }
+        ensures sound { IsSoundDatabase self.now }
     {
         &self.banks[kind.number()]
     }
@@ -80,8 +80,8 @@ impl PointDb {
     /// whose readings are in range and whose indices are below 65,536, and no two share an index.
     pub fn blocks(&self, kind: Kind) -> &[BlockState]
         ensures value { result.now ≡ spec.blocks_of self.now kind }
-        ensures sound { IsSound self.now }
-        ensures sound_blocks { AreSound kind result.now }
+        ensures sound { IsSoundDatabase self.now }
+        ensures sound_blocks { AreSoundBlocks kind result.now }
     {
         self.bank(kind).blocks()
     }
@@ -89,7 +89,7 @@ impl PointDb {
     /// The point of this kind and index as it stands, if the plan has it.
     pub fn state(&self, kind: Kind, index: u16) -> Option<PointState>
         ensures value { result ≡ spec.state_at self.now kind index }
-        ensures sound { IsSound self.now }
+        ensures sound { IsSoundDatabase self.now }
         ensures sound_point { IfSome result (IsSoundPoint kind) }
     {
         self.bank(kind).state(index)
@@ -127,7 +127,7 @@ impl PointDb {
         ensures fault { IfErr result (spec.IsFirst self.now kind index reading) }
         ensures only_fault { (fault : FaultValue) → spec.IsFirst self.now kind index reading fault
             → result ≡ Err fault }
-        ensures sound { IsSound self.now }
+        ensures sound { IsSoundDatabase self.now }
     {
         self.bank(kind).would(kind, index, reading)
     }
@@ -170,7 +170,7 @@ impl PointDb {
         requires in_range { is_in_range kind reading ≡ true }
         requires made { spec.answer_of self.old kind index reading ≡ Ok made.now }
         ensures after { self.new ≡ spec.changed_of self.old kind index reading }
-        ensures sound { IsSound self.new }
+        ensures sound { IsSoundDatabase self.new }
     {
         self.banks[kind.number()].change_at(at, kind, index, reading, made);
     }
@@ -200,7 +200,7 @@ impl PointDb {
         ensures only_fault { (fault : FaultValue) → spec.IsFirst self.old kind index reading fault
             → result ≡ Err fault }
         ensures err { OnErr result (self.new ≡ self.old) }
-        ensures sound { IsSound self.new }
+        ensures sound { IsSoundDatabase self.new }
     {
         self.banks[kind.number()].change(kind, index, reading)
     }
@@ -214,7 +214,7 @@ impl PointDb {
         ensures only_fault { (fault : FaultValue) → spec.IsFirst self.old kind index reading fault
             → result ≡ Err fault }
         ensures err { OnErr result (self.new ≡ self.old) }
-        ensures sound { IsSound self.new }
+        ensures sound { IsSoundDatabase self.new }
     {
         self.banks[kind.number()].set(kind, index, reading)
     }
@@ -224,7 +224,7 @@ impl PointDb {
     /// last reports stay.
     pub fn mark_lost(&mut self, block: usize)
         ensures after { self.new ≡ spec.lost_of self.old block }
-        ensures sound { IsSound self.new }
+        ensures sound { IsSoundDatabase self.new }
     {
         lose_in(&mut self.banks, block);
     }
@@ -233,7 +233,7 @@ impl PointDb {
     /// no time.
     pub fn restart(&mut self)
         ensures after { self.new ≡ spec.restarted self.old }
-        ensures sound { IsSound self.new }
+        ensures sound { IsSoundDatabase self.new }
     {
         restart_each(&mut self.banks);
     }

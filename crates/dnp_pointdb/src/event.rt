@@ -4,12 +4,12 @@ ghost use Rattle.std.specs.Prelude.{◌≡◌};
 ghost use Rattle.dnp_pointdb.specs.Events as spec;
 
 use crate::point::Point;
-use crate::reading::{Reading, Report};
+use crate::reading::{LastReport, Reading};
 use dnp_objects::{Kind, Lane, LaneRow, Row};
 
 /// Whether the reading has other flags than the last report, or a value further from it than the
 /// deadband.
-fn differs(point: Point, last: Report, reading: Reading) -> bool
+fn differs(point: Point, last: LastReport, reading: Reading) -> bool
     ensures { result ≡ spec.differs point last reading }
 {
     reading.flags != last.flags || reading.value.abs_diff(last.value) > u64::from(point.deadband)
@@ -27,7 +27,7 @@ pub fn event_of(
     kind: Kind,
     index: u16,
     point: Point,
-    last: Report,
+    last: LastReport,
     reading: Reading,
 ) -> Option<LaneRow>
     ensures { result ≡ spec.event_of kind index point last reading }

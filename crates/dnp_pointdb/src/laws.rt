@@ -12,17 +12,17 @@ ghost use Rattle.dnp_objects.specs.Lanes.{IsLane};
 ghost use Rattle.dnp_pointdb.specs.declared.point.Point.{Point as PointValue};
 ghost use Rattle.dnp_pointdb.specs.declared.point.Block.{Block as BlockValue};
 ghost use Rattle.dnp_pointdb.specs.declared.reading.Reading.{Reading as ReadingValue};
-ghost use Rattle.dnp_pointdb.specs.declared.reading.Report.{Report as ReportValue};
+ghost use Rattle.dnp_pointdb.specs.declared.reading.LastReport.{LastReport as ReportValue};
 ghost use Rattle.dnp_pointdb.specs.Blocks.{HasIndex};
 ghost use Rattle.dnp_pointdb.specs.Classes.{class_at};
-ghost use Rattle.dnp_pointdb.specs.Plan.{Plan, blocks_of, IsSound};
+ghost use Rattle.dnp_pointdb.specs.Plan.{Plan, blocks_of, IsSoundPlan};
 ghost use Rattle.dnp_pointdb.specs.Sound as sound;
 ghost use Rattle.dnp_pointdb.specs.Events.{event_of, row_of, distance};
 ghost use Rattle.dnp_pointdb.specs.declared.state.BlockState.{BlockState as BlockStateValue};
 ghost use Rattle.dnp_pointdb.specs.Database as database_words;
 ghost use Rattle.dnp_pointdb.specs.Database.{Database, state_at, answer_of, new_database, changed_of, set_of, restarted, changed_state, set_state, restarted_state, lost_flags, lost_of};
 ghost use Rattle.dnp_pointdb.specs.steps.Order.{Extent, IsOrder, place_in};
-ghost use Rattle.dnp_pointdb.specs.declared.order.Place.{Place as PlaceValue};
+ghost use Rattle.dnp_pointdb.specs.declared.order.BlockPlace.{BlockPlace as PlaceValue};
 ghost use Rattle.dnp_pointdb.specs.Ranges.{is_carried, is_in_range};
 ghost use Rattle.dnp_pointdb.specs.Runs.{Move, rows_of, rows_at, happened_at, happenings_of};
 ghost use Rattle.dnp_pointdb.specs.declared.limits.TheConstants as limits;
@@ -65,7 +65,7 @@ pub fn lost_communication_shows_in_two_flags()
 /// plan's block gives its index, and an index of no block has no point.
 pub fn points_are_those_of_the_plan()
     ensures there { (plan : Plan) (kind : KindValue) (index : ℕ) (block : BlockValue)
-        → IsSound plan → Contains (blocks_of plan kind) block → HasIndex block index
+        → IsSoundPlan plan → Contains (blocks_of plan kind) block → HasIndex block index
         → option_map (λ state. state.point) (state_at (new_database plan) kind index)
         ≡ slice_get block.points (index - block.base) }
     ensures nowhere { (plan : Plan) (kind : KindValue) (index : ℕ)
@@ -119,22 +119,22 @@ pub fn lost_communication_is_no_report()
 /// The points of a new database of a plan are sound, and each call keeps them so: classes from 0 to
 /// 3, readings in range, indices below 65,536, and no index that two blocks of a kind share.
 pub fn points_stay_sound()
-    ensures new { (plan : Plan) → IsSound plan → sound.IsSound (new_database plan) }
+    ensures new { (plan : Plan) → IsSoundPlan plan → sound.IsSoundDatabase (new_database plan) }
     ensures changed { (database : Database) (kind : KindValue) (index : ℕ) (reading : ReadingValue)
-        → sound.IsSound database → sound.IsSound (changed_of database kind index reading) }
+        → sound.IsSoundDatabase database → sound.IsSoundDatabase (changed_of database kind index reading) }
     ensures set { (database : Database) (kind : KindValue) (index : ℕ) (reading : ReadingValue)
-        → sound.IsSound database → sound.IsSound (set_of database kind index reading) }
+        → sound.IsSoundDatabase database → sound.IsSoundDatabase (set_of database kind index reading) }
     ensures lost { (database : Database) (number : ℕ)
-        → sound.IsSound database → sound.IsSound (lost_of database number) }
+        → sound.IsSoundDatabase database → sound.IsSoundDatabase (lost_of database number) }
     ensures restarted { (database : Database)
-        → sound.IsSound database → sound.IsSound (restarted database) }
+        → sound.IsSoundDatabase database → sound.IsSoundDatabase (restarted database) }
 {}
 
 /// In a sound database the point that stands at a place of a block is the one that its index, the
 /// block's base and the place, finds.
 pub fn a_point_has_its_index()
     ensures { (database : Database) (kind : KindValue) (block : BlockStateValue) (place : ℕ)
-        → sound.IsSound database → Contains (database_words.blocks_of database kind) block
+        → sound.IsSoundDatabase database → Contains (database_words.blocks_of database kind) block
         → place < length block.points → state_at database kind (block.base + place) ≡ slice_get block.points place }
 {}
 
@@ -144,7 +144,7 @@ pub fn readings_fit_their_static_objects()
     ensures carried { (kind : KindValue) (asked index : ℕ) (reading : ReadingValue)
         → is_carried kind reading ≡ true
         → let object = sound.static_object kind asked in Fits object.0 object.1 (row_of kind index reading) }
-    ensures kept { (database : Database) (kind : KindValue) (asked index : ℕ) → sound.IsSound database
+    ensures kept { (database : Database) (kind : KindValue) (asked index : ℕ) → sound.IsSoundDatabase database
         → let object = sound.static_object kind asked in IfSome (state_at database kind index)
         (λ state. Fits object.0 object.1 (row_of kind index state.reading)) }
 {}

@@ -27,7 +27,7 @@ pub use limits::{INDICES, MAX_POINTS};
 pub use place::PointPlace;
 pub use plan::PointPlan;
 pub use point::{Block, Point, Points};
-pub use reading::{Reading, Report};
+pub use reading::{LastReport, Reading};
 pub use state::{BlockState, PointState, PointStates};
 pub use statics::static_object;
 pub use times::Times;

@@ -11,7 +11,7 @@ use std::alloc::{AllocError, Global};
 
 /// Where a block's points stand: the index of the first, how many they are, and the block's number.
 #[derive(Clone, Copy, Debug)]
-pub struct Place {
+pub struct BlockPlace {
     /// The index of the block's first point.
     pub first: u16,
     /// How many points it has, at least 1.
@@ -21,7 +21,7 @@ pub struct Place {
 }
 
 /// The places of the blocks that have points, by rising base.
-pub fn order_of(alloc: Global, blocks: &[Block]) -> Result<Vec<Place>, AllocError>
+pub fn order_of(alloc: Global, blocks: &[Block]) -> Result<Vec<BlockPlace>, AllocError>
     requires { AreApart (map extent_of blocks.now) }
     ensures { IfOk result (λ order. IsOrder (map extent_of blocks.now) order.items) }
 {
@@ -29,7 +29,7 @@ pub fn order_of(alloc: Global, blocks: &[Block]) -> Result<Vec<Place>, AllocErro
     for (number, block) in blocks.iter().enumerate() {
         let count = block.points.as_slice().len();
         if count > 0 {
-            order.push(Place {
+            order.push(BlockPlace {
                 first: block.base,
                 count,
                 block: number,
@@ -42,14 +42,14 @@ pub fn order_of(alloc: Global, blocks: &[Block]) -> Result<Vec<Place>, AllocErro
 
 /// How the points of each kind of a plan are looked up, by the kind's number.
 #[derive(Debug, Drop)]
-pub struct Orders {
+pub struct SortedBlocks {
     /// The places of each kind's blocks.
-    pub of_kinds: [Vec<Place>; KINDS],
+    pub of_kinds: [Vec<BlockPlace>; KINDS],
 }
 
-impl Orders {
+impl SortedBlocks {
     /// Those of this kind.
-    pub fn of(&self, kind: Kind) -> &[Place]
+    pub fn of(&self, kind: Kind) -> &[BlockPlace]
         ensures { result.now ≡ order_in self.now kind }
     {
         self.of_kinds[kind.number()].as_slice()
@@ -57,7 +57,7 @@ impl Orders {
 }
 
 /// The point with the index, if one of the blocks has it.
-pub fn point_by(order: &[Place], blocks: &[Block], index: u16) -> Option<Point>
+pub fn point_by(order: &[BlockPlace], blocks: &[Block], index: u16) -> Option<Point>
     requires { IsOrder (map extent_of blocks.now) order.now }
     ensures { result ≡ point_in blocks.now index }
 {
@@ -66,7 +66,7 @@ pub fn point_by(order: &[Place], blocks: &[Block], index: u16) -> Option<Point>
 }
 
 /// The number of the block that has the index, and the point's place in it.
-pub fn find(order: &[Place], index: u16) -> Option<(usize, usize)>
+pub fn find(order: &[BlockPlace], index: u16) -> Option<(usize, usize)>
     requires { IsNonDecreasingBy (λ place. place.first) order.now }
     ensures { (es : List Extent) → IsOrder es order.now → result ≡ place_in es index }
 {

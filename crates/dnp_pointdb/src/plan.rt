@@ -6,12 +6,12 @@ ghost use Rattle.dnp_pointdb.specs.declared.fault.PlanFault.{PlanFault as FaultV
 ghost use Rattle.dnp_pointdb.specs.Blocks.{ShareIndex};
 ghost use Rattle.dnp_pointdb.specs.Classes as classes;
 ghost use Rattle.dnp_pointdb.specs.steps.Order.{AreOrders};
-ghost use Rattle.dnp_pointdb.specs.Plan.{plan_of, blocks_of, IsPlanFault, IsFirst, IsSound, HasWrongPoint, HasTooMany, IsTooWide, IsWrong};
+ghost use Rattle.dnp_pointdb.specs.Plan.{plan_of, blocks_of, IsPlanFault, IsFirst, IsSoundPlan, HasWrongPoint, HasTooMany, IsTooWide, IsWrong};
 
 use crate::blocks::Blocks;
 use crate::fault::PlanFault;
 use crate::limits::{INDICES, MAX_POINTS};
-use crate::order::{Orders, order_of, point_by};
+use crate::order::{SortedBlocks, order_of, point_by};
 use crate::point::{Block, Point};
 use crate::taken::share_index;
 use dnp_objects::{CLASSES, Kind};
@@ -28,19 +28,19 @@ pub struct PointPlan {
     /// The blocks of each kind, in the plan's order.
     blocks: Blocks,
     /// How the points are looked up, once `prepare` was called.
-    orders: Option<Orders>,
+    orders: Option<SortedBlocks>,
 }
 
 impl Model for PointPlan {
     ghost use Rattle.std.specs.Prelude.{IfSome};
-    ghost use Rattle.dnp_pointdb.specs.Plan.{Plan, IsSound};
+    ghost use Rattle.dnp_pointdb.specs.Plan.{Plan, IsSoundPlan};
     ghost use Rattle.dnp_pointdb.specs.steps.Order.{AreOrders};
 
     ghost Value = { Plan };
 
     ghost view = { λ plan. plan.blocks };
 
-    ghost invariant = { λ plan. IsSound plan.blocks × IfSome plan.orders (AreOrders plan.blocks) };
+    ghost invariant = { λ plan. IsSoundPlan plan.blocks × IfSome plan.orders (AreOrders plan.blocks) };
 }
 
 /// Whether a point of this kind has a class over `CLASSES`, or a deadband that is none of its kind's.
@@ -132,7 +132,7 @@ fn has_overlap(blocks: &Blocks) -> bool
 
 /// The first thing that is wrong with the blocks, if anything is.
 fn first_fault(blocks: &Blocks) -> Option<PlanFault>
-    ensures { MatchOption result (IsSound blocks.now)
+    ensures { MatchOption result (IsSoundPlan blocks.now)
         (IsFirst blocks.now) }
 {
     if has_wrong_points(blocks) {
@@ -151,11 +151,11 @@ fn first_fault(blocks: &Blocks) -> Option<PlanFault>
 }
 
 /// How the points of these blocks are looked up.
-fn orders_of(alloc: Global, blocks: &Blocks) -> Result<Orders, AllocError>
-    requires { IsSound blocks.now }
+fn orders_of(alloc: Global, blocks: &Blocks) -> Result<SortedBlocks, AllocError>
+    requires { IsSoundPlan blocks.now }
     ensures { IfOk result (AreOrders blocks.now) }
 {
-    Ok(Orders {
+    Ok(SortedBlocks {
         of_kinds: [
             order_of(alloc, blocks.of(Kind::Binary))?,
             order_of(alloc, blocks.of(Kind::Counter))?,
@@ -180,7 +180,7 @@ fn point_in(blocks: &[Block], index: u16) -> Option<Point>
 }
 
 impl PointPlan {
-    ghost use Rattle.dnp_pointdb.specs.Plan.{plan_of, blocks_of, IsFirst, IsSound};
+    ghost use Rattle.dnp_pointdb.specs.Plan.{plan_of, blocks_of, IsFirst, IsSoundPlan};
 
     /// The plan of these blocks of each kind, each kind's in any order.
     ///
@@ -194,7 +194,7 @@ impl PointPlan {
         analog: Vec<Block>,
     ) -> Result<PointPlan, PlanFault>
         ensures found { IfOk result (λ plan. plan ≡ plan_of binary.items counter.items analog.items) }
-        ensures only { IsSound (plan_of binary.items counter.items analog.items)
+        ensures only { IsSoundPlan (plan_of binary.items counter.items analog.items)
             → result ≡ Ok (plan_of binary.items counter.items analog.items) }
         ensures fault { IfErr result (IsFirst (plan_of binary.items counter.items analog.items)) }
         ensures only_fault { (fault : FaultValue) → IsFirst (plan_of binary.items counter.items analog.items) fault
@@ -213,7 +213,7 @@ impl PointPlan {
     /// The blocks of a kind, in the plan's order.
     pub fn blocks(&self, kind: Kind) -> &[Block]
         ensures value { result.now ≡ blocks_of self.now kind }
-        ensures sound { IsSound self.now }
+        ensures sound { IsSoundPlan self.now }
     {
         self.blocks.of(kind)
     }

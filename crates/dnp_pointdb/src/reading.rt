@@ -19,7 +19,7 @@ pub struct Reading {
 
 /// What of a point's last event the next one is measured against.
 #[derive(Clone, Copy, Debug, PartialEq, Eq, Hash)]
-pub struct Report {
+pub struct LastReport {
     /// In the range of a reading's value.
     pub value: i64,
     /// The flags octet, as a reading's.
@@ -63,21 +63,21 @@ impl Reading {
     }
 }
 
-impl Report {
+impl LastReport {
     ghost use Rattle.dnp_pointdb.specs.Events as event;
 
     /// That of a point which was never read.
-    pub(crate) fn first() -> Report
+    pub(crate) fn first() -> LastReport
         ensures { result ≡ event.first_report }
     {
-        Report::of(Reading::first())
+        LastReport::of(Reading::first())
     }
 
     /// That of a point whose reading was just reported.
-    pub(crate) fn of(reading: Reading) -> Report
-        ensures { result ≡ event.report_of reading }
+    pub(crate) fn of(reading: Reading) -> LastReport
+        ensures { result ≡ event.last_report_of reading }
     {
-        Report {
+        LastReport {
             value: reading.value,
             flags: reading.flags,
         }

@@ -5,7 +5,7 @@ ghost use Rattle.dnp_pointdb.specs.Database as spec;
 
 use crate::event::event_of;
 use crate::point::{Block, Point, Points};
-use crate::reading::{Reading, Report};
+use crate::reading::{LastReport, Reading};
 use dnp_objects::{Kind, LaneRow, flags};
 use std::alloc::{AllocError, Global};
 
@@ -17,7 +17,7 @@ pub struct PointState {
     /// Its last reading.
     pub reading: Reading,
     /// What the next change is measured against.
-    pub reported: Report,
+    pub reported: LastReport,
 }
 
 impl PointState {
@@ -33,7 +33,7 @@ impl PointState {
         PointState {
             point,
             reading: Reading::first(),
-            reported: Report::first(),
+            reported: LastReport::first(),
         }
     }
 
@@ -58,7 +58,7 @@ impl PointState {
         PointState {
             point: self.point,
             reading,
-            reported: Report { value, flags },
+            reported: LastReport { value, flags },
         }
     }
 

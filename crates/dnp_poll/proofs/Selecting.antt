@@ -2,7 +2,7 @@
 use Rattle.std.proofs.Common.{◌≡◌, ℕ, List, ap, sym, ◌∙◌, inl, inr}
 use Rattle.std.specs.Prelude.{Option, Some}
 use Rattle.dnp_master.specs.Calls as calls
-use Rattle.dnp_master.specs.Selecting.{OperatesSelected, SelectsBySuccess, Stands}
+use Rattle.dnp_master.specs.Selecting.{OperatesSelected, SelectsBySuccess, StandsSelected}
 use Rattle.dnp_master.specs.State.{State}
 use Rattle.dnp_master.specs.declared.outcome.Outcome.{Outcome}
 use Rattle.dnp_objects.specs.declared.command.Command.{Command}
@@ -18,14 +18,14 @@ operates_once {S} selected old new now command request asks =
 -- what an equal answer, and an equal master, stand for
 moved : {S : Type 0} → SelectsBySuccess → (shows : S → List ShownRow → S → Type 0) (old new : PollSeen S) (now : ℕ) (octets : List ℕ)
     (answer : Answer) (command : Command)
-    → HearsPoll shows old now octets answer new → new.master.selected ≡ Some command → Stands old.master answer.outcome command
+    → HearsPoll shows old now octets answer new → new.master.selected ≡ Some command → StandsSelected old.master answer.outcome command
 moved {S} law shows old new now octets answer command (Taken a read heeded shown after said) is =
     let master : new.master ≡ (calls.follow_of old.master now a).state = ap (λ (p : PollSeen S). p.master) after in
     by answer.outcome (ap (λ (x : Answer). x.outcome) said)
     (law old.master now a command (sym (ap (λ (s : State). s.selected) master) ∙ is))
   where
     by : (outcome : Option Outcome) → outcome ≡ (calls.follow_of old.master now a).outcome
-        → Stands old.master (calls.follow_of old.master now a).outcome command → Stands old.master outcome command
+        → StandsSelected old.master (calls.follow_of old.master now a).outcome command → StandsSelected old.master outcome command
     by outcome same (inl stood) = inl stood
     by outcome same (inr x) = inr (same ∙ x.0, x.1)
 moved {S} law shows old new now octets answer command (Passed a read unheeded after said) is =

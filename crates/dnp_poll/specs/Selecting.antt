@@ -1,6 +1,6 @@
 -- Definition: what a poll keeps of select before operate (IEEE Std 1815-2012, application layer: SELECT and OPERATE).
 use Rattle.std.specs.Prelude.{◌≡◌, ℕ, List, Some, None}
-use Rattle.dnp_master.specs.Selecting.{Stands}
+use Rattle.dnp_master.specs.Selecting.{StandsSelected}
 use Rattle.dnp_master.specs.declared.task.Task.TheVariants.{Operate}
 use Rattle.dnp_objects.specs.declared.command.Command.{Command}
 use Rattle.dnp_poll.specs.Polls.{AsksPoll, PollSeen, ReceivesPoll}
@@ -17,4 +17,4 @@ OperatesOnce S = (old new : PollSeen S) (now : ℕ) (command : Command) (request
 abbrev pub StandsBySuccess : {S : Type 0} → (S → List ShownRow → S → Type 0) → Type 0
 StandsBySuccess {S} shows = (old new : PollSeen S) (now : ℕ) (octets : List ℕ) (answer : Answer) (command : Command)
     → ReceivesPoll shows old now octets answer new → new.master.selected ≡ Some command
-    → Stands old.master answer.outcome command
+    → StandsSelected old.master answer.outcome command

@@ -67,6 +67,37 @@ pub(crate) fn sends(actions: &Actions, octets: &[u8]) -> bool {
     }
 }
 
+/// Whether a centre's connection begins. This call of a concentrator, and the next, are made in one place.
+pub(crate) fn opens(
+    concentrator: &mut Middle,
+    centre: u8,
+    actions: &mut Actions,
+    alloc: Global,
+    now: u64,
+) -> bool
+    requires { centre < CENTRES }
+{
+    concentrator
+        .opened_above(centre, actions, alloc, now)
+        .is_ok()
+}
+
+/// Whether octets that come from a centre are taken.
+pub(crate) fn takes(
+    concentrator: &mut Middle,
+    centre: u8,
+    actions: &mut Actions,
+    alloc: Global,
+    now: u64,
+    octets: &[u8],
+) -> bool
+    requires { centre < CENTRES }
+{
+    concentrator
+        .receive_above(centre, actions, alloc, now, octets)
+        .is_ok()
+}
+
 /// Whether the centre's request is answered with its own objects and this status.
 fn is_answered(
     concentrator: &mut Middle,
@@ -84,9 +115,7 @@ fn is_answered(
         return false;
     };
     let answer = [head[0], 0x81, 0x80, 0x00];
-    concentrator
-        .receive_above(centre, actions, alloc, now, asked.as_slice())
-        .is_ok()
+    takes(concentrator, centre, actions, alloc, now, asked.as_slice())
         && match fragment(alloc, &answer, objects, status) {
             Ok(answered) => sends(actions, answered.as_slice()),
             Err(_) => false,
@@ -115,17 +144,26 @@ fn concentrator_of(alloc: Global, unsolicited: bool) -> Option<Middle> {
 }
 
 /// Whether a book holds these entries.
-fn holds(alloc: Global, book: &mut PlainBook, entries: &[Entry]) -> bool {
+pub(crate) fn holds(alloc: Global, book: &mut PlainBook, entries: &[Entry]) -> bool {
     match book.rows(alloc, 0, 10) {
         Ok(rows) => rows.as_slice() == entries,
         Err(_) => false,
     }
 }
 
+/// Whether a book holds the one command that latches the output 0, or nothing.
+fn has_latched(alloc: Global, book: &mut PlainBook, is_latched: bool) -> bool {
+    if is_latched {
+        holds(alloc, book, &[LATCHED])
+    } else {
+        holds(alloc, book, &[])
+    }
+}
+
 /// Commands from above come into the book, and those to an output that the plan lacks don't.
 fn commands_are_put(rt: &impl Abort, alloc: Global, concentrator: &mut Middle) {
     let mut actions = Actions::none(alloc);
-    assert!(rt; concentrator.opened_above(0, &mut actions, alloc, 0).is_ok());
+    assert!(rt; opens(concentrator, 0, &mut actions, alloc, 0));
     for (head, objects, status) in &STEPS {
         assert!(rt;
             is_answered(
@@ -141,18 +179,10 @@ fn commands_are_put(rt: &impl Abort, alloc: Global, concentrator: &mut Middle) {
             "{head:?} {status}"
         );
     }
-    assert!(rt; holds(alloc, concentrator.book(), &[LATCHED]));
+    assert!(rt; has_latched(alloc, concentrator.book(), true));
     concentrator.hung_up_above(0);
     assert!(rt; !concentrator.quiet_above(0));
     concentrator.restart(alloc);
-}
-
-#[test]
-fn a_command_above_is_put_into_the_book(rt: HostRuntime) {
-    let mut concentrator = concentrator_of(rt.alloc(), false).expect(&rt, "a concentrator");
-    commands_are_put(&rt, rt.alloc(), &mut concentrator);
-    let (_queue, mut book) = concentrator.into_stores();
-    assert!(rt; holds(rt.alloc(), &mut book, &[LATCHED]));
 }
 
 /// The moment, whether it is the second centre, the first octets of its request to latch the output 200, and the status that
@@ -176,21 +206,17 @@ const SELECT_ENDS: [Turn; 3] = [
     (6_001, true, [0xC1, 0x03], 0x00),
 ];
 
-/// The centres take turns at one output, by which these commands come into the book.
+/// The centres take turns at one output, by which it is latched, or nothing comes into the book.
 fn turns_are_taken(
     rt: &impl Abort,
     alloc: Global,
     concentrator: &mut Middle,
     turns: &[Turn],
-    commands: &[Entry],
+    is_latched: bool,
 ) {
     let mut actions = Actions::none(alloc);
     for centre in 0..CENTRES {
-        assert!(rt;
-            concentrator
-                .opened_above(centre, &mut actions, alloc, 0)
-                .is_ok()
-        );
+        assert!(rt; opens(concentrator, centre, &mut actions, alloc, 0));
     }
     for &(now, is_second, head, status) in turns {
         let centre = u8::from(is_second);
@@ -208,25 +234,13 @@ fn turns_are_taken(
             "{now} {centre} {head:?} {status}"
         );
     }
-    assert!(rt; holds(alloc, concentrator.book(), commands));
-}
-
-#[test]
-fn a_selected_output_is_reserved(rt: HostRuntime) {
-    let mut concentrator = concentrator_of(rt.alloc(), false).expect(&rt, "a concentrator");
-    turns_are_taken(&rt, rt.alloc(), &mut concentrator, &TURNS, &[LATCHED]);
-}
-
-#[test]
-fn a_reserved_output_is_free_after_the_select_timer(rt: HostRuntime) {
-    let mut concentrator = concentrator_of(rt.alloc(), false).expect(&rt, "a concentrator");
-    turns_are_taken(&rt, rt.alloc(), &mut concentrator, &SELECT_ENDS, &[]);
+    assert!(rt; has_latched(alloc, concentrator.book(), is_latched));
 }
 
 /// The first report above awaits its confirm, and the link closes when its time is over.
 fn report_closes(rt: &impl Abort, alloc: Global, concentrator: &mut Middle) {
     let mut actions = Actions::none(alloc);
-    assert!(rt; concentrator.opened_above(0, &mut actions, alloc, 0).is_ok());
+    assert!(rt; opens(concentrator, 0, &mut actions, alloc, 0));
     assert!(rt; sends(&actions, &[0xF0, 0x82, 0x80, 0x00]));
     for &(now, closes) in &[(4_999, false), (5_000, true)] {
         assert!(rt; concentrator.tick_above(0, &mut actions, alloc, now).is_ok());
@@ -237,8 +251,51 @@ fn report_closes(rt: &impl Abort, alloc: Global, concentrator: &mut Middle) {
     }
 }
 
+/// What is tried with a new concentrator.
+#[derive(Clone, Copy)]
+enum Trial {
+    /// Commands from above come into its book.
+    Puts,
+    /// The centres take turns.
+    Turns(&'static [Turn]),
+    /// Its report awaits its confirm.
+    Reports,
+}
+
+/// Each trial, whether there are unsolicited responses, and whether the output 0 is latched by it.
+const TRIALS: [(Trial, bool, bool); 4] = [
+    (Trial::Puts, false, true),
+    (Trial::Turns(&TURNS), false, true),
+    (Trial::Turns(&SELECT_ENDS), false, false),
+    (Trial::Reports, true, false),
+];
+
+/// Tries this.
+fn does(rt: &impl Abort, alloc: Global, concentrator: &mut Middle, trial: Trial, is_latched: bool) {
+    match trial {
+        Trial::Puts => commands_are_put(rt, alloc, concentrator),
+        Trial::Turns(turns) => turns_are_taken(rt, alloc, concentrator, turns, is_latched),
+        Trial::Reports => report_closes(rt, alloc, concentrator),
+    }
+}
+
+/// Tries this with a concentrator of its own: its book in the end.
+fn tried(
+    rt: &(impl Abort + AllocGlobal),
+    trial: Trial,
+    unsolicited: bool,
+    is_latched: bool,
+) -> PlainBook {
+    let mut concentrator = concentrator_of(rt.alloc(), unsolicited).expect(rt, "a concentrator");
+    does(rt, rt.alloc(), &mut concentrator, trial, is_latched);
+    let (_queue, book) = concentrator.into_stores();
+    book
+}
+
 #[test]
-fn a_report_above_awaits_its_confirm(rt: HostRuntime) {
-    let mut concentrator = concentrator_of(rt.alloc(), true).expect(&rt, "a concentrator");
-    report_closes(&rt, rt.alloc(), &mut concentrator);
+fn a_concentrator_towards_the_centres(rt: HostRuntime) {
+    for (trial, unsolicited, is_latched) in TRIALS {
+        let mut book = tried(&rt, trial, unsolicited, is_latched);
+        assert!(rt; has_latched(rt.alloc(), &mut book, is_latched));
+    }
 }

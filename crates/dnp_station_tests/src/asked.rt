@@ -22,9 +22,9 @@ struct CountedQueue {
 /// It gives nothing back, so it is never honest.
 impl PairLanes for CountedQueue {
     ghost use Rattle.std.specs.Prelude.{false, true, []};
-    ghost use Rattle.dnp_eventbuf.specs.Stock.{empty_stock};
+    ghost use Rattle.dnp_eventbuf.specs.EventBuffer.{empty_buffer};
 
-    ghost contents = { λ _ _. empty_stock [] };
+    ghost contents = { λ _ _. empty_buffer [] };
 
     ghost honest = { λ _. ⊥ };
 
@@ -241,17 +241,23 @@ fn polled(
     assert!(rt; concentrator.queue().appends == 1);
 }
 
+/// The same of a concentrator of its own.
+fn polls(
+    rt: &(impl Abort + AllocGlobal),
+    substations: &[Sketch],
+    is_spent: bool,
+    octets: &[u8],
+    taken: Result<usize, MasterFault>,
+) {
+    let made = concentrator_of(rt.alloc(), substations, is_spent);
+    let mut concentrator = made.expect(rt, "a concentrator");
+    polled(rt, rt.alloc(), &mut concentrator, octets, taken);
+}
+
 #[test]
 fn a_fragment_is_queued_for_both_by_one_append(rt: HostRuntime) {
     for (is_spent, taken) in [(false, Ok(1)), (true, Err(MasterFault::Exhausted))] {
-        let concentrator = concentrator_of(rt.alloc(), &[SMALL], is_spent);
-        polled(
-            &rt,
-            rt.alloc(),
-            &mut concentrator.expect(&rt, "a concentrator"),
-            &EVENT,
-            taken,
-        );
+        polls(&rt, &[SMALL], is_spent, &EVENT, taken);
     }
 }
 
@@ -282,14 +288,7 @@ fn put_full_answer(octets: &mut Vec<u8>) -> Result<(), AllocError> {
 fn a_full_fragment_is_taken_of_the_first_of_16(rt: HostRuntime) {
     let mut answer = Vec::new(rt.alloc());
     assert!(rt; put_full_answer(&mut answer).is_ok());
-    let concentrator = concentrator_of(rt.alloc(), &many_substations(), false);
-    polled(
-        &rt,
-        rt.alloc(),
-        &mut concentrator.expect(&rt, "a concentrator"),
-        &answer,
-        Ok(156),
-    );
+    polls(&rt, &many_substations(), false, &answer, Ok(156));
 }
 
 /// A centre over a journal that has no number left. `None` where it could not be made.

@@ -3,7 +3,7 @@
 ghost use Rattle.std.specs.Prelude.{◌<◌};
 ghost use Rattle.dnp_concentrator.specs.Plan.{KeepsLimits};
 
-use crate::above::{Middle, concentrator_over, sends};
+use crate::above::{self, Middle, concentrator_over, opens, sends, takes};
 use crate::plans::{Alike, plan_of};
 use crate::system_plans::{SMALL, plan};
 use dnp_concentrator::{Centre, IssueFault, Plan, Relayed};
@@ -87,9 +87,9 @@ fn bottom_of(alloc: Global, times: Times) -> Option<Bottom> {
 fn open(alloc: Global, substation: &mut Bottom, concentrator: &mut Middle) -> Option<()> {
     let _opened = substation.opened(alloc, NOW).ok()?;
     for centre in 0..CENTRES {
-        concentrator
-            .opened_above(centre, &mut Actions::none(alloc), alloc, NOW)
-            .ok()?;
+        if !opens(concentrator, centre, &mut Actions::none(alloc), alloc, NOW) {
+            return None;
+        }
     }
     if concentrator.substations() > 0 {
         concentrator.opened_below(0);
@@ -167,9 +167,9 @@ fn relay_above(
     alloc: Global,
 ) -> Option<Relayed> {
     let relayed = centre.relay(alloc, NOW).ok()?;
-    concentrator
-        .receive_above(0, actions, alloc, NOW, request_of(&relayed))
-        .ok()?;
+    if !takes(concentrator, 0, actions, alloc, NOW, request_of(&relayed)) {
+        return None;
+    }
     if let Some(answer) = &actions.send[0] {
         let _taken = centre.receive(alloc, NOW, answer.as_slice()).ok()?;
     }
@@ -271,8 +271,7 @@ fn control_goes_down(
         assert!(rt; told(&relayed) == *step, "below {step:?}");
     }
     assert!(rt; substation.outputs().operated() == [LATCH].as_slice());
-    let entries = concentrator.book().rows(alloc, 0, 2).ok()?;
-    assert!(rt; entries.as_slice() == [DONE].as_slice());
+    assert!(rt; above::holds(alloc, concentrator.book(), &[DONE]));
     Some(())
 }
 
@@ -360,16 +359,16 @@ fn events_are_queued(
     substation: &mut Bottom,
 ) -> Option<()> {
     for value in 0..2i64 {
-        let _changed = substation
-            .change(alloc, NOW, Kind::Binary, 0, reading(value))
-            .ok()?;
+        let changed = substation.change(alloc, NOW, Kind::Binary, 0, reading(value));
+        assert!(rt; changed.is_ok());
     }
     is_polled(rt, alloc, concentrator, substation)?;
     let earlier = Numbered { id: 1, row: row(0) };
     let later = Numbered { id: 2, row: row(1) };
     holds(rt, alloc, concentrator.queue(), 0, 1, &[later])?;
     holds(rt, alloc, concentrator.queue(), 1, 0, &[earlier, later])?;
-    stand_above(rt, alloc, concentrator)
+    stand_above(rt, alloc, concentrator);
+    Some(())
 }
 
 /// The same to the second, whose lane has dropped none.
@@ -377,18 +376,13 @@ fn events_are_queued(
 const PRESENT_BESIDE: [u8; 12] = [0xC0, 0x81, 0x82, 0x00, 0x01, 0x02, 0x01, 0x64, 0x00, 0x64, 0x00, 0x81];
 
 /// To each centre the readings above stand as the present values.
-fn stand_above(rt: &impl Abort, alloc: Global, concentrator: &mut Middle) -> Option<()> {
+fn stand_above(rt: &impl Abort, alloc: Global, concentrator: &mut Middle) {
     let request = [0xC0, 0x01, 0x3C, 0x01, 0x06];
     let mut actions = Actions::none(alloc);
-    concentrator
-        .receive_above(0, &mut actions, alloc, NOW, &request)
-        .ok()?;
+    assert!(rt; takes(concentrator, 0, &mut actions, alloc, NOW, &request));
     assert!(rt; sends(&actions, &PRESENT));
-    concentrator
-        .receive_above(1, &mut actions, alloc, NOW, &request)
-        .ok()?;
+    assert!(rt; takes(concentrator, 1, &mut actions, alloc, NOW, &request));
     assert!(rt; sends(&actions, &PRESENT_BESIDE));
-    Some(())
 }
 
 #[test]

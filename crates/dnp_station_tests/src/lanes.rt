@@ -1,13 +1,13 @@
 //! Event lanes that overflow, step by step, in lists, in rings, in a database in memory and as a side of lanes for two
 //! centres.
 
-ghost use Rattle.std.specs.Prelude.{◌≡◌, true, All};
-ghost use Rattle.dnp_eventbuf.specs.Carried.{IsCarried};
+ghost use Rattle.std.specs.Prelude.{◌≡◌, ◌≤◌, true, All};
+ghost use Rattle.dnp_eventbuf.specs.FitsLane.{FitsLane};
 
 use Step::{Append, Counts, Empty, Offer, Release};
 use dnp_eventbuf::{
-    Lane, LaneRow, Lanes, PairLanes, PlainLanes, PlainPair, RingLanes, Side, StoreFault, Upto,
-    is_carried,
+    Lane, LaneRow, Lanes, MAX_CAPACITY, PairLanes, PlainLanes, PlainPair, RingLanes, Side,
+    StoreFault, Upto, is_carried,
 };
 use dnp_objects::Row;
 use dnp_store::Queue;
@@ -45,7 +45,7 @@ fn event(lane: Lane, index: u16) -> LaneRow {
 
 /// Whether each row may be appended.
 fn all_carried(rows: &[LaneRow]) -> bool
-    ensures { result ≡ true → All IsCarried rows.now }
+    ensures { result ≡ true → All FitsLane rows.now }
 {
     rows.iter().all(|row| is_carried(row))
 }
@@ -160,17 +160,35 @@ fn first_wrong<L: Lanes>(lanes: &mut L, alloc: Global) -> Result<Option<usize>, 
     Ok(None)
 }
 
+/// The first step that lanes in lists don't do as it says.
+fn wrong_of_lists(alloc: Global) -> Result<Option<usize>, StoreFault> {
+    match PlainLanes::new(alloc, CAPACITIES) {
+        Ok(mut lanes) => first_wrong(&mut lanes, alloc),
+        Err(_) => Err(StoreFault::Memory),
+    }
+}
+
+/// The same of lanes in rings.
+fn wrong_of_rings(alloc: Global) -> Result<Option<usize>, StoreFault> {
+    match RingLanes::new(alloc, CAPACITIES) {
+        Ok(mut lanes) => first_wrong(&mut lanes, alloc),
+        Err(_) => Err(StoreFault::Memory),
+    }
+}
+
+/// The same of lanes in a database in memory.
+fn wrong_of_queue(alloc: Global) -> Result<Option<usize>, StoreFault> {
+    match Queue::in_memory(alloc, CAPACITIES, CAPACITIES) {
+        Ok(mut queue) => first_wrong(&mut queue, alloc),
+        Err(_) => Err(StoreFault::Device),
+    }
+}
+
 #[test]
 fn lanes_step_by_step(rt: HostRuntime) -> Result<(), Fail> {
-    let alloc = rt.alloc();
-    let mut lanes = PlainLanes::new(alloc, CAPACITIES)?;
-    assert_eq!(rt; first_wrong(&mut lanes, alloc)?, None, "lists");
-    let mut lanes = RingLanes::new(alloc, CAPACITIES)?;
-    assert_eq!(rt; first_wrong(&mut lanes, alloc)?, None, "rings");
-    let mut lanes = Queue::in_memory(alloc, CAPACITIES, CAPACITIES)
-        .ok()
-        .expect(&rt, "a queue");
-    assert_eq!(rt; first_wrong(&mut lanes, alloc)?, None, "a database");
+    assert_eq!(rt; wrong_of_lists(rt.alloc())?, None, "lists");
+    assert_eq!(rt; wrong_of_rings(rt.alloc())?, None, "rings");
+    assert_eq!(rt; wrong_of_queue(rt.alloc())?, None, "a database");
     Ok(())
 }
 
@@ -235,25 +253,56 @@ fn wrong_of_two<P: PairLanes>(
     Ok(None)
 }
 
-/// The number of the first step that the lanes for the second centre do otherwise than they have to, or none.
-fn wrong_of_second<P: PairLanes>(pair: &mut P, alloc: Global) -> Result<Option<usize>, StoreFault> {
-    first_wrong(&mut Side::new(pair, 1), alloc)
+/// What lanes for two centres do otherwise than they have to, where the second's are tried alone, or both.
+fn wrong_of_pair<P: PairLanes>(
+    pair: &mut P,
+    alloc: Global,
+    is_second: bool,
+) -> Result<Option<&'static str>, StoreFault> {
+    if !is_second {
+        return wrong_of_two(pair, alloc);
+    }
+    match first_wrong(&mut Side::new(pair, 1), alloc)? {
+        Some(_) => Ok(Some("the second centre's")),
+        None => Ok(None),
+    }
+}
+
+/// How many rows each lane takes: of those that take the steps, or of those beside them.
+fn capacities_of(is_tried: bool) -> [u32; 9]
+    ensures { All (λ capacity. (1 ≤ capacity) × (capacity ≤ MAX_CAPACITY)) result }
+{
+    if is_tried { CAPACITIES } else { [4; 9] }
+}
+
+/// What such lanes in lists do otherwise.
+fn wrong_of_plain_pair(alloc: Global, is_second: bool) -> Result<Option<&'static str>, StoreFault> {
+    match PlainPair::new(alloc, capacities_of(!is_second), capacities_of(is_second)) {
+        Ok(mut pair) => wrong_of_pair(&mut pair, alloc, is_second),
+        Err(_) => Err(StoreFault::Memory),
+    }
+}
+
+/// The same in a database in memory.
+fn wrong_of_both_in_queue(
+    alloc: Global,
+    is_second: bool,
+) -> Result<Option<&'static str>, StoreFault> {
+    match Queue::in_memory(alloc, capacities_of(!is_second), capacities_of(is_second)) {
+        Ok(mut queue) => wrong_of_pair(&mut queue, alloc, is_second),
+        Err(_) => Err(StoreFault::Device),
+    }
 }
 
 #[test]
 fn lanes_for_two_centres(rt: HostRuntime) -> Result<(), Fail> {
-    let alloc = rt.alloc();
-    let mut pair = PlainPair::new(alloc, CAPACITIES, [4; 9])?;
-    assert_eq!(rt; wrong_of_two(&mut pair, alloc)?, None, "lists");
-    let mut pair = PlainPair::new(alloc, [4; 9], CAPACITIES)?;
-    assert_eq!(rt; wrong_of_second(&mut pair, alloc)?, None, "lists");
-    let mut pair = Queue::in_memory(alloc, CAPACITIES, [4; 9])
-        .ok()
-        .expect(&rt, "a queue");
-    assert_eq!(rt; wrong_of_two(&mut pair, alloc)?, None, "a database");
-    let mut pair = Queue::in_memory(alloc, [4; 9], CAPACITIES)
-        .ok()
-        .expect(&rt, "a queue");
-    assert_eq!(rt; wrong_of_second(&mut pair, alloc)?, None, "a database");
+    for is_second in [false, true] {
+        assert_eq!(rt; wrong_of_plain_pair(rt.alloc(), is_second)?, None, "lists");
+        assert_eq!(rt;
+            wrong_of_both_in_queue(rt.alloc(), is_second)?,
+            None,
+            "a database"
+        );
+    }
     Ok(())
 }

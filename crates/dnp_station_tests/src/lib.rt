@@ -1,6 +1,7 @@
-//! Tests of a station's parts: `dnp_pointdb`, `dnp_eventbuf` and `dnp_controls`, and of stations: `dnp_outstation`,
-//! `dnp_master` and `dnp_concentrator`.
-//! They stand apart from those crates, since a crate with tests is proved twice.
+//! Tests of a station's parts: `dnp_pointdb`, `dnp_eventbuf` and `dnp_controls`, of stations: `dnp_outstation`,
+//! `dnp_master` and `dnp_concentrator`, and of what `dnp_daemons` does with them for the program.
+//! They stand apart from those crates, since a crate with tests is proved twice, and in one crate, since each reads and
+//! builds all that is below it.
 //!
 //! They are few: worked values that no clause has, each call that asks for memory once where there
 //! is some, and each trait once through its bound, at a type that has it. What a clause says of every
@@ -17,6 +18,8 @@ mod below;
 mod books;
 #[cfg(test)]
 mod controls;
+#[cfg(test)]
+mod daemons;
 #[cfg(test)]
 mod groups;
 #[cfg(test)]

@@ -116,15 +116,15 @@ fn event_of(value: i64) -> Row {
     }
 }
 
-/// Whether one event is done.
-fn is_done(link: &mut PlainLink, alloc: Global, event: LinkEvent) -> bool {
-    link.run(alloc, &[event]).is_ok()
+/// Whether these events are done. Each call of a link is made in one place.
+fn are_done(link: &mut PlainLink, alloc: Global, events: &[LinkEvent]) -> bool {
+    link.run(alloc, events).is_ok()
 }
 
 /// Whether so many units of a way come to its end.
 fn delivers(link: &mut PlainLink, alloc: Global, way: Way, units: usize) -> bool {
     for _ in 0..units {
-        if !is_done(link, alloc, Deliver(way)) {
+        if !are_done(link, alloc, &[Deliver(way)]) {
             return false;
         }
     }
@@ -134,15 +134,15 @@ fn delivers(link: &mut PlainLink, alloc: Global, way: Way, units: usize) -> bool
 /// Whether this is done.
 fn does(link: &mut PlainLink, alloc: Global, run: Run) -> bool {
     match run {
-        Opens => is_done(link, alloc, Open),
-        HangsUp(end) => is_done(link, alloc, HangUp(end)),
-        Reads(value) => is_done(link, alloc, reads(value)),
-        Polls => is_done(link, alloc, Ask(POLL)),
+        Opens => are_done(link, alloc, &[Open]),
+        HangsUp(end) => are_done(link, alloc, &[HangUp(end)]),
+        Reads(value) => are_done(link, alloc, &[reads(value)]),
+        Polls => are_done(link, alloc, &[Ask(POLL)]),
         Delivers(way, units) => delivers(link, alloc, way, units),
-        Repeats(way) => is_done(link, alloc, Repeat(way)),
-        Loses(way) => is_done(link, alloc, Lose(way)),
-        Waits(ms) => link.run(alloc, &[Pass(ms), Tick(End::Master)]).is_ok(),
-        Restarts(end) => is_done(link, alloc, Restart(end)),
+        Repeats(way) => are_done(link, alloc, &[Repeat(way)]),
+        Loses(way) => are_done(link, alloc, &[Lose(way)]),
+        Waits(ms) => are_done(link, alloc, &[Pass(ms), Tick(End::Master)]),
+        Restarts(end) => are_done(link, alloc, &[Restart(end)]),
     }
 }
 

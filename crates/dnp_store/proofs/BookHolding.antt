@@ -10,7 +10,7 @@ use Rattle.dnp_objects.specs.declared.command.Command.{Command}
 use Rattle.dnp_controls.specs.declared.book.Entry.{Entry}
 use Rattle.dnp_controls.specs.declared.book.State.{State as Control}
 use Rattle.dnp_controls.specs.declared.book.State.TheVariants.{Pending}
-use Rattle.dnp_controls.specs.Book.{Ledger, IsSound, added, entry_of, in_state}
+use Rattle.dnp_controls.specs.Book.{Ledger, IsSoundLedger, added, entry_of, in_state}
 use Rattle.dnp_store.specs.QueueTables.{IsForm1}
 use Rattle.dnp_store.specs.Tables.{IsCounted}
 use Rattle.dnp_store.specs.BookTables.{HoldsBook, IsBook, entry_cells, entry_row, kind_of, code_of, count_of, on_of, off_of, value_of, state_of, status_of}
@@ -29,10 +29,10 @@ use Rattle.dnp_store.proofs.BookUpdates.{update_text, update_params, updates}
 abbrev pub entry_for : ℕ → ℕ → Command → Entry
 entry_for id target command = record { id = id; target = target; command = command; state = Pending }
 
-low : (book : Ledger) → IsSound book → AllByRecursion (λ (x : Entry). x.id ≤ book.last_id) book.entries
+low : (book : Ledger) → IsSoundLedger book → AllByRecursion (λ (x : Entry). x.id ≤ book.last_id) book.entries
 low book sound = recursion_from_All (λ (x : Entry). x.id ≤ book.last_id) book.entries sound.up_to_last
 
-put : (db now : Trees) (book : Ledger) (target : ℕ) (command : Command) → IsSound book → HoldsBook db book
+put : (db now : Trees) (book : Ledger) (target : ℕ) (command : Command) → IsSoundLedger book → HoldsBook db book
     → PutsAt (codes "control") db (entry_cells (entry_for (book.last_id + 1) target command)) book.last_id now → HoldsBook now (added book target command)
 put db now book target command sound h puts =
     let new = entry_for (book.last_id + 1) target command in
@@ -45,7 +45,7 @@ put db now book target command sound h puts =
       counted = puts.count;
     }
 
-pub insert_holds : (old new : State) (book : Ledger) (target count : ℕ) (command : Command) → IsSound book
+pub insert_holds : (old new : State) (book : Ledger) (target count : ℕ) (command : Command) → IsSoundLedger book
     → Executes insert_text (insert_params (entry_for 0 target command)) old new (Ok count) → IsBook old.now book → IsBook new.now (added book target command)
 insert_holds old new book target count command sound ran h =
     let under = id_rows.are_under (λ (e : Entry). e.id) entry_cells book.entries book.last_id (old.now.trees 1) (low book sound) h.holds.entries in
@@ -75,7 +75,7 @@ named (x ∷ es) id e h = go (x.id == id) refl (named es id e) h
     go true is more at = ap (λ (y : Entry). y.id) (sym (some_is x e at)) ∙ same_id x.id id is
     go false is more at = more at
 
-pub update_holds : (old new : State) (book : Ledger) (id count : ℕ) (s : Control) (e : Entry) → IsSound book → entry_of book.entries id ≡ Some e
+pub update_holds : (old new : State) (book : Ledger) (id count : ℕ) (s : Control) (e : Entry) → IsSoundLedger book → entry_of book.entries id ≡ Some e
     → Executes update_text (update_params id s) old new (Ok count) → IsBook old.now book
     → IsBook new.now (record book { entries = in_state book.entries id s })
 update_holds old new book id count s e sound at ran h =
@@ -91,7 +91,7 @@ update_holds old new book id count s e sound at ran h =
       };
     }
 
-pub turn_holds : (old new : State) (book : Ledger) (id count : ℕ) (s : Control) → IsSound book → IsSome (entry_of book.entries id)
+pub turn_holds : (old new : State) (book : Ledger) (id count : ℕ) (s : Control) → IsSoundLedger book → IsSome (entry_of book.entries id)
     → Executes update_text (update_params id s) old new (Ok count) → IsBook old.now book
     → IsBook new.now (record book { entries = in_state book.entries id s })
 turn_holds old new book id count s sound there ran h = go (entry_of book.entries id) refl there

@@ -19,7 +19,7 @@ use Rattle.sqlite.specs.Listing.{understood, reads_listing}
 use Rattle.sqlite.specs.State.{State, Shown}
 use Rattle.sqlite.proofs.Callers.{command_of, reads_as}
 use Rattle.dnp_controls.specs.declared.book.Entry.{Entry}
-use Rattle.dnp_controls.specs.Book.{IsSound}
+use Rattle.dnp_controls.specs.Book.{IsSoundLedger}
 use Rattle.dnp_store.specs.Tables.{IsCounted}
 use Rattle.dnp_store.specs.QueueTables.{IsForm1}
 use Rattle.dnp_store.specs.BookTables.{book_schema, book_columns, entry_row, IsBook, status_of}
@@ -121,7 +121,7 @@ rising before last [] h = λ i j d less low. absurd (omega arith)
 rising before last (e ∷ es) h =
     AllPairs-cons (λ (x y : Entry). x.id < y.id) e es (All-from_recursion (λ (x : Entry). e.id < x.id) es (over e.id last es h.2)) (rising e.id last es h.2)
 
-pub sound_of_rise : (last : ℕ) (es : List Entry) → EntriesRise 0 last es → IsSound (record { entries = es; last_id = last })
+pub sound_of_rise : (last : ℕ) (es : List Entry) → EntriesRise 0 last es → IsSoundLedger (record { entries = es; last_id = last })
 sound_of_rise last es h = record {
   rising = rising 0 last es h;
   from_1 = All-from_recursion (λ (x : Entry). 1 ≤ x.id) es

@@ -10,7 +10,7 @@ use Rattle.std.proofs.lemmas.List.{length-map, take-append-drop, take-append-le,
 use Rattle.std.proofs.lemmas.List.Elements.{All-append, All-head, All-map, All-tail, recursion_from_All}
 use Rattle.dnp_controls.specs.declared.book.Entry.{Entry}
 use Rattle.dnp_controls.specs.declared.book.State.{State as Control}
-use Rattle.dnp_controls.specs.Book.{Ledger, IsSound, entry_of, in_state, is_pending, next_of}
+use Rattle.dnp_controls.specs.Book.{Ledger, IsSoundLedger, entry_of, in_state, is_pending, next_of}
 use Rattle.dnp_store.specs.BookKept.{IsPast}
 use Rattle.dnp_store.proofs.Tests.{is_same, is_other}
 use Rattle.dnp_store.proofs.BookUpdates.{Rising, first_low, rest_rise, same_over, in_its_state}
@@ -27,7 +27,7 @@ at_place (e ∷ es) (suc k) d id s rise low is =
     rw (is_other e.id id (λ same. absurd (omega arith))) (ap (λ (xs : List Entry). e ∷ xs) (at_place es k d id s (rest_rise e es rise) (omega arith) is))
 
 -- an entry's id is at most the last one used
-pub id_low : (book : Ledger) (id : ℕ) → IsSound book → IsSome (entry_of book.entries id) → id ≤ book.last_id
+pub id_low : (book : Ledger) (id : ℕ) → IsSoundLedger book → IsSome (entry_of book.entries id) → id ≤ book.last_id
 id_low book id sound there = go (entry_of book.entries id) refl there
   where
     low : (es : List Entry) (e : Entry) → AllByRecursion (λ (x : Entry). x.id ≤ book.last_id) es → entry_of es id ≡ Some e → e.id ≤ book.last_id

@@ -5,7 +5,7 @@ use Rattle.std.proofs.lemmas.List.{take-append-le, take_all, length-map}
 use Rattle.dnp_controls.specs.declared.book.Entry.{Entry}
 use Rattle.dnp_controls.specs.declared.book.State.{State as Control}
 use Rattle.dnp_controls.specs.declared.book.State.TheVariants.{Pending, Spent, Finished}
-use Rattle.dnp_controls.specs.Book.{Has, IsSound, Ledger, entry_of, in_state, is_pending}
+use Rattle.dnp_controls.specs.Book.{Has, IsSoundLedger, Ledger, entry_of, in_state, is_pending}
 use Rattle.dnp_controls.specs.Moves.{Finish, Move, Spend, after}
 use Rattle.dnp_store.specs.steps.Turning.{may_turn}
 
@@ -42,8 +42,8 @@ not_pending es id control = go (entry_of es id) control
     go (Some e) Spent h = refl
     go (Some e) (Finished status) h = refl
 
-pub sound_turned : ((book : Ledger) (moves : List Move) → IsSound book → IsSound (after book moves)) → (book : Ledger) (id : ℕ) (control : Control)
-    → is_pending control ≡ false → IsSound book → IsSound (record book { entries = in_state book.entries id control })
+pub sound_turned : ((book : Ledger) (moves : List Move) → IsSoundLedger book → IsSoundLedger (after book moves)) → (book : Ledger) (id : ℕ) (control : Control)
+    → is_pending control ≡ false → IsSoundLedger book → IsSoundLedger (record book { entries = in_state book.entries id control })
 sound_turned law book id Pending isnt sound = absurd cc
 sound_turned law book id Spent isnt sound = law book (Spend id ∷ []) sound
 sound_turned law book id (Finished status) isnt sound = law book (Finish id status ∷ []) sound

@@ -18,7 +18,7 @@ use Rattle.sqlite.specs.Given.{IsPlain}
 use Rattle.sqlite.specs.State.{State, Executes, mode_of}
 use Rattle.sqlite.proofs.Callers.{command_of, statement_of, runs_as, one_step}
 use Rattle.dnp_store.specs.Texts.{lanes_insert}
-use Rattle.dnp_store.specs.QueueTables.{queue_schema, lanes_with, Figures, figures_cells, figures_rows, no_figures, is_raised, HoldsLanes, HoldsStock}
+use Rattle.dnp_store.specs.QueueTables.{queue_schema, lanes_with, Figures, figures_cells, figures_rows, no_figures, is_raised, HoldsLanes, HoldsBuffer}
 use Rattle.dnp_store.proofs.Statements.{IsRead, command_read, plain_read, went, written, same_value}
 use Rattle.dnp_store.proofs.Counting.{cast_int, cast_null}
 use Rattle.dnp_store.proofs.IdRows.{is_less}
@@ -26,7 +26,7 @@ use Rattle.sqlite_trees.proofs.ListLemmas.{IsPermutation-same}
 use Rattle.dnp_store.specs.declared.store_kind.StoreKind.TheVariants.{Queue}
 use Rattle.dnp_store.proofs.Inserting.{quiet}
 use Rattle.dnp_objects.specs.declared.limits.TheConstants.{LANES}
-use Rattle.dnp_eventbuf.specs.Stock.{empty_stock, empty_lane, no_lane}
+use Rattle.dnp_eventbuf.specs.EventBuffer.{empty_buffer, empty_lane, no_lane}
 use Rattle.dnp_store.specs.Schemas.{checks_of_form, checks_of_rows, made_queue}
 use Rattle.dnp_store.specs.steps.Making.{HasLanes, fresh}
 use Rattle.dnp_store.proofs.Numbering.{PutsIn}
@@ -140,7 +140,7 @@ none_raised (c ∷ cs) = none_raised cs
 
 -- such rows are those of nine empty lanes
 pub empty_lanes : (name : List ℕ) (rows counts lanes : List Row) (capacities : List ℕ) → length capacities ≡ LANES → rows ≡ [] → counts ≡ []
-    → lanes ≡ figures_rows 0 (map fresh capacities) → HoldsLanes name rows counts lanes (empty_stock capacities) (map fresh capacities)
+    → lanes ≡ figures_rows 0 (map fresh capacities) → HoldsLanes name rows counts lanes (empty_buffer capacities) (map fresh capacities)
 empty_lanes name rows counts lanes capacities nine none uncounted filled = record {
   queued = [];
   queue_is = IsPermutation-same [] rows (sym none);
@@ -156,7 +156,7 @@ empty_lanes name rows counts lanes capacities nine none uncounted filled = recor
 }
 
 pub made_empty : (db : Database) (capacities : List ℕ) → length capacities ≡ LANES → HasLanes db (map fresh capacities)
-    → HoldsStock db.trees (empty_stock capacities)
+    → HoldsBuffer db.trees (empty_buffer capacities)
 made_empty db capacities nine has = record {
   figures = map fresh capacities;
   form = (pos 1, has.holds.number);

@@ -10,8 +10,8 @@ use Rattle.dnp_objects.specs.declared.row.Kind.TheVariants.{Binary, Counter, Ana
 use Rattle.dnp_objects.specs.declared.lane.Lane.{Lane}
 use Rattle.dnp_objects.specs.declared.lane.LaneRow.{LaneRow}
 use Rattle.dnp_objects.specs.Lanes.{lane_number, kind_number}
-use Rattle.dnp_eventbuf.specs.Carried.{IsCarried}
-use Rattle.dnp_eventbuf.specs.Stock.{LaneState, Stock, lane_at, no_lane, added_in, above}
+use Rattle.dnp_eventbuf.specs.FitsLane.{FitsLane}
+use Rattle.dnp_eventbuf.specs.EventBuffer.{LaneState, EventBuffer, lane_at, no_lane, added_in, above}
 use Rattle.dnp_store.specs.Tables.{IsCounted}
 use Rattle.dnp_store.specs.QueueTables.{Queued, queued_row, queued_cells, event_of, kind_in, Figures, no_figures, figures_rows, in_lane, lane_of, HoldsLanes}
 use Rattle.std.proofs.lemmas.Bool.{cases_eq}
@@ -109,15 +109,15 @@ kind_is (suc c) kind = ap kind_in (more c (kind_number kind)) ∙ kind_is c kind
 abbrev pub queued_for : ℕ → LaneRow → Queued
 queued_for id x = record { id = id; lane = lane_number x.lane; index = x.row.index; flags = x.row.flags; value = x.row.value; time = x.row.time; is_short = false }
 
-event_is : (id : ℕ) (x : LaneRow) → IsCarried x → event_of (queued_for id x) ≡ record { id = id; row = x.row }
+event_is : (id : ℕ) (x : LaneRow) → FitsLane x → event_of (queued_for id x) ≡ record { id = id; row = x.row }
 event_is id x carried =
     ap (λ (kind : Kind). record { id = id; row = record { kind = kind; index = x.row.index; flags = x.row.flags; value = x.row.value; time = x.row.time } })
     (kind_is (x.lane.class - 1) x.lane.kind ∙ sym carried.of_its_kind)
 
--- ---- the stock after a statement
+-- ---- the buffer after a statement
 
 -- with one lane replaced, each lane is as it was or the new one
-pub at_lane : (s : Stock) (number k : ℕ) (new : LaneState) (P : LaneState → Type 0) → length s.lanes ≡ LANES → number < LANES → (k ≡ number → P new)
+pub at_lane : (s : EventBuffer) (number k : ℕ) (new : LaneState) (P : LaneState → Type 0) → length s.lanes ≡ LANES → number < LANES → (k ≡ number → P new)
     → (k ≢ number → P (lane_at s k)) → P (lane_at (with_lane s number new) k)
 at_lane s number k new P nine low here else = elim (cases_eq k number) [
   | inl same ↦ subst P (sym (ap (λ (n : ℕ). get_or (set s.lanes number new) n no_lane) same ∙ get_or-set_same s.lanes number new no_lane (omega arith)))
@@ -130,11 +130,12 @@ low_push [] y all low = (low, tt)
 low_push (x ∷ xs) y all low = (all.0, low_push xs y all.1 low)
 
 -- the lanes in the trees of a queue for one centre, whose count stands under this name
-abbrev pub HoldsUnder : List ℕ → Trees → Stock → List Figures → Type 0
+abbrev pub HoldsUnder : List ℕ → Trees → EventBuffer → List Figures → Type 0
 HoldsUnder name db = HoldsLanes name (db 1) (db 2) (db 3)
 
-pub put : (name : List ℕ) (db now : Trees) (s : Stock) (fs : List Figures) (x : LaneRow) → HoldsUnder name db s fs → length s.lanes ≡ LANES → lane_number x.lane < LANES
-    → IsCarried x
+pub put : (name : List ℕ) (db now : Trees) (s : EventBuffer) (fs : List Figures) (x : LaneRow) → HoldsUnder name db s fs → length s.lanes ≡ LANES
+    → lane_number x.lane < LANES
+    → FitsLane x
     → PutsAt name db (queued_cells (queued_for (s.last_id + 1) x)) s.last_id now → HoldsUnder name now (added s x) fs
 put name db now s fs x h nine low carried puts =
     let number = lane_number x.lane in
@@ -164,7 +165,8 @@ put name db now s fs x h nine low carried puts =
           (sym (pushed_else k h.queued new (λ e. other (sym e)))));
     }
 
-pub took : (name : List ℕ) (db now : Trees) (s : Stock) (fs : List Figures) (number upto : ℕ) (h : HoldsUnder name db s fs) → length s.lanes ≡ LANES → number < LANES
+pub took : (name : List ℕ) (db now : Trees) (s : EventBuffer) (fs : List Figures) (number upto : ℕ) (h : HoldsUnder name db s fs) → length s.lanes ≡ LANES
+    → number < LANES
     → Takes 1 db number upto h.queued now → HoldsUnder name now (cut s number upto) fs
 took name db now s fs number upto h nine low takes =
     let id_of : Queued → ℕ = λ y. y.id in
@@ -188,7 +190,8 @@ took name db now s fs number upto h nine low takes =
           (sym (cut_else number upto k h.queued other)));
     }
 
-pub noted_in : (name : List ℕ) (db now : Trees) (s : Stock) (fs : List Figures) (number lost : ℕ) (raised : Bool) → HoldsUnder name db s fs → length s.lanes ≡ LANES → number < LANES
+pub noted_in : (name : List ℕ) (db now : Trees) (s : EventBuffer) (fs : List Figures) (number lost : ℕ) (raised : Bool) → HoldsUnder name db s fs
+    → length s.lanes ≡ LANES → number < LANES
     → Notes 3 db number lost raised fs now → HoldsUnder name now (counted s number lost) (set fs number (noted_as (slice_index_or fs number no_figures) lost raised))
 noted_in name db now s fs number lost raised h nine low notes =
     let new = noted_as (slice_index_or fs number no_figures) lost raised in
@@ -213,10 +216,10 @@ noted_in name db now s fs number lost raised h nine low notes =
           (sym (get_or-set_other fs number k new no_figures other)));
     }
 
--- stocks of the same lanes
-pub same_stock : (name : List ℕ) (events counts numbers : List SqlRow) (s t : Stock) (fs : List Figures) → HoldsLanes name events counts numbers s fs
+-- buffers of the same lanes
+pub same_buffer : (name : List ℕ) (events counts numbers : List SqlRow) (s t : EventBuffer) (fs : List Figures) → HoldsLanes name events counts numbers s fs
     → ((k : ℕ) → k < LANES → lane_at t k ≡ lane_at s k) → t.last_id ≡ s.last_id → HoldsLanes name events counts numbers t fs
-same_stock name events counts numbers s t fs h same last = record {
+same_buffer name events counts numbers s t fs h same last = record {
   queued = h.queued;
   queue_is = h.queue_is;
   lanes_is = h.lanes_is;

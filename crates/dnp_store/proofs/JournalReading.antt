@@ -34,7 +34,7 @@ use Rattle.sqlite.specs.Effect.{Database}
 use Rattle.sqlite.specs.Clock.{timed}
 use Rattle.sqlite.specs.State.{State, Shown, ShowsRows, IsUnchanged, FailsToQuery}
 use Rattle.dnp_store.specs.Texts.{journal_select}
-use Rattle.dnp_store.specs.JournalKept.{Stands}
+use Rattle.dnp_store.specs.JournalKept.{JournalStands}
 use Rattle.dnp_store.proofs.Reading.{failed_keeps}
 use Rattle.sqlite.proofs.Callers.{command_of, reads_as}
 use Rattle.dnp_eventbuf.specs.declared.numbered.Numbered.{Numbered}
@@ -211,26 +211,26 @@ unchanged_by sql ps old new schema rows has plain h =
     it.3
 
 module _ (old new : State) (from most : ℕ) (ps : Row) (given : ps ≡ over_params from most) (settled : IsTrue old.is_open → old.now ≡ old.committed) where
-  at_now : (a : Archive) → Stands old a → IsJournal old.now a
+  at_now : (a : Archive) → JournalStands old a → IsJournal old.now a
   at_now a stands = subst (λ (d : Database). IsJournal d a) (sym (settled stands.is_open)) stands.holds
 
   pub read_if : (r : Result (Vec Row Global) Error) → IfOk r (λ rows. Shown over_text ps old new rows.items)
-      → IfOk r (λ rows. (a : Archive) → Stands old a → ShowOver rows.items a from most)
+      → IfOk r (λ rows. (a : Archive) → JournalStands old a → ShowOver rows.items a from most)
   read_if (Ok rows) h =
       λ a stands. shows_over old new a from most rows.items (at_now a stands) (subst (λ (p : Row). Shown over_text p old new rows.items) given h)
   read_if (Err e) h = tt
 
-  stays : (rows : List Row) (a : Archive) → Stands old a → Shown over_text ps old new rows → IsUnchanged old new
+  stays : (rows : List Row) (a : Archive) → JournalStands old a → Shown over_text ps old new rows → IsUnchanged old new
   stays rows a stands h =
       let db = at_now a stands in
       unchanged_by over_text ps old new (journal_schema db.form_checks db.journal_checks) rows db.schema (over_plain db.form_checks db.journal_checks) h
 
   pub open_if : (r : Result (Vec Row Global) Error) → IfOk r (λ rows. Shown over_text ps old new rows.items)
-      → OnOk r ((a : Archive) → Stands old a → IsTrue new.is_open)
+      → OnOk r ((a : Archive) → JournalStands old a → IsTrue new.is_open)
   open_if (Ok rows) h = λ a stands. (stays rows.items a stands h).0.is_open
   open_if (Err e) h = tt
 
   pub same_if : (r : Result (Vec Row Global) Error) → IfOk r (λ rows. Shown over_text ps old new rows.items)
-      → IfErr r (FailsToQuery over_text ps old new) → (a : Archive) → Stands old a → IsTrue new.is_open → new.committed ≡ old.committed
+      → IfErr r (FailsToQuery over_text ps old new) → (a : Archive) → JournalStands old a → IsTrue new.is_open → new.committed ≡ old.committed
   same_if (Ok rows) h k a stands is_open = (stays rows.items a stands h).0.committed_is
   same_if (Err e) h k a stands is_open = (failed_keeps old new over_text ps e (inl k)).committed is_open

@@ -18,62 +18,65 @@ use Rattle.dnp_eventbuf.specs.Archive.{Archive, IsSoundArchive, rows_over}
 use Rattle.dnp_eventbuf.specs.SinkCalls.{IsJournalCall, IsSinkCall}
 use Rattle.dnp_store.specs.JournalTables.{HoldsArchive, IsJournal, archive_in}
 use Rattle.dnp_store.specs.steps.JournalShown.{Finds, IsJournalFound}
-use Rattle.dnp_store.specs.JournalKept.{Kept, Keeps, IsHonest, Stands, archive_of, held_archive}
+use Rattle.dnp_store.specs.JournalKept.{JournalValue, JournalInvariant, IsHonestJournal, JournalStands, archive_of, held_archive}
 use Rattle.dnp_store.proofs.Calling.{call_refused, call_stopped}
 use Rattle.dnp_store.proofs.Statements.{leaves_committed, leaves_either}
 use Rattle.sqlite_trees.specs.declared.store.Store.{Ghosts}
 use Rattle.sqlite.specs.Held.{Held, state}
 
-pub stands_if : (new : State) (a : Archive) (r : Result (Unit {0}) Error) → OnOk r (IsTrue new.is_open × IsJournal new.committed a) → OnOk r (Stands new a)
+pub stands_if : (new : State) (a : Archive) (r : Result (Unit {0}) Error) → OnOk r (IsTrue new.is_open × IsJournal new.committed a)
+    → OnOk r (JournalStands new a)
 stands_if new a (Ok _) h = record { is_open = h.0; holds = h.1 }
 stands_if new a (Err _) h = tt
 
 -- what an open connection may leave is its last commit
-pub leaves_last : (s : State) (a : Archive) → ((db : Trees) → IsTrue s.is_open → s.may_leave db → db ≡ s.committed.trees) → Stands s a → (db : Trees)
+pub leaves_last : (s : State) (a : Archive) → ((db : Trees) → IsTrue s.is_open → s.may_leave db → db ≡ s.committed.trees) → JournalStands s a → (db : Trees)
     → s.may_leave db → HoldsArchive db a
 leaves_last s a settled stands = leaves_committed s (λ db. HoldsArchive db a) settled stands.is_open stands.holds.holds
 
 -- a call and one that commits nothing leave what stood before, or what the first was to commit
 pub either_of : (old mid new : State) (a : Archive) (next : Archive → Archive) → HasCleanDisk new → HasCleanDisk mid
-    → ((db : Trees) → IsTrue old.is_open → old.may_leave db → db ≡ old.committed.trees) → Stands old a
-    → Survives old mid (λ db. (b : Archive) → Stands old b → HoldsArchive db (next b)) → Survives mid new (λ _. ⊥) → (db : Trees) → new.may_leave db
+    → ((db : Trees) → IsTrue old.is_open → old.may_leave db → db ≡ old.committed.trees) → JournalStands old a
+    → Survives old mid (λ db. (b : Archive) → JournalStands old b → HoldsArchive db (next b)) → Survives mid new (λ _. ⊥) → (db : Trees) → new.may_leave db
     → HoldsArchive db a ⊎ HoldsArchive db (next a)
 either_of old mid new a next clean early settled stands =
-    leaves_either old mid new (λ db. HoldsArchive db a) (λ db. HoldsArchive db (next a)) (λ db. (b : Archive) → Stands old b → HoldsArchive db (next b))
+    leaves_either old mid new (λ db. HoldsArchive db a) (λ db. HoldsArchive db (next a)) (λ db. (b : Archive) → JournalStands old b → HoldsArchive db (next b))
     (λ db made. made a stands) clean early settled stands.is_open stands.holds.holds
 
 -- where nothing was written, what stood is left, whatever was to come
-pub leaves_before : (s : State) (a next : Archive) → ((db : Trees) → IsTrue s.is_open → s.may_leave db → db ≡ s.committed.trees) → Stands s a
+pub leaves_before : (s : State) (a next : Archive) → ((db : Trees) → IsTrue s.is_open → s.may_leave db → db ≡ s.committed.trees) → JournalStands s a
     → (db : Trees) → s.may_leave db → HoldsArchive db a ⊎ HoldsArchive db next
 leaves_before s a next settled stands db may = inl (leaves_last s a settled stands db may)
 
 -- what is so of a journal is so as it is seen
-module _ {S : Type 0} (g : Ghosts S) (inside seen : Kept S) (is : inside ≡ seen) where
-  pub seen_stands : (inside.stopped ≡ false → IsTrue inside.owned → HasCleanDisk (state g inside.conn) → Stands (state g inside.conn) (held_archive g inside))
-      → seen.stopped ≡ false → IsTrue seen.owned → HasCleanDisk (state g seen.conn) → Stands (state g seen.conn) (held_archive g seen)
-  seen_stands = subst (λ (k : Kept S). k.stopped ≡ false → IsTrue k.owned → HasCleanDisk (state g k.conn) → Stands (state g k.conn) (held_archive g k)) is
+module _ {S : Type 0} (g : Ghosts S) (inside seen : JournalValue S) (is : inside ≡ seen) where
+  pub seen_stands : (inside.stopped ≡ false → IsTrue inside.owned → HasCleanDisk (state g inside.conn) → JournalStands (state g inside.conn)
+      (held_archive g inside))
+      → seen.stopped ≡ false → IsTrue seen.owned → HasCleanDisk (state g seen.conn) → JournalStands (state g seen.conn) (held_archive g seen)
+  seen_stands = subst (λ (k : JournalValue S). k.stopped ≡ false → IsTrue k.owned → HasCleanDisk (state g k.conn) → JournalStands (state g k.conn)
+      (held_archive g k)) is
 
   pub sink_stopped : {Answer : Type 0} → IsTrue inside.stopped
-      → IsSinkCall {Answer = Answer} (IsHonest g) (λ j. j.stopped) (λ old new. held_archive g new ≡ held_archive g old) seen seen (Err fault.Device)
-  sink_stopped stopped = call_stopped seen (λ h. h.1) (λ h. tt) refl tt (subst (λ (k : Kept S). IsTrue k.stopped) is stopped)
+      → IsSinkCall {Answer = Answer} (IsHonestJournal g) (λ j. j.stopped) (λ old new. held_archive g new ≡ held_archive g old) seen seen (Err fault.Device)
+  sink_stopped stopped = call_stopped seen (λ h. h.1) (λ h. tt) refl tt (subst (λ (k : JournalValue S). IsTrue k.stopped) is stopped)
 
   pub sink_refused : {Answer : Type 0} (e : StoreFault) → (e ≡ fault.Device → ⊥) → inside.stopped ≡ false
-      → IsSinkCall {Answer = Answer} (IsHonest g) (λ j. j.stopped) (λ old new. held_archive g new ≡ held_archive g old) seen seen (Err e)
-  sink_refused e other serves = call_refused seen e other (subst (λ (k : Kept S). k.stopped ≡ false) is serves) (λ h. tt) refl tt
+      → IsSinkCall {Answer = Answer} (IsHonestJournal g) (λ j. j.stopped) (λ old new. held_archive g new ≡ held_archive g old) seen seen (Err e)
+  sink_refused e other serves = call_refused seen e other (subst (λ (k : JournalValue S). k.stopped ≡ false) is serves) (λ h. tt) refl tt
 
   pub journal_stopped : {Answer : Type 0} → IsTrue inside.stopped
-      → IsJournalCall {Answer = Answer} (IsHonest g) (λ j. j.stopped) (held_archive g) seen seen (Err fault.Device)
+      → IsJournalCall {Answer = Answer} (IsHonestJournal g) (λ j. j.stopped) (held_archive g) seen seen (Err fault.Device)
   journal_stopped stopped =
-      let told = subst (λ (k : Kept S). IsTrue k.stopped) is stopped in
+      let told = subst (λ (k : JournalValue S). IsTrue k.stopped) is stopped in
       call_stopped seen (λ h. h.1) (λ h. let serves = h.1 in absurd cc) refl tt told
 
 -- ---- what is held is what the trees tell
 
-pub told_is : (s : State) (a : Archive) (last : ℕ) → a.last_id ≡ last → Stands s a → archive_in s.committed.trees last ≡ a
+pub told_is : (s : State) (a : Archive) (last : ℕ) → a.last_id ≡ last → JournalStands s a → archive_in s.committed.trees last ≡ a
 told_is s a last is stands = ap (archive_in s.committed.trees) (sym is) ∙ archive_is s.committed.trees a stands.holds.holds
 
-pub told_stands : (s : State) (a : Archive) (last : ℕ) → a.last_id ≡ last → Stands s a → Stands s (archive_in s.committed.trees last)
-told_stands s a last is stands = subst (Stands s) (sym (told_is s a last is stands)) stands
+pub told_stands : (s : State) (a : Archive) (last : ℕ) → a.last_id ≡ last → JournalStands s a → JournalStands s (archive_in s.committed.trees last)
+told_stands s a last is stands = subst (JournalStands s) (sym (told_is s a last is stands)) stands
 
 pub found_is : (db : Database) (last count : ℕ) → Finds db last count → IsJournal db (archive_in db.trees last) × (count ≡ length (archive_in db.trees last).rows)
 found_is db last count h =
@@ -115,7 +118,8 @@ smaller m n few is = elim (cases_lt m n) [
 -- ---- a journal at all times
 
 module _ {S : Type 0} (g : Ghosts S) where
-  pub sound_kept : (j : Kept S) → Keeps g j.conn j.last_id j.count j.stopped j.owned → IsHonest g j → IsSoundArchive (held_archive g j)
+  pub sound_kept : (j : JournalValue S) → JournalInvariant g j.conn j.last_id j.count j.stopped j.owned → IsHonestJournal g j
+      → IsSoundArchive (held_archive g j)
   sound_kept j k h = sound_of (state g j.conn).committed.trees (held_archive g j) (k.stands h.1 h.2 h.0).holds.holds (omega (arith, k.last_in_range))
 
   pub same_archive : (old new : Held S) (last : ℕ) → (state g new).committed ≡ (state g old).committed → archive_of g new last ≡ archive_of g old last

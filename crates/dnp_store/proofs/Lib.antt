@@ -58,3 +58,4 @@ pub mod Running
 pub mod PairOpening
 pub mod PairReading
 pub mod PairCounting
+pub mod SideCalls

@@ -18,19 +18,23 @@ use Rattle.sqlite_rules.specs.Action.{works}
 use Rattle.sqlite.specs.Listing.{understood}
 use Rattle.sqlite.specs.Given.{IsPlain}
 use Rattle.sqlite.specs.State.{State, Executes, mode_of}
+use Rattle.sqlite_trees.specs.declared.store.Store.{Ghosts}
+use Rattle.sqlite.specs.Held.{Held, state}
 use Rattle.sqlite.proofs.Callers.{command_of, statement_of, runs_as, one_step}
 use Rattle.sqlite_trees.proofs.ListLemmas.{IsPermutation-same}
 use Rattle.dnp_controls.specs.Book.{empty_ledger}
 use Rattle.dnp_store.specs.Texts.{form_insert}
-use Rattle.dnp_store.specs.Tables.{form_with, schema_of}
+use Rattle.dnp_store.specs.Tables.{form_with, no_schema, schema_of}
 use Rattle.dnp_store.specs.JournalTables.{HoldsArchive, IsJournal, empty_archive}
 use Rattle.dnp_store.specs.BookTables.{HoldsBook, IsBook}
 use Rattle.dnp_store.specs.declared.store_kind.StoreKind.{StoreKind}
 use Rattle.dnp_store.specs.declared.store_kind.StoreKind.TheVariants.{Journal, Book}
-use Rattle.dnp_store.specs.Schemas.{checks_of_form, checks_of_rows}
+use Rattle.dnp_store.specs.Schemas.{checks_of_form, checks_of_rows, form_text, rows_text}
+use Rattle.dnp_store.specs.steps.Making.{ExecuteAll}
 use Rattle.dnp_store.specs.steps.Stores.{rows_with, number_row, HasTables, IsFresh, HasNumber}
 use Rattle.dnp_store.proofs.Statements.{IsRead, command_read, plain_read, went, written, same_value}
 use Rattle.dnp_store.proofs.Counting.{cast_int, cast_null}
+use Rattle.dnp_store.proofs.Creating.{created_form, created_rows}
 
 abbrev pub number_text : List ℕ
 number_text = form_insert
@@ -145,3 +149,13 @@ no_entries db has = record {
   schema = has.schema;
   holds = fresh_book db.trees has.holds;
 }
+
+-- the tables that a store begins with are made
+pub began : {S : Type 0} (g : Ghosts S) (kind : StoreKind) (old new : Held S) → (state g old).now.schema ≡ no_schema
+    → ExecuteAll g (form_text ∷ rows_text kind ∷ number_text ∷ []) old new → HasNumber kind (state g new).now
+began g kind old new none ran =
+    let rows = ran.3 in
+    let number = rows.3 in
+    let one = created_form (state g old) (state g ran.0) ran.1 none ran.2 in
+    let two = created_rows kind (state g ran.0) (state g rows.0) rows.1 one rows.2 in
+    subst (λ (x : Held _). HasNumber kind (state g x).now) number.3 (numbers kind (state g rows.0) (state g number.0) number.1 two number.2)

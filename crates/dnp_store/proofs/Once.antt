@@ -14,19 +14,19 @@ use Rattle.dnp_objects.specs.declared.limits.TheConstants.{LANES}
 use Rattle.dnp_controls.specs.declared.book.Entry.{Entry}
 use Rattle.dnp_controls.specs.declared.book.State.{State}
 use Rattle.dnp_controls.specs.declared.book.State.TheVariants.{Pending, Spent, Finished}
-use Rattle.dnp_controls.specs.Book.{Ledger, IsSound as IsSoundBook}
+use Rattle.dnp_controls.specs.Book.{Ledger, IsSoundLedger as IsSoundBook}
 use Rattle.dnp_eventbuf.specs.Archive.{Archive}
-use Rattle.dnp_eventbuf.specs.Sound.{IsSound}
+use Rattle.dnp_eventbuf.specs.Sound.{IsSoundBuffer}
 use Rattle.dnp_eventbuf.specs.declared.numbered.Numbered.{Numbered}
-use Rattle.dnp_eventbuf.specs.Stock.{LaneState, Stock, lane_at, no_lane}
+use Rattle.dnp_eventbuf.specs.EventBuffer.{LaneState, EventBuffer, lane_at, no_lane}
 use Rattle.dnp_store.specs.Tables.{IsCounted, counts_of}
 use Rattle.dnp_store.specs.declared.queue_side.QueueSide.{QueueSide}
 use Rattle.dnp_store.specs.declared.queue_side.QueueSide.TheVariants.{First, Second}
-use Rattle.dnp_store.specs.Kept.{AreSound}
+use Rattle.dnp_store.specs.QueueKept.{AreSound}
 use Rattle.dnp_store.specs.PairTables.{HoldsPair, HoldsSide, Sides, lanes_tree, rows_name, rows_tree}
 use Rattle.dnp_store.specs.BookTables.{HoldsBook, entry_row}
 use Rattle.dnp_store.specs.JournalTables.{HoldsArchive, archive_in, event_in, natural, whole}
-use Rattle.dnp_store.specs.QueueTables.{Queued, Figures, HoldsLanes, HoldsStock, queued_row, event_of, figures_rows, figures_cells, in_lane, no_figures, is_raised}
+use Rattle.dnp_store.specs.QueueTables.{Queued, Figures, HoldsLanes, HoldsBuffer, queued_row, event_of, figures_rows, figures_cells, in_lane, no_figures, is_raised}
 use Rattle.dnp_store.proofs.JournalHolding.{archive_is, told}
 use Rattle.dnp_store.proofs.Rising.{Rise, once}
 
@@ -173,7 +173,7 @@ same_lanes (x ∷ xs) [] d long h = absurd (omega (arith, long))
 same_lanes (x ∷ xs) (y ∷ ys) d long h =
     ap₂ (λ (l : LaneState) ls. l ∷ ls) (h 0 (omega arith)) (same_lanes xs ys d (omega (arith, long)) (λ k low. h (suc k) (omega (arith, low))))
 
-pub one_lanes : (name : List ℕ) (events counts numbers : List SqlRow) (one other : Stock) (fs gs : List Figures) → IsSound one → IsSound other
+pub one_lanes : (name : List ℕ) (events counts numbers : List SqlRow) (one other : EventBuffer) (fs gs : List Figures) → IsSoundBuffer one → IsSoundBuffer other
     → HoldsLanes name events counts numbers one fs → HoldsLanes name events counts numbers other gs → one.overflow ≡ is_raised fs
     → other.overflow ≡ is_raised gs → one ≡ other
 one_lanes name events counts numbers one other fs gs sound sounds a b overflow overflows =
@@ -194,22 +194,23 @@ one_lanes name events counts numbers one other fs gs sound sounds a b overflow o
     (overflow ∙ ap is_raised figures ∙ sym overflows)
     (one_count name counts one.last_id other.last_id a.counted b.counted)
   where
-    make : (s t : Stock) → s.lanes ≡ t.lanes → s.overflow ≡ t.overflow → s.last_id ≡ t.last_id → s ≡ t
+    make : (s t : EventBuffer) → s.lanes ≡ t.lanes → s.overflow ≡ t.overflow → s.last_id ≡ t.last_id → s ≡ t
     make s t lanes overflow last =
         ap₂ (λ (p : List LaneState × Bool) (n : ℕ). record { lanes = p.0; overflow = p.1; last_id = n }) (ap₂ (λ ls up. (ls, up)) lanes overflow) last
 
-pub one_stock : (db : Trees) (one other : Stock) → IsSound one → IsSound other → HoldsStock db one → HoldsStock db other → one ≡ other
-one_stock db one other sound sounds a b =
+pub one_buffer : (db : Trees) (one other : EventBuffer) → IsSoundBuffer one → IsSoundBuffer other → HoldsBuffer db one → HoldsBuffer db other → one ≡ other
+one_buffer db one other sound sounds a b =
     one_lanes (codes "queue") (db 1) (db 2) (db 3) one other a.figures b.figures sound sounds a.lanes b.lanes a.overflow b.overflow
 
 -- ---- a queue for two centres
 
-one_side : (side : QueueSide) (db : Trees) (one other : Stock) → IsSound one → IsSound other → HoldsSide side db one → HoldsSide side db other → one ≡ other
+one_side : (side : QueueSide) (db : Trees) (one other : EventBuffer) → IsSoundBuffer one → IsSoundBuffer other → HoldsSide side db one
+    → HoldsSide side db other → one ≡ other
 one_side side db one other sound sounds a b =
     one_lanes (rows_name side) (db (rows_tree side)) (counts_of (rows_name side) (db 2)) (db (lanes_tree side)) one other a.figures b.figures sound sounds
     a.lanes b.lanes a.overflow b.overflow
 
 pub one_pair : (db : Trees) (one other : Sides) → AreSound one → AreSound other → HoldsPair db one → HoldsPair db other → one ≡ other
 one_pair db one other sound sounds a b =
-    ap₂ (λ (s t : Stock). record { first = s; second = t }) (one_side First db one.first other.first sound.0 sounds.0 a.first b.first)
+    ap₂ (λ (s t : EventBuffer). record { first = s; second = t }) (one_side First db one.first other.first sound.0 sounds.0 a.first b.first)
     (one_side Second db one.second other.second sound.1 sounds.1 a.second b.second)

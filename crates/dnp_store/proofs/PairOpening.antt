@@ -1,11 +1,11 @@
 -- What an open finds in a queue's database.
 use Rattle.sqlite.specs.State.{State, HasCleanDisk, Survives}
 use Rattle.sqlite.proofs.StateLemmas.{survives_then}
-use Rattle.dnp_eventbuf.specs.Sound.{IsSound}
+use Rattle.dnp_eventbuf.specs.Sound.{IsSoundBuffer}
 use Rattle.dnp_store.specs.declared.open.OpenFault.{OpenFault}
 use Rattle.dnp_store.specs.declared.open.OpenFault.TheVariants.{OldForm, WrongForm}
 use Rattle.dnp_store.specs.steps.Seconds.{Opens}
-use Rattle.dnp_store.proofs.Once.{one_stock}
+use Rattle.dnp_store.proofs.Once.{one_buffer}
 use Rattle.std.proofs.Common.{cond, drop, slice_index_or, ◌≡◌, ◌&&◌, ◌||◌, not, ℕ, ℤ, pos, Bool, true, false, IsTrue, List, [], ◌∷◌, length, inl, inr, arith, refl, sym, ap, ap₂, subst, ◌∙◌}
 use Rattle.sqlite.specs.declared.types.Value.TheVariants.{Int}
 use Rattle.sqlite.specs.Order.{Row}
@@ -13,7 +13,7 @@ use Rattle.sqlite.specs.Term.{Term}
 use Rattle.sqlite.specs.Schema.{Schema}
 use Rattle.sqlite.specs.Table.{Table}
 use Rattle.sqlite.specs.Effect.{Database, IsDatabase}
-use Rattle.dnp_eventbuf.specs.Stock.{Stock, empty_stock}
+use Rattle.dnp_eventbuf.specs.EventBuffer.{EventBuffer, empty_buffer}
 use Rattle.dnp_store.specs.declared.queue_opening.Stored.{Stored}
 use Rattle.dnp_store.specs.declared.queue_opening.Stored.TheVariants.{One, Pair}
 use Rattle.dnp_store.specs.declared.queue_side.QueueSide.TheVariants.{First}
@@ -35,7 +35,7 @@ no_number rows n is one two =
     absurd (grind (arith, is, same))
 
 -- lanes that the tables of one side hold, under the number of the form for one centre
-pub shown_one : (db : Database) (f q l : List Term) (s : Stock) → db.schema ≡ queue_schema f q l → IsForm 1 (db.trees 0)
+pub shown_one : (db : Database) (f q l : List Term) (s : EventBuffer) → db.schema ≡ queue_schema f q l → IsForm 1 (db.trees 0)
     → HoldsAmong First db.trees (db.trees 2) s → IsQueue db s
 shown_one db f q l s has form held = record {
   form_checks = f;
@@ -92,25 +92,26 @@ owned_if false false fault is told none = absurd (let so = sym told ∙ is in cc
 
 module _ (old mid new : State) (capacities : List ℕ) (same : HasCleanDisk mid → IsTrue mid.is_open → mid.committed ≡ old.committed)
     (opens : HasCleanDisk mid → IsTrue mid.is_open) (found : Survives old mid (λ _. ⊥))
-    (made : Survives mid new (λ db. (s : Stock) → Opens mid s → HoldsPair db (migrated s capacities))) where
+    (made : Survives mid new (λ db. (s : EventBuffer) → Opens mid s → HoldsPair db (migrated s capacities))) where
   early : HasCleanDisk new → HasCleanDisk mid
   early clean = omega (arith, clean, made.clean)
 
-  opens_by : HasCleanDisk new → (s : Stock) → IsQueue old.committed s → Opens mid s
+  opens_by : HasCleanDisk new → (s : EventBuffer) → IsQueue old.committed s → Opens mid s
   opens_by clean s is = record { is_open = opens (early clean); holds = subst (λ (d : Database). IsQueue d s) (sym (same (early clean) (opens (early clean)))) is }
 
   pub survives_made : Survives old new (HoldsMigrated old.committed capacities)
   survives_made =
-      survives_then old mid new (λ _. ⊥) (λ db. (s : Stock) → Opens mid s → HoldsPair db (migrated s capacities)) (HoldsMigrated old.committed capacities)
+      survives_then old mid new (λ _. ⊥) (λ db. (s : EventBuffer) → Opens mid s → HoldsPair db (migrated s capacities)) (HoldsMigrated old.committed capacities)
       (λ _ db none. absurd none) (λ clean db holds s is. holds s (opens_by clean s is)) found made
 
   pub survives_unmade : (HasCleanDisk mid → ⊥) → Survives old new (λ _. ⊥)
   survives_unmade none =
-      survives_then old mid new (λ _. ⊥) (λ db. (s : Stock) → Opens mid s → HoldsPair db (migrated s capacities)) (λ _. ⊥)
+      survives_then old mid new (λ _. ⊥) (λ db. (s : EventBuffer) → Opens mid s → HoldsPair db (migrated s capacities)) (λ _. ⊥)
       (λ _ db no. no) (λ clean db holds. none (early clean)) found made
 
 -- the lanes of a queue for one centre are those that were read
-pub moved : (db : Database) (lanes : Stock) (capacities : List ℕ) → IsSound lanes → IsQueue db lanes → (stock : Stock) → IsSound stock → IsQueue db stock
-    → record { first = lanes; second = empty_stock capacities } ≡ migrated stock capacities
-moved db lanes capacities sound is stock sounds other =
-    ap (λ (s : Stock). migrated s capacities) (one_stock db.trees lanes stock sound sounds is.holds other.holds)
+pub moved : (db : Database) (lanes : EventBuffer) (capacities : List ℕ) → IsSoundBuffer lanes → IsQueue db lanes → (buffer : EventBuffer)
+    → IsSoundBuffer buffer → IsQueue db buffer
+    → record { first = lanes; second = empty_buffer capacities } ≡ migrated buffer capacities
+moved db lanes capacities sound is buffer sounds other =
+    ap (λ (s : EventBuffer). migrated s capacities) (one_buffer db.trees lanes buffer sound sounds is.holds other.holds)

@@ -16,7 +16,7 @@ use Rattle.sqlite.specs.State.{State, Shown}
 use Rattle.sqlite.proofs.Callers.{command_of}
 use Rattle.dnp_store.specs.declared.queue_side.QueueSide.{QueueSide}
 use Rattle.dnp_store.specs.declared.queue_side.QueueSide.TheVariants.{First, Second}
-use Rattle.dnp_eventbuf.specs.Stock.{LaneState, Stock}
+use Rattle.dnp_eventbuf.specs.EventBuffer.{LaneState, EventBuffer}
 use Rattle.sqlite.specs.Tree.{Trees}
 use Rattle.dnp_store.specs.Texts.{lanes_select, rows_select}
 use Rattle.dnp_store.specs.Tables.{IsCounted, counts_of, form_with, sequence}
@@ -126,7 +126,7 @@ module _ {E : Type 0} (old new : State) (side : QueueSide) where
 
 -- ---- what was put back is what a side holds
 
-pub holds_among : (side : QueueSide) (db : Trees) (figures : List Figures) (rows : List Row) (noted : ℕ) (s : Stock) (is_noted : Bool)
+pub holds_among : (side : QueueSide) (db : Trees) (figures : List Figures) (rows : List Row) (noted : ℕ) (s : EventBuffer) (is_noted : Bool)
     → IsTrue is_noted → AreNine figures → IsPermutation (figures_rows 0 figures) (db (lanes_tree side)) → PutsBack rows (db (rows_tree side))
     → IsPutBack figures rows noted s is_noted → (noting : List Row) → IsCounted (rows_name side) noting noted → HoldsAmong side db noting s
 holds_among side db figures rows noted s is_noted is nine lanes puts put noting counted =
@@ -139,5 +139,5 @@ holds_among side db figures rows noted s is_noted is nine lanes puts put noting 
     }
 
 -- and where it stands among the counts under its name, the side is held
-pub holds_side : (side : QueueSide) (db : Trees) (s : Stock) → HoldsAmong side db (counts_of (rows_name side) (db 2)) s → HoldsSide side db s
+pub holds_side : (side : QueueSide) (db : Trees) (s : EventBuffer) → HoldsAmong side db (counts_of (rows_name side) (db 2)) s → HoldsSide side db s
 holds_side side db s held = record { figures = held.figures; lanes = held.lanes; overflow = held.overflow }

@@ -13,7 +13,7 @@ use Rattle.sqlite.specs.Tree.{Trees}
 use Rattle.sqlite.specs.Edit.{Edit, taken_by}
 use Rattle.sqlite.specs.Rows.{sequence as counters_of}
 use Rattle.sqlite_rules.specs.Action.{works}
-use Rattle.dnp_eventbuf.specs.Stock.{Stock}
+use Rattle.dnp_eventbuf.specs.EventBuffer.{EventBuffer}
 use Rattle.dnp_store.specs.declared.queue_side.QueueSide.{QueueSide}
 use Rattle.dnp_store.specs.declared.queue_side.QueueSide.TheVariants.{First, Second}
 use Rattle.dnp_store.specs.Tables.{HaveOwnIds, counts_of, sequence, table_of}
@@ -182,7 +182,7 @@ lanes_of_side First = (λ e. absurd (omega arith), λ e. absurd (omega arith), �
 lanes_of_side Second = (λ e. absurd (omega arith), λ e. absurd (omega arith), λ e. absurd (omega arith), λ e. absurd (omega arith))
 
 -- the other side holds what it did
-pub spared : (side : QueueSide) (db now : Trees) (others : Stock) → Spares side db now → HaveOwnIds (db 2) → HoldsSide (beside side) db others
+pub spared : (side : QueueSide) (db now : Trees) (others : EventBuffer) → Spares side db now → HaveOwnIds (db 2) → HoldsSide (beside side) db others
     → HoldsSide (beside side) now others
 spared side db now others spares table h =
     let name = rows_name (beside side) in

@@ -12,8 +12,8 @@ use Rattle.sqlite.specs.State.{State, Executes}
 use Rattle.sqlite.proofs.Callers.{command_of}
 use Rattle.dnp_objects.specs.declared.limits.TheConstants.{LANES}
 use Rattle.dnp_objects.specs.declared.lane.LaneRow.{LaneRow}
-use Rattle.dnp_eventbuf.specs.Carried.{IsCarried}
-use Rattle.dnp_eventbuf.specs.Stock.{Stock}
+use Rattle.dnp_eventbuf.specs.FitsLane.{FitsLane}
+use Rattle.dnp_eventbuf.specs.EventBuffer.{EventBuffer}
 use Rattle.dnp_store.specs.Texts.{rows_insert_16}
 use Rattle.dnp_store.specs.QueueTables.{queue_columns, Queued, queued_cells, Figures}
 use Rattle.dnp_store.specs.PairTables.{Checks, IsForm2, pair_schema, rows_name, rows_tree}
@@ -49,8 +49,8 @@ insert_plain_16 side c = plain_read _ (understood (pair_schema c) (insert_text_1
 abbrev pub queued_all : List LaneRow → List Queued
 queued_all = map (queued_for 0)
 
-all_put : (name : List ℕ) (x : LaneRow) (xs : List LaneRow) (db now : Trees) (s : Stock) (fs : List Figures) → HoldsUnder name db s fs
-    → length s.lanes ≡ LANES → AllByRecursion IsCarried (x ∷ xs) → PutsAll name db (rests_of (queued_all (x ∷ xs))) s.last_id now
+all_put : (name : List ℕ) (x : LaneRow) (xs : List LaneRow) (db now : Trees) (s : EventBuffer) (fs : List Figures) → HoldsUnder name db s fs
+    → length s.lanes ≡ LANES → AllByRecursion FitsLane (x ∷ xs) → PutsAll name db (rests_of (queued_all (x ∷ xs))) s.last_id now
     → HoldsUnder name now (all_added s (x ∷ xs)) fs
 all_put name x [] db now s fs h nine carried puts =
     put name db now s fs x h nine (lane_low x.lane) carried.0 (record { table = puts.table; count = puts.count; others = puts.others })
@@ -61,8 +61,8 @@ all_put name x (y ∷ ys) db now s fs h nine carried puts =
     all_put name y ys mid now (added s x) fs one (nine_added s (x ∷ []) ∙ nine) carried.1
     (sixteen.puts_more name db rest s.last_id (rests_of (queued_all (y ∷ ys))) now puts)
 
-pub holds_16 : (side : QueueSide) (old new : State) (others s : Stock) (fs : List Figures) (xs : List LaneRow) (count : ℕ) → length s.lanes ≡ LANES
-    → length xs ≡ 16 → AllByRecursion IsCarried xs → Executes (insert_text_16 side) (params_of (queued_all xs)) old new (Ok count)
+pub holds_16 : (side : QueueSide) (old new : State) (others s : EventBuffer) (fs : List Figures) (xs : List LaneRow) (count : ℕ) → length s.lanes ≡ LANES
+    → length xs ≡ 16 → AllByRecursion FitsLane xs → Executes (insert_text_16 side) (params_of (queued_all xs)) old new (Ok count)
     → HoldsFor side others old.now s fs → HoldsFor side others new.now (all_added s xs) fs
 holds_16 side old new others s fs [] count nine long carried ran h = absurd (omega arith)
 holds_16 side old new others s fs (x ∷ xs) count nine long carried ran h =

@@ -14,8 +14,8 @@ use Rattle.dnp_objects.specs.declared.lane.LaneRow.{LaneRow}
 use Rattle.dnp_objects.specs.Lanes.{lane_number}
 use Rattle.dnp_objects.specs.Events.{IsEvent}
 use Rattle.dnp_objects.specs.Objects.{objects, content_of}
-use Rattle.dnp_eventbuf.specs.Carried.{IsCarried}
-use Rattle.dnp_eventbuf.specs.Stock.{Stock}
+use Rattle.dnp_eventbuf.specs.FitsLane.{FitsLane}
+use Rattle.dnp_eventbuf.specs.EventBuffer.{EventBuffer}
 use Rattle.dnp_store.specs.Tables.{or_null}
 use Rattle.dnp_store.specs.QueueTables.{Queued, queued_cells, Figures}
 use Rattle.dnp_store.specs.PairTables.{IsForm2, lanes_tree, rows_name, rows_tree}
@@ -69,8 +69,8 @@ pub insert_bound : (x : LaneRow) (a b c d t : Value) → a ≡ Int (pos (lane_nu
     ≡ insert_params (queued_for 0 x)
 insert_bound x a b c d t p q r s u = rw (p, q, r, s, u, bound_time x.row.time) refl
 
-pub insert_holds : (side : QueueSide) (old new : State) (others s : Stock) (fs : List Figures) (x : LaneRow) (count : ℕ) → length s.lanes ≡ LANES
-    → lane_number x.lane < LANES → IsCarried x → Executes (insert_text side) (insert_params (queued_for 0 x)) old new (Ok count)
+pub insert_holds : (side : QueueSide) (old new : State) (others s : EventBuffer) (fs : List Figures) (x : LaneRow) (count : ℕ) → length s.lanes ≡ LANES
+    → lane_number x.lane < LANES → FitsLane x → Executes (insert_text side) (insert_params (queued_for 0 x)) old new (Ok count)
     → HoldsFor side others old.now s fs → HoldsFor side others new.now (added s x) fs
 insert_holds side old new others s fs x count nine low carried ran h =
     let db = old.now.trees in
@@ -89,7 +89,8 @@ insert_holds side old new others s fs x count nine low carried ran h =
       rest = spared side db new.now.trees others spares h.counts h.rest;
     }
 
-pub take_holds : (side : QueueSide) (old new : State) (others s : Stock) (fs : List Figures) (number upto count : ℕ) → length s.lanes ≡ LANES → number < LANES
+pub take_holds : (side : QueueSide) (old new : State) (others s : EventBuffer) (fs : List Figures) (number upto count : ℕ) → length s.lanes ≡ LANES
+    → number < LANES
     → Executes (delete_text side) (delete_params number upto) old new (Ok count) → HoldsFor side others old.now s fs
     → HoldsFor side others new.now (cut s number upto) fs
 take_holds side old new others s fs number upto count nine low ran h =
@@ -107,7 +108,8 @@ take_holds side old new others s fs number upto count nine low ran h =
       rest = spared side db now others spares h.counts h.rest;
     }
 
-pub note_holds : (side : QueueSide) (old new : State) (others s : Stock) (fs : List Figures) (number lost count : ℕ) (raised : Bool) → length s.lanes ≡ LANES
+pub note_holds : (side : QueueSide) (old new : State) (others s : EventBuffer) (fs : List Figures) (number lost count : ℕ) (raised : Bool)
+    → length s.lanes ≡ LANES
     → number < LANES → Executes (update_text side) (update_params number lost raised) old new (Ok count) → HoldsFor side others old.now s fs
     → HoldsFor side others new.now (counted s number lost) (noted fs number lost raised)
 note_holds side old new others s fs number lost count raised nine low ran h =

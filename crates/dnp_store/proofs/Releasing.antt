@@ -12,8 +12,8 @@ use Rattle.sqlite.specs.Tree.{Trees}
 use Rattle.dnp_objects.specs.declared.limits.TheConstants.{LANES, MAX_ID}
 use Rattle.dnp_eventbuf.specs.declared.numbered.Numbered.{Numbered}
 use Rattle.dnp_eventbuf.specs.Latest.{numbered_for}
-use Rattle.dnp_eventbuf.specs.Sound.{IsSound}
-use Rattle.dnp_eventbuf.specs.Stock.{LaneState, Stock, lane_at, no_lane, above, emptied, without, without_all, lanes_above}
+use Rattle.dnp_eventbuf.specs.Sound.{IsSoundBuffer}
+use Rattle.dnp_eventbuf.specs.EventBuffer.{LaneState, EventBuffer, lane_at, no_lane, above, emptied, without, without_all, lanes_above}
 use Rattle.dnp_store.specs.declared.queue_side.QueueSide.{QueueSide}
 use Rattle.dnp_store.specs.QueueTables.{Figures, no_figures, is_raised}
 use Rattle.dnp_store.specs.PairTables.{HoldsPair, IsPair}
@@ -23,7 +23,7 @@ use Rattle.dnp_store.specs.steps.Steps.{mixed, cut, counted, noted, left, releas
 use Rattle.dnp_store.proofs.Standing.{on_trees}
 use Rattle.dnp_store.proofs.Trimming.{mixed_low, mixed_high, nine_mixed, same_queue}
 
-pub mixed_step : (number : ℕ) (a b t : Stock) → length a.lanes ≡ LANES → length b.lanes ≡ LANES → number < LANES
+pub mixed_step : (number : ℕ) (a b t : EventBuffer) → length a.lanes ≡ LANES → length b.lanes ≡ LANES → number < LANES
     → ((k : ℕ) → k < LANES → k ≢ number → lane_at t k ≡ lane_at (mixed number a b) k)
     → lane_at t number ≡ lane_at b number → (k : ℕ) → k < LANES → lane_at (mixed (suc number) a b) k ≡ lane_at t k
 mixed_step number a b t nine_a nine_b low else there k k_low = elim (cases_eq k number) [
@@ -72,7 +72,7 @@ some_over u n first is not_up m at =
 pub none_over : (u : ℕ) (first : Option ℕ) → first ≡ None → IsOver u first
 none_over u first is m at = absurd cc
 
-pub over_all : (s : Stock) (number upto : ℕ) (first : Option ℕ) → IsSound s → number < LANES
+pub over_all : (s : EventBuffer) (number upto : ℕ) (first : Option ℕ) → IsSoundBuffer s → number < LANES
     → first ≡ option_map (λ (x : Numbered). x.id) (slice_get ((lane_at s number).rows ++ numbered_for number s.last_id []) 0) → IsOver upto first
     → above upto (lane_at s number) ≡ lane_at s number
 over_all s number upto first sound low is over =
@@ -88,7 +88,7 @@ over_all s number upto first sound low is over =
 
 -- what the law of a release says of each lane
 abbrev pub LaneByLane : Type 0
-LaneByLane = (s : Stock) (upto : List ℕ) (number : ℕ) → length upto ≡ length s.lanes → number < length s.lanes
+LaneByLane = (s : EventBuffer) (upto : List ℕ) (number : ℕ) → length upto ≡ length s.lanes → number < length s.lanes
     → lane_at (without s upto) number ≡ above (slice_index_or upto number 0) (lane_at s number)
 
 as_many_left : (lanes : List LaneState) (upto : List ℕ) → length (lanes_above lanes upto) ≡ length lanes
@@ -96,11 +96,12 @@ as_many_left [] upto = refl
 as_many_left (lane ∷ lanes) [] = refl
 as_many_left (lane ∷ lanes) (u ∷ us) = ap suc (as_many_left lanes us)
 
-pub nine_left : (s : Stock) (upto : List ℕ) → length s.lanes ≡ LANES → length (left s upto).lanes ≡ LANES
+pub nine_left : (s : EventBuffer) (upto : List ℕ) → length s.lanes ≡ LANES → length (left s upto).lanes ≡ LANES
 nine_left s upto nine = as_many_left s.lanes upto ∙ nine
 
 -- one lane more has lost its rows
-pub cut_step : LaneByLane → (side : QueueSide) (others : Stock) (db : Database) (s : Stock) (upto : List ℕ) (fs : List Figures) (number u : ℕ) → IsSound s → length upto ≡ LANES → number < LANES
+pub cut_step : LaneByLane → (side : QueueSide) (others : EventBuffer) (db : Database) (s : EventBuffer) (upto : List ℕ) (fs : List Figures) (number u : ℕ)
+    → IsSoundBuffer s → length upto ≡ LANES → number < LANES
     → u ≡ min (get_or upto number 0) MAX_ID
     → HoldsFor side others db (cut (mixed number s (left s upto)) number u) fs → HoldsFor side others db (mixed (suc number) s (left s upto)) fs
 cut_step by_lane side others db s upto fs number u sound nine_u low u_is h =
@@ -125,7 +126,8 @@ cut_step by_lane side others db s upto fs number u sound nine_u low u_is h =
 -- ---- the mark
 
 -- a lane that has dropped as many rows as before is as before
-pub note_step : (side : QueueSide) (others : Stock) (db : Database) (s : Stock) (fs : List Figures) (number lost : ℕ) → length s.lanes ≡ LANES → number < LANES → lost ≡ (lane_at s number).lost
+pub note_step : (side : QueueSide) (others : EventBuffer) (db : Database) (s : EventBuffer) (fs : List Figures) (number lost : ℕ) → length s.lanes ≡ LANES
+    → number < LANES → lost ≡ (lane_at s number).lost
     → HoldsFor side others db (counted s number lost) fs → HoldsFor side others db s fs
 note_step side others db s fs number lost nine low is h =
     let new : LaneState = record (lane_at s number) { lost = lost } in
@@ -157,11 +159,11 @@ and_true : (a : Bool) → (a && true) ≡ a
 and_true true = refl
 and_true false = refl
 
-pub lost_left : LaneByLane → (s : Stock) (upto : List ℕ) → length s.lanes ≡ LANES → length upto ≡ LANES → (k : ℕ) → k < LANES
+pub lost_left : LaneByLane → (s : EventBuffer) (upto : List ℕ) → length s.lanes ≡ LANES → length upto ≡ LANES → (k : ℕ) → k < LANES
     → (lane_at (left s upto) k).lost ≡ (lane_at s k).lost
 lost_left by_lane s upto nine nine_u k low = ap (λ (l : LaneState). l.lost) (by_lane s upto k (omega arith) (omega arith))
 
-pub kept_mark : (side : QueueSide) (others : Stock) (db : Database) (s : Stock) (upto : List ℕ) (h : IsFor side others db s) (now : Database)
+pub kept_mark : (side : QueueSide) (others : EventBuffer) (db : Database) (s : EventBuffer) (upto : List ℕ) (h : IsFor side others db s) (now : Database)
     → HoldsFor side others now (left s upto) h.figures → IsFor side others now (released s upto false)
 kept_mark side others db s upto h now held = record {
   figures = h.figures;
@@ -169,7 +171,7 @@ kept_mark side others db s upto h now held = record {
   overflow = and_true s.overflow ∙ h.overflow;
 }
 
-pub lowered_mark : (side : QueueSide) (others s : Stock) (upto : List ℕ) (now : Database) (fs : List Figures) → HoldsFor side others now (left s upto) fs
+pub lowered_mark : (side : QueueSide) (others s : EventBuffer) (upto : List ℕ) (now : Database) (fs : List Figures) → HoldsFor side others now (left s upto) fs
     → is_raised fs ≡ false → IsFor side others now (released s upto true)
 lowered_mark side others s upto now fs held none = record {
   figures = fs;
@@ -190,7 +192,8 @@ not_both : (b : Bool) → (b && not b) ≡ false
 not_both true = refl
 not_both false = refl
 
-pub all_left : LaneByLane → (side : QueueSide) (others : Stock) (db : Database) (s : Stock) (upto : List ℕ) → IsSound s → length upto ≡ LANES → ((k : ℕ) → k < LANES → get_or upto k 0 ≡ MAX_ID)
+pub all_left : LaneByLane → (side : QueueSide) (others : EventBuffer) (db : Database) (s : EventBuffer) (upto : List ℕ) → IsSoundBuffer s → length upto ≡ LANES
+    → ((k : ℕ) → k < LANES → get_or upto k 0 ≡ MAX_ID)
     → IsFor side others db (released s upto s.overflow) → IsFor side others db (without_all s)
 all_left by_lane side others db s upto sound nine all h =
     let lanes : (k : ℕ) → k < LANES → lane_at (without_all s) k ≡ lane_at (released s upto s.overflow) k = λ k low.
@@ -207,13 +210,14 @@ all_left by_lane side others db s upto sound nine all h =
       overflow = sym (not_both s.overflow) ∙ h.overflow;
     }
 
-pub all_left_of : LaneByLane → (side : QueueSide) (others : Stock) (db : Database) (s : Stock) (upto : List ℕ) → IsSound s → length upto ≡ LANES
+pub all_left_of : LaneByLane → (side : QueueSide) (others : EventBuffer) (db : Database) (s : EventBuffer) (upto : List ℕ) → IsSoundBuffer s
+    → length upto ≡ LANES
     → ((k : ℕ) → k < LANES → get_or upto k 0 ≡ MAX_ID)
     → IsPair db (sides_of side (released s upto s.overflow) others) → IsPair db (sides_of side (without_all s) others)
 all_left_of by_lane side others db s upto sound nine all h =
     pair_of side others (without_all s) db (all_left by_lane side others db s upto sound nine all (for_of side others (released s upto s.overflow) db h))
 
-pub all_left_in : LaneByLane → (side : QueueSide) (others : Stock) (db : Trees) (s : Stock) (upto : List ℕ) → IsSound s → length upto ≡ LANES
+pub all_left_in : LaneByLane → (side : QueueSide) (others : EventBuffer) (db : Trees) (s : EventBuffer) (upto : List ℕ) → IsSoundBuffer s → length upto ≡ LANES
     → ((k : ℕ) → k < LANES → get_or upto k 0 ≡ MAX_ID)
     → HoldsPair db (sides_of side (released s upto s.overflow) others) → HoldsPair db (sides_of side (without_all s) others)
 all_left_in by_lane side others db s upto sound nine all =

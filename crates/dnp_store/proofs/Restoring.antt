@@ -15,9 +15,9 @@ use Rattle.dnp_objects.specs.declared.lane.LaneRow.{LaneRow}
 use Rattle.dnp_objects.specs.declared.row.Kind.{Kind}
 use Rattle.dnp_objects.specs.Lanes.{lane_number}
 use Rattle.dnp_eventbuf.specs.declared.numbered.Numbered.{Numbered}
-use Rattle.dnp_eventbuf.specs.Carried.{IsCarried}
+use Rattle.dnp_eventbuf.specs.FitsLane.{FitsLane}
 use Rattle.dnp_eventbuf.specs.Restored.{with_old_row, fits_behind}
-use Rattle.dnp_eventbuf.specs.Stock.{LaneState, Stock, lane_at, added_in}
+use Rattle.dnp_eventbuf.specs.EventBuffer.{LaneState, EventBuffer, lane_at, added_in}
 use Rattle.dnp_store.specs.Tables.{IsCounted}
 use Rattle.dnp_store.specs.QueueTables.{queue_schema, queue_columns, Queued, queued_row, event_of, in_lane, Figures, figures_rows, HoldsLanes}
 use Rattle.dnp_store.specs.steps.Shown.{AreNine, IsBegun, Restores, PutBack}
@@ -38,7 +38,7 @@ abbrev row_of : ℕ → LaneRow → Bool → Queued
 row_of id x short = queued_of id (lane_number x.lane) x.row.index x.row.flags x.row.value x.row.time short
 
 -- a row of the table is the event that was put back
-event_of_row : (id : ℕ) (x : LaneRow) (short : Bool) → IsCarried x → (if short then None else x.row.time) ≡ x.row.time
+event_of_row : (id : ℕ) (x : LaneRow) (short : Bool) → FitsLane x → (if short then None else x.row.time) ≡ x.row.time
     → event_of (row_of id x short) ≡ record { id = id; row = x.row }
 event_of_row id x short carried time =
     ap₂ (λ (kind : Kind) (t : Option ℕ). record { id = id; row = record { kind = kind; index = x.row.index; flags = x.row.flags; value = x.row.value; time = t } })
@@ -47,7 +47,7 @@ event_of_row id x short carried time =
 abbrev shown_queued : Row → Row
 shown_queued = shown_by queue_terms
 
-record Restored (last : ℕ) (rs : List Row) (a b : Stock) : Type 0 where
+record Restored (last : ℕ) (rs : List Row) (a b : EventBuffer) : Type 0 where
   pub queued : List Queued
   pub rows_are : rs ≡ map queued_row queued
   pub rise : IsAscending (λ x y. x.id < y.id) queued
@@ -58,7 +58,7 @@ record Restored (last : ℕ) (rs : List Row) (a b : Stock) : Type 0 where
   pub overflow : b.overflow ≡ a.overflow
   pub last_is : b.last_id ≡ a.last_id
 
-at_most : (a : Stock) (id : ℕ) (x : LaneRow) → fits_behind a id x ≡ true → id ≤ a.last_id
+at_most : (a : EventBuffer) (id : ℕ) (x : LaneRow) → fits_behind a id x ≡ true → id ≤ a.last_id
 at_most a id x fits = leb-true id a.last_id (right _ _ fits)
   where
     right : (p q : Bool) → (p && q) ≡ true → q ≡ true
@@ -69,7 +69,8 @@ more : (xs : List Numbered) (e : Numbered) (ys : List Numbered) → (xs ++ e ∷
 more xs e ys = append_assoc xs (e ∷ []) ys
 
 -- what one row adds to each lane
-one_more : (a : Stock) (id : ℕ) (x : LaneRow) (y : Queued) (ys : List Queued) → length a.lanes ≡ LANES → lane_number x.lane < LANES → y.lane ≡ lane_number x.lane
+one_more : (a : EventBuffer) (id : ℕ) (x : LaneRow) (y : Queued) (ys : List Queued) → length a.lanes ≡ LANES → lane_number x.lane < LANES
+    → y.lane ≡ lane_number x.lane
     → event_of y ≡ record { id = id; row = x.row } → (k : ℕ) → k < LANES
     → behind (lane_at (with_old_row a id x) k) (in_lane k ys) ≡ behind (lane_at a k) (in_lane k (y ∷ ys))
 one_more a id x y ys nine low its event k k_low =
@@ -89,7 +90,7 @@ one_more a id x y ys nine low its event k k_low =
     ap (λ b. map event_of (cond b (y ∷ filter (λ z. z.lane == k) ys) (filter (λ z. z.lane == k) ys))) here in
     ap (behind (lane_at a k)) (sym found))
 
-restored : (last : ℕ) (rs : List Row) (a b : Stock) → AllByRecursion (IsTyped (Some 0) queue_columns) rs → length a.lanes ≡ LANES
+restored : (last : ℕ) (rs : List Row) (a b : EventBuffer) → AllByRecursion (IsTyped (Some 0) queue_columns) rs → length a.lanes ≡ LANES
     → Restores last (map shown_queued rs) a b → Restored last rs a b
 restored last [] a b typed nine h = record {
   queued = [];
@@ -98,10 +99,10 @@ restored last [] a b typed nine h = record {
   above = tt;
   up_to = tt;
   low = tt;
-  lanes = λ k _. ap (λ (s : Stock). lane_at s k) h
+  lanes = λ k _. ap (λ (s : EventBuffer). lane_at s k) h
       ∙ ap (λ rows. record { capacity = (lane_at a k).capacity; rows = rows; lost = (lane_at a k).lost }) (sym (append-nil (lane_at a k).rows));
-  overflow = ap (λ (s : Stock). s.overflow) h;
-  last_is = ap (λ (s : Stock). s.last_id) h;
+  overflow = ap (λ (s : EventBuffer). s.overflow) h;
+  last_is = ap (λ (s : EventBuffer). s.last_id) h;
 }
 restored last (r ∷ rs) a b typed nine h =
     let id = h.0 in
@@ -128,7 +129,7 @@ restored last (r ∷ rs) a b typed nine h =
 
 -- what the rows of a table are, where they were put back
 abbrev pub PutsBack : List Row → List Row → Type 0
-PutsBack rows table = (a b : Stock) → length a.lanes ≡ LANES → ((k : ℕ) → k < LANES → (lane_at a k).rows ≡ []) → Restores 0 rows a b → PutBack table a b
+PutsBack rows table = (a b : EventBuffer) → length a.lanes ≡ LANES → ((k : ℕ) → k < LANES → (lane_at a k).rows ≡ []) → Restores 0 rows a b → PutBack table a b
 
 -- under any schema that has such a table in this tree
 pub reads_queued_in : (old new : State) (rows : List Row) (schema : Schema) (tree : ℕ) (text : List ℕ)
@@ -162,7 +163,7 @@ reads_queued old new rows shown f q l sound has =
     reads_queued_in old new rows (queue_schema f q l) 1 queue_query (queue_is f q l) (queue_plain f q l) refl (typed_rows Queue old.now f q l has sound) shown has
 
 -- lanes whose rows were put back are those of the tables
-pub held_lanes : (name : List ℕ) (rows counts lanes : List Row) (figures : List Figures) (a b : Stock) (n : ℕ) → AreNine figures
+pub held_lanes : (name : List ℕ) (rows counts lanes : List Row) (figures : List Figures) (a b : EventBuffer) (n : ℕ) → AreNine figures
     → IsPermutation (figures_rows 0 figures) lanes → IsCounted name counts n → IsBegun a figures n → PutBack rows a b
     → HoldsLanes name rows counts lanes b figures
 held_lanes name rows counts lanes figures a b n nine lanes_is counted begun put =

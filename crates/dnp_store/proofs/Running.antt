@@ -1,17 +1,22 @@
 -- What a statement's answer is to its store.
-use Rattle.std.proofs.Common.{◌≡◌, ℕ, List, IsTrue, Ok, Err, Result, sym, subst}
+use Rattle.std.proofs.Common.{◌≡◌, ℕ, ◌+◌, ◌<◌, ◌≤◌, List, [], ◌∷◌, map, drop, length, get_or, IsTrue, Ok, Err, Result, arith, refl, sym, ap, subst, ◌∙◌}
+use Rattle.std.proofs.Math.ListN.{drop_of_length-le}
+use Rattle.std.proofs.lemmas.List.{drop_more, get_or-map, length-map}
+use Rattle.std.specs.List.{AllByRecursion}
 use Rattle.std.specs.Prelude.{IfErr, IsErr, IsErrAnd, OnOk}
-use Rattle.std.specs.Borrow.{MutBor}
+use Rattle.std.specs.Borrow.{Bor, MutBor}
 use Rattle.sqlite_trees.specs.declared.store.Store.{Ghosts}
 use Rattle.sqlite.specs.Held.{Held, state}
 use Rattle.sqlite.specs.Order.{Row}
-use Rattle.sqlite.specs.State.{State, Executes, ExecutesInside}
+use Rattle.sqlite.specs.State.{State, Executes, ExecutesInside, Survives}
 use Rattle.sqlite.specs.declared.error.Error.{Error}
 use Rattle.dnp_store.specs.declared.store_kind.StoreKind.{StoreKind}
 use Rattle.dnp_store.specs.Refusals.{IsRefused}
 use Rattle.dnp_store.specs.Texts.{IsMaking, IsOwn}
 use Rattle.dnp_store.specs.steps.Inside.{IsStep}
-use Rattle.dnp_store.proofs.Refusing.{by_making, by_statement}
+use Rattle.dnp_store.specs.steps.Making.{ExecuteAll}
+use Rattle.sqlite_trees.proofs.ListLemmas.{all-get_or}
+use Rattle.dnp_store.proofs.Refusing.{by_making, by_statement, refused_after}
 
 -- what follows of a statement that ran
 pub ran_then : (old new : State) (sql : List ℕ) (params : Row) (Q : Type 0) (r : Result (Unit {0}) Error)
@@ -20,7 +25,8 @@ ran_then old new sql params Q (Ok _) h follows = follows h.0 h.1
 ran_then old new sql params Q (Err e) h follows = tt
 
 pub making_refused : {S : Type 0} (g : Ghosts S) (kind : StoreKind) (old new : Held S) (sql : List ℕ) (params : Row) (r : Result (Unit {0}) Error)
-    → IsMaking kind sql → IfErr r (λ e. IsTrue (state g old).in_transaction × ExecutesInside 0 sql params (state g old) (state g new) (Err e)) → IfErr r (IsRefused g kind old new)
+    → IsMaking kind sql → IfErr r (λ e. IsTrue (state g old).in_transaction × ExecutesInside 0 sql params (state g old) (state g new) (Err e))
+    → IfErr r (IsRefused g kind old new)
 making_refused g kind old new sql params (Ok _) making h = tt
 making_refused g kind old new sql params (Err e) making h = by_making g kind old new sql params e making h.0 h.1
 
@@ -52,3 +58,48 @@ step_too g old new e (Err f) is step = record {
   kept = step.kept;
   survives = step.survives;
 }
+
+-- ---- statements one after the other
+
+abbrev pub texts_in : List (Bor (List ℕ)) → List (List ℕ)
+texts_in = map (λ text. text.now)
+
+-- with the texts that are still to come all of them ran
+abbrev pub RunsOn : {S : Type 0} → Ghosts S → List (List ℕ) → List (List ℕ) → Held S → Held S → Type 0
+RunsOn {S} g all rest old now = (last : Held S) → ExecuteAll g rest now last → ExecuteAll g all old last
+
+pub one_more : {S : Type 0} (g : Ghosts S) (all : List (List ℕ)) (texts : List (Bor (List ℕ))) (i : ℕ) (d : Bor (List ℕ)) (old now next : Held S)
+    → i < length texts → (count : ℕ) × Executes (get_or texts i d).now [] (state g now) (state g next) (Ok count)
+    → RunsOn g all (drop i (texts_in texts)) old now → RunsOn g all (drop (i + 1) (texts_in texts)) old next
+one_more g all texts i d old now next low ran before last rest =
+    let mapped = texts_in texts in
+    let long : i < length mapped = omega (arith, low, length-map texts (λ (t : Bor (List ℕ)). t.now)) in
+    let here : get_or mapped i [] ≡ (get_or texts i d).now = get_or-map (λ (t : Bor (List ℕ)). t.now) texts i d [] low in
+    let split : drop i mapped ≡ (get_or texts i d).now ∷ drop (i + 1) mapped =
+    drop_more mapped i [] long ∙ ap (λ (text : List ℕ). text ∷ drop (i + 1) mapped) here in
+    before last (subst (λ (xs : List (List ℕ)). ExecuteAll g xs now last) (sym split) (next, ran.0, ran.1, rest))
+
+pub none_left : {S : Type 0} (g : Ghosts S) (all : List (List ℕ)) (texts : List (Bor (List ℕ))) (i : ℕ) (old now : Held S) → length texts ≤ i
+    → RunsOn g all (drop i (texts_in texts)) old now → ExecuteAll g all old now
+none_left g all texts i old now past before =
+    let mapped = texts_in texts in
+    let empty : drop i mapped ≡ [] = drop_of_length-le mapped (omega (arith, past, length-map texts (λ (t : Bor (List ℕ)). t.now))) in
+    before now (subst (λ (xs : List (List ℕ)). ExecuteAll g xs now now) (sym empty) refl)
+
+-- one of them was refused, after others
+pub one_refused : {S : Type 0} (g : Ghosts S) (old now next : Held S) (texts : List (Bor (List ℕ))) (i : ℕ) (d : Bor (List ℕ)) (e : Error) → i < length texts
+    → Survives (state g old) (state g now) (λ _. ⊥)
+    → IsTrue (state g now).in_transaction × ExecutesInside 0 (get_or texts i d).now [] (state g now) (state g next) (Err e)
+    → (kind : StoreKind) → AllByRecursion (IsMaking kind) (texts_in texts) → IsRefused g kind old next e
+one_refused g old now next texts i d e low before refused kind own =
+    let mapped = texts_in texts in
+    let long : i < length mapped = omega (arith, low, length-map texts (λ (t : Bor (List ℕ)). t.now)) in
+    let here : get_or mapped i [] ≡ (get_or texts i d).now = get_or-map (λ (t : Bor (List ℕ)). t.now) texts i d [] low in
+    refused_after g kind old now next e before
+    (by_making g kind now next (get_or texts i d).now [] e (subst (IsMaking kind) here (all-get_or (IsMaking kind) mapped i [] own long)) refused.0 refused.1)
+
+pub making_told : {S : Type 0} (g : Ghosts S) (kind : StoreKind) (old new : Held S) (texts : List (List ℕ)) (r : Result (Unit {0}) Error)
+    → AllByRecursion (IsMaking kind) texts
+    → IfErr r (λ e. (kind : StoreKind) → AllByRecursion (IsMaking kind) texts → IsRefused g kind old new e) → IfErr r (IsRefused g kind old new)
+making_told g kind old new texts (Ok _) own h = tt
+making_told g kind old new texts (Err e) own h = h kind own

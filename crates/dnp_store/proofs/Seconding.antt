@@ -23,15 +23,18 @@ use Rattle.sqlite_catalog.specs.Change.{created}
 use Rattle.sqlite.specs.Listing.{understood}
 use Rattle.sqlite.specs.Given.{IsPlain}
 use Rattle.sqlite.specs.State.{State, Executes, mode_of}
+use Rattle.sqlite_trees.specs.declared.store.Store.{Ghosts}
+use Rattle.sqlite.specs.Held.{Held, state}
+use Rattle.dnp_store.specs.steps.Making.{ExecuteAll}
 use Rattle.sqlite.proofs.Callers.{command_of, statement_of, runs_as, one_step, one_permutation}
 use Rattle.sqlite_rules.specs.Calls.{ids_of}
 use Rattle.sqlite_rules.specs.Lists.{Has}
 use Rattle.sqlite_trees.proofs.ListLemmas.{IsPermutation-same}
 use Rattle.dnp_objects.specs.declared.limits.TheConstants.{LANES}
-use Rattle.dnp_eventbuf.specs.Stock.{Stock, empty_stock}
+use Rattle.dnp_eventbuf.specs.EventBuffer.{EventBuffer, empty_buffer}
 use Rattle.dnp_store.specs.Texts.{form_update, lanes_b_insert}
 use Rattle.dnp_store.specs.Tables.{HaveOwnIds, IsCounted, count_row, counts_of, form_with, schema_of}
-use Rattle.dnp_store.specs.QueueTables.{Figures, HoldsIn, HoldsLanes, HoldsStock, IsForm1, figures_cells, figures_rows, lanes_with, queue_schema, queue_with}
+use Rattle.dnp_store.specs.QueueTables.{Figures, HoldsIn, HoldsLanes, HoldsBuffer, IsForm1, figures_cells, figures_rows, lanes_with, queue_schema, queue_with}
 use Rattle.dnp_store.specs.PairTables.{lanes_b_with, migrated, pair_schema, queue_b_with, rows_name}
 use Rattle.dnp_store.specs.Schemas.{checks_of_lanes_b, checks_of_queue_b, lanes_b_text, queue_b_text, table_of_text}
 use Rattle.dnp_store.specs.declared.queue_side.QueueSide.TheVariants.{First, Second}
@@ -48,14 +51,14 @@ use Rattle.dnp_store.proofs.Opening.{each_one}
 
 -- ---- the lanes for one centre, where only other trees change
 
-kept_lanes : (db now : Trees) (s : Stock) (fs : List Figures) → now 1 ≡ db 1 → now 2 ≡ db 2 → now 3 ≡ db 3 → HoldsIn db s fs → HoldsIn now s fs
+kept_lanes : (db now : Trees) (s : EventBuffer) (fs : List Figures) → now 1 ≡ db 1 → now 2 ≡ db 2 → now 3 ≡ db 3 → HoldsIn db s fs → HoldsIn now s fs
 kept_lanes db now s fs rows counts lanes h =
     let name = rows_name First in
     subst (λ (l : List Row). HoldsLanes name (now 1) (now 2) l s fs) (sym lanes) (subst (λ (c : List Row). HoldsLanes name (now 1) c (db 3) s fs) (sym counts)
     (subst (λ (r : List Row). HoldsLanes name r (db 2) (db 3) s fs) (sym rows) h))
 
-kept_stock : (db now : Trees) (s : Stock) → now 0 ≡ db 0 → now 1 ≡ db 1 → now 2 ≡ db 2 → now 3 ≡ db 3 → HoldsStock db s → HoldsStock now s
-kept_stock db now s form rows counts lanes h = record {
+kept_buffer : (db now : Trees) (s : EventBuffer) → now 0 ≡ db 0 → now 1 ≡ db 1 → now 2 ≡ db 2 → now 3 ≡ db 3 → HoldsBuffer db s → HoldsBuffer now s
+kept_buffer db now s form rows counts lanes h = record {
   figures = h.figures;
   form = subst IsForm1 (sym form) h.form;
   lanes = kept_lanes db now s h.figures rows counts lanes h.lanes;
@@ -90,7 +93,7 @@ four_lacks : (f q l b : List Term) → lacks_sequence (four_schema f q l b) ≡ 
 unfolding everything
 four_lacks f q l b = refl
 
-pub created_queue_b : (old new : State) (count : ℕ) (f q l : List Term) (s : Stock) → old.now.schema ≡ queue_schema f q l → HoldsStock old.now.trees s
+pub created_queue_b : (old new : State) (count : ℕ) (f q l : List Term) (s : EventBuffer) → old.now.schema ≡ queue_schema f q l → HoldsBuffer old.now.trees s
     → Executes queue_b_text [] old new (Ok count) → HasQueueB f q l s new.now
 unfolding checks_of_queue_b
 created_queue_b old new count f q l s has holds h =
@@ -105,7 +108,7 @@ created_queue_b old new count f q l s has holds h =
     let at = λ (t : ℕ). ap (λ (d : Database). d.trees t) same in
     record {
       schema = ap (λ (d : Database). d.schema) same ∙ mid;
-      holds = kept_stock old.now.trees new.now.trees s (at 0 ∙ kept.0) (at 1 ∙ kept.1.0) (at 2 ∙ kept.1.1.0) (at 3 ∙ kept.1.1.1.0) holds;
+      holds = kept_buffer old.now.trees new.now.trees s (at 0 ∙ kept.0) (at 1 ∙ kept.1.0) (at 2 ∙ kept.1.1.0) (at 3 ∙ kept.1.1.1.0) holds;
       empty = at 4 ∙ made.empty;
     }
 
@@ -135,7 +138,7 @@ five_lacks : (f q l b lb : List Term) → lacks_sequence (five_schema f q l b lb
 unfolding everything
 five_lacks f q l b lb = refl
 
-pub created_lanes_b : (old new : State) (count : ℕ) (f q l : List Term) (s : Stock) → HasQueueB f q l s old.now
+pub created_lanes_b : (old new : State) (count : ℕ) (f q l : List Term) (s : EventBuffer) → HasQueueB f q l s old.now
     → Executes lanes_b_text [] old new (Ok count) → HasSecond f q l s [] new.now
 unfolding checks_of_lanes_b
 created_lanes_b old new count f q l s has h =
@@ -151,7 +154,7 @@ created_lanes_b old new count f q l s has h =
     let at = λ (t : ℕ). ap (λ (d : Database). d.trees t) same in
     record {
       schema = ap (λ (d : Database). d.schema) same ∙ mid;
-      holds = kept_stock old.now.trees new.now.trees s (at 0 ∙ kept.0) (at 1 ∙ kept.1.0) (at 2 ∙ kept.1.1.0) (at 3 ∙ kept.1.1.1.0) has.holds;
+      holds = kept_buffer old.now.trees new.now.trees s (at 0 ∙ kept.0) (at 1 ∙ kept.1.0) (at 2 ∙ kept.1.1.0) (at 3 ∙ kept.1.1.1.0) has.holds;
       empty = at 4 ∙ kept.1.1.1.1.0 ∙ has.empty;
       filled = at 5 ∙ made.empty;
     }
@@ -201,7 +204,7 @@ lane_put f q l limit number capacity db a h =
       others = λ t not_5. ap (λ (w : Written). w.trees t) out ∙ ap (λ (d : Trees). d t) last ∙ step.others t not_5 tt;
     }
 
-pub lane_made : (old new : State) (number capacity count : ℕ) (f q l : List Term) (s : Stock) (fs : List Figures) → number ≡ length fs
+pub lane_made : (old new : State) (number capacity count : ℕ) (f q l : List Term) (s : EventBuffer) (fs : List Figures) → number ≡ length fs
     → HasSecond f q l s fs old.now → Executes lanes_b_insert (lane_params number capacity) old new (Ok count)
     → HasSecond f q l s (fs ++ fresh capacity ∷ []) new.now
 lane_made old new number capacity count f q l s fs at has h =
@@ -218,7 +221,7 @@ lane_made old new number capacity count f q l s fs at has h =
     let tree = λ (t : ℕ). ap (λ (d : Database). d.trees t) is in
     record {
       schema = ap (λ (d : Database). d.schema) is;
-      holds = kept_stock old.now.trees new.now.trees s (tree 0 ∙ put.others 0 (λ e. absurd (omega arith))) (tree 1 ∙ put.others 1 (λ e. absurd (omega arith)))
+      holds = kept_buffer old.now.trees new.now.trees s (tree 0 ∙ put.others 0 (λ e. absurd (omega arith))) (tree 1 ∙ put.others 1 (λ e. absurd (omega arith)))
           (tree 2 ∙ put.others 2 (λ e. absurd (omega arith))) (tree 3 ∙ put.others 3 (λ e. absurd (omega arith))) has.holds;
       empty = tree 4 ∙ put.others 4 (λ e. absurd (omega arith)) ∙ has.empty;
       filled = tree 5 ∙ put.table ∙ ap (put_row row) has.filled ∙ put_end 0 number fs (fresh capacity) (omega arith);
@@ -307,7 +310,7 @@ uncounted : (rows : List Row) (n : ℕ) → IsCounted (rows_name First) rows n �
 uncounted rows n (inl none) = ap (counts_of (rows_name Second)) none.0
 uncounted rows n (inr one) = ap (counts_of (rows_name Second)) one.1 ∙ rw (names_apart First) refl
 
-pub numbered_second : (old new : State) (count : ℕ) (f q l : List Term) (s : Stock) (capacities : List ℕ) → length capacities ≡ LANES
+pub numbered_second : (old new : State) (count : ℕ) (f q l : List Term) (s : EventBuffer) (capacities : List ℕ) → length capacities ≡ LANES
     → HasSecond f q l s (map fresh capacities) old.now → Executes form_update [] old new (Ok count) → IsSecond f q l (migrated s capacities) new.now
 numbered_second old new count f q l s capacities nine has h =
     let c = with_second f q l in
@@ -351,3 +354,11 @@ numbered_second old new count f q l s capacities nine has h =
         };
       };
     }
+
+-- both of its tables are made
+pub created_second : {S : Type 0} (g : Ghosts S) (old new : Held S) (f q l : List Term) (s : EventBuffer) → (state g old).now.schema ≡ queue_schema f q l
+    → HoldsBuffer (state g old).now.trees s → ExecuteAll g (queue_b_text ∷ lanes_b_text ∷ []) old new → HasSecond f q l s [] (state g new).now
+created_second g old new f q l s has holds ran =
+    let lanes = ran.3 in
+    let one = created_queue_b (state g old) (state g ran.0) ran.1 f q l s has holds ran.2 in
+    subst (λ (x : Held _). HasSecond f q l s [] (state g x).now) lanes.3 (created_lanes_b (state g ran.0) (state g lanes.0) lanes.1 f q l s one lanes.2)

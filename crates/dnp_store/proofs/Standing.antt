@@ -10,9 +10,9 @@ use Rattle.sqlite.specs.declared.error.Error.{Error}
 use Rattle.sqlite.specs.State.{State, IsNotRun, KeepsCommit, Survives}
 use Rattle.sqlite.proofs.InsideLemmas.{unchanged_keeps}
 use Rattle.dnp_store.specs.PairTables.{Checks, pair_schema, IsPair, HoldsPair, Sides}
-use Rattle.dnp_store.specs.Kept.{Stands}
+use Rattle.dnp_store.specs.QueueKept.{QueueStands}
 
-pub stands_if : (new : State) (b : Sides) (r : Result (Unit {0}) Error) → OnOk r (IsTrue new.is_open × IsPair new.committed b) → OnOk r (Stands new b)
+pub stands_if : (new : State) (b : Sides) (r : Result (Unit {0}) Error) → OnOk r (IsTrue new.is_open × IsPair new.committed b) → OnOk r (QueueStands new b)
 stands_if new b (Ok _) h = record { is_open = h.0; holds = h.1 }
 stands_if new b (Err _) h = tt
 

@@ -14,8 +14,8 @@ use Rattle.dnp_objects.specs.Lanes.{lane_number}
 use Rattle.dnp_objects.specs.declared.lane.LaneRow.{LaneRow}
 use Rattle.dnp_eventbuf.specs.declared.numbered.Numbered.{Numbered}
 use Rattle.dnp_eventbuf.specs.Latest.{numbered_for}
-use Rattle.dnp_eventbuf.specs.Sound.{IsSound}
-use Rattle.dnp_eventbuf.specs.Stock.{LaneState, Stock, lane_at, no_lane, with_row, with_rows, above}
+use Rattle.dnp_eventbuf.specs.Sound.{IsSoundBuffer}
+use Rattle.dnp_eventbuf.specs.EventBuffer.{LaneState, EventBuffer, lane_at, no_lane, with_row, with_rows, above}
 use Rattle.dnp_store.specs.declared.queue_side.QueueSide.{QueueSide}
 use Rattle.dnp_store.specs.Tables.{counts_of}
 use Rattle.dnp_store.specs.QueueTables.{Queued, event_of, in_lane, Figures, is_raised}
@@ -23,7 +23,7 @@ use Rattle.dnp_store.specs.PairTables.{lanes_tree, rows_name, rows_tree}
 use Rattle.dnp_store.specs.steps.Pairs.{HoldsFor, IsFor}
 use Rattle.dnp_store.specs.steps.Steps.{all_added, mixed, over, any_over, cut, counted, noted, IsTrimmed}
 use Rattle.dnp_store.proofs.Appending.{KeepsRows, behind, lane_added, nine_added, last_added, overflow_is}
-use Rattle.dnp_store.proofs.Holding.{lane_low, same_stock}
+use Rattle.dnp_store.proofs.Holding.{lane_low, same_buffer}
 
 -- ---- rows above an id
 
@@ -75,27 +75,28 @@ cut_at (x ∷ xs) (suc place) id rise at =
     under (y ∷ ys) zero all at = let same : y.id ≡ id = cc in subst (λ (m : ℕ). x.id < m) same all.0
     under (y ∷ ys) (suc place) all at = under ys place all.1 at
 
--- ---- the first lanes of one stock, the others of another
+-- ---- the first lanes of one buffer, the others of another
 
-pub mixed_low : (number k : ℕ) (a b : Stock) → length a.lanes ≡ LANES → length b.lanes ≡ LANES → number ≤ LANES → k < number
+pub mixed_low : (number k : ℕ) (a b : EventBuffer) → length a.lanes ≡ LANES → length b.lanes ≡ LANES → number ≤ LANES → k < number
     → lane_at (mixed number a b) k ≡ lane_at b k
 mixed_low number k a b na nb few low = grind (na, nb, few, low, arith, elements)
 
-pub mixed_high : (number k : ℕ) (a b : Stock) → length a.lanes ≡ LANES → length b.lanes ≡ LANES → number ≤ k → k < LANES
+pub mixed_high : (number k : ℕ) (a b : EventBuffer) → length a.lanes ≡ LANES → length b.lanes ≡ LANES → number ≤ k → k < LANES
     → lane_at (mixed number a b) k ≡ lane_at a k
 mixed_high number k a b na nb few low = grind (na, nb, few, low, arith, elements)
 
-pub nine_mixed : (number : ℕ) (a b : Stock) → length a.lanes ≡ LANES → length b.lanes ≡ LANES → number ≤ LANES → length (mixed number a b).lanes ≡ LANES
+pub nine_mixed : (number : ℕ) (a b : EventBuffer) → length a.lanes ≡ LANES → length b.lanes ≡ LANES → number ≤ LANES → length (mixed number a b).lanes ≡ LANES
 nine_mixed number a b na nb few = grind (na, nb, few, arith, elements)
 
-pub same_queue : (side : QueueSide) (others : Stock) (db : Database) (s t : Stock) (fs : List Figures) → HoldsFor side others db s fs
+pub same_queue : (side : QueueSide) (others : EventBuffer) (db : Database) (s t : EventBuffer) (fs : List Figures) → HoldsFor side others db s fs
     → ((k : ℕ) → k < LANES → lane_at t k ≡ lane_at s k) → t.last_id ≡ s.last_id → HoldsFor side others db t fs
 same_queue side others db s t fs h same last = record {
   checks = h.checks;
   schema = h.schema;
   form = h.form;
   counts = h.counts;
-  lanes = same_stock (rows_name side) (db.trees (rows_tree side)) (counts_of (rows_name side) (db.trees 2)) (db.trees (lanes_tree side)) s t fs h.lanes same last;
+  lanes = same_buffer (rows_name side) (db.trees (rows_tree side)) (counts_of (rows_name side) (db.trees 2)) (db.trees (lanes_tree side)) s t fs h.lanes same
+      last;
   rest = h.rest;
 }
 
@@ -116,11 +117,12 @@ raised_set (g ∷ fs) (suc k) f low is = ap (λ b. g.raised || b) (raised_set fs
 
 -- ---- one lane more has dropped what it had to
 
-module _ (keeps : KeepsRows) (s : Stock) (rows : List LaneRow) (number : ℕ) (sound : IsSound s) (low : number < LANES) (nine : length (with_rows s rows).lanes ≡ LANES) where
-  abbrev a : Stock
+module _ (keeps : KeepsRows) (s : EventBuffer) (rows : List LaneRow) (number : ℕ) (sound : IsSoundBuffer s) (low : number < LANES)
+    (nine : length (with_rows s rows).lanes ≡ LANES) where
+  abbrev a : EventBuffer
   a = all_added s rows
 
-  abbrev b : Stock
+  abbrev b : EventBuffer
   b = with_rows s rows
 
   abbrev here : List Numbered
@@ -149,7 +151,7 @@ module _ (keeps : KeepsRows) (s : Stock) (rows : List LaneRow) (number : ℕ) (s
       parts (lane_at b number) _ _ _ kept.capacity (kept.rows ∙ ap (λ (n : ℕ). drop n here) over_is)
       (kept.lost ∙ ap (λ (n : ℕ). (lane_at s number).lost + n) over_is)
 
-  moves : (t : Stock) → ((k : ℕ) → k < LANES → k ≢ number → lane_at t k ≡ lane_at (mixed number a b) k) → lane_at t number ≡ lane_at b number → (k : ℕ)
+  moves : (t : EventBuffer) → ((k : ℕ) → k < LANES → k ≢ number → lane_at t k ≡ lane_at (mixed number a b) k) → lane_at t number ≡ lane_at b number → (k : ℕ)
       → k < LANES → lane_at (mixed (suc number) a b) k ≡ lane_at t k
   moves t else there k k_low = elim (cases_eq k number) [
     | inl same ↦ subst (λ (m : ℕ). lane_at (mixed (suc number) a b) m ≡ lane_at t m) (sym same)
@@ -163,7 +165,8 @@ module _ (keeps : KeepsRows) (s : Stock) (rows : List LaneRow) (number : ℕ) (s
   ]
 
   -- it has room for all
-  pub trimmed_none : (side : QueueSide) (others : Stock) (db : Database) (raised : Bool) → over s rows number ≡ 0 → IsTrimmed side others db s rows raised number
+  pub trimmed_none : (side : QueueSide) (others : EventBuffer) (db : Database) (raised : Bool) → over s rows number ≡ 0
+      → IsTrimmed side others db s rows raised number
       → IsTrimmed side others db s rows raised (suc number)
   trimmed_none side others db raised none h =
       let m = mixed number a b in
@@ -175,10 +178,10 @@ module _ (keeps : KeepsRows) (s : Stock) (rows : List LaneRow) (number : ℕ) (s
       (h.0, same_queue side others db m (mixed (suc number) a b) h.0 h.1 (moves m (λ k k_low other. refl) same) refl, h.2 ∙ sym mark)
 
   -- it drops the rows up to an id
-  pub trimmed_some : (side : QueueSide) (others : Stock) (old new : Database) (raised : Bool) (upto lost : ℕ) → 0 < over s rows number
+  pub trimmed_some : (side : QueueSide) (others : EventBuffer) (old new : Database) (raised : Bool) (upto lost : ℕ) → 0 < over s rows number
       → option_map (λ (x : Numbered). x.id) (slice_get here (over s rows number - 1)) ≡ Some upto
       → lost ≡ (lane_at s number).lost + over s rows number
-      → ((t : Stock) (fs : List Figures) → length t.lanes ≡ LANES → HoldsFor side others old t fs
+      → ((t : EventBuffer) (fs : List Figures) → length t.lanes ≡ LANES → HoldsFor side others old t fs
       → HoldsFor side others new (counted (cut t number upto) number lost) (noted fs number lost true))
       → IsTrimmed side others old s rows raised number → IsTrimmed side others new s rows raised (suc number)
   trimmed_some side others old new raised upto lost some at lost_is did h =
@@ -213,7 +216,7 @@ module _ (keeps : KeepsRows) (s : Stock) (rows : List LaneRow) (number : ℕ) (s
 
 -- ---- numbers that a statement takes
 
-pub lost_low : KeepsRows → (s : Stock) (rows : List LaneRow) (number : ℕ) → IsSound s → number < LANES → IsSound (with_rows s rows)
+pub lost_low : KeepsRows → (s : EventBuffer) (rows : List LaneRow) (number : ℕ) → IsSoundBuffer s → number < LANES → IsSoundBuffer (with_rows s rows)
     → (lane_at s number).lost + over s rows number ≤ MAX_ID
 lost_low keeps s rows number sound low after =
     let lane = lane_b keeps s rows number sound low after.nine in
@@ -241,7 +244,7 @@ found_low [] place id n all at = absurd cc
 found_low (x ∷ xs) zero id n all at = let same : x.id ≡ id = cc in subst (λ (m : ℕ). m ≤ n) same all.0
 found_low (x ∷ xs) (suc place) id n all at = found_low xs place id n all.1 at
 
-pub id_low : (s : Stock) (rows : List LaneRow) (number place id : ℕ) → IsSound s → number < LANES → s.last_id + length rows ≤ 2 ^ 62
+pub id_low : (s : EventBuffer) (rows : List LaneRow) (number place id : ℕ) → IsSoundBuffer s → number < LANES → s.last_id + length rows ≤ 2 ^ 62
     → option_map (λ (x : Numbered). x.id) (slice_get ((lane_at s number).rows ++ numbered_for number s.last_id rows) place) ≡ Some id → id ≤ 2 ^ 62
 id_low s rows number place id sound low few at =
     let lane = recursion_from_All (λ (x : Numbered). x.id ≤ s.last_id) (lane_at s number).rows (sound.each number low).up_to_last in
@@ -256,7 +259,8 @@ is_there (x ∷ xs) (suc place) low none = is_there xs place (omega arith) none
 
 -- ---- the whole append
 
-begun : (side : QueueSide) (others : Stock) (db : Database) (s : Stock) (rows : List LaneRow) (fs : List Figures) → length s.lanes ≡ LANES → length (with_rows s rows).lanes ≡ LANES
+begun : (side : QueueSide) (others : EventBuffer) (db : Database) (s : EventBuffer) (rows : List LaneRow) (fs : List Figures) → length s.lanes ≡ LANES
+    → length (with_rows s rows).lanes ≡ LANES
     → (with_rows s rows).last_id ≡ (all_added s rows).last_id
     → s.overflow ≡ is_raised fs → HoldsFor side others db (all_added s rows) fs → IsTrimmed side others db s rows s.overflow 0
 begun side others db s rows fs nine_s nine_b last is h = (
@@ -266,14 +270,14 @@ begun side others db s rows fs nine_s nine_b last is h = (
   sym (or_false s.overflow ∙ is),
 )
 
-pub last_rows : (s : Stock) (xs : List LaneRow) → (with_rows s xs).last_id ≡ s.last_id + length xs
+pub last_rows : (s : EventBuffer) (xs : List LaneRow) → (with_rows s xs).last_id ≡ s.last_id + length xs
 last_rows s [] = omega arith
 last_rows s (x ∷ xs) = let h = last_rows (with_row s x) xs in omega (arith, h)
 
 -- the rows are put in, and then the lanes drop what they have to
-pub appended : KeepsRows → (side : QueueSide) (others : Stock) (old mid new : Database) (s : Stock) (rows : List LaneRow) → IsSound s
-    → IsSound (with_rows s rows) → IsFor side others old s
-    → ((t : Stock) (fs : List Figures) → length t.lanes ≡ LANES → HoldsFor side others old t fs
+pub appended : KeepsRows → (side : QueueSide) (others : EventBuffer) (old mid new : Database) (s : EventBuffer) (rows : List LaneRow) → IsSoundBuffer s
+    → IsSoundBuffer (with_rows s rows) → IsFor side others old s
+    → ((t : EventBuffer) (fs : List Figures) → length t.lanes ≡ LANES → HoldsFor side others old t fs
     → HoldsFor side others mid (all_added t rows) fs)
     → ((raised : Bool) → IsTrimmed side others mid s rows raised 0 → IsTrimmed side others new s rows raised LANES)
     → IsFor side others new (with_rows s rows)

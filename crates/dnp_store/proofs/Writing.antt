@@ -37,7 +37,7 @@ not_lost : {E : Type 0} (device f : E) (lost : Bool) → (IsTrue lost → f ≡ 
 not_lost device f true stops other = absurd (other (stops refl))
 not_lost device f false stops other = refl
 
-leaves_now : {X : Type 0} (Is : Database → X → Type 0) (Holds : Trees → X → Type 0) → ((db : Database) (x : X) → Is db x → Holds db.trees x) → (s : State) (x : X)
+pub leaves_now : {X : Type 0} (Is : Database → X → Type 0) (Holds : Trees → X → Type 0) → ((db : Database) (x : X) → Is db x → Holds db.trees x) → (s : State) (x : X)
     → Settled s → StandsAs Is s x → LeavesAs Holds s x
 leaves_now Is Holds holding s x settled stands = leaves_committed s (λ db. Holds db x) settled stands.is_open (holding s.committed x stands.holds)
 

@@ -3,7 +3,7 @@ pub mod Tables
 pub mod QueueTables
 pub mod PairTables
 pub mod Commits
-pub mod Kept
+pub mod QueueKept
 pub mod JournalTables
 pub mod JournalKept
 pub mod BookTables

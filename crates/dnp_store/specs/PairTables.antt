@@ -10,7 +10,7 @@ use Rattle.sqlite.specs.Tree.{Trees}
 use Rattle.sqlite.specs.Effect.{Database}
 use Rattle.dnp_eventbuf.specs.Sides.{at}
 use Rattle.dnp_objects.specs.declared.lane.LaneRow.{LaneRow}
-use Rattle.dnp_eventbuf.specs.Stock.{Stock, empty_stock, with_rows}
+use Rattle.dnp_eventbuf.specs.EventBuffer.{EventBuffer, empty_buffer, with_rows}
 use Rattle.dnp_store.specs.declared.queue_side.QueueSide.{QueueSide}
 use Rattle.dnp_store.specs.declared.queue_side.QueueSide.TheVariants.{First, Second}
 use Rattle.dnp_store.specs.Tables.{HaveOwnIds, table_of, schema_of, counts_of}
@@ -65,26 +65,26 @@ abbrev pub IsForm2 : List SqlRow → Type 0
 IsForm2 = IsForm 2
 
 -- the tables of a side hold these lanes, with these figures
-abbrev pub HoldsOn : QueueSide → Trees → Stock → List Figures → Type 0
+abbrev pub HoldsOn : QueueSide → Trees → EventBuffer → List Figures → Type 0
 HoldsOn side db = HoldsLanes (rows_name side) (db (rows_tree side)) (counts_of (rows_name side) (db 2)) (db (lanes_tree side))
 
 -- the tables of a side hold these lanes; their overflow stands where one of them has raised it
-pub record HoldsSide (side : QueueSide) (db : Trees) (s : Stock) : Type 0 where
+pub record HoldsSide (side : QueueSide) (db : Trees) (s : EventBuffer) : Type 0 where
   pub figures : List Figures
   pub lanes : HoldsOn side db s figures
   pub overflow : s.overflow ≡ is_raised figures
 
 -- the lanes for the first centre and for the second
 pub record Sides : Type 0 where
-  pub first : Stock
-  pub second : Stock
+  pub first : EventBuffer
+  pub second : EventBuffer
 
 -- those of one centre
-abbrev pub side_at : Sides → ℕ → Stock
+abbrev pub side_at : Sides → ℕ → EventBuffer
 side_at sides centre = at centre sides.first sides.second
 
 -- with others for one centre; those for the other centre are as they were
-abbrev pub with_side : Sides → ℕ → Stock → Sides
+abbrev pub with_side : Sides → ℕ → EventBuffer → Sides
 with_side sides centre s = if centre == 0 then record { first = s; second = sides.second } else record { first = sides.first; second = s }
 
 -- with rows put into their lanes for both
@@ -107,9 +107,9 @@ pub record IsPair (db : Database) (sides : Sides) : Type 0 where
 -- ---- from the form for one centre to that for two
 
 -- its lanes are the first centre's, and the second centre's are empty, with these capacities
-abbrev pub migrated : Stock → List ℕ → Sides
-migrated stock capacities = record { first = stock; second = empty_stock capacities }
+abbrev pub migrated : EventBuffer → List ℕ → Sides
+migrated buffer capacities = record { first = buffer; second = empty_buffer capacities }
 
 -- the trees hold what becomes of a queue for one centre, if the database is one
 abbrev pub HoldsMigrated : Database → List ℕ → Trees → Type 0
-HoldsMigrated old capacities db = (stock : Stock) → IsQueue old stock → HoldsPair db (migrated stock capacities)
+HoldsMigrated old capacities db = (buffer : EventBuffer) → IsQueue old buffer → HoldsPair db (migrated buffer capacities)

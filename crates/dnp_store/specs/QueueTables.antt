@@ -16,7 +16,7 @@ use Rattle.dnp_objects.specs.declared.limits.TheConstants.{LANES}
 use Rattle.dnp_objects.specs.declared.row.Kind.{Kind}
 use Rattle.dnp_objects.specs.declared.row.Kind.TheVariants.{Binary, Counter, Analog}
 use Rattle.dnp_eventbuf.specs.declared.numbered.Numbered.{Numbered}
-use Rattle.dnp_eventbuf.specs.Stock.{LaneState, Stock, lane_at}
+use Rattle.dnp_eventbuf.specs.EventBuffer.{LaneState, EventBuffer, lane_at}
 pub use Rattle.dnp_store.specs.declared.figures.Figures.{Figures}
 use Rattle.dnp_store.specs.Tables.{or_null, column_of, table_of, schema_of, IsCounted}
 
@@ -100,7 +100,7 @@ lane_of rows figures number = record {
 
 -- the rows of a queue's table, by their ids, and of its lanes', by their numbers, are those of the nine lanes, none of
 -- another, and the last id used stands among the counts under the table's name; in a table rows stand in no order
-pub record HoldsLanes (name : List ℕ) (events counts numbers : List SqlRow) (s : Stock) (figures : List Figures) : Type 0 where
+pub record HoldsLanes (name : List ℕ) (events counts numbers : List SqlRow) (s : EventBuffer) (figures : List Figures) : Type 0 where
   pub queued : List Queued
   pub queue_is : IsPermutation (map queued_row queued) events
   pub lanes_is : IsPermutation (figures_rows 0 figures) numbers
@@ -112,7 +112,7 @@ pub record HoldsLanes (name : List ℕ) (events counts numbers : List SqlRow) (s
   pub lanes : (number : ℕ) → number < LANES → lane_at s number ≡ lane_of queued figures number
 
 -- in `queue`, `sqlite_sequence` and `lanes`
-abbrev pub HoldsIn : Trees → Stock → List Figures → Type 0
+abbrev pub HoldsIn : Trees → EventBuffer → List Figures → Type 0
 HoldsIn db = HoldsLanes (codes "queue") (db 1) (db 2) (db 3)
 
 -- `form` is one row with the number 1
@@ -120,7 +120,7 @@ abbrev pub IsForm1 : List SqlRow → Type 0
 IsForm1 rows = (id : ℤ) × (rows ≡ (Int id ∷ Int (pos 1) ∷ []) ∷ [])
 
 -- the database is a queue's, and holds these lanes
-pub record HoldsQueue (db : Database) (s : Stock) (figures : List Figures) : Type 0 where
+pub record HoldsQueue (db : Database) (s : EventBuffer) (figures : List Figures) : Type 0 where
   pub form_checks : List Term
   pub queue_checks : List Term
   pub lanes_checks : List Term
@@ -133,16 +133,16 @@ abbrev pub is_raised : List Figures → Bool
 is_raised figures = list_any (λ f. f.raised) figures
 
 -- the trees are a queue's, and hold these lanes
-pub record HoldsStock (db : Trees) (s : Stock) : Type 0 where
+pub record HoldsBuffer (db : Trees) (s : EventBuffer) : Type 0 where
   pub figures : List Figures
   pub form : IsForm1 (db 0)
   pub lanes : HoldsIn db s figures
   pub overflow : s.overflow ≡ is_raised figures
 
 -- the database is a queue's, and holds these lanes
-pub record IsQueue (db : Database) (s : Stock) : Type 0 where
+pub record IsQueue (db : Database) (s : EventBuffer) : Type 0 where
   pub form_checks : List Term
   pub queue_checks : List Term
   pub lanes_checks : List Term
   pub schema : db.schema ≡ queue_schema form_checks queue_checks lanes_checks
-  pub holds : HoldsStock db.trees s
+  pub holds : HoldsBuffer db.trees s

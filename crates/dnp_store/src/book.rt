@@ -5,7 +5,7 @@ ghost use Rattle.sqlite.specs.Held.{state};
 ghost use Rattle.sqlite.specs.State.{HasCleanDisk};
 ghost use Rattle.dnp_controls.specs.Book.{Has, added, entry_of, finished, is_finished, is_pending, next_of, rows_of, spent};
 ghost use Rattle.dnp_controls.specs.Calls.{IsBookCall};
-ghost use Rattle.dnp_store.specs.BookKept.{IsHonest, Leaves, LeavesEither};
+ghost use Rattle.dnp_store.specs.BookKept.{IsHonestBook, LeavesBook, LeavesEitherBook};
 ghost use Rattle.dnp_store.specs.Refusals.{IsLost};
 
 use crate::book_calls::{add_to, is_device, turn_to};
@@ -36,15 +36,15 @@ pub struct ControlBook<S: Alter> {
 }
 
 impl<S: Alter> Model for ControlBook<S> {
-    ghost use Rattle.dnp_store.specs.BookKept.{Kept, kept_code, Keeps};
+    ghost use Rattle.dnp_store.specs.BookKept.{BookValue, kept_code, BookInvariant};
 
-    ghost Value = { Kept S };
+    ghost Value = { BookValue S };
 
     ghost coded = { kept_code S.code };
 
     ghost view = { λ b. record { conn = b.conn; ledger = record { entries = b.entries.items; last_id = b.last_id }; stopped = b.stopped; owned = b.owned } };
 
-    ghost invariant = { λ b. Keeps S.Store b.conn (record { entries = b.entries.items; last_id = b.last_id }) b.first b.stopped b.owned };
+    ghost invariant = { λ b. BookInvariant S.Store b.conn (record { entries = b.entries.items; last_id = b.last_id }) b.first b.stopped b.owned };
 }
 
 impl<S: Alter + Drop> Drop for ControlBook<S> {
@@ -94,7 +94,7 @@ pub(crate) fn book_fault(lost: bool) -> BookFault
 impl<S: Alter> Book for ControlBook<S> {
     ghost contents = { λ b. b.ledger };
 
-    ghost honest = { IsHonest S.Store };
+    ghost honest = { IsHonestBook S.Store };
 
     ghost is_stopped = { λ b. b.stopped };
 
@@ -103,7 +103,7 @@ impl<S: Alter> Book for ControlBook<S> {
     /// What a crash leaves at any exit holds the entries before or after, and after Ok those after.
     fn add(&mut self, alloc: Global, target: u8, command: &Command) -> Result<u64, BookFault>
         requires { target < TARGETS }
-        ensures call { IsBookCall (IsHonest S.Store) (λ b. b.stopped) (λ b. b.ledger) self.old self.new result }
+        ensures call { IsBookCall (IsHonestBook S.Store) (λ b. b.stopped) (λ b. b.ledger) self.old self.new result }
         ensures added { OnOk result (self.new.ledger ≡ added self.old.ledger target command.now) }
         ensures id { IfOk result (λ id. id ≡ self.old.ledger.last_id + 1) }
         ensures kept { OnErr result (self.new.ledger ≡ self.old.ledger) }
@@ -114,8 +114,8 @@ impl<S: Alter> Book for ControlBook<S> {
         ensures exhausted_first { IfErr result (λ e. e ≡ BookFault.Memory → self.old.ledger.last_id < MAX_ID) }
         ensures exhausted_always { self.old.stopped ≡ false → MAX_ID ≤ self.old.ledger.last_id → (result ≡ Err BookFault.Exhausted) × (self.new ≡ self.old) }
         ensures named { IfErr result (λ e. (e ≢ BookFault.NoControl) × (e ≢ BookFault.NotPending)) }
-        ensures either { HasCleanDisk (state S.Store self.new.conn) → self.old.stopped ≡ false → IsTrue self.old.owned → LeavesEither (state S.Store self.new.conn) self.old.ledger (added self.old.ledger target command.now) }
-        ensures after { HasCleanDisk (state S.Store self.new.conn) → IsTrue self.old.owned → OnOk result (Leaves (state S.Store self.new.conn) self.new.ledger) }
+        ensures either { HasCleanDisk (state S.Store self.new.conn) → self.old.stopped ≡ false → IsTrue self.old.owned → LeavesEitherBook (state S.Store self.new.conn) self.old.ledger (added self.old.ledger target command.now) }
+        ensures after { HasCleanDisk (state S.Store self.new.conn) → IsTrue self.old.owned → OnOk result (LeavesBook (state S.Store self.new.conn) self.new.ledger) }
         ensures untouched { IsTrue self.old.stopped → self.new.conn ≡ self.old.conn }
         ensures device { HasCleanDisk (state S.Store self.new.conn) → result ≡ Err BookFault.Device → IsTrue self.old.stopped ⊎ IsLost S.Store StoreKind.Book self.old.conn self.new.conn }
     {
@@ -134,7 +134,7 @@ impl<S: Alter> Book for ControlBook<S> {
     }
 
     fn next(&mut self, _alloc: Global, target: u8) -> Result<Option<Entry>, BookFault>
-        ensures call { IsBookCall (IsHonest S.Store) (λ b. b.stopped) (λ b. b.ledger) self.old self.new result }
+        ensures call { IsBookCall (IsHonestBook S.Store) (λ b. b.stopped) (λ b. b.ledger) self.old self.new result }
         ensures value { IfOk result (λ entry. entry ≡ next_of self.old.ledger.entries target) }
         ensures same { self.new ≡ self.old }
         ensures named { IfErr result (λ e. e ≡ BookFault.Device) }
@@ -151,7 +151,7 @@ impl<S: Alter> Book for ControlBook<S> {
 
     /// What a crash leaves at any exit holds the entries before or after, and after Ok those after.
     fn spend(&mut self, _alloc: Global, id: u64) -> Result<(), BookFault>
-        ensures call { IsBookCall (IsHonest S.Store) (λ b. b.stopped) (λ b. b.ledger) self.old self.new result }
+        ensures call { IsBookCall (IsHonestBook S.Store) (λ b. b.stopped) (λ b. b.ledger) self.old self.new result }
         ensures was_pending { OnOk result (Has self.old.ledger.entries id is_pending) }
         ensures spent { OnOk result (self.new.ledger ≡ spent self.old.ledger id) }
         ensures kept { OnErr result (self.new.ledger ≡ self.old.ledger) }
@@ -163,8 +163,8 @@ impl<S: Alter> Book for ControlBook<S> {
         ensures not_pending_always { self.old.stopped ≡ false → Has self.old.ledger.entries id (λ control. not (is_pending control)) → (result ≡ Err BookFault.NotPending) × (self.new ≡ self.old) }
         ensures named { IfErr result (λ e. e ≢ BookFault.Exhausted) }
         ensures memory { result ≡ Err BookFault.Memory → IsTrue true }
-        ensures either { HasCleanDisk (state S.Store self.new.conn) → self.old.stopped ≡ false → IsTrue self.old.owned → LeavesEither (state S.Store self.new.conn) self.old.ledger (spent self.old.ledger id) }
-        ensures after { HasCleanDisk (state S.Store self.new.conn) → IsTrue self.old.owned → OnOk result (Leaves (state S.Store self.new.conn) self.new.ledger) }
+        ensures either { HasCleanDisk (state S.Store self.new.conn) → self.old.stopped ≡ false → IsTrue self.old.owned → LeavesEitherBook (state S.Store self.new.conn) self.old.ledger (spent self.old.ledger id) }
+        ensures after { HasCleanDisk (state S.Store self.new.conn) → IsTrue self.old.owned → OnOk result (LeavesBook (state S.Store self.new.conn) self.new.ledger) }
         ensures untouched { IsTrue self.old.stopped → self.new.conn ≡ self.old.conn }
         ensures device { HasCleanDisk (state S.Store self.new.conn) → result ≡ Err BookFault.Device → IsTrue self.old.stopped ⊎ IsLost S.Store StoreKind.Book self.old.conn self.new.conn }
     {
@@ -184,7 +184,7 @@ impl<S: Alter> Book for ControlBook<S> {
 
     /// What a crash leaves at any exit holds the entries before or after, and after Ok those after.
     fn finish(&mut self, _alloc: Global, id: u64, status: Status) -> Result<(), BookFault>
-        ensures call { IsBookCall (IsHonest S.Store) (λ b. b.stopped) (λ b. b.ledger) self.old self.new result }
+        ensures call { IsBookCall (IsHonestBook S.Store) (λ b. b.stopped) (λ b. b.ledger) self.old self.new result }
         ensures was_open { OnOk result (Has self.old.ledger.entries id (λ control. not (is_finished control))) }
         ensures finished { OnOk result (self.new.ledger ≡ finished self.old.ledger id status) }
         ensures kept { OnErr result (self.new.ledger ≡ self.old.ledger) }
@@ -198,8 +198,8 @@ impl<S: Alter> Book for ControlBook<S> {
         ensures was_finished_always { self.old.stopped ≡ false → Has self.old.ledger.entries id is_finished → (result ≡ Err BookFault.NotPending) × (self.new ≡ self.old) }
         ensures named { IfErr result (λ e. e ≢ BookFault.Exhausted) }
         ensures memory { result ≡ Err BookFault.Memory → IsTrue true }
-        ensures either { HasCleanDisk (state S.Store self.new.conn) → self.old.stopped ≡ false → IsTrue self.old.owned → LeavesEither (state S.Store self.new.conn) self.old.ledger (finished self.old.ledger id status) }
-        ensures after { HasCleanDisk (state S.Store self.new.conn) → IsTrue self.old.owned → OnOk result (Leaves (state S.Store self.new.conn) self.new.ledger) }
+        ensures either { HasCleanDisk (state S.Store self.new.conn) → self.old.stopped ≡ false → IsTrue self.old.owned → LeavesEitherBook (state S.Store self.new.conn) self.old.ledger (finished self.old.ledger id status) }
+        ensures after { HasCleanDisk (state S.Store self.new.conn) → IsTrue self.old.owned → OnOk result (LeavesBook (state S.Store self.new.conn) self.new.ledger) }
     {
         if self.stopped {
             return Err(BookFault::Device);
@@ -216,7 +216,7 @@ impl<S: Alter> Book for ControlBook<S> {
     }
 
     fn rows(&mut self, alloc: Global, from: u64, most: usize) -> Result<Vec<Entry>, BookFault>
-        ensures call { IsBookCall (IsHonest S.Store) (λ b. b.stopped) (λ b. b.ledger) self.old self.new result }
+        ensures call { IsBookCall (IsHonestBook S.Store) (λ b. b.stopped) (λ b. b.ledger) self.old self.new result }
         ensures rows { IfOk result (λ rows. rows.items ≡ rows_of self.old.ledger.entries from most) }
         ensures same { self.new ≡ self.old }
         ensures named { IfErr result (λ e. (e ≡ BookFault.Memory) ⊎ (e ≡ BookFault.Device)) }

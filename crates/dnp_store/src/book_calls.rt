@@ -2,7 +2,7 @@
 
 ghost use Rattle.std.specs.Prelude.{◌≡◌, ◌≢◌, ◌⊎◌, ◌+◌, ◌<◌, ◌≤◌, AllPairs, ℕ, false, not, IsTrue, IfErr, IfOk, None, OnErr, OnOk, Err};
 ghost use Rattle.dnp_objects.specs.declared.limits.TheConstants as limits;
-ghost use Rattle.dnp_controls.specs.Book.{Has, IsSound, added, entry_of, in_state};
+ghost use Rattle.dnp_controls.specs.Book.{Has, IsSoundLedger, added, entry_of, in_state};
 ghost use Rattle.dnp_store.specs.BookKept.{IsPast};
 ghost use Rattle.dnp_store.specs.BookTables.{HoldsBook, IsBook};
 ghost use Rattle.dnp_store.specs.steps.Turning.{is_barred, may_turn};
@@ -69,9 +69,9 @@ pub(crate) fn turn_to<S: Alter>(
     control: &State,
 ) -> Result<(), BookFault>
     requires idle { conn.old.in_transaction ≡ false }
-    requires sound { IsSound (record { entries = entries.old.items; last_id = last_id }) }
+    requires sound { IsSoundLedger (record { entries = entries.old.items; last_id = last_id }) }
     requires range { last_id ≤ limits.MAX_ID }
-    ensures sound { IsSound (record { entries = entries.new.items; last_id = last_id }) }
+    ensures sound { IsSoundLedger (record { entries = entries.new.items; last_id = last_id }) }
     ensures past { (first : ℕ) → IsPast entries.old.items first → IsPast entries.new.items first }
     ensures granted { OnOk result (Has entries.old.items id (λ from. may_turn from control.now)) }
     ensures turned { OnOk result (entries.new.items ≡ in_state entries.old.items id control.now) }
@@ -104,9 +104,9 @@ pub(crate) fn add_to<S: Alter>(
     command: &Command,
 ) -> Result<u64, BookFault>
     requires idle { conn.old.in_transaction ≡ false }
-    requires sound { IsSound (record { entries = entries.old.items; last_id = last_id.old }) }
+    requires sound { IsSoundLedger (record { entries = entries.old.items; last_id = last_id.old }) }
     requires range { last_id.old ≤ limits.MAX_ID }
-    ensures sound { IsSound (record { entries = entries.new.items; last_id = last_id.new }) }
+    ensures sound { IsSoundLedger (record { entries = entries.new.items; last_id = last_id.new }) }
     ensures past { (first : ℕ) → IsPast entries.old.items first → IsPast entries.new.items first }
     ensures range { last_id.new ≤ limits.MAX_ID }
     ensures added { OnOk result (record { entries = entries.new.items; last_id = last_id.new } ≡ added (record { entries = entries.old.items; last_id = last_id.old }) target command.now) }

@@ -4,11 +4,11 @@ ghost use Rattle.std.specs.Prelude.{◌≡◌, ◌≢◌, ◌↔◌, ◌≤◌, 
 ghost use Rattle.sqlite.specs.Held.{Held, state};
 ghost use Rattle.sqlite.specs.State.{HasCleanDisk, Survives};
 ghost use Rattle.sqlite.specs.Steps.{IsEmpty, over_memory};
-ghost use Rattle.dnp_controls.specs.Book.{IsSound, empty_ledger};
+ghost use Rattle.dnp_controls.specs.Book.{IsSoundLedger, empty_ledger};
 ghost use Rattle.dnp_objects.specs.declared.limits.TheConstants as limits;
 ghost use Rattle.dnp_store.specs.steps.Beginning.{IsFound};
 ghost use Rattle.dnp_store.specs.steps.BookShown.{IsBookFound};
-ghost use Rattle.dnp_store.specs.BookKept.{IsHonest, Leaves, Stands};
+ghost use Rattle.dnp_store.specs.BookKept.{IsHonestBook, LeavesBook, BookStands};
 ghost use Rattle.dnp_store.specs.BookTables.{HoldsBook, IsBook};
 ghost use Rattle.dnp_store.specs.Refusals.{IsLost, IsTaken};
 ghost use Rattle.dnp_store.specs.Schemas.{made_book};
@@ -30,7 +30,7 @@ fn find_book<S: Alter>(
 ) -> Result<(FoundBook, bool), OpenFault>
     requires { entries.old.items ≡ [] }
     ensures found { IsFound S.Store (λ old new found. IsTrue found.1 → IsBookFound old new entries.new.items found.0.last_id) conn.old conn.new result }
-    ensures sound { IfOk result (λ found. IsSound (record { entries = entries.new.items; last_id = found.0.last_id }) × (found.0.last_id ≤ limits.MAX_ID)) }
+    ensures sound { IfOk result (λ found. IsSoundLedger (record { entries = entries.new.items; last_id = found.0.last_id }) × (found.0.last_id ≤ limits.MAX_ID)) }
 {
     if !conn.is_autocommit() {
         return Err(OpenFault::WrongForm);
@@ -53,7 +53,7 @@ impl<S: Alter> ControlBook<S> {
         ensures held { IfOk result (λ b. HasCleanDisk (state S.Store b.conn) → HasCleanDisk (state S.Store conn)) }
         ensures empty { IfOk result (λ b. (b.ledger ≡ empty_ledger) × (b.stopped ≡ false)) }
         ensures owned { IfOk result (λ b. IsTrue b.owned ↔ ((state S.Store conn).now.schema ≡ no_schema)) }
-        ensures stands { IfOk result (λ b. HasCleanDisk (state S.Store b.conn) → IsTrue b.owned → Stands (state S.Store b.conn) b.ledger) }
+        ensures stands { IfOk result (λ b. HasCleanDisk (state S.Store b.conn) → IsTrue b.owned → BookStands (state S.Store b.conn) b.ledger) }
         ensures same { IfErr result (λ e. HasCleanDisk (state S.Store e.1) → IsTrue (state S.Store e.1).is_open → (state S.Store e.1).committed ≡ (state S.Store conn).committed) }
         ensures schema { IfOk result (λ b. HasCleanDisk (state S.Store b.conn) → IsTrue b.owned → (state S.Store b.conn).committed.schema ≡ made_book) }
         ensures made { IfOk result (λ b. Survives (state S.Store conn) (state S.Store b.conn) (λ db. (state S.Store conn).now.schema ≡ no_schema → HoldsBook db empty_ledger)) }
@@ -91,7 +91,7 @@ impl<S: Alter> ControlBook<S> {
         ensures held { IfOk result (λ b. HasCleanDisk (state S.Store b.conn) → HasCleanDisk (state S.Store conn)) }
         ensures serves { IfOk result (λ b. b.stopped ≡ false) }
         ensures found { IfOk result (λ b. HasCleanDisk (state S.Store b.conn) → IsTrue b.owned → IsBook (state S.Store conn).committed b.ledger) }
-        ensures stands { IfOk result (λ b. HasCleanDisk (state S.Store b.conn) → IsTrue b.owned → Stands (state S.Store b.conn) b.ledger) }
+        ensures stands { IfOk result (λ b. HasCleanDisk (state S.Store b.conn) → IsTrue b.owned → BookStands (state S.Store b.conn) b.ledger) }
         ensures same { IfErr result (λ e. HasCleanDisk (state S.Store e.1) → IsTrue (state S.Store e.1).is_open → (state S.Store e.1).committed ≡ (state S.Store conn).committed) }
         ensures unwritten { IfOk result (λ b. Survives (state S.Store conn) (state S.Store b.conn) (λ _. ⊥)) }
         ensures left { IfErr result (λ e. Survives (state S.Store conn) (state S.Store e.1) (λ _. ⊥)) }
@@ -125,7 +125,7 @@ impl<S: Alter> ControlBook<S> {
     /// entries as they stand.
     pub fn serves(&self) -> bool
         ensures value { result ≡ not self.now.stopped }
-        ensures left { HasCleanDisk (state S.Store self.now.conn) → IsTrue result → IsTrue self.now.owned → Leaves (state S.Store self.now.conn) self.now.ledger }
+        ensures left { HasCleanDisk (state S.Store self.now.conn) → IsTrue result → IsTrue self.now.owned → LeavesBook (state S.Store self.now.conn) self.now.ledger }
     {
         !self.stopped
     }
@@ -136,7 +136,7 @@ impl ControlBook<MemStore> {
     ///
     /// Memory where it ran out; Device where the database failed otherwise.
     pub fn in_memory(alloc: Global) -> Result<ControlBook<MemStore>, OpenFault>
-        ensures honest { IfOk result (IsHonest over_memory) }
+        ensures honest { IfOk result (IsHonestBook over_memory) }
         ensures empty { IfOk result (λ b. b.ledger ≡ empty_ledger) }
         ensures device { result ≡ Err OpenFault.Device → (old new : Held MemStore) × IsEmpty (state over_memory old) × IsLost over_memory StoreKind.Book old new }
         ensures taken { result ≡ Err OpenFault.WrongForm → (old new : Held MemStore) × IsEmpty (state over_memory old) × IsTaken over_memory StoreKind.Book old new }
@@ -153,7 +153,7 @@ impl ControlBook<MemStore> {
     /// Whether the book is honest still: it has not answered Device, and its database is its own. So what
     /// was promised under that premise held up to this moment.
     pub fn is_well(&self) -> bool
-        ensures { IsTrue result → IsHonest over_memory self.now }
+        ensures { IsTrue result → IsHonestBook over_memory self.now }
     {
         self.serves() && self.owns_database()
     }

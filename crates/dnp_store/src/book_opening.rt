@@ -7,7 +7,7 @@ ghost use Rattle.sqlite.specs.State.{HasCleanDisk, Survives};
 ghost use Rattle.sqlite.specs.Term.{Term};
 ghost use Rattle.dnp_objects.specs.declared.limits.TheConstants as limits;
 ghost use Rattle.dnp_controls.specs.declared.book.Entry.{Entry};
-ghost use Rattle.dnp_controls.specs.Book.{IsSound};
+ghost use Rattle.dnp_controls.specs.Book.{IsSoundLedger};
 ghost use Rattle.dnp_store.specs.steps.Inside.{IsInside, IsStep};
 ghost use Rattle.dnp_store.specs.steps.BookShown.{EntriesRise, FindsBook, HoldsEntries, ShowEntries};
 ghost use Rattle.dnp_store.specs.steps.Shown.{ShowsCount};
@@ -76,7 +76,7 @@ fn read_all<S: Alter>(
     ensures step { IsStep S.Store tx.old.conn tx.new.conn result }
     ensures open { HasCleanDisk (state S.Store tx.new.conn.now) → OnOk result (IsTrue (state S.Store tx.old.conn.now).is_open) }
     ensures range { IfOk result (λ found. found.last_id ≤ limits.MAX_ID) }
-    ensures sound { IfOk result (λ found. IsSound (record { entries = entries.new.items; last_id = found.last_id })) }
+    ensures sound { IfOk result (λ found. IsSoundLedger (record { entries = entries.new.items; last_id = found.last_id })) }
     ensures read { HasCleanDisk (state S.Store tx.new.conn.now) → IfOk result (λ found. IsTrue found.counted → (f c : List Term) → IsDatabase (state S.Store tx.old.conn.now).now
         → (state S.Store tx.old.conn.now).now.schema ≡ book_schema f c → FindsBook (state S.Store tx.old.conn.now).now entries.new.items found.last_id) }
 {
@@ -106,7 +106,7 @@ pub(crate) fn read_book<S: Alter>(
     requires empty { entries.old.items ≡ [] }
     ensures idle { conn.new.in_transaction ≡ false }
     ensures range { IfOk result (λ found. found.0.last_id ≤ limits.MAX_ID) }
-    ensures sound { IfOk result (λ found. IsSound (record { entries = entries.new.items; last_id = found.0.last_id })) }
+    ensures sound { IfOk result (λ found. IsSoundLedger (record { entries = entries.new.items; last_id = found.0.last_id })) }
     ensures read { HasCleanDisk (state S.Store conn.new) → IfOk result (λ found. IsTrue found.1 → FindsBook (state S.Store conn.old).committed entries.new.items found.0.last_id) }
     ensures same { HasCleanDisk (state S.Store conn.new) → IsTrue (state S.Store conn.new).is_open
         → IsTrue (state S.Store conn.old).is_open × ((state S.Store conn.new).committed ≡ (state S.Store conn.old).committed) }

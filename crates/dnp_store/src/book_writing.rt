@@ -3,10 +3,10 @@
 ghost use Rattle.std.specs.Prelude.{◌≡◌, ◌<◌, ◌^◌, false, IsSome, IsTrue, OnOk, OnErr, IfErr};
 ghost use Rattle.sqlite.specs.Held.{state};
 ghost use Rattle.sqlite.specs.State.{HasCleanDisk, Survives};
-ghost use Rattle.dnp_controls.specs.Book.{IsSound, Ledger, added, entry_of, in_state};
+ghost use Rattle.dnp_controls.specs.Book.{IsSoundLedger, Ledger, added, entry_of, in_state};
 ghost use Rattle.dnp_store.specs.Refusals.{IsRefused};
 ghost use Rattle.dnp_store.specs.steps.Inside.{IsInside, IsStep};
-ghost use Rattle.dnp_store.specs.BookKept.{Stands};
+ghost use Rattle.dnp_store.specs.BookKept.{BookStands};
 ghost use Rattle.dnp_store.specs.BookTables.{HoldsBook, IsBook};
 
 use crate::book_columns::{columns_of, state_columns};
@@ -22,7 +22,7 @@ fn insert<S: Alter>(tx: &mut Transaction<'_, S>, target: u8, command: &Command) 
     requires inside { IsInside S.Store tx.old.conn }
     ensures step { IsStep S.Store tx.old.conn tx.new.conn result }
     ensures refused { HasCleanDisk (state S.Store tx.new.conn.now) → IfErr result (IsRefused S.Store StoreKind.Book tx.old.conn.now tx.new.conn.now) }
-    ensures added { HasCleanDisk (state S.Store tx.new.conn.now) → OnOk result ((book : Ledger) → IsSound book → IsBook (state S.Store tx.old.conn.now).now book
+    ensures added { HasCleanDisk (state S.Store tx.new.conn.now) → OnOk result ((book : Ledger) → IsSoundLedger book → IsBook (state S.Store tx.old.conn.now).now book
         → IsBook (state S.Store tx.new.conn.now).now (added book target command.now)) }
 {
     let target = u32::from(target);
@@ -47,7 +47,7 @@ fn turn<S: Alter>(tx: &mut Transaction<'_, S>, id: u64, control: State) -> Resul
     requires id { id < 2 ^ 63 }
     ensures step { IsStep S.Store tx.old.conn tx.new.conn result }
     ensures refused { HasCleanDisk (state S.Store tx.new.conn.now) → IfErr result (IsRefused S.Store StoreKind.Book tx.old.conn.now tx.new.conn.now) }
-    ensures turned { HasCleanDisk (state S.Store tx.new.conn.now) → OnOk result ((book : Ledger) → IsSound book → IsSome (entry_of book.entries id) → IsBook (state S.Store tx.old.conn.now).now book
+    ensures turned { HasCleanDisk (state S.Store tx.new.conn.now) → OnOk result ((book : Ledger) → IsSoundLedger book → IsSome (entry_of book.entries id) → IsBook (state S.Store tx.old.conn.now).now book
         → IsBook (state S.Store tx.new.conn.now).now (record book { entries = in_state book.entries id control })) }
 {
     let id = id as i64;
@@ -67,10 +67,10 @@ pub(crate) fn write_added<S: Alter>(
 ) -> Result<(), Error>
     requires idle { conn.old.in_transaction ≡ false }
     ensures idle { conn.new.in_transaction ≡ false }
-    ensures ok { HasCleanDisk (state S.Store conn.new) → (book : Ledger) → IsSound book → Stands (state S.Store conn.old) book → OnOk result (Stands (state S.Store conn.new) (added book target command.now)) }
+    ensures ok { HasCleanDisk (state S.Store conn.new) → (book : Ledger) → IsSoundLedger book → BookStands (state S.Store conn.old) book → OnOk result (BookStands (state S.Store conn.new) (added book target command.now)) }
     ensures err { HasCleanDisk (state S.Store conn.new) → IsTrue (state S.Store conn.new).is_open → OnErr result (IsTrue (state S.Store conn.old).is_open × ((state S.Store conn.new).committed ≡ (state S.Store conn.old).committed)) }
     ensures refused { HasCleanDisk (state S.Store conn.new) → IfErr result (IsRefused S.Store StoreKind.Book conn.old conn.new) }
-    ensures survives { Survives (state S.Store conn.old) (state S.Store conn.new) (λ db. (book : Ledger) → IsSound book → Stands (state S.Store conn.old) book → HoldsBook db (added book target command.now)) }
+    ensures survives { Survives (state S.Store conn.old) (state S.Store conn.new) (λ db. (book : Ledger) → IsSoundLedger book → BookStands (state S.Store conn.old) book → HoldsBook db (added book target command.now)) }
 {
     prove!(conn.is_autocommit());
     let mut tx = conn.transaction();
@@ -87,11 +87,11 @@ pub(crate) fn write_turned<S: Alter>(
     requires idle { conn.old.in_transaction ≡ false }
     requires id { id < 2 ^ 63 }
     ensures idle { conn.new.in_transaction ≡ false }
-    ensures ok { HasCleanDisk (state S.Store conn.new) → (book : Ledger) → IsSound book → IsSome (entry_of book.entries id) → Stands (state S.Store conn.old) book
-        → OnOk result (Stands (state S.Store conn.new) (record book { entries = in_state book.entries id control })) }
+    ensures ok { HasCleanDisk (state S.Store conn.new) → (book : Ledger) → IsSoundLedger book → IsSome (entry_of book.entries id) → BookStands (state S.Store conn.old) book
+        → OnOk result (BookStands (state S.Store conn.new) (record book { entries = in_state book.entries id control })) }
     ensures err { HasCleanDisk (state S.Store conn.new) → IsTrue (state S.Store conn.new).is_open → OnErr result (IsTrue (state S.Store conn.old).is_open × ((state S.Store conn.new).committed ≡ (state S.Store conn.old).committed)) }
     ensures refused { HasCleanDisk (state S.Store conn.new) → IfErr result (IsRefused S.Store StoreKind.Book conn.old conn.new) }
-    ensures survives { Survives (state S.Store conn.old) (state S.Store conn.new) (λ db. (book : Ledger) → IsSound book → IsSome (entry_of book.entries id) → Stands (state S.Store conn.old) book
+    ensures survives { Survives (state S.Store conn.old) (state S.Store conn.new) (λ db. (book : Ledger) → IsSoundLedger book → IsSome (entry_of book.entries id) → BookStands (state S.Store conn.old) book
         → HoldsBook db (record book { entries = in_state book.entries id control })) }
 {
     prove!(conn.is_autocommit());

@@ -4,8 +4,8 @@ ghost use Rattle.std.specs.Prelude.{◌≡◌, ◌≢◌, ◌<◌, ◌≤◌, �
 ghost use Rattle.sqlite.specs.declared.types.Value.TheVariants.{Int, Text};
 ghost use Rattle.sqlite.specs.Order.{column};
 ghost use Rattle.dnp_objects.specs.declared.limits.TheConstants as limits;
-ghost use Rattle.dnp_eventbuf.specs.Carried.{IsCarried};
-ghost use Rattle.dnp_eventbuf.specs.Stock.{lane_at};
+ghost use Rattle.dnp_eventbuf.specs.FitsLane.{FitsLane};
+ghost use Rattle.dnp_eventbuf.specs.EventBuffer.{lane_at};
 ghost use Rattle.dnp_store.specs.QueueTables.{is_raised, no_figures};
 ghost use Rattle.dnp_store.specs.Tables.{or_null};
 ghost use Rattle.dnp_store.specs.steps.Shown.{AreInRange, AreNine, IsBegun, LackNine, Restores, ShowNine, IsMost, ShowsCount, ShowsCountOf, ShowsFigures, ShowsForm, ShowsForm1, ShowsQueued, ShowsTwo};
@@ -352,7 +352,7 @@ pub(crate) fn begun(
 
 /// The row's id, lane and event, if it has them, in their ranges.
 fn queued_in(row: &Shown) -> Option<(u64, LaneRow)>
-    ensures { IfSome result (λ x. ShowsQueued row.now x.0 x.1 × IsCarried x.1) }
+    ensures { IfSome result (λ x. ShowsQueued row.now x.0 x.1 × FitsLane x.1) }
 {
     let id = whole(row, 0)?;
     let lane = Lane::numbered(small(row, 1)? as usize)?;

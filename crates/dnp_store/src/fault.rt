@@ -43,8 +43,10 @@ pub(crate) fn probe<S: Alter>(conn: &mut Connection<S>) -> Result<(), Error>
     ensures refused { HasCleanDisk (state S.Store conn.new) → IfErr result (λ e. (params : Row) → IsNotRun (state S.Store conn.old) (state S.Store conn.new) [] params e) }
     ensures survives { Survives (state S.Store conn.old) (state S.Store conn.new) (λ _. ⊥) }
 {
-    let _nothing = conn.prepare("")?;
-    Ok(())
+    match conn.prepare("") {
+        Ok(_nothing) => Ok(()),
+        Err(error) => Err(error),
+    }
 }
 
 /// Whether the connection still serves.

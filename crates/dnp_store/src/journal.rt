@@ -6,7 +6,7 @@ ghost use Rattle.sqlite.specs.State.{HasCleanDisk};
 ghost use Rattle.dnp_objects.specs.Events.{IsEvent};
 ghost use Rattle.dnp_eventbuf.specs.Archive.{IsSoundArchive, passes_limit, rows_over, with_events};
 ghost use Rattle.dnp_eventbuf.specs.SinkCalls.{IsJournalCall, IsSinkCall};
-ghost use Rattle.dnp_store.specs.JournalKept.{IsHonest, Leaves, LeavesEither, held_archive};
+ghost use Rattle.dnp_store.specs.JournalKept.{IsHonestJournal, LeavesJournal, LeavesEitherJournal, held_archive};
 ghost use Rattle.dnp_store.specs.Refusals.{IsLost, LosesReading};
 
 use crate::fault::{fault, is_lost};
@@ -36,15 +36,15 @@ pub struct Journal<S: Alter> {
 }
 
 impl<S: Alter> Model for Journal<S> {
-    ghost use Rattle.dnp_store.specs.JournalKept.{Kept, kept_code, Keeps};
+    ghost use Rattle.dnp_store.specs.JournalKept.{JournalValue, kept_code, JournalInvariant};
 
-    ghost Value = { Kept S };
+    ghost Value = { JournalValue S };
 
     ghost coded = { kept_code S.code };
 
     ghost view = { λ j. record { conn = j.conn; last_id = j.last_id; count = j.count; stopped = j.stopped; owned = j.owned } };
 
-    ghost invariant = { λ j. Keeps S.Store j.conn j.last_id j.count j.stopped j.owned };
+    ghost invariant = { λ j. JournalInvariant S.Store j.conn j.last_id j.count j.stopped j.owned };
 }
 
 impl<S: Alter + Drop> Drop for Journal<S> {
@@ -86,7 +86,7 @@ impl<S: Alter> Sink for Journal<S> {
 
     ghost exhausts = { λ j events. passes_limit (held_archive S.Store j) events };
 
-    ghost honest = { IsHonest S.Store };
+    ghost honest = { IsHonestJournal S.Store };
 
     ghost is_stopped = { λ j. j.stopped };
 
@@ -102,8 +102,8 @@ impl<S: Alter> Sink for Journal<S> {
         _statics: &[Row],
     ) -> Result<Vec<Row>, StoreFault>
         requires { All IsEvent events.now }
-        ensures call { IsSinkCall (IsHonest S.Store) (λ j. j.stopped) (λ old new. held_archive S.Store new ≡ held_archive S.Store old) self.old self.new result }
-        ensures taken { IsHonest S.Store self.new → IfOk result (λ dropped. (held_archive S.Store self.new ≡ with_events (held_archive S.Store self.old) events.now) × (dropped.items ≡ [])) }
+        ensures call { IsSinkCall (IsHonestJournal S.Store) (λ j. j.stopped) (λ old new. held_archive S.Store new ≡ held_archive S.Store old) self.old self.new result }
+        ensures taken { IsHonestJournal S.Store self.new → IfOk result (λ dropped. (held_archive S.Store self.new ≡ with_events (held_archive S.Store self.old) events.now) × (dropped.items ≡ [])) }
         ensures counted { OnOk result ((self.new.last_id ≡ self.old.last_id + length events.now) × (self.new.count ≡ self.old.count + length events.now)) }
         ensures kept { OnErr result ((self.new.last_id ≡ self.old.last_id) × (self.new.count ≡ self.old.count)) }
         ensures owned { self.new.owned ≡ self.old.owned }
@@ -113,8 +113,8 @@ impl<S: Alter> Sink for Journal<S> {
         ensures exhausted_first { IfErr result (λ e. e ≡ StoreFault.Memory → passes_limit (held_archive S.Store self.old) events.now ≡ false) }
         ensures exhausted_always { self.old.stopped ≡ false → IsTrue (passes_limit (held_archive S.Store self.old) events.now) → (result ≡ Err StoreFault.Exhausted) × (self.new ≡ self.old) }
         ensures memory { result ≡ Err StoreFault.Memory → true ≡ false → events.now ≢ [] }
-        ensures either { HasCleanDisk (state S.Store self.new.conn) → self.old.stopped ≡ false → IsTrue self.old.owned → LeavesEither (state S.Store self.new.conn) (held_archive S.Store self.old) (with_events (held_archive S.Store self.old) events.now) }
-        ensures after { HasCleanDisk (state S.Store self.new.conn) → IsTrue self.old.owned → OnOk result (Leaves (state S.Store self.new.conn) (held_archive S.Store self.new)) }
+        ensures either { HasCleanDisk (state S.Store self.new.conn) → self.old.stopped ≡ false → IsTrue self.old.owned → LeavesEitherJournal (state S.Store self.new.conn) (held_archive S.Store self.old) (with_events (held_archive S.Store self.old) events.now) }
+        ensures after { HasCleanDisk (state S.Store self.new.conn) → IsTrue self.old.owned → OnOk result (LeavesJournal (state S.Store self.new.conn) (held_archive S.Store self.new)) }
         ensures untouched { IsTrue self.old.stopped → self.new.conn ≡ self.old.conn }
         ensures device { HasCleanDisk (state S.Store self.new.conn) → result ≡ Err StoreFault.Device → IsTrue self.old.stopped ⊎ IsLost S.Store StoreKind.Journal self.old.conn self.new.conn }
     {
@@ -148,9 +148,9 @@ impl<S: Alter> JournalStore for Journal<S> {
     ghost exhausts_ids = { λ s events. refl };
 
     fn rows(&mut self, alloc: Global, from: u64, most: usize) -> Result<Vec<Numbered>, StoreFault>
-        ensures call { IsJournalCall (IsHonest S.Store) (λ j. j.stopped) (held_archive S.Store) self.old self.new result }
-        ensures rows { IsHonest S.Store self.new → IfOk result (λ rows. rows.items ≡ rows_over (held_archive S.Store self.old) from most) }
-        ensures same { IsHonest S.Store self.new → OnOk result (held_archive S.Store self.new ≡ held_archive S.Store self.old) }
+        ensures call { IsJournalCall (IsHonestJournal S.Store) (λ j. j.stopped) (held_archive S.Store) self.old self.new result }
+        ensures rows { IsHonestJournal S.Store self.new → IfOk result (λ rows. rows.items ≡ rows_over (held_archive S.Store self.old) from most) }
+        ensures same { IsHonestJournal S.Store self.new → OnOk result (held_archive S.Store self.new ≡ held_archive S.Store self.old) }
         ensures kept { (self.new.last_id ≡ self.old.last_id) × (self.new.count ≡ self.old.count) }
         ensures owned { self.new.owned ≡ self.old.owned }
         ensures limit { self.new.conn.step_limit ≡ self.old.conn.step_limit }
@@ -177,8 +177,8 @@ impl<S: Alter> JournalStore for Journal<S> {
 
     fn count(&mut self) -> u64
         ensures same { self.new ≡ self.old }
-        ensures sound { IsHonest S.Store self.new → IsSoundArchive (held_archive S.Store self.new) }
-        ensures value { IsHonest S.Store self.new → result ≡ length (held_archive S.Store self.new).rows }
+        ensures sound { IsHonestJournal S.Store self.new → IsSoundArchive (held_archive S.Store self.new) }
+        ensures value { IsHonestJournal S.Store self.new → result ≡ length (held_archive S.Store self.new).rows }
         ensures held { result ≡ self.new.count }
     {
         self.count

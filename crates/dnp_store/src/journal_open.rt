@@ -4,7 +4,7 @@ ghost use Rattle.std.specs.Prelude.{◌≡◌, ◌≢◌, ◌↔◌, ◌≤◌, 
 ghost use Rattle.sqlite.specs.Held.{Held, state};
 ghost use Rattle.sqlite.specs.State.{HasCleanDisk, Survives};
 ghost use Rattle.sqlite.specs.Steps.{IsEmpty, over_memory};
-ghost use Rattle.dnp_store.specs.JournalKept.{IsHonest, Leaves, Stands, held_archive};
+ghost use Rattle.dnp_store.specs.JournalKept.{IsHonestJournal, LeavesJournal, JournalStands, held_archive};
 ghost use Rattle.dnp_store.specs.JournalTables.{HoldsArchive, IsJournal, empty_archive};
 ghost use Rattle.dnp_store.specs.Refusals.{IsLost, IsTaken};
 ghost use Rattle.dnp_store.specs.Schemas.{made_journal};
@@ -47,7 +47,7 @@ impl<S: Alter> Journal<S> {
         ensures serves { IfOk result (λ j. j.stopped ≡ false) }
         ensures owned { IfOk result (λ j. IsTrue j.owned ↔ ((state S.Store conn).now.schema ≡ no_schema)) }
         ensures empty { IfOk result (λ j. HasCleanDisk (state S.Store j.conn) → IsTrue j.owned → held_archive S.Store j ≡ empty_archive) }
-        ensures stands { IfOk result (λ j. HasCleanDisk (state S.Store j.conn) → IsTrue j.owned → Stands (state S.Store j.conn) (held_archive S.Store j)) }
+        ensures stands { IfOk result (λ j. HasCleanDisk (state S.Store j.conn) → IsTrue j.owned → JournalStands (state S.Store j.conn) (held_archive S.Store j)) }
         ensures handed_back { IfErr result (λ e. (e.1.in_transaction ≡ conn.in_transaction) × (e.1.step_limit ≡ conn.step_limit)) }
         ensures same { IfErr result (λ e. HasCleanDisk (state S.Store e.1) → IsTrue (state S.Store e.1).is_open → (state S.Store e.1).committed ≡ (state S.Store conn).committed) }
         ensures schema { IfOk result (λ j. HasCleanDisk (state S.Store j.conn) → IsTrue j.owned → (state S.Store j.conn).committed.schema ≡ made_journal) }
@@ -73,7 +73,7 @@ impl<S: Alter> Journal<S> {
     /// rows as they stand.
     pub fn serves(&self) -> bool
         ensures value { result ≡ not self.now.stopped }
-        ensures left { HasCleanDisk (state S.Store self.now.conn) → IsTrue result → IsTrue self.now.owned → Leaves (state S.Store self.now.conn) (held_archive S.Store self.now) }
+        ensures left { HasCleanDisk (state S.Store self.now.conn) → IsTrue result → IsTrue self.now.owned → LeavesJournal (state S.Store self.now.conn) (held_archive S.Store self.now) }
     {
         !self.stopped
     }
@@ -100,7 +100,7 @@ impl<S: Alter> Journal<S> {
         ensures held { IfOk result (λ j. HasCleanDisk (state S.Store j.conn) → HasCleanDisk (state S.Store conn)) }
         ensures serves { IfOk result (λ j. j.stopped ≡ false) }
         ensures found { IfOk result (λ j. HasCleanDisk (state S.Store j.conn) → IsTrue j.owned → IsJournal (state S.Store conn).committed (held_archive S.Store j)) }
-        ensures stands { IfOk result (λ j. HasCleanDisk (state S.Store j.conn) → IsTrue j.owned → Stands (state S.Store j.conn) (held_archive S.Store j)) }
+        ensures stands { IfOk result (λ j. HasCleanDisk (state S.Store j.conn) → IsTrue j.owned → JournalStands (state S.Store j.conn) (held_archive S.Store j)) }
         ensures same { IfErr result (λ e. HasCleanDisk (state S.Store e.1) → IsTrue (state S.Store e.1).is_open → (state S.Store e.1).committed ≡ (state S.Store conn).committed) }
         ensures unwritten { IfOk result (λ j. Survives (state S.Store conn) (state S.Store j.conn) (λ _. ⊥)) }
         ensures left { IfErr result (λ e. Survives (state S.Store conn) (state S.Store e.1) (λ _. ⊥)) }
@@ -126,7 +126,7 @@ impl Journal<MemStore> {
     ///
     /// Memory where it ran out; Device where the database failed otherwise.
     pub fn in_memory(alloc: Global) -> Result<Journal<MemStore>, OpenFault>
-        ensures honest { IfOk result (IsHonest over_memory) }
+        ensures honest { IfOk result (IsHonestJournal over_memory) }
         ensures empty { IfOk result (λ j. held_archive over_memory j ≡ empty_archive) }
         ensures device { result ≡ Err OpenFault.Device → (old new : Held MemStore) × IsEmpty (state over_memory old) × IsLost over_memory StoreKind.Journal old new }
         ensures taken { result ≡ Err OpenFault.WrongForm → (old new : Held MemStore) × IsEmpty (state over_memory old) × IsTaken over_memory StoreKind.Journal old new }
@@ -143,7 +143,7 @@ impl Journal<MemStore> {
     /// Whether the journal is honest still: it has not answered Device, and its database is its own. So
     /// what was promised under that premise held up to this moment.
     pub fn is_well(&self) -> bool
-        ensures { IsTrue result → IsHonest over_memory self.now }
+        ensures { IsTrue result → IsHonestJournal over_memory self.now }
     {
         self.serves() && self.owns_database()
     }

@@ -7,7 +7,7 @@ ghost use Rattle.sqlite.specs.State.{HasCleanDisk, Shown, Survives};
 ghost use Rattle.dnp_objects.specs.declared.limits.TheConstants as limits;
 ghost use Rattle.dnp_eventbuf.specs.Archive.{Archive, rows_over};
 ghost use Rattle.dnp_store.specs.Faults.{RefusesNothing, is_out_of_memory};
-ghost use Rattle.dnp_store.specs.JournalKept.{Stands};
+ghost use Rattle.dnp_store.specs.JournalKept.{JournalStands};
 ghost use Rattle.dnp_store.specs.Refusals.{IsRefused, IsUnread};
 ghost use Rattle.dnp_store.specs.Texts.{IsOwn};
 ghost use Rattle.dnp_store.specs.steps.JournalShown.{ShowOver};
@@ -29,9 +29,9 @@ fn query_over<S: Alter>(conn: &mut Connection<S>, from: u64, most: u64) -> Resul
     ensures held { HasCleanDisk (state S.Store conn.new) → HasCleanDisk (state S.Store conn.old) }
     ensures refused { HasCleanDisk (state S.Store conn.new) → IfErr result (IsRefused S.Store StoreKind.Journal conn.old conn.new) }
     ensures shown { HasCleanDisk (state S.Store conn.new) → IfOk result (λ rows. (sql : List ℕ) × (params : SqlRow) × IsOwn StoreKind.Journal sql × Shown sql params (state S.Store conn.old) (state S.Store conn.new) rows.items) }
-    ensures read { HasCleanDisk (state S.Store conn.new) → IfOk result (λ rows. (a : Archive) → Stands (state S.Store conn.old) a → ShowOver rows.items a from most) }
-    ensures open { HasCleanDisk (state S.Store conn.new) → OnOk result ((a : Archive) → Stands (state S.Store conn.old) a → IsTrue (state S.Store conn.new).is_open) }
-    ensures same { HasCleanDisk (state S.Store conn.new) → (a : Archive) → Stands (state S.Store conn.old) a → IsTrue (state S.Store conn.new).is_open → (state S.Store conn.new).committed ≡ (state S.Store conn.old).committed }
+    ensures read { HasCleanDisk (state S.Store conn.new) → IfOk result (λ rows. (a : Archive) → JournalStands (state S.Store conn.old) a → ShowOver rows.items a from most) }
+    ensures open { HasCleanDisk (state S.Store conn.new) → OnOk result ((a : Archive) → JournalStands (state S.Store conn.old) a → IsTrue (state S.Store conn.new).is_open) }
+    ensures same { HasCleanDisk (state S.Store conn.new) → (a : Archive) → JournalStands (state S.Store conn.old) a → IsTrue (state S.Store conn.new).is_open → (state S.Store conn.new).committed ≡ (state S.Store conn.old).committed }
 {
     prove!(conn.is_autocommit());
     let from = from as i64;
@@ -57,9 +57,9 @@ pub(crate) fn read_over<S: Alter>(
     ensures limit { conn.new.step_limit ≡ conn.old.step_limit }
     ensures held { HasCleanDisk (state S.Store conn.new) → HasCleanDisk (state S.Store conn.old) }
     ensures unread { HasCleanDisk (state S.Store conn.new) → IfErr result (IsUnread S.Store conn.old conn.new) }
-    ensures read { HasCleanDisk (state S.Store conn.new) → OnOk result ((a : Archive) → Stands (state S.Store conn.old) a → events.new.items ≡ rows_over a from most) }
-    ensures open { HasCleanDisk (state S.Store conn.new) → OnOk result ((a : Archive) → Stands (state S.Store conn.old) a → IsTrue (state S.Store conn.new).is_open) }
-    ensures same { HasCleanDisk (state S.Store conn.new) → (a : Archive) → Stands (state S.Store conn.old) a → IsTrue (state S.Store conn.new).is_open → (state S.Store conn.new).committed ≡ (state S.Store conn.old).committed }
+    ensures read { HasCleanDisk (state S.Store conn.new) → OnOk result ((a : Archive) → JournalStands (state S.Store conn.old) a → events.new.items ≡ rows_over a from most) }
+    ensures open { HasCleanDisk (state S.Store conn.new) → OnOk result ((a : Archive) → JournalStands (state S.Store conn.old) a → IsTrue (state S.Store conn.new).is_open) }
+    ensures same { HasCleanDisk (state S.Store conn.new) → (a : Archive) → JournalStands (state S.Store conn.old) a → IsTrue (state S.Store conn.new).is_open → (state S.Store conn.new).committed ≡ (state S.Store conn.old).committed }
 {
     let rows = query_over(conn, from, most)?;
     *events = events_in(alloc, &rows)?;

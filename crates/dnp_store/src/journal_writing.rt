@@ -8,7 +8,7 @@ ghost use Rattle.dnp_eventbuf.specs.Archive.{Archive, with_events};
 ghost use Rattle.dnp_store.specs.declared.cells.TheConstants.{MANY};
 ghost use Rattle.dnp_store.specs.Refusals.{IsRefused};
 ghost use Rattle.dnp_store.specs.steps.Inside.{IsInside, IsStep};
-ghost use Rattle.dnp_store.specs.JournalKept.{Stands};
+ghost use Rattle.dnp_store.specs.JournalKept.{JournalStands};
 ghost use Rattle.dnp_store.specs.JournalTables.{HoldsArchive, IsJournal};
 
 use crate::cells::{CELLS, MANY, cells, whole_time};
@@ -119,10 +119,10 @@ pub(crate) fn write_events<S: Alter>(conn: &mut Connection<S>, events: &[Row]) -
     requires idle { conn.old.in_transaction ≡ false }
     requires events { All IsEvent events.now }
     ensures idle { conn.new.in_transaction ≡ false }
-    ensures ok { HasCleanDisk (state S.Store conn.new) → (a : Archive) → Stands (state S.Store conn.old) a → OnOk result (Stands (state S.Store conn.new) (with_events a events.now)) }
+    ensures ok { HasCleanDisk (state S.Store conn.new) → (a : Archive) → JournalStands (state S.Store conn.old) a → OnOk result (JournalStands (state S.Store conn.new) (with_events a events.now)) }
     ensures err { HasCleanDisk (state S.Store conn.new) → IsTrue (state S.Store conn.new).is_open → OnErr result (IsTrue (state S.Store conn.old).is_open × ((state S.Store conn.new).committed ≡ (state S.Store conn.old).committed)) }
     ensures refused { HasCleanDisk (state S.Store conn.new) → IfErr result (IsRefused S.Store StoreKind.Journal conn.old conn.new) }
-    ensures survives { Survives (state S.Store conn.old) (state S.Store conn.new) (λ db. (a : Archive) → Stands (state S.Store conn.old) a → HoldsArchive db (with_events a events.now)) }
+    ensures survives { Survives (state S.Store conn.old) (state S.Store conn.new) (λ db. (a : Archive) → JournalStands (state S.Store conn.old) a → HoldsArchive db (with_events a events.now)) }
 {
     prove!(conn.is_autocommit());
     let mut tx = conn.transaction();

@@ -5,10 +5,10 @@ ghost use Rattle.sqlite.specs.Held.{Held, state};
 ghost use Rattle.sqlite.specs.State.{HasCleanDisk, Survives};
 ghost use Rattle.sqlite.specs.Term.{Term};
 ghost use Rattle.sqlite.specs.Steps.{IsEmpty, over_memory};
-ghost use Rattle.dnp_eventbuf.specs.Sound.{IsSound};
-ghost use Rattle.dnp_eventbuf.specs.Stock.{Stock, empty_stock};
+ghost use Rattle.dnp_eventbuf.specs.Sound.{IsSoundBuffer};
+ghost use Rattle.dnp_eventbuf.specs.EventBuffer.{EventBuffer, empty_buffer};
 ghost use Rattle.dnp_store.specs.Faults.{IsCut, RefusesNothing, is_out_of_memory, is_wrong};
-ghost use Rattle.dnp_store.specs.Kept.{AreSound, IsHonest, Leaves, Stands};
+ghost use Rattle.dnp_store.specs.QueueKept.{AreSound, IsHonestQueue, LeavesQueue, QueueStands};
 ghost use Rattle.dnp_store.specs.PairTables.{HoldsMigrated, HoldsPair, IsPair, Sides, migrated};
 ghost use Rattle.dnp_store.specs.QueueTables.{IsQueue, queue_schema};
 ghost use Rattle.dnp_store.specs.Refusals.{IsLost, IsTaken};
@@ -177,13 +177,13 @@ impl<S: Alter> Queue<S> {
         requires second { All (λ capacity. (1 ≤ capacity) × (capacity ≤ MAX_CAPACITY)) second }
         ensures inside { IsTrue conn.in_transaction → IsErrAnd result (λ e. (e.0 ≡ OpenFault.WrongForm) × (e.1 ≡ conn)) }
         ensures held { IfOk result (λ q. HasCleanDisk (state S.Store q.conn) → HasCleanDisk (state S.Store conn)) }
-        ensures empty { IfOk result (λ q. (q.sides ≡ record { first = empty_stock first; second = empty_stock second }) × (q.stopped ≡ false)) }
+        ensures empty { IfOk result (λ q. (q.sides ≡ record { first = empty_buffer first; second = empty_buffer second }) × (q.stopped ≡ false)) }
         ensures owned { IfOk result (λ q. IsTrue q.owned ↔ ((state S.Store conn).now.schema ≡ no_schema)) }
-        ensures stands { IfOk result (λ q. HasCleanDisk (state S.Store q.conn) → IsTrue q.owned → Stands (state S.Store q.conn) q.sides) }
+        ensures stands { IfOk result (λ q. HasCleanDisk (state S.Store q.conn) → IsTrue q.owned → QueueStands (state S.Store q.conn) q.sides) }
         ensures same { IfErr result (λ e. HasCleanDisk (state S.Store e.1) → IsTrue (state S.Store e.1).is_open → (state S.Store e.1).committed ≡ (state S.Store conn).committed) }
         ensures schema { IfOk result (λ q. HasCleanDisk (state S.Store q.conn) → IsTrue q.owned → (state S.Store q.conn).committed.schema ≡ made_pair) }
-        ensures made { IfOk result (λ q. Survives (state S.Store conn) (state S.Store q.conn) (λ db. (state S.Store conn).now.schema ≡ no_schema → HoldsPair db (record { first = empty_stock first; second = empty_stock second }))) }
-        ensures left { IfErr result (λ e. Survives (state S.Store conn) (state S.Store e.1) (λ db. (state S.Store conn).now.schema ≡ no_schema → HoldsPair db (record { first = empty_stock first; second = empty_stock second }))) }
+        ensures made { IfOk result (λ q. Survives (state S.Store conn) (state S.Store q.conn) (λ db. (state S.Store conn).now.schema ≡ no_schema → HoldsPair db (record { first = empty_buffer first; second = empty_buffer second }))) }
+        ensures left { IfErr result (λ e. Survives (state S.Store conn) (state S.Store e.1) (λ db. (state S.Store conn).now.schema ≡ no_schema → HoldsPair db (record { first = empty_buffer first; second = empty_buffer second }))) }
         ensures handed_back { IfErr result (λ e. (e.1.in_transaction ≡ conn.in_transaction) × (e.1.step_limit ≡ conn.step_limit)) }
         ensures device { IfErr result (λ e. HasCleanDisk (state S.Store e.1) → e.0 ≡ OpenFault.Device → IsLost S.Store StoreKind.Queue conn e.1) }
         ensures taken { IfErr result (λ e. HasCleanDisk (state S.Store e.1) → e.0 ≡ OpenFault.WrongForm → IsTrue conn.in_transaction ⊎ IsTaken S.Store StoreKind.Queue conn e.1) }
@@ -214,13 +214,13 @@ impl<S: Alter> Queue<S> {
         ensures held { IfOk result (λ q. HasCleanDisk (state S.Store q.conn) → HasCleanDisk (state S.Store conn)) }
         ensures serves { IfOk result (λ q. q.stopped ≡ false) }
         ensures found { IfOk result (λ q. HasCleanDisk (state S.Store q.conn) → IsTrue q.owned → IsPair (state S.Store conn).committed q.sides) }
-        ensures stands { IfOk result (λ q. HasCleanDisk (state S.Store q.conn) → IsTrue q.owned → Stands (state S.Store q.conn) q.sides) }
+        ensures stands { IfOk result (λ q. HasCleanDisk (state S.Store q.conn) → IsTrue q.owned → QueueStands (state S.Store q.conn) q.sides) }
         ensures same { IfErr result (λ e. HasCleanDisk (state S.Store e.1) → IsTrue (state S.Store e.1).is_open → (state S.Store e.1).committed ≡ (state S.Store conn).committed) }
         ensures unwritten { IfOk result (λ q. Survives (state S.Store conn) (state S.Store q.conn) (λ _. ⊥)) }
         ensures left { IfErr result (λ e. Survives (state S.Store conn) (state S.Store e.1) (λ _. ⊥)) }
         ensures handed_back { IfErr result (λ e. (e.1.in_transaction ≡ conn.in_transaction) × (e.1.step_limit ≡ conn.step_limit)) }
         ensures old_form { IfErr result (λ e. HasCleanDisk (state S.Store e.1) → e.0 ≡ OpenFault.OldForm → (f q l : List Term) → (state S.Store conn).committed.schema ≡ queue_schema f q l
-            → (stock : Stock) × IsQueue (state S.Store conn).committed stock) }
+            → (buffer : EventBuffer) × IsQueue (state S.Store conn).committed buffer) }
         ensures not_old { IfErr result (λ e. HasCleanDisk (state S.Store e.1) → e.0 ≡ OpenFault.OldForm → (sides : Sides) → IsPair (state S.Store conn).committed sides → ⊥) }
     {
         let mut conn = conn;
@@ -253,9 +253,9 @@ impl<S: Alter> Queue<S> {
         ensures held { IfOk result (λ q. HasCleanDisk (state S.Store q.conn) → HasCleanDisk (state S.Store conn)) }
         ensures serves { IfOk result (λ q. q.stopped ≡ false) }
         ensures current { IfErr result (λ e. e.0 ≢ OpenFault.OldForm) }
-        ensures migrated { IfOk result (λ q. HasCleanDisk (state S.Store q.conn) → IsTrue q.owned → (stock : Stock) → IsSound stock → IsQueue (state S.Store conn).committed stock → q.sides ≡ migrated stock capacities) }
+        ensures migrated { IfOk result (λ q. HasCleanDisk (state S.Store q.conn) → IsTrue q.owned → (buffer : EventBuffer) → IsSoundBuffer buffer → IsQueue (state S.Store conn).committed buffer → q.sides ≡ migrated buffer capacities) }
         ensures kept { IfOk result (λ q. HasCleanDisk (state S.Store q.conn) → IsTrue q.owned → (sides : Sides) → AreSound sides → IsPair (state S.Store conn).committed sides → q.sides ≡ sides) }
-        ensures stands { IfOk result (λ q. HasCleanDisk (state S.Store q.conn) → IsTrue q.owned → Stands (state S.Store q.conn) q.sides) }
+        ensures stands { IfOk result (λ q. HasCleanDisk (state S.Store q.conn) → IsTrue q.owned → QueueStands (state S.Store q.conn) q.sides) }
         ensures same { IfErr result (λ e. HasCleanDisk (state S.Store e.1) → IsTrue (state S.Store e.1).is_open → (state S.Store e.1).committed ≡ (state S.Store conn).committed) }
         ensures made { IfOk result (λ q. Survives (state S.Store conn) (state S.Store q.conn) (HoldsMigrated (state S.Store conn).committed capacities)) }
         ensures left { IfErr result (λ e. Survives (state S.Store conn) (state S.Store e.1) (HoldsMigrated (state S.Store conn).committed capacities)) }
@@ -280,7 +280,7 @@ impl<S: Alter> Queue<S> {
     /// lanes as they stand.
     pub fn serves(&self) -> bool
         ensures value { result ≡ not self.now.stopped }
-        ensures left { HasCleanDisk (state S.Store self.now.conn) → IsTrue result → IsTrue self.now.owned → Leaves (state S.Store self.now.conn) self.now.sides }
+        ensures left { HasCleanDisk (state S.Store self.now.conn) → IsTrue result → IsTrue self.now.owned → LeavesQueue (state S.Store self.now.conn) self.now.sides }
     {
         !self.stopped
     }
@@ -305,8 +305,8 @@ impl Queue<MemStore> {
     ) -> Result<Queue<MemStore>, OpenFault>
         requires first { All (λ capacity. (1 ≤ capacity) × (capacity ≤ MAX_CAPACITY)) first }
         requires second { All (λ capacity. (1 ≤ capacity) × (capacity ≤ MAX_CAPACITY)) second }
-        ensures honest { IfOk result (IsHonest over_memory) }
-        ensures empty { IfOk result (λ q. q.sides ≡ record { first = empty_stock first; second = empty_stock second }) }
+        ensures honest { IfOk result (IsHonestQueue over_memory) }
+        ensures empty { IfOk result (λ q. q.sides ≡ record { first = empty_buffer first; second = empty_buffer second }) }
         ensures device { result ≡ Err OpenFault.Device → (old new : Held MemStore) × IsEmpty (state over_memory old) × IsLost over_memory StoreKind.Queue old new }
         ensures taken { result ≡ Err OpenFault.WrongForm → (old new : Held MemStore) × IsEmpty (state over_memory old) × IsTaken over_memory StoreKind.Queue old new }
     {
@@ -322,7 +322,7 @@ impl Queue<MemStore> {
     /// Whether the queue is honest still: it has not answered Device, and its database is its own. So what
     /// was promised under that premise held up to this moment.
     pub fn is_well(&self) -> bool
-        ensures { IsTrue result → IsHonest over_memory self.now }
+        ensures { IsTrue result → IsHonestQueue over_memory self.now }
     {
         self.serves() && self.owns_database()
     }

@@ -5,10 +5,10 @@ ghost use Rattle.sqlite.specs.Held.{state};
 ghost use Rattle.sqlite.specs.State.{HasCleanDisk};
 ghost use Rattle.dnp_objects.specs.Events.{IsEvent};
 ghost use Rattle.dnp_objects.specs.Lanes.{lane_number};
-ghost use Rattle.dnp_eventbuf.specs.Carried.{IsCarried};
+ghost use Rattle.dnp_eventbuf.specs.FitsLane.{FitsLane};
 ghost use Rattle.dnp_eventbuf.specs.Sides.{EitherDrops, IsPairCall, IsSideCall, either_exhausts};
-ghost use Rattle.dnp_eventbuf.specs.Stock.{with_rows, dropped_by, exhausts, offered, without, all_up_to, without_all, rows_in};
-ghost use Rattle.dnp_store.specs.Kept.{IsHonest, Leaves, LeavesEither};
+ghost use Rattle.dnp_eventbuf.specs.EventBuffer.{with_rows, dropped_by, exhausts, offered, without, all_up_to, without_all, rows_in};
+ghost use Rattle.dnp_store.specs.QueueKept.{IsHonestQueue, LeavesQueue, LeavesEitherQueue};
 ghost use Rattle.dnp_store.specs.PairTables.{both_with, side_at, with_side};
 ghost use Rattle.dnp_store.specs.Refusals.{IsLost};
 
@@ -16,7 +16,7 @@ use crate::queue_calls::{append_both_to, append_to, empty_of, is_device, release
 use crate::queue_side::QueueSide;
 use crate::store_kind::StoreKind;
 use dnp_eventbuf::{
-    CENTRES, Lane, LaneRow, Lanes, Numbered, PairLanes, PlainLanes, Rows, StoreFault, Upto,
+    CENTRES, Lane, LaneRow, Lanes, Numbered, PairLanes, PlainLanes, Rows, StoreFault, Upto, of_side,
 };
 use dnp_objects::Row;
 use sqlite::{Alter, Connection};
@@ -40,15 +40,15 @@ pub struct Queue<S: Alter> {
 }
 
 impl<S: Alter> Model for Queue<S> {
-    ghost use Rattle.dnp_store.specs.Kept.{Kept, kept_code, Keeps};
+    ghost use Rattle.dnp_store.specs.QueueKept.{QueueValue, kept_code, QueueInvariant};
 
-    ghost Value = { Kept S };
+    ghost Value = { QueueValue S };
 
     ghost coded = { kept_code S.code };
 
     ghost view = { λ q. record { conn = q.conn; sides = record { first = q.first; second = q.second }; stopped = q.stopped; owned = q.owned } };
 
-    ghost invariant = { λ q. Keeps S.Store q.conn (record { first = q.first; second = q.second }) q.stopped q.owned };
+    ghost invariant = { λ q. QueueInvariant S.Store q.conn (record { first = q.first; second = q.second }) q.stopped q.owned };
 }
 
 impl<S: Alter + Drop> Drop for Queue<S> {
@@ -84,7 +84,7 @@ impl<S: Alter> Queue<S> {
 impl<S: Alter> PairLanes for Queue<S> {
     ghost contents = { λ q. side_at q.sides };
 
-    ghost honest = { IsHonest S.Store };
+    ghost honest = { IsHonestQueue S.Store };
 
     ghost is_stopped = { λ q. q.stopped };
 
@@ -98,8 +98,8 @@ impl<S: Alter> PairLanes for Queue<S> {
         alloc: Global,
         rows: &[LaneRow],
     ) -> Result<(Vec<Row>, Vec<Row>), StoreFault>
-        requires { All IsCarried rows.now }
-        ensures call { IsPairCall (IsHonest S.Store) (λ q. q.stopped) (λ q. side_at q.sides) self.old self.new result }
+        requires { All FitsLane rows.now }
+        ensures call { IsPairCall (IsHonestQueue S.Store) (λ q. q.stopped) (λ q. side_at q.sides) self.old self.new result }
         ensures appended { OnOk result (self.new.sides ≡ both_with self.old.sides rows.now) }
         ensures dropped { IfOk result (λ dropped. dropped.0.items ≡ dropped_by self.old.sides.first rows.now) }
         ensures dropped_too { IfOk result (λ dropped. dropped.1.items ≡ dropped_by self.old.sides.second rows.now) }
@@ -111,8 +111,8 @@ impl<S: Alter> PairLanes for Queue<S> {
         ensures memory { result ≡ Err StoreFault.Memory → true ≡ false → EitherDrops (side_at self.old.sides) rows.now }
         ensures owned { self.new.owned ≡ self.old.owned }
         ensures limit { self.new.conn.step_limit ≡ self.old.conn.step_limit }
-        ensures either { HasCleanDisk (state S.Store self.new.conn) → self.old.stopped ≡ false → IsTrue self.old.owned → LeavesEither (state S.Store self.new.conn) self.old.sides (both_with self.old.sides rows.now) }
-        ensures after { HasCleanDisk (state S.Store self.new.conn) → IsTrue self.old.owned → OnOk result (Leaves (state S.Store self.new.conn) self.new.sides) }
+        ensures either { HasCleanDisk (state S.Store self.new.conn) → self.old.stopped ≡ false → IsTrue self.old.owned → LeavesEitherQueue (state S.Store self.new.conn) self.old.sides (both_with self.old.sides rows.now) }
+        ensures after { HasCleanDisk (state S.Store self.new.conn) → IsTrue self.old.owned → OnOk result (LeavesQueue (state S.Store self.new.conn) self.new.sides) }
         ensures untouched { IsTrue self.old.stopped → self.new.conn ≡ self.old.conn }
         ensures device { HasCleanDisk (state S.Store self.new.conn) → result ≡ Err StoreFault.Device → IsTrue self.old.stopped ⊎ IsLost S.Store StoreKind.Queue self.old.conn self.new.conn }
     {
@@ -138,8 +138,8 @@ impl<S: Alter> PairLanes for Queue<S> {
         rows: &[LaneRow],
     ) -> Result<Vec<Row>, StoreFault>
         requires centre { centre < CENTRES }
-        requires carried { All IsCarried rows.now }
-        ensures call { IsSideCall (IsHonest S.Store) (λ q. q.stopped) (λ q. side_at q.sides) centre self.old self.new result }
+        requires carried { All FitsLane rows.now }
+        ensures call { IsSideCall (IsHonestQueue S.Store) (λ q. q.stopped) (λ q. side_at q.sides) centre self.old self.new result }
         ensures appended { OnOk result (self.new.sides ≡ with_side self.old.sides centre (with_rows (side_at self.old.sides centre) rows.now)) }
         ensures dropped { IfOk result (λ dropped. dropped.items ≡ dropped_by (side_at self.old.sides centre) rows.now) }
         ensures kept { OnErr result (self.new.sides ≡ self.old.sides) }
@@ -150,8 +150,8 @@ impl<S: Alter> PairLanes for Queue<S> {
         ensures memory { result ≡ Err StoreFault.Memory → true ≡ false → dropped_by (side_at self.old.sides centre) rows.now ≢ [] }
         ensures owned { self.new.owned ≡ self.old.owned }
         ensures limit { self.new.conn.step_limit ≡ self.old.conn.step_limit }
-        ensures either { HasCleanDisk (state S.Store self.new.conn) → self.old.stopped ≡ false → IsTrue self.old.owned → LeavesEither (state S.Store self.new.conn) self.old.sides (with_side self.old.sides centre (with_rows (side_at self.old.sides centre) rows.now)) }
-        ensures after { HasCleanDisk (state S.Store self.new.conn) → IsTrue self.old.owned → OnOk result (Leaves (state S.Store self.new.conn) self.new.sides) }
+        ensures either { HasCleanDisk (state S.Store self.new.conn) → self.old.stopped ≡ false → IsTrue self.old.owned → LeavesEitherQueue (state S.Store self.new.conn) self.old.sides (with_side self.old.sides centre (with_rows (side_at self.old.sides centre) rows.now)) }
+        ensures after { HasCleanDisk (state S.Store self.new.conn) → IsTrue self.old.owned → OnOk result (LeavesQueue (state S.Store self.new.conn) self.new.sides) }
         ensures untouched { IsTrue self.old.stopped → self.new.conn ≡ self.old.conn }
         ensures device { HasCleanDisk (state S.Store self.new.conn) → result ≡ Err StoreFault.Device → IsTrue self.old.stopped ⊎ IsLost S.Store StoreKind.Queue self.old.conn self.new.conn }
     {
@@ -190,7 +190,7 @@ impl<S: Alter> PairLanes for Queue<S> {
         most: usize,
     ) -> Result<Vec<Numbered>, StoreFault>
         requires { centre < CENTRES }
-        ensures call { IsSideCall (IsHonest S.Store) (λ q. q.stopped) (λ q. side_at q.sides) centre self.old self.new result }
+        ensures call { IsSideCall (IsHonestQueue S.Store) (λ q. q.stopped) (λ q. side_at q.sides) centre self.old self.new result }
         ensures rows { IfOk result (λ rows. rows.items ≡ offered (side_at self.old.sides centre) (lane_number lane) after most) }
         ensures same { self.new ≡ self.old }
         ensures carried { IfOk result (λ rows. All (λ x. IsEvent x.row) rows.items) }
@@ -218,7 +218,7 @@ impl<S: Alter> PairLanes for Queue<S> {
         rows: &mut Vec<Numbered>,
     ) -> Result<(), StoreFault>
         requires { centre < CENTRES }
-        ensures call { IsSideCall (IsHonest S.Store) (λ q. q.stopped) (λ q. side_at q.sides) centre self.old self.new result }
+        ensures call { IsSideCall (IsHonestQueue S.Store) (λ q. q.stopped) (λ q. side_at q.sides) centre self.old self.new result }
         ensures rows { OnOk result (rows.new.items ≡ offered (side_at self.old.sides centre) (lane_number lane) after most) }
         ensures same { self.new ≡ self.old }
         ensures carried { OnOk result (All (λ x. IsEvent x.row) rows.new.items) }
@@ -240,7 +240,7 @@ impl<S: Alter> PairLanes for Queue<S> {
     /// What a crash leaves at any exit holds the lanes before or after, and after Ok those after.
     fn release(&mut self, alloc: Global, centre: u8, upto: &Upto) -> Result<Vec<Row>, StoreFault>
         requires { centre < CENTRES }
-        ensures call { IsSideCall (IsHonest S.Store) (λ q. q.stopped) (λ q. side_at q.sides) centre self.old self.new result }
+        ensures call { IsSideCall (IsHonestQueue S.Store) (λ q. q.stopped) (λ q. side_at q.sides) centre self.old self.new result }
         ensures released { OnOk result (self.new.sides ≡ with_side self.old.sides centre (without (side_at self.old.sides centre) upto.now)) }
         ensures taken { IfOk result (λ rows. rows.items ≡ all_up_to (side_at self.old.sides centre) upto.now) }
         ensures kept { OnErr result (self.new.sides ≡ self.old.sides) }
@@ -248,8 +248,8 @@ impl<S: Alter> PairLanes for Queue<S> {
         ensures named { IfErr result (λ e. e ≢ StoreFault.Exhausted) }
         ensures owned { self.new.owned ≡ self.old.owned }
         ensures limit { self.new.conn.step_limit ≡ self.old.conn.step_limit }
-        ensures either { HasCleanDisk (state S.Store self.new.conn) → self.old.stopped ≡ false → IsTrue self.old.owned → LeavesEither (state S.Store self.new.conn) self.old.sides (with_side self.old.sides centre (without (side_at self.old.sides centre) upto.now)) }
-        ensures after { HasCleanDisk (state S.Store self.new.conn) → IsTrue self.old.owned → OnOk result (Leaves (state S.Store self.new.conn) self.new.sides) }
+        ensures either { HasCleanDisk (state S.Store self.new.conn) → self.old.stopped ≡ false → IsTrue self.old.owned → LeavesEitherQueue (state S.Store self.new.conn) self.old.sides (with_side self.old.sides centre (without (side_at self.old.sides centre) upto.now)) }
+        ensures after { HasCleanDisk (state S.Store self.new.conn) → IsTrue self.old.owned → OnOk result (LeavesQueue (state S.Store self.new.conn) self.new.sides) }
         ensures untouched { IsTrue self.old.stopped → self.new.conn ≡ self.old.conn }
         ensures device { HasCleanDisk (state S.Store self.new.conn) → result ≡ Err StoreFault.Device → IsTrue self.old.stopped ⊎ IsLost S.Store StoreKind.Queue self.old.conn self.new.conn }
     {
@@ -288,7 +288,7 @@ impl<S: Alter> PairLanes for Queue<S> {
         taken: &mut Rows,
     ) -> Result<(), StoreFault>
         requires { centre < CENTRES }
-        ensures call { IsSideCall (IsHonest S.Store) (λ q. q.stopped) (λ q. side_at q.sides) centre self.old self.new result }
+        ensures call { IsSideCall (IsHonestQueue S.Store) (λ q. q.stopped) (λ q. side_at q.sides) centre self.old self.new result }
         ensures released { OnOk result (self.new.sides ≡ with_side self.old.sides centre (without (side_at self.old.sides centre) upto.now)) }
         ensures taken { OnOk result (taken.new ≡ all_up_to (side_at self.old.sides centre) upto.now) }
         ensures kept { OnErr result (taken.new ≡ taken.old) }
@@ -297,8 +297,8 @@ impl<S: Alter> PairLanes for Queue<S> {
         ensures named { IfErr result (λ e. e ≢ StoreFault.Exhausted) }
         ensures owned { self.new.owned ≡ self.old.owned }
         ensures limit { self.new.conn.step_limit ≡ self.old.conn.step_limit }
-        ensures either { HasCleanDisk (state S.Store self.new.conn) → self.old.stopped ≡ false → IsTrue self.old.owned → LeavesEither (state S.Store self.new.conn) self.old.sides (with_side self.old.sides centre (without (side_at self.old.sides centre) upto.now)) }
-        ensures after { HasCleanDisk (state S.Store self.new.conn) → IsTrue self.old.owned → OnOk result (Leaves (state S.Store self.new.conn) self.new.sides) }
+        ensures either { HasCleanDisk (state S.Store self.new.conn) → self.old.stopped ≡ false → IsTrue self.old.owned → LeavesEitherQueue (state S.Store self.new.conn) self.old.sides (with_side self.old.sides centre (without (side_at self.old.sides centre) upto.now)) }
+        ensures after { HasCleanDisk (state S.Store self.new.conn) → IsTrue self.old.owned → OnOk result (LeavesQueue (state S.Store self.new.conn) self.new.sides) }
         ensures untouched { IsTrue self.old.stopped → self.new.conn ≡ self.old.conn }
         ensures device { HasCleanDisk (state S.Store self.new.conn) → result ≡ Err StoreFault.Device → IsTrue self.old.stopped ⊎ IsLost S.Store StoreKind.Queue self.old.conn self.new.conn }
     {
@@ -314,7 +314,7 @@ impl<S: Alter> PairLanes for Queue<S> {
     /// What a crash leaves at any exit holds the lanes before or after, and after Ok those after.
     fn empty(&mut self, alloc: Global, centre: u8) -> Result<Vec<Row>, StoreFault>
         requires { centre < CENTRES }
-        ensures call { IsSideCall (IsHonest S.Store) (λ q. q.stopped) (λ q. side_at q.sides) centre self.old self.new result }
+        ensures call { IsSideCall (IsHonestQueue S.Store) (λ q. q.stopped) (λ q. side_at q.sides) centre self.old self.new result }
         ensures emptied { OnOk result (self.new.sides ≡ with_side self.old.sides centre (without_all (side_at self.old.sides centre))) }
         ensures taken { IfOk result (λ rows. rows.items ≡ rows_in (side_at self.old.sides centre)) }
         ensures kept { OnErr result (self.new.sides ≡ self.old.sides) }
@@ -322,8 +322,8 @@ impl<S: Alter> PairLanes for Queue<S> {
         ensures named { IfErr result (λ e. e ≢ StoreFault.Exhausted) }
         ensures owned { self.new.owned ≡ self.old.owned }
         ensures limit { self.new.conn.step_limit ≡ self.old.conn.step_limit }
-        ensures either { HasCleanDisk (state S.Store self.new.conn) → self.old.stopped ≡ false → IsTrue self.old.owned → LeavesEither (state S.Store self.new.conn) self.old.sides (with_side self.old.sides centre (without_all (side_at self.old.sides centre))) }
-        ensures after { HasCleanDisk (state S.Store self.new.conn) → IsTrue self.old.owned → OnOk result (Leaves (state S.Store self.new.conn) self.new.sides) }
+        ensures either { HasCleanDisk (state S.Store self.new.conn) → self.old.stopped ≡ false → IsTrue self.old.owned → LeavesEitherQueue (state S.Store self.new.conn) self.old.sides (with_side self.old.sides centre (without_all (side_at self.old.sides centre))) }
+        ensures after { HasCleanDisk (state S.Store self.new.conn) → IsTrue self.old.owned → OnOk result (LeavesQueue (state S.Store self.new.conn) self.new.sides) }
         ensures untouched { IsTrue self.old.stopped → self.new.conn ≡ self.old.conn }
         ensures device { HasCleanDisk (state S.Store self.new.conn) → result ≡ Err StoreFault.Device → IsTrue self.old.stopped ⊎ IsLost S.Store StoreKind.Queue self.old.conn self.new.conn }
     {
@@ -342,34 +342,18 @@ impl<S: Alter> PairLanes for Queue<S> {
     }
 
     fn len(&mut self, centre: u8, lane: Lane) -> u32 {
-        if centre == 0 {
-            self.first.len(lane)
-        } else {
-            self.second.len(lane)
-        }
+        of_side!(self, centre, len(lane))
     }
 
     fn last(&mut self, centre: u8, lane: Lane) -> u64 {
-        if centre == 0 {
-            self.first.last(lane)
-        } else {
-            self.second.last(lane)
-        }
+        of_side!(self, centre, last(lane))
     }
 
     fn lost(&mut self, centre: u8, lane: Lane) -> u64 {
-        if centre == 0 {
-            self.first.lost(lane)
-        } else {
-            self.second.lost(lane)
-        }
+        of_side!(self, centre, lost(lane))
     }
 
     fn raised(&mut self, centre: u8) -> bool {
-        if centre == 0 {
-            self.first.raised()
-        } else {
-            self.second.raised()
-        }
+        of_side!(self, centre, raised())
     }
 }

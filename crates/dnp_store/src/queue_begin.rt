@@ -3,8 +3,8 @@
 ghost use Rattle.std.specs.Prelude.{◌≡◌, ◌≢◌, ◌||◌, ◌≤◌, false, if◌then◌else◌, All, IsTrue, IfOk, IfErr, OnErr, OnOk};
 ghost use Rattle.sqlite.specs.Held.{state};
 ghost use Rattle.sqlite.specs.State.{HasCleanDisk, Survives};
-ghost use Rattle.dnp_eventbuf.specs.Stock.{Stock, empty_stock};
-ghost use Rattle.dnp_store.specs.Kept.{Stands};
+ghost use Rattle.dnp_eventbuf.specs.EventBuffer.{EventBuffer, empty_buffer};
+ghost use Rattle.dnp_store.specs.QueueKept.{QueueStands};
 ghost use Rattle.dnp_store.specs.PairTables.{HoldsPair, migrated};
 ghost use Rattle.dnp_store.specs.steps.Beginning.{AreFound, AreMade, AreMigrated};
 ghost use Rattle.dnp_store.specs.steps.Seconds.{Opens};
@@ -26,7 +26,7 @@ fn empty_lanes(
 ) -> Result<(PlainLanes, PlainLanes), AllocError>
     requires first { All (λ capacity. (1 ≤ capacity) × (capacity ≤ MAX_CAPACITY)) first.now }
     requires second { All (λ capacity. (1 ≤ capacity) × (capacity ≤ MAX_CAPACITY)) second.now }
-    ensures { IfOk result (λ lanes. (lanes.0 ≡ empty_stock first.now) × (lanes.1 ≡ empty_stock second.now)) }
+    ensures { IfOk result (λ lanes. (lanes.0 ≡ empty_buffer first.now) × (lanes.1 ≡ empty_buffer second.now)) }
 {
     let ours = PlainLanes::new(alloc, *first)?;
     let others = PlainLanes::new(alloc, *second)?;
@@ -92,10 +92,10 @@ fn second_made<S: Alter>(
 ) -> Result<(), OpenFault>
     requires idle { conn.old.in_transaction ≡ false }
     ensures idle { conn.new.in_transaction ≡ false }
-    ensures ok { HasCleanDisk (state S.Store conn.new) → (s : Stock) → Opens (state S.Store conn.old) s → OnOk result (Stands (state S.Store conn.new) (migrated s capacities.now)) }
+    ensures ok { HasCleanDisk (state S.Store conn.new) → (s : EventBuffer) → Opens (state S.Store conn.old) s → OnOk result (QueueStands (state S.Store conn.new) (migrated s capacities.now)) }
     ensures current { IfErr result (λ fault. fault ≢ OpenFault.OldForm) }
     ensures err { HasCleanDisk (state S.Store conn.new) → IsTrue (state S.Store conn.new).is_open → OnErr result (IsTrue (state S.Store conn.old).is_open × ((state S.Store conn.new).committed ≡ (state S.Store conn.old).committed)) }
-    ensures survives { Survives (state S.Store conn.old) (state S.Store conn.new) (λ db. (s : Stock) → Opens (state S.Store conn.old) s → HoldsPair db (migrated s capacities.now)) }
+    ensures survives { Survives (state S.Store conn.old) (state S.Store conn.new) (λ db. (s : EventBuffer) → Opens (state S.Store conn.old) s → HoldsPair db (migrated s capacities.now)) }
 {
     let done = write_second(conn, capacities);
     told(conn, done)

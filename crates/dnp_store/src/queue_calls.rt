@@ -1,9 +1,9 @@
 //! What the calls of a queue do to one side, in the database and in memory, and to both.
 
 ghost use Rattle.std.specs.Prelude.{◌≡◌, ◌≢◌, ◌≤◌, ◌+◌, false, true, IsTrue, [], All, IfOk, IfErr, OnOk, OnErr, Err, ◌||◌, length, vec_len, vec_capacity};
-ghost use Rattle.dnp_eventbuf.specs.Carried.{IsCarried};
-ghost use Rattle.dnp_eventbuf.specs.Sound.{IsSound};
-ghost use Rattle.dnp_eventbuf.specs.Stock.{with_rows, dropped_by, exhausts, without, all_up_to, without_all, rows_in};
+ghost use Rattle.dnp_eventbuf.specs.FitsLane.{FitsLane};
+ghost use Rattle.dnp_eventbuf.specs.Sound.{IsSoundBuffer};
+ghost use Rattle.dnp_eventbuf.specs.EventBuffer.{with_rows, dropped_by, exhausts, without, all_up_to, without_all, rows_in};
 ghost use Rattle.dnp_store.specs.PairTables.{HoldsPair, IsPair};
 ghost use Rattle.dnp_store.specs.steps.Pairs.{sides_of};
 ghost use Rattle.dnp_store.specs.steps.Writing.{IsWritten};
@@ -82,9 +82,9 @@ pub(crate) fn append_to<S: Alter>(
     rows: &[LaneRow],
 ) -> Result<Vec<Row>, StoreFault>
     requires idle { conn.old.in_transaction ≡ false }
-    requires sound { IsSound lanes.old }
-    requires carried { All IsCarried rows.now }
-    ensures sound { IsSound lanes.new }
+    requires sound { IsSoundBuffer lanes.old }
+    requires carried { All FitsLane rows.now }
+    ensures sound { IsSoundBuffer lanes.new }
     ensures appended { OnOk result (lanes.new ≡ with_rows lanes.old rows.now) }
     ensures dropped { IfOk result (λ dropped. dropped.items ≡ dropped_by lanes.old rows.now) }
     ensures kept { OnErr result (lanes.new ≡ lanes.old) }
@@ -114,11 +114,11 @@ pub(crate) fn append_both_to<S: Alter>(
     rows: &[LaneRow],
 ) -> Result<(Vec<Row>, Vec<Row>), StoreFault>
     requires idle { conn.old.in_transaction ≡ false }
-    requires first { IsSound first.old }
-    requires second { IsSound second.old }
-    requires carried { All IsCarried rows.now }
-    ensures first { IsSound first.new }
-    ensures second { IsSound second.new }
+    requires first { IsSoundBuffer first.old }
+    requires second { IsSoundBuffer second.old }
+    requires carried { All FitsLane rows.now }
+    ensures first { IsSoundBuffer first.new }
+    ensures second { IsSoundBuffer second.new }
     ensures appended { OnOk result (first.new ≡ with_rows first.old rows.now) }
     ensures appended_too { OnOk result (second.new ≡ with_rows second.old rows.now) }
     ensures dropped { IfOk result (λ dropped. dropped.0.items ≡ dropped_by first.old rows.now) }
@@ -153,8 +153,8 @@ pub(crate) fn release_from<S: Alter>(
     upto: &Upto,
 ) -> Result<Vec<Row>, StoreFault>
     requires idle { conn.old.in_transaction ≡ false }
-    requires sound { IsSound lanes.old }
-    ensures sound { IsSound lanes.new }
+    requires sound { IsSoundBuffer lanes.old }
+    ensures sound { IsSoundBuffer lanes.new }
     ensures released { OnOk result (lanes.new ≡ without lanes.old upto.now) }
     ensures taken { IfOk result (λ rows. rows.items ≡ all_up_to lanes.old upto.now) }
     ensures kept { OnErr result (lanes.new ≡ lanes.old) }
@@ -181,8 +181,8 @@ pub(crate) fn empty_of<S: Alter>(
     alloc: Global,
 ) -> Result<Vec<Row>, StoreFault>
     requires idle { conn.old.in_transaction ≡ false }
-    requires sound { IsSound lanes.old }
-    ensures sound { IsSound lanes.new }
+    requires sound { IsSoundBuffer lanes.old }
+    ensures sound { IsSoundBuffer lanes.new }
     ensures emptied { OnOk result (lanes.new ≡ without_all lanes.old) }
     ensures taken { IfOk result (λ rows. rows.items ≡ rows_in lanes.old) }
     ensures kept { OnErr result (lanes.new ≡ lanes.old) }

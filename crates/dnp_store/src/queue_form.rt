@@ -1,6 +1,6 @@
 //! Whether a database has the tables of a queue.
 
-ghost use Rattle.std.specs.Prelude.{◌≡◌, IsTrue, true, false, List, [], ◌∷◌, codes, None, Some, if◌then◌else◌, length, take, drop};
+ghost use Rattle.std.specs.Prelude.{◌≡◌, IsTrue, true, false, List, [], ◌∷◌, None, Some, if◌then◌else◌, length, map, take, drop};
 ghost use Rattle.sqlite.specs.Held.{state};
 ghost use Rattle.sqlite.specs.Kind.TheVariants.{Integer, Any};
 ghost use Rattle.sqlite.specs.State.{IsLive};
@@ -25,6 +25,23 @@ pub(crate) fn is_column(column: &Column, name: &str, kind: Kind, not_null: bool)
         && column.not_null == not_null
         && matches!(column.default, Value::Null)
         && column.collation == Collation::Binary
+}
+
+/// Whether the columns are of type INTEGER and have these names, each with NOT NULL or without as it stands beside its name.
+pub(crate) fn are_columns(columns: &[Column], wanted: &[(&str, bool)]) -> bool
+    ensures form { IsTrue result → columns.now ≡ map (λ w. column_of w.0.now Integer w.1) wanted.now }
+    ensures found { columns.now ≡ map (λ w. column_of w.0.now Integer w.1) wanted.now → IsTrue result }
+{
+    if columns.len() != wanted.len() {
+        return false;
+    }
+    for number in 0..wanted.len() {
+        let (name, not_null) = wanted[number];
+        if !is_column(&columns[number], name, Kind::Integer, not_null) {
+            return false;
+        }
+    }
+    true
 }
 
 /// Whether the first column is the INTEGER PRIMARY KEY, or there is none.
@@ -76,38 +93,20 @@ pub(crate) fn is_form(table: &Table) -> bool
         && is_plain(table, "form", 0, false, false)
 }
 
-/// Whether the first three of six columns are those of `queue`.
-fn are_first(columns: &[Column]) -> bool
-    requires { length columns.now ≡ 6 }
-    ensures form { IsTrue result → take 3 columns.now ≡ column_of (codes "id") Integer false ∷ column_of (codes "lane") Integer true ∷ column_of (codes "point") Integer true ∷ [] }
-    ensures found { take 3 columns.now ≡ column_of (codes "id") Integer false ∷ column_of (codes "lane") Integer true ∷ column_of (codes "point") Integer true ∷ [] → IsTrue result }
-{
-    is_column(&columns[0], "id", Kind::Integer, false)
-        && is_column(&columns[1], "lane", Kind::Integer, true)
-        && is_column(&columns[2], "point", Kind::Integer, true)
-}
-
-/// Whether the last three of six columns are those of `queue`.
-pub(crate) fn are_last(columns: &[Column]) -> bool
-    requires { length columns.now ≡ 6 }
-    ensures form { IsTrue result → drop 3 columns.now ≡ column_of (codes "flags") Integer true ∷ column_of (codes "value") Integer true ∷ column_of (codes "time") Integer false ∷ [] }
-    ensures found { drop 3 columns.now ≡ column_of (codes "flags") Integer true ∷ column_of (codes "value") Integer true ∷ column_of (codes "time") Integer false ∷ [] → IsTrue result }
-{
-    is_column(&columns[3], "flags", Kind::Integer, true)
-        && is_column(&columns[4], "value", Kind::Integer, true)
-        && is_column(&columns[5], "time", Kind::Integer, false)
-}
-
 /// Whether the table has the form of `queue`, under this name and in this tree.
 pub(crate) fn is_queue(table: &Table, name: &str, tree: u32) -> bool
     ensures form { IsTrue result → table.now ≡ table_of name.now tree queue_columns true true table.now.checks }
     ensures found { table.now ≡ table_of name.now tree queue_columns true true table.now.checks → IsTrue result }
 {
-    let columns = table.columns.as_slice();
-    columns.len() == 6
-        && are_first(columns)
-        && are_last(columns)
-        && is_plain(table, name, tree, true, true)
+    let wanted = [
+        ("id", false),
+        ("lane", true),
+        ("point", true),
+        ("flags", true),
+        ("value", true),
+        ("time", false),
+    ];
+    are_columns(table.columns.as_slice(), &wanted) && is_plain(table, name, tree, true, true)
 }
 
 /// Whether the table is that in which AUTOINCREMENT counts.
@@ -123,36 +122,18 @@ pub(crate) fn is_sequence(table: &Table) -> bool
         && is_plain(table, "sqlite_sequence", 2, false, false)
 }
 
-/// Whether the first two of four columns are those of `lanes`.
-fn are_first_of_lanes(columns: &[Column]) -> bool
-    requires { length columns.now ≡ 4 }
-    ensures form { IsTrue result → take 2 columns.now ≡ column_of (codes "lane") Integer false ∷ column_of (codes "cap") Integer true ∷ [] }
-    ensures found { take 2 columns.now ≡ column_of (codes "lane") Integer false ∷ column_of (codes "cap") Integer true ∷ [] → IsTrue result }
-{
-    is_column(&columns[0], "lane", Kind::Integer, false)
-        && is_column(&columns[1], "cap", Kind::Integer, true)
-}
-
-/// Whether the last two of four columns are those of `lanes`.
-fn are_last_of_lanes(columns: &[Column]) -> bool
-    requires { length columns.now ≡ 4 }
-    ensures form { IsTrue result → drop 2 columns.now ≡ column_of (codes "lost") Integer true ∷ column_of (codes "raised") Integer true ∷ [] }
-    ensures found { drop 2 columns.now ≡ column_of (codes "lost") Integer true ∷ column_of (codes "raised") Integer true ∷ [] → IsTrue result }
-{
-    is_column(&columns[2], "lost", Kind::Integer, true)
-        && is_column(&columns[3], "raised", Kind::Integer, true)
-}
-
 /// Whether the table has the form of `lanes`, under this name and in this tree.
 fn is_lanes(table: &Table, name: &str, tree: u32) -> bool
     ensures form { IsTrue result → table.now ≡ table_of name.now tree lanes_columns true false table.now.checks }
     ensures found { table.now ≡ table_of name.now tree lanes_columns true false table.now.checks → IsTrue result }
 {
-    let columns = table.columns.as_slice();
-    columns.len() == 4
-        && are_first_of_lanes(columns)
-        && are_last_of_lanes(columns)
-        && is_plain(table, name, tree, true, false)
+    let wanted = [
+        ("lane", false),
+        ("cap", true),
+        ("lost", true),
+        ("raised", true),
+    ];
+    are_columns(table.columns.as_slice(), &wanted) && is_plain(table, name, tree, true, false)
 }
 
 /// Whether the tables are those of a queue for one centre.

@@ -1,7 +1,7 @@
 //! A queue as the lanes of the first centre.
 
 ghost use Rattle.std.specs.Prelude.{true, [], ◌∷◌, ⊤};
-ghost use Rattle.dnp_store.specs.Kept.{IsHonest};
+ghost use Rattle.dnp_store.specs.QueueKept.{IsHonestQueue};
 
 use crate::queue::Queue;
 use dnp_eventbuf::{Lane, LaneRow, Lanes, Numbered, PairLanes, Rows, StoreFault, Upto};
@@ -19,7 +19,7 @@ impl<S: Alter> Lanes for Queue<S> {
 
     ghost place = { λ _. tt };
 
-    ghost honest = { IsHonest S.Store };
+    ghost honest = { IsHonestQueue S.Store };
 
     ghost is_stopped = { λ q. q.stopped };
 

@@ -5,7 +5,7 @@ ghost use Rattle.std.specs.List.Sorted.{IsPermutation};
 ghost use Rattle.sqlite.specs.Held.{state};
 ghost use Rattle.sqlite.specs.State.{HasCleanDisk};
 ghost use Rattle.dnp_objects.specs.declared.limits.TheConstants as limits;
-ghost use Rattle.dnp_eventbuf.specs.Stock.{Stock, lane_at};
+ghost use Rattle.dnp_eventbuf.specs.EventBuffer.{EventBuffer, lane_at};
 ghost use Rattle.dnp_store.specs.steps.Inside.{IsInside, IsStep};
 ghost use Rattle.dnp_store.specs.PairTables.{lanes_tree, rows_tree};
 ghost use Rattle.dnp_store.specs.QueueTables.{figures_rows};
@@ -55,7 +55,7 @@ pub(crate) fn read_queued<S: Alter>(
     requires inside { IsInside S.Store tx.old.conn }
     ensures step { IsStep S.Store tx.old.conn tx.new.conn result }
     ensures open { HasCleanDisk (state S.Store tx.new.conn.now) → OnOk result (IsTrue (state S.Store tx.old.conn.now).is_open) }
-    ensures read { HasCleanDisk (state S.Store tx.new.conn.now) → IfOk result (λ rows. ReadsSide side (state S.Store tx.old.conn.now) (state S.Store tx.new.conn.now) (λ db. (a b : Stock) → length a.lanes ≡ limits.LANES
+    ensures read { HasCleanDisk (state S.Store tx.new.conn.now) → IfOk result (λ rows. ReadsSide side (state S.Store tx.old.conn.now) (state S.Store tx.new.conn.now) (λ db. (a b : EventBuffer) → length a.lanes ≡ limits.LANES
         → ((k : ℕ) → k < limits.LANES → (lane_at a k).rows ≡ []) → Restores 0 rows.items a b → PutBack (db (rows_tree side)) a b)) }
 {
     list(tx, rows_query(side))

@@ -4,11 +4,11 @@ ghost use Rattle.std.specs.Prelude.{◌≡◌, ℕ, ◌<◌, false, IsTrue, OnOk
 ghost use Rattle.sqlite.specs.Held.{state};
 ghost use Rattle.sqlite.specs.State.{HasCleanDisk, Survives};
 ghost use Rattle.dnp_objects.specs.declared.limits.TheConstants as limits;
-ghost use Rattle.dnp_eventbuf.specs.Sound.{IsSound};
-ghost use Rattle.dnp_eventbuf.specs.Stock.{Stock, above, lane_at, without};
+ghost use Rattle.dnp_eventbuf.specs.Sound.{IsSoundBuffer};
+ghost use Rattle.dnp_eventbuf.specs.EventBuffer.{EventBuffer, above, lane_at, without};
 ghost use Rattle.dnp_store.specs.Refusals.{IsRefused};
 ghost use Rattle.dnp_store.specs.steps.Inside.{IsInside, IsStep};
-ghost use Rattle.dnp_store.specs.Kept.{Stands};
+ghost use Rattle.dnp_store.specs.QueueKept.{QueueStands};
 ghost use Rattle.dnp_store.specs.PairTables.{HoldsPair};
 ghost use Rattle.dnp_store.specs.QueueTables.{Figures, is_raised};
 ghost use Rattle.dnp_store.specs.steps.Pairs.{HoldsFor, IsFor, sides_of};
@@ -26,7 +26,7 @@ use sqlite::{Alter, Connection, Error, Transaction};
 /// Whether a lane has rows with ids up to a number.
 fn has_up_to(lanes: &PlainLanes, number: usize, upto: u64) -> bool
     requires number { number < limits.LANES }
-    requires sound { IsSound lanes.now }
+    requires sound { IsSoundBuffer lanes.now }
     ensures { result ≡ false → above upto (lane_at lanes.now number) ≡ lane_at lanes.now number }
 {
     match lanes.id_at(number, &[], 0) {
@@ -46,10 +46,10 @@ fn take_some<S: Alter>(
 ) -> Result<(), Error>
     requires inside { IsInside S.Store tx.old.conn }
     requires number { number < limits.LANES }
-    requires sound { IsSound lanes.now }
+    requires sound { IsSoundBuffer lanes.now }
     ensures step { IsStep S.Store tx.old.conn tx.new.conn result }
     ensures refused { HasCleanDisk (state S.Store tx.new.conn.now) → IfErr result (IsRefused S.Store StoreKind.Queue tx.old.conn.now tx.new.conn.now) }
-    ensures taken { HasCleanDisk (state S.Store tx.new.conn.now) → OnOk result ((others s : Stock) (figures : List Figures) → length s.lanes ≡ limits.LANES
+    ensures taken { HasCleanDisk (state S.Store tx.new.conn.now) → OnOk result ((others s : EventBuffer) (figures : List Figures) → length s.lanes ≡ limits.LANES
         → lane_at s number ≡ lane_at lanes.now number → HoldsFor side others (state S.Store tx.old.conn.now).now s figures
         → HoldsFor side others (state S.Store tx.new.conn.now).now (cut s number (min (slice_index_or upto.now number 0) limits.MAX_ID)) figures) }
 {
@@ -68,10 +68,10 @@ fn take_all<S: Alter>(
     upto: &Upto,
 ) -> Result<(), Error>
     requires inside { IsInside S.Store tx.old.conn }
-    requires sound { IsSound lanes.now }
+    requires sound { IsSoundBuffer lanes.now }
     ensures step { IsStep S.Store tx.old.conn tx.new.conn result }
     ensures refused { HasCleanDisk (state S.Store tx.new.conn.now) → IfErr result (IsRefused S.Store StoreKind.Queue tx.old.conn.now tx.new.conn.now) }
-    ensures taken { HasCleanDisk (state S.Store tx.new.conn.now) → OnOk result ((others : Stock) (figures : List Figures)
+    ensures taken { HasCleanDisk (state S.Store tx.new.conn.now) → OnOk result ((others : EventBuffer) (figures : List Figures)
         → HoldsFor side others (state S.Store tx.old.conn.now).now lanes.now figures → HoldsFor side others (state S.Store tx.new.conn.now).now (left lanes.now upto.now) figures) }
 {
     // (a law, for the proof: it does nothing)
@@ -89,10 +89,10 @@ fn lower_all<S: Alter>(
     lanes: &PlainLanes,
 ) -> Result<(), Error>
     requires inside { IsInside S.Store tx.old.conn }
-    requires sound { IsSound lanes.now }
+    requires sound { IsSoundBuffer lanes.now }
     ensures step { IsStep S.Store tx.old.conn tx.new.conn result }
     ensures refused { HasCleanDisk (state S.Store tx.new.conn.now) → IfErr result (IsRefused S.Store StoreKind.Queue tx.old.conn.now tx.new.conn.now) }
-    ensures lowered { HasCleanDisk (state S.Store tx.new.conn.now) → OnOk result ((others s : Stock) (figures : List Figures) → length s.lanes ≡ limits.LANES
+    ensures lowered { HasCleanDisk (state S.Store tx.new.conn.now) → OnOk result ((others s : EventBuffer) (figures : List Figures) → length s.lanes ≡ limits.LANES
         → ((k : ℕ) → k < limits.LANES → (lane_at s k).lost ≡ (lane_at lanes.now k).lost) → HoldsFor side others (state S.Store tx.old.conn.now).now s figures
         → (lowered : List Figures) × HoldsFor side others (state S.Store tx.new.conn.now).now s lowered × (is_raised lowered ≡ false)) }
 {
@@ -111,11 +111,11 @@ fn release_in<S: Alter>(
     lower: bool,
 ) -> Result<(), Error>
     requires inside { IsInside S.Store tx.old.conn }
-    requires sound { IsSound lanes.now }
+    requires sound { IsSoundBuffer lanes.now }
     ensures step { IsStep S.Store tx.old.conn tx.new.conn result }
     ensures refused { HasCleanDisk (state S.Store tx.new.conn.now) → IfErr result (IsRefused S.Store StoreKind.Queue tx.old.conn.now tx.new.conn.now) }
     ensures released { HasCleanDisk (state S.Store tx.new.conn.now) → OnOk result (
-        (others : Stock) → IsFor side others (state S.Store tx.old.conn.now).now lanes.now → IsFor side others (state S.Store tx.new.conn.now).now (released lanes.now upto.now lower)) }
+        (others : EventBuffer) → IsFor side others (state S.Store tx.old.conn.now).now lanes.now → IsFor side others (state S.Store tx.new.conn.now).now (released lanes.now upto.now lower)) }
 {
     take_all(tx, side, lanes, upto)?;
     if lower {
@@ -144,14 +144,14 @@ pub(crate) fn write_release<S: Alter>(
     lower: bool,
 ) -> Result<(), Error>
     requires idle { conn.old.in_transaction ≡ false }
-    requires sound { IsSound lanes.now }
+    requires sound { IsSoundBuffer lanes.now }
     ensures idle { conn.new.in_transaction ≡ false }
-    ensures ok { HasCleanDisk (state S.Store conn.new) → (others : Stock) → Stands (state S.Store conn.old) (sides_of side lanes.now others)
-        → OnOk result (Stands (state S.Store conn.new) (sides_of side (released lanes.now upto.now lower) others)) }
+    ensures ok { HasCleanDisk (state S.Store conn.new) → (others : EventBuffer) → QueueStands (state S.Store conn.old) (sides_of side lanes.now others)
+        → OnOk result (QueueStands (state S.Store conn.new) (sides_of side (released lanes.now upto.now lower) others)) }
     ensures err { HasCleanDisk (state S.Store conn.new) → IsTrue (state S.Store conn.new).is_open → OnErr result (IsTrue (state S.Store conn.old).is_open × ((state S.Store conn.new).committed ≡ (state S.Store conn.old).committed)) }
     ensures refused { HasCleanDisk (state S.Store conn.new) → IfErr result (IsRefused S.Store StoreKind.Queue conn.old conn.new) }
-    ensures survives { Survives (state S.Store conn.old) (state S.Store conn.new) (λ db. (others : Stock)
-        → Stands (state S.Store conn.old) (sides_of side lanes.now others) → HoldsPair db (sides_of side (released lanes.now upto.now lower) others)) }
+    ensures survives { Survives (state S.Store conn.old) (state S.Store conn.new) (λ db. (others : EventBuffer)
+        → QueueStands (state S.Store conn.old) (sides_of side lanes.now others) → HoldsPair db (sides_of side (released lanes.now upto.now lower) others)) }
 {
     prove!(conn.is_autocommit());
     let mut tx = conn.transaction();

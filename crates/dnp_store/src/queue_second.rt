@@ -1,70 +1,21 @@
 //! The tables for the second centre, beside those of a queue for one.
 
-ghost use Rattle.std.specs.Prelude.{◌≡◌, ◌++◌, OnOk, List, [], ◌∷◌, length, map, IfErr};
+ghost use Rattle.std.specs.Prelude.{◌≡◌, OnOk, List, [], map, IfErr};
 ghost use Rattle.sqlite.specs.Held.{state};
 ghost use Rattle.sqlite.specs.State.{HasCleanDisk};
 ghost use Rattle.sqlite.specs.Term.{Term};
-ghost use Rattle.dnp_eventbuf.specs.Stock.{Stock};
+ghost use Rattle.dnp_eventbuf.specs.EventBuffer.{EventBuffer};
 ghost use Rattle.dnp_store.specs.Refusals.{IsRefused};
 ghost use Rattle.dnp_store.specs.steps.Inside.{IsInside, IsStep};
 ghost use Rattle.dnp_store.specs.steps.Making.{fresh};
-ghost use Rattle.dnp_store.specs.steps.Seconds.{HasQueueB, HasSecond, IsSecond};
+ghost use Rattle.dnp_store.specs.steps.Seconds.{HasSecond, IsSecond};
 ghost use Rattle.dnp_store.specs.PairTables.{migrated};
-ghost use Rattle.dnp_store.specs.QueueTables.{Figures, HoldsStock, queue_schema};
+ghost use Rattle.dnp_store.specs.QueueTables.{HoldsBuffer, queue_schema};
 
 use crate::store_kind::StoreKind;
-use crate::stores::{keep_probe, run};
+use crate::stores::{keep_probe, run, run_all};
 use dnp_objects::LANES;
 use sqlite::{Alter, Error, Transaction, params};
-
-/// Makes `queue_b`.
-fn make_queue_b<S: Alter>(tx: &mut Transaction<'_, S>) -> Result<(), Error>
-    requires inside { IsInside S.Store tx.old.conn }
-    ensures step { IsStep S.Store tx.old.conn tx.new.conn result }
-    ensures refused { HasCleanDisk (state S.Store tx.new.conn.now) → IfErr result (IsRefused S.Store StoreKind.Queue tx.old.conn.now tx.new.conn.now) }
-    ensures made { HasCleanDisk (state S.Store tx.new.conn.now) → OnOk result ((f q l : List Term) (s : Stock) → (state S.Store tx.old.conn.now).now.schema ≡ queue_schema f q l
-        → HoldsStock (state S.Store tx.old.conn.now).now.trees s → HasQueueB f q l s (state S.Store tx.new.conn.now).now) }
-{
-    run(
-        tx,
-        "CREATE TABLE queue_b (id INTEGER PRIMARY KEY AUTOINCREMENT CHECK (id BETWEEN 1 AND 4611686018427387904), lane INTEGER NOT NULL CHECK (lane BETWEEN 0 AND 8), point INTEGER NOT NULL CHECK (point BETWEEN 0 AND 65535), flags INTEGER NOT NULL CHECK (flags BETWEEN 0 AND 255), value INTEGER NOT NULL, time INTEGER CHECK (time BETWEEN 0 AND 281474976710655))",
-        &[],
-    )
-}
-
-/// Makes `lanes_b`.
-fn make_lanes_b<S: Alter>(tx: &mut Transaction<'_, S>) -> Result<(), Error>
-    requires inside { IsInside S.Store tx.old.conn }
-    ensures step { IsStep S.Store tx.old.conn tx.new.conn result }
-    ensures refused { HasCleanDisk (state S.Store tx.new.conn.now) → IfErr result (IsRefused S.Store StoreKind.Queue tx.old.conn.now tx.new.conn.now) }
-    ensures made { HasCleanDisk (state S.Store tx.new.conn.now) → OnOk result ((f q l : List Term) (s : Stock)
-        → HasQueueB f q l s (state S.Store tx.old.conn.now).now → HasSecond f q l s [] (state S.Store tx.new.conn.now).now) }
-{
-    run(
-        tx,
-        "CREATE TABLE lanes_b (lane INTEGER PRIMARY KEY CHECK (lane BETWEEN 0 AND 8), cap INTEGER NOT NULL CHECK (cap BETWEEN 1 AND 4096), lost INTEGER NOT NULL CHECK (lost BETWEEN 0 AND 4611686018427387904), raised INTEGER NOT NULL CHECK (raised BETWEEN 0 AND 1))",
-        &[],
-    )
-}
-
-/// Puts an empty lane into `lanes_b`.
-fn put_lane_b<S: Alter>(
-    tx: &mut Transaction<'_, S>,
-    number: u32,
-    capacity: u32,
-) -> Result<(), Error>
-    requires inside { IsInside S.Store tx.old.conn }
-    ensures step { IsStep S.Store tx.old.conn tx.new.conn result }
-    ensures refused { HasCleanDisk (state S.Store tx.new.conn.now) → IfErr result (IsRefused S.Store StoreKind.Queue tx.old.conn.now tx.new.conn.now) }
-    ensures made { HasCleanDisk (state S.Store tx.new.conn.now) → OnOk result ((f q l : List Term) (s : Stock) (figures : List Figures) → number ≡ length figures
-        → HasSecond f q l s figures (state S.Store tx.old.conn.now).now → HasSecond f q l s (figures ++ fresh capacity ∷ []) (state S.Store tx.new.conn.now).now) }
-{
-    run(
-        tx,
-        "INSERT INTO lanes_b VALUES (?1, ?2, 0, 0)",
-        params![number, capacity],
-    )
-}
 
 /// Puts nine empty lanes into `lanes_b`.
 fn put_lanes_b<S: Alter>(
@@ -74,27 +25,19 @@ fn put_lanes_b<S: Alter>(
     requires inside { IsInside S.Store tx.old.conn }
     ensures step { IsStep S.Store tx.old.conn tx.new.conn result }
     ensures refused { HasCleanDisk (state S.Store tx.new.conn.now) → IfErr result (IsRefused S.Store StoreKind.Queue tx.old.conn.now tx.new.conn.now) }
-    ensures made { HasCleanDisk (state S.Store tx.new.conn.now) → OnOk result ((f q l : List Term) (s : Stock)
+    ensures made { HasCleanDisk (state S.Store tx.new.conn.now) → OnOk result ((f q l : List Term) (s : EventBuffer)
         → HasSecond f q l s [] (state S.Store tx.old.conn.now).now → HasSecond f q l s (map fresh capacities.now) (state S.Store tx.new.conn.now).now) }
 {
     for number in 0..LANES {
-        put_lane_b(tx, number as u32, capacities[number])?;
+        let lane = number as u32;
+        let capacity = capacities[number];
+        run(
+            tx,
+            "INSERT INTO lanes_b VALUES (?1, ?2, 0, 0)",
+            params![lane, capacity],
+        )?;
     }
     Ok(())
-}
-
-/// Gives the form its new number.
-fn number_second<S: Alter>(
-    tx: &mut Transaction<'_, S>,
-    capacities: &[u32; LANES],
-) -> Result<(), Error>
-    requires inside { IsInside S.Store tx.old.conn }
-    ensures step { IsStep S.Store tx.old.conn tx.new.conn result }
-    ensures refused { HasCleanDisk (state S.Store tx.new.conn.now) → IfErr result (IsRefused S.Store StoreKind.Queue tx.old.conn.now tx.new.conn.now) }
-    ensures made { HasCleanDisk (state S.Store tx.new.conn.now) → OnOk result ((f q l : List Term) (s : Stock)
-        → HasSecond f q l s (map fresh capacities.now) (state S.Store tx.old.conn.now).now → IsSecond f q l (migrated s capacities.now) (state S.Store tx.new.conn.now).now) }
-{
-    run(tx, "UPDATE form SET number = 2", &[])
 }
 
 /// Makes the tables for the second centre beside those of a queue for one, with empty lanes, gives the form its new number, and
@@ -106,12 +49,15 @@ pub(crate) fn make_second<S: Alter>(
     requires inside { IsInside S.Store tx.old.conn }
     ensures step { IsStep S.Store tx.old.conn tx.new.conn result }
     ensures refused { HasCleanDisk (state S.Store tx.new.conn.now) → IfErr result (IsRefused S.Store StoreKind.Queue tx.old.conn.now tx.new.conn.now) }
-    ensures made { HasCleanDisk (state S.Store tx.new.conn.now) → OnOk result ((f q l : List Term) (s : Stock) → (state S.Store tx.old.conn.now).now.schema ≡ queue_schema f q l
-        → HoldsStock (state S.Store tx.old.conn.now).now.trees s → IsSecond f q l (migrated s capacities.now) (state S.Store tx.new.conn.now).now) }
+    ensures made { HasCleanDisk (state S.Store tx.new.conn.now) → OnOk result ((f q l : List Term) (s : EventBuffer) → (state S.Store tx.old.conn.now).now.schema ≡ queue_schema f q l
+        → HoldsBuffer (state S.Store tx.old.conn.now).now.trees s → IsSecond f q l (migrated s capacities.now) (state S.Store tx.new.conn.now).now) }
 {
-    make_queue_b(tx)?;
-    make_lanes_b(tx)?;
+    let texts = [
+        "CREATE TABLE queue_b (id INTEGER PRIMARY KEY AUTOINCREMENT CHECK (id BETWEEN 1 AND 4611686018427387904), lane INTEGER NOT NULL CHECK (lane BETWEEN 0 AND 8), point INTEGER NOT NULL CHECK (point BETWEEN 0 AND 65535), flags INTEGER NOT NULL CHECK (flags BETWEEN 0 AND 255), value INTEGER NOT NULL, time INTEGER CHECK (time BETWEEN 0 AND 281474976710655))",
+        "CREATE TABLE lanes_b (lane INTEGER PRIMARY KEY CHECK (lane BETWEEN 0 AND 8), cap INTEGER NOT NULL CHECK (cap BETWEEN 1 AND 4096), lost INTEGER NOT NULL CHECK (lost BETWEEN 0 AND 4611686018427387904), raised INTEGER NOT NULL CHECK (raised BETWEEN 0 AND 1))",
+    ];
+    run_all(tx, &texts)?;
     put_lanes_b(tx, capacities)?;
-    number_second(tx, capacities)?;
+    run(tx, "UPDATE form SET number = 2", &[])?;
     keep_probe(tx)
 }

@@ -4,8 +4,8 @@ ghost use Rattle.std.specs.Prelude.{All, ◌≡◌, ◌^◌, ◌<◌, OnOk, IfEr
 ghost use Rattle.sqlite.specs.Held.{state};
 ghost use Rattle.sqlite.specs.State.{HasCleanDisk};
 ghost use Rattle.dnp_objects.specs.declared.limits.TheConstants as limits;
-ghost use Rattle.dnp_eventbuf.specs.Carried.{IsCarried};
-ghost use Rattle.dnp_eventbuf.specs.Stock.{Stock};
+ghost use Rattle.dnp_eventbuf.specs.FitsLane.{FitsLane};
+ghost use Rattle.dnp_eventbuf.specs.EventBuffer.{EventBuffer};
 ghost use Rattle.dnp_store.specs.declared.cells.TheConstants.{MANY};
 ghost use Rattle.dnp_store.specs.Refusals.{IsRefused};
 ghost use Rattle.dnp_store.specs.steps.Inside.{IsInside, IsStep};
@@ -28,10 +28,10 @@ pub(crate) fn insert<S: Alter>(
     x: &LaneRow,
 ) -> Result<(), Error>
     requires inside { IsInside S.Store tx.old.conn }
-    requires carried { IsCarried x.now }
+    requires carried { FitsLane x.now }
     ensures step { IsStep S.Store tx.old.conn tx.new.conn result }
     ensures refused { HasCleanDisk (state S.Store tx.new.conn.now) → IfErr result (IsRefused S.Store StoreKind.Queue tx.old.conn.now tx.new.conn.now) }
-    ensures added { HasCleanDisk (state S.Store tx.new.conn.now) → OnOk result ((others s : Stock) (figures : List Figures) → length s.lanes ≡ limits.LANES
+    ensures added { HasCleanDisk (state S.Store tx.new.conn.now) → OnOk result ((others s : EventBuffer) (figures : List Figures) → length s.lanes ≡ limits.LANES
         → HoldsFor side others (state S.Store tx.old.conn.now).now s figures → HoldsFor side others (state S.Store tx.new.conn.now).now (added s x.now) figures) }
 {
     let lane = x.lane.number() as u32;
@@ -54,11 +54,11 @@ pub(crate) fn insert_many<S: Alter>(
     rows: &[LaneRow],
 ) -> Result<(), Error>
     requires inside { IsInside S.Store tx.old.conn }
-    requires carried { All IsCarried rows.now }
+    requires carried { All FitsLane rows.now }
     requires sixteen { length rows.now ≡ MANY }
     ensures step { IsStep S.Store tx.old.conn tx.new.conn result }
     ensures refused { HasCleanDisk (state S.Store tx.new.conn.now) → IfErr result (IsRefused S.Store StoreKind.Queue tx.old.conn.now tx.new.conn.now) }
-    ensures added { HasCleanDisk (state S.Store tx.new.conn.now) → OnOk result ((others s : Stock) (figures : List Figures) → length s.lanes ≡ limits.LANES
+    ensures added { HasCleanDisk (state S.Store tx.new.conn.now) → OnOk result ((others s : EventBuffer) (figures : List Figures) → length s.lanes ≡ limits.LANES
         → HoldsFor side others (state S.Store tx.old.conn.now).now s figures → HoldsFor side others (state S.Store tx.new.conn.now).now (all_added s rows.now) figures) }
 {
     let mut given = [[ValueRef::Null; CELLS]; MANY];
@@ -81,7 +81,7 @@ pub(crate) fn take<S: Alter>(
     requires upto { upto < 2 ^ 63 }
     ensures step { IsStep S.Store tx.old.conn tx.new.conn result }
     ensures refused { HasCleanDisk (state S.Store tx.new.conn.now) → IfErr result (IsRefused S.Store StoreKind.Queue tx.old.conn.now tx.new.conn.now) }
-    ensures cut { HasCleanDisk (state S.Store tx.new.conn.now) → OnOk result ((others s : Stock) (figures : List Figures) → length s.lanes ≡ limits.LANES
+    ensures cut { HasCleanDisk (state S.Store tx.new.conn.now) → OnOk result ((others s : EventBuffer) (figures : List Figures) → length s.lanes ≡ limits.LANES
         → HoldsFor side others (state S.Store tx.old.conn.now).now s figures → HoldsFor side others (state S.Store tx.new.conn.now).now (cut s number upto) figures) }
 {
     let lane = number as u32;
@@ -102,7 +102,7 @@ pub(crate) fn note<S: Alter>(
     requires lost { lost < 2 ^ 63 }
     ensures step { IsStep S.Store tx.old.conn tx.new.conn result }
     ensures refused { HasCleanDisk (state S.Store tx.new.conn.now) → IfErr result (IsRefused S.Store StoreKind.Queue tx.old.conn.now tx.new.conn.now) }
-    ensures noted { HasCleanDisk (state S.Store tx.new.conn.now) → OnOk result ((others s : Stock) (figures : List Figures) → length s.lanes ≡ limits.LANES
+    ensures noted { HasCleanDisk (state S.Store tx.new.conn.now) → OnOk result ((others s : EventBuffer) (figures : List Figures) → length s.lanes ≡ limits.LANES
         → HoldsFor side others (state S.Store tx.old.conn.now).now s figures → HoldsFor side others (state S.Store tx.new.conn.now).now (counted s number lost) (noted figures number lost raised)) }
 {
     let lane = number as u32;

@@ -1,54 +1,24 @@
 //! The tables of a queue, as they are made.
 
-ghost use Rattle.std.specs.Prelude.{◌≡◌, ◌++◌, false, IsTrue, OnOk, OnErr, List, [], ◌∷◌, length, map, IfErr};
+ghost use Rattle.std.specs.Prelude.{◌≡◌, false, IsTrue, OnOk, OnErr, [], map, IfErr};
 ghost use Rattle.sqlite.specs.Held.{state};
 ghost use Rattle.sqlite.specs.State.{HasCleanDisk, Survives};
-ghost use Rattle.dnp_eventbuf.specs.Stock.{Stock, empty_stock};
+ghost use Rattle.dnp_eventbuf.specs.EventBuffer.{EventBuffer, empty_buffer};
 ghost use Rattle.dnp_store.specs.Refusals.{IsRefused};
 ghost use Rattle.dnp_store.specs.steps.Inside.{IsInside, IsStep};
-ghost use Rattle.dnp_store.specs.Kept.{Stands};
+ghost use Rattle.dnp_store.specs.QueueKept.{QueueStands};
 ghost use Rattle.dnp_store.specs.steps.Making.{HasLanes, fresh};
 ghost use Rattle.dnp_store.specs.PairTables.{HoldsPair, migrated};
 ghost use Rattle.dnp_store.specs.steps.Seconds.{IsSecond, Opens};
-ghost use Rattle.dnp_store.specs.QueueTables.{Figures};
 ghost use Rattle.dnp_store.specs.Schemas.{checks_of_form, checks_of_lanes, checks_of_rows, made_pair};
-ghost use Rattle.dnp_store.specs.steps.Stores.{HasNumber};
 ghost use Rattle.dnp_store.specs.Tables.{no_schema};
 
 use crate::queue_second::make_second;
 use crate::store_kind::StoreKind;
-use crate::stores::{keep_probe, make_tables, run};
+use crate::stores::{make_tables, run};
 use crate::transactions::end;
 use dnp_objects::LANES;
 use sqlite::{Alter, Connection, Error, Transaction, params};
-
-/// Makes `lanes`.
-fn make_lanes<S: Alter>(tx: &mut Transaction<'_, S>) -> Result<(), Error>
-    requires inside { IsInside S.Store tx.old.conn }
-    ensures step { IsStep S.Store tx.old.conn tx.new.conn result }
-    ensures refused { HasCleanDisk (state S.Store tx.new.conn.now) → IfErr result (IsRefused S.Store StoreKind.Queue tx.old.conn.now tx.new.conn.now) }
-    ensures made { HasCleanDisk (state S.Store tx.new.conn.now) → OnOk result (HasNumber StoreKind.Queue (state S.Store tx.old.conn.now).now → HasLanes (state S.Store tx.new.conn.now).now []) }
-{
-    run(
-        tx,
-        "CREATE TABLE lanes (lane INTEGER PRIMARY KEY CHECK (lane BETWEEN 0 AND 8), cap INTEGER NOT NULL CHECK (cap BETWEEN 1 AND 4096), lost INTEGER NOT NULL CHECK (lost BETWEEN 0 AND 4611686018427387904), raised INTEGER NOT NULL CHECK (raised BETWEEN 0 AND 1))",
-        &[],
-    )
-}
-
-/// Puts an empty lane into `lanes`.
-fn put_lane<S: Alter>(tx: &mut Transaction<'_, S>, number: u32, capacity: u32) -> Result<(), Error>
-    requires inside { IsInside S.Store tx.old.conn }
-    ensures step { IsStep S.Store tx.old.conn tx.new.conn result }
-    ensures refused { HasCleanDisk (state S.Store tx.new.conn.now) → IfErr result (IsRefused S.Store StoreKind.Queue tx.old.conn.now tx.new.conn.now) }
-    ensures made { HasCleanDisk (state S.Store tx.new.conn.now) → OnOk result ((figures : List Figures) → number ≡ length figures → HasLanes (state S.Store tx.old.conn.now).now figures → HasLanes (state S.Store tx.new.conn.now).now (figures ++ fresh capacity ∷ [])) }
-{
-    run(
-        tx,
-        "INSERT INTO lanes VALUES (?1, ?2, 0, 0)",
-        params![number, capacity],
-    )
-}
 
 /// Puts nine empty lanes into `lanes`.
 fn put_lanes<S: Alter>(tx: &mut Transaction<'_, S>, capacities: &[u32; LANES]) -> Result<(), Error>
@@ -58,12 +28,18 @@ fn put_lanes<S: Alter>(tx: &mut Transaction<'_, S>, capacities: &[u32; LANES]) -
     ensures made { HasCleanDisk (state S.Store tx.new.conn.now) → OnOk result (HasLanes (state S.Store tx.old.conn.now).now [] → HasLanes (state S.Store tx.new.conn.now).now (map fresh capacities.now)) }
 {
     for number in 0..LANES {
-        put_lane(tx, number as u32, capacities[number])?;
+        let lane = number as u32;
+        let capacity = capacities[number];
+        run(
+            tx,
+            "INSERT INTO lanes VALUES (?1, ?2, 0, 0)",
+            params![lane, capacity],
+        )?;
     }
     Ok(())
 }
 
-/// Makes the tables and what stands in them at first, and has the connection ready to be asked.
+/// Makes the tables and what stands in them at first.
 fn make_all<S: Alter>(tx: &mut Transaction<'_, S>, capacities: &[u32; LANES]) -> Result<(), Error>
     requires inside { IsInside S.Store tx.old.conn }
     ensures step { IsStep S.Store tx.old.conn tx.new.conn result }
@@ -71,9 +47,12 @@ fn make_all<S: Alter>(tx: &mut Transaction<'_, S>, capacities: &[u32; LANES]) ->
     ensures made { HasCleanDisk (state S.Store tx.new.conn.now) → OnOk result ((state S.Store tx.old.conn.now).now.schema ≡ no_schema → HasLanes (state S.Store tx.new.conn.now).now (map fresh capacities.now)) }
 {
     make_tables(tx, StoreKind::Queue)?;
-    make_lanes(tx)?;
-    put_lanes(tx, capacities)?;
-    keep_probe(tx)
+    run(
+        tx,
+        "CREATE TABLE lanes (lane INTEGER PRIMARY KEY CHECK (lane BETWEEN 0 AND 8), cap INTEGER NOT NULL CHECK (cap BETWEEN 1 AND 4096), lost INTEGER NOT NULL CHECK (lost BETWEEN 0 AND 4611686018427387904), raised INTEGER NOT NULL CHECK (raised BETWEEN 0 AND 1))",
+        &[],
+    )?;
+    put_lanes(tx, capacities)
 }
 
 /// Makes the tables for one centre and those for the second beside them, with empty lanes.
@@ -86,7 +65,7 @@ fn make_pair<S: Alter>(
     ensures step { IsStep S.Store tx.old.conn tx.new.conn result }
     ensures refused { HasCleanDisk (state S.Store tx.new.conn.now) → IfErr result (IsRefused S.Store StoreKind.Queue tx.old.conn.now tx.new.conn.now) }
     ensures made { HasCleanDisk (state S.Store tx.new.conn.now) → OnOk result ((state S.Store tx.old.conn.now).now.schema ≡ no_schema
-        → IsSecond checks_of_form (checks_of_rows StoreKind.Queue) checks_of_lanes (migrated (empty_stock first.now) second.now) (state S.Store tx.new.conn.now).now) }
+        → IsSecond checks_of_form (checks_of_rows StoreKind.Queue) checks_of_lanes (migrated (empty_buffer first.now) second.now) (state S.Store tx.new.conn.now).now) }
 {
     make_all(tx, first)?;
     make_second(tx, second)
@@ -100,11 +79,11 @@ pub(crate) fn write_tables<S: Alter>(
 ) -> Result<(), Error>
     requires idle { conn.old.in_transaction ≡ false }
     ensures idle { conn.new.in_transaction ≡ false }
-    ensures ok { HasCleanDisk (state S.Store conn.new) → (state S.Store conn.old).now.schema ≡ no_schema → OnOk result (Stands (state S.Store conn.new) (record { first = empty_stock first.now; second = empty_stock second.now })) }
+    ensures ok { HasCleanDisk (state S.Store conn.new) → (state S.Store conn.old).now.schema ≡ no_schema → OnOk result (QueueStands (state S.Store conn.new) (record { first = empty_buffer first.now; second = empty_buffer second.now })) }
     ensures schema { HasCleanDisk (state S.Store conn.new) → (state S.Store conn.old).now.schema ≡ no_schema → OnOk result ((state S.Store conn.new).committed.schema ≡ made_pair) }
     ensures err { HasCleanDisk (state S.Store conn.new) → IsTrue (state S.Store conn.new).is_open → OnErr result (IsTrue (state S.Store conn.old).is_open × ((state S.Store conn.new).committed ≡ (state S.Store conn.old).committed)) }
     ensures refused { HasCleanDisk (state S.Store conn.new) → IfErr result (IsRefused S.Store StoreKind.Queue conn.old conn.new) }
-    ensures survives { Survives (state S.Store conn.old) (state S.Store conn.new) (λ db. (state S.Store conn.old).now.schema ≡ no_schema → HoldsPair db (record { first = empty_stock first.now; second = empty_stock second.now })) }
+    ensures survives { Survives (state S.Store conn.old) (state S.Store conn.new) (λ db. (state S.Store conn.old).now.schema ≡ no_schema → HoldsPair db (record { first = empty_buffer first.now; second = empty_buffer second.now })) }
 {
     let mut tx = conn.transaction();
     let done = make_pair(&mut tx, first, second);
@@ -119,10 +98,10 @@ pub(crate) fn write_second<S: Alter>(
 ) -> Result<(), Error>
     requires idle { conn.old.in_transaction ≡ false }
     ensures idle { conn.new.in_transaction ≡ false }
-    ensures ok { HasCleanDisk (state S.Store conn.new) → (s : Stock) → Opens (state S.Store conn.old) s → OnOk result (Stands (state S.Store conn.new) (migrated s capacities.now)) }
+    ensures ok { HasCleanDisk (state S.Store conn.new) → (s : EventBuffer) → Opens (state S.Store conn.old) s → OnOk result (QueueStands (state S.Store conn.new) (migrated s capacities.now)) }
     ensures err { HasCleanDisk (state S.Store conn.new) → IsTrue (state S.Store conn.new).is_open → OnErr result (IsTrue (state S.Store conn.old).is_open × ((state S.Store conn.new).committed ≡ (state S.Store conn.old).committed)) }
     ensures refused { HasCleanDisk (state S.Store conn.new) → IfErr result (IsRefused S.Store StoreKind.Queue conn.old conn.new) }
-    ensures survives { Survives (state S.Store conn.old) (state S.Store conn.new) (λ db. (s : Stock) → Opens (state S.Store conn.old) s → HoldsPair db (migrated s capacities.now)) }
+    ensures survives { Survives (state S.Store conn.old) (state S.Store conn.new) (λ db. (s : EventBuffer) → Opens (state S.Store conn.old) s → HoldsPair db (migrated s capacities.now)) }
 {
     prove!(conn.is_autocommit());
     let mut tx = conn.transaction();

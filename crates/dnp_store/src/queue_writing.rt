@@ -4,12 +4,12 @@ ghost use Rattle.std.specs.Prelude.{◌≡◌, ◌≤◌, ◌<◌, ◌+◌, ◌^
 ghost use Rattle.sqlite.specs.Held.{state};
 ghost use Rattle.sqlite.specs.State.{HasCleanDisk, Survives};
 ghost use Rattle.dnp_objects.specs.declared.limits.TheConstants as limits;
-ghost use Rattle.dnp_eventbuf.specs.Carried.{IsCarried};
-ghost use Rattle.dnp_eventbuf.specs.Sound.{IsSound};
-ghost use Rattle.dnp_eventbuf.specs.Stock.{Stock, with_rows};
+ghost use Rattle.dnp_eventbuf.specs.FitsLane.{FitsLane};
+ghost use Rattle.dnp_eventbuf.specs.Sound.{IsSoundBuffer};
+ghost use Rattle.dnp_eventbuf.specs.EventBuffer.{EventBuffer, with_rows};
 ghost use Rattle.dnp_store.specs.Refusals.{IsRefused};
 ghost use Rattle.dnp_store.specs.steps.Inside.{IsInside, IsStep};
-ghost use Rattle.dnp_store.specs.Kept.{Stands};
+ghost use Rattle.dnp_store.specs.QueueKept.{QueueStands};
 ghost use Rattle.dnp_store.specs.PairTables.{HoldsPair, IsPair};
 ghost use Rattle.dnp_store.specs.QueueTables.{Figures};
 ghost use Rattle.dnp_store.specs.steps.Pairs.{HoldsFor, IsFor, sides_of};
@@ -32,10 +32,10 @@ fn insert_each<S: Alter>(
     rows: &[LaneRow],
 ) -> Result<(), Error>
     requires inside { IsInside S.Store tx.old.conn }
-    requires carried { All IsCarried rows.now }
+    requires carried { All FitsLane rows.now }
     ensures step { IsStep S.Store tx.old.conn tx.new.conn result }
     ensures refused { HasCleanDisk (state S.Store tx.new.conn.now) → IfErr result (IsRefused S.Store StoreKind.Queue tx.old.conn.now tx.new.conn.now) }
-    ensures added { HasCleanDisk (state S.Store tx.new.conn.now) → OnOk result ((others s : Stock) (figures : List Figures) → length s.lanes ≡ limits.LANES
+    ensures added { HasCleanDisk (state S.Store tx.new.conn.now) → OnOk result ((others s : EventBuffer) (figures : List Figures) → length s.lanes ≡ limits.LANES
         → HoldsFor side others (state S.Store tx.old.conn.now).now s figures → HoldsFor side others (state S.Store tx.new.conn.now).now (all_added s rows.now) figures) }
 {
     for x in rows {
@@ -51,8 +51,8 @@ fn insert_block<S: Alter>(
     rows: &[LaneRow],
 ) -> Result<(), Error>
     requires inside { IsInside S.Store tx.old.conn }
-    requires carried { All IsCarried rows.now }
-    ensures added { HasCleanDisk (state S.Store tx.new.conn.now) → OnOk result ((others s : Stock) (figures : List Figures) → length s.lanes ≡ limits.LANES
+    requires carried { All FitsLane rows.now }
+    ensures added { HasCleanDisk (state S.Store tx.new.conn.now) → OnOk result ((others s : EventBuffer) (figures : List Figures) → length s.lanes ≡ limits.LANES
         → HoldsFor side others (state S.Store tx.old.conn.now).now s figures → HoldsFor side others (state S.Store tx.new.conn.now).now (all_added s rows.now) figures) }
     ensures step { IsStep S.Store tx.old.conn tx.new.conn result }
     ensures refused { HasCleanDisk (state S.Store tx.new.conn.now) → IfErr result (IsRefused S.Store StoreKind.Queue tx.old.conn.now tx.new.conn.now) }
@@ -71,10 +71,10 @@ fn insert_all<S: Alter>(
     rows: &[LaneRow],
 ) -> Result<(), Error>
     requires inside { IsInside S.Store tx.old.conn }
-    requires carried { All IsCarried rows.now }
+    requires carried { All FitsLane rows.now }
     ensures refused { HasCleanDisk (state S.Store tx.new.conn.now) → IfErr result (IsRefused S.Store StoreKind.Queue tx.old.conn.now tx.new.conn.now) }
     ensures step { IsStep S.Store tx.old.conn tx.new.conn result }
-    ensures added { HasCleanDisk (state S.Store tx.new.conn.now) → OnOk result ((others s : Stock) (figures : List Figures) → length s.lanes ≡ limits.LANES
+    ensures added { HasCleanDisk (state S.Store tx.new.conn.now) → OnOk result ((others s : EventBuffer) (figures : List Figures) → length s.lanes ≡ limits.LANES
         → HoldsFor side others (state S.Store tx.old.conn.now).now s figures → HoldsFor side others (state S.Store tx.new.conn.now).now (all_added s rows.now) figures) }
 {
     for block in rows.chunks(MANY) {
@@ -93,12 +93,12 @@ fn trim<S: Alter>(
 ) -> Result<(), Error>
     requires inside { IsInside S.Store tx.old.conn }
     requires number { number < limits.LANES }
-    requires sound { IsSound lanes.now }
-    requires after { IsSound (with_rows lanes.now rows.now) }
+    requires sound { IsSoundBuffer lanes.now }
+    requires after { IsSoundBuffer (with_rows lanes.now rows.now) }
     requires few { lanes.now.last_id + length rows.now ≤ 2 ^ 62 }
     ensures step { IsStep S.Store tx.old.conn tx.new.conn result }
     ensures refused { HasCleanDisk (state S.Store tx.new.conn.now) → IfErr result (IsRefused S.Store StoreKind.Queue tx.old.conn.now tx.new.conn.now) }
-    ensures trimmed { HasCleanDisk (state S.Store tx.new.conn.now) → OnOk result ((others : Stock) (raised : Bool)
+    ensures trimmed { HasCleanDisk (state S.Store tx.new.conn.now) → OnOk result ((others : EventBuffer) (raised : Bool)
         → IsTrimmed side others (state S.Store tx.old.conn.now).now lanes.now rows.now raised number → IsTrimmed side others (state S.Store tx.new.conn.now).now lanes.now rows.now raised (number + 1)) }
 {
     // (a law, for the proof: it does nothing)
@@ -123,12 +123,12 @@ fn trim_all<S: Alter>(
     rows: &[LaneRow],
 ) -> Result<(), Error>
     requires inside { IsInside S.Store tx.old.conn }
-    requires sound { IsSound lanes.now }
-    requires after { IsSound (with_rows lanes.now rows.now) }
+    requires sound { IsSoundBuffer lanes.now }
+    requires after { IsSoundBuffer (with_rows lanes.now rows.now) }
     requires few { lanes.now.last_id + length rows.now ≤ 2 ^ 62 }
     ensures step { IsStep S.Store tx.old.conn tx.new.conn result }
     ensures refused { HasCleanDisk (state S.Store tx.new.conn.now) → IfErr result (IsRefused S.Store StoreKind.Queue tx.old.conn.now tx.new.conn.now) }
-    ensures trimmed { HasCleanDisk (state S.Store tx.new.conn.now) → OnOk result ((others : Stock) (raised : Bool)
+    ensures trimmed { HasCleanDisk (state S.Store tx.new.conn.now) → OnOk result ((others : EventBuffer) (raised : Bool)
         → IsTrimmed side others (state S.Store tx.old.conn.now).now lanes.now rows.now raised 0 → IsTrimmed side others (state S.Store tx.new.conn.now).now lanes.now rows.now raised limits.LANES) }
 {
     for number in 0..LANES {
@@ -145,13 +145,13 @@ fn append_in<S: Alter>(
     rows: &[LaneRow],
 ) -> Result<(), Error>
     requires inside { IsInside S.Store tx.old.conn }
-    requires carried { All IsCarried rows.now }
-    requires sound { IsSound lanes.now }
-    requires after { IsSound (with_rows lanes.now rows.now) }
+    requires carried { All FitsLane rows.now }
+    requires sound { IsSoundBuffer lanes.now }
+    requires after { IsSoundBuffer (with_rows lanes.now rows.now) }
     requires few { lanes.now.last_id + length rows.now ≤ 2 ^ 62 }
     ensures step { IsStep S.Store tx.old.conn tx.new.conn result }
     ensures refused { HasCleanDisk (state S.Store tx.new.conn.now) → IfErr result (IsRefused S.Store StoreKind.Queue tx.old.conn.now tx.new.conn.now) }
-    ensures appended { HasCleanDisk (state S.Store tx.new.conn.now) → OnOk result ((others : Stock)
+    ensures appended { HasCleanDisk (state S.Store tx.new.conn.now) → OnOk result ((others : EventBuffer)
         → IsFor side others (state S.Store tx.old.conn.now).now lanes.now → IsFor side others (state S.Store tx.new.conn.now).now (with_rows lanes.now rows.now)) }
 {
     // (a law, for the proof: it does nothing)
@@ -168,11 +168,11 @@ fn append_in_both<S: Alter>(
     rows: &[LaneRow],
 ) -> Result<(), Error>
     requires inside { IsInside S.Store tx.old.conn }
-    requires carried { All IsCarried rows.now }
-    requires first { IsSound first.now }
-    requires second { IsSound second.now }
-    requires first_after { IsSound (with_rows first.now rows.now) }
-    requires second_after { IsSound (with_rows second.now rows.now) }
+    requires carried { All FitsLane rows.now }
+    requires first { IsSoundBuffer first.now }
+    requires second { IsSoundBuffer second.now }
+    requires first_after { IsSoundBuffer (with_rows first.now rows.now) }
+    requires second_after { IsSoundBuffer (with_rows second.now rows.now) }
     requires few { first.now.last_id + length rows.now ≤ 2 ^ 62 }
     requires few_too { second.now.last_id + length rows.now ≤ 2 ^ 62 }
     ensures step { IsStep S.Store tx.old.conn tx.new.conn result }
@@ -192,17 +192,17 @@ pub(crate) fn write_append<S: Alter>(
     rows: &[LaneRow],
 ) -> Result<(), Error>
     requires idle { conn.old.in_transaction ≡ false }
-    requires carried { All IsCarried rows.now }
-    requires sound { IsSound lanes.now }
-    requires after { IsSound (with_rows lanes.now rows.now) }
+    requires carried { All FitsLane rows.now }
+    requires sound { IsSoundBuffer lanes.now }
+    requires after { IsSoundBuffer (with_rows lanes.now rows.now) }
     requires few { lanes.now.last_id + length rows.now ≤ 2 ^ 62 }
     ensures idle { conn.new.in_transaction ≡ false }
-    ensures ok { HasCleanDisk (state S.Store conn.new) → (others : Stock) → Stands (state S.Store conn.old) (sides_of side lanes.now others)
-        → OnOk result (Stands (state S.Store conn.new) (sides_of side (with_rows lanes.now rows.now) others)) }
+    ensures ok { HasCleanDisk (state S.Store conn.new) → (others : EventBuffer) → QueueStands (state S.Store conn.old) (sides_of side lanes.now others)
+        → OnOk result (QueueStands (state S.Store conn.new) (sides_of side (with_rows lanes.now rows.now) others)) }
     ensures err { HasCleanDisk (state S.Store conn.new) → IsTrue (state S.Store conn.new).is_open → OnErr result (IsTrue (state S.Store conn.old).is_open × ((state S.Store conn.new).committed ≡ (state S.Store conn.old).committed)) }
     ensures refused { HasCleanDisk (state S.Store conn.new) → IfErr result (IsRefused S.Store StoreKind.Queue conn.old conn.new) }
-    ensures survives { Survives (state S.Store conn.old) (state S.Store conn.new) (λ db. (others : Stock)
-        → Stands (state S.Store conn.old) (sides_of side lanes.now others) → HoldsPair db (sides_of side (with_rows lanes.now rows.now) others)) }
+    ensures survives { Survives (state S.Store conn.old) (state S.Store conn.new) (λ db. (others : EventBuffer)
+        → QueueStands (state S.Store conn.old) (sides_of side lanes.now others) → HoldsPair db (sides_of side (with_rows lanes.now rows.now) others)) }
 {
     prove!(conn.is_autocommit());
     let mut tx = conn.transaction();
@@ -218,19 +218,19 @@ pub(crate) fn write_both<S: Alter>(
     rows: &[LaneRow],
 ) -> Result<(), Error>
     requires idle { conn.old.in_transaction ≡ false }
-    requires carried { All IsCarried rows.now }
-    requires first { IsSound first.now }
-    requires second { IsSound second.now }
-    requires first_after { IsSound (with_rows first.now rows.now) }
-    requires second_after { IsSound (with_rows second.now rows.now) }
+    requires carried { All FitsLane rows.now }
+    requires first { IsSoundBuffer first.now }
+    requires second { IsSoundBuffer second.now }
+    requires first_after { IsSoundBuffer (with_rows first.now rows.now) }
+    requires second_after { IsSoundBuffer (with_rows second.now rows.now) }
     requires few { first.now.last_id + length rows.now ≤ 2 ^ 62 }
     requires few_too { second.now.last_id + length rows.now ≤ 2 ^ 62 }
     ensures idle { conn.new.in_transaction ≡ false }
-    ensures ok { HasCleanDisk (state S.Store conn.new) → Stands (state S.Store conn.old) (record { first = first.now; second = second.now })
-        → OnOk result (Stands (state S.Store conn.new) (record { first = with_rows first.now rows.now; second = with_rows second.now rows.now })) }
+    ensures ok { HasCleanDisk (state S.Store conn.new) → QueueStands (state S.Store conn.old) (record { first = first.now; second = second.now })
+        → OnOk result (QueueStands (state S.Store conn.new) (record { first = with_rows first.now rows.now; second = with_rows second.now rows.now })) }
     ensures err { HasCleanDisk (state S.Store conn.new) → IsTrue (state S.Store conn.new).is_open → OnErr result (IsTrue (state S.Store conn.old).is_open × ((state S.Store conn.new).committed ≡ (state S.Store conn.old).committed)) }
     ensures refused { HasCleanDisk (state S.Store conn.new) → IfErr result (IsRefused S.Store StoreKind.Queue conn.old conn.new) }
-    ensures survives { Survives (state S.Store conn.old) (state S.Store conn.new) (λ db. Stands (state S.Store conn.old) (record { first = first.now; second = second.now })
+    ensures survives { Survives (state S.Store conn.old) (state S.Store conn.new) (λ db. QueueStands (state S.Store conn.old) (record { first = first.now; second = second.now })
         → HoldsPair db (record { first = with_rows first.now rows.now; second = with_rows second.now rows.now })) }
 {
     prove!(conn.is_autocommit());

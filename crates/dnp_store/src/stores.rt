@@ -1,7 +1,8 @@
 //! What all stores do alike inside a transaction: they look at the number of their form and at the last id
 //! used, and make the tables that each of them begins with.
 
-ghost use Rattle.std.specs.Prelude.{◌≡◌, ℕ, List, IsTrue, false, OnOk, OnErr, IfOk, [], ◌≢◌, Ok, Err, IfErr, ℤ, codes};
+ghost use Rattle.std.specs.Prelude.{◌≡◌, ℕ, List, map, IsTrue, false, OnOk, OnErr, IfOk, [], ◌≢◌, Ok, Err, IfErr, ℤ, codes};
+ghost use Rattle.std.specs.List.{AllByRecursion};
 ghost use Rattle.sqlite.specs.Held.{state};
 ghost use Rattle.sqlite.specs.Order.{Row as SqlRow};
 ghost use Rattle.sqlite.specs.State.{Executes, ExecutesInside, HasCleanDisk, Shown, Survives};
@@ -12,8 +13,10 @@ ghost use Rattle.dnp_store.specs.PairTables.{IsForm, rows_name};
 ghost use Rattle.dnp_store.specs.QueueTables.{IsForm1};
 ghost use Rattle.dnp_store.specs.steps.Pairs.{CountsTwo, ReadsPair};
 ghost use Rattle.dnp_store.specs.steps.Shown.{ShowsCount, ShowsForm1, ShowsTwo};
-ghost use Rattle.dnp_store.specs.steps.Stores.{HasForm, HasNumber, HasTables, IsFresh, Reads};
+ghost use Rattle.dnp_store.specs.steps.Making.{ExecuteAll};
+ghost use Rattle.dnp_store.specs.steps.Stores.{HasNumber, IsFresh, Reads};
 ghost use Rattle.dnp_store.specs.Tables.{IsCounted, no_schema};
+ghost use Rattle.dnp_store.specs.Texts.{IsMaking};
 
 use crate::decoding::{form1, number_of};
 use crate::fault::Unread;
@@ -111,38 +114,18 @@ pub(crate) fn read_begun<S: Alter>(tx: &mut Transaction<'_, S>) -> Result<Vec<Ro
     Ok(read_counts(tx)?)
 }
 
-/// Makes `form`.
-fn make_form<S: Alter>(tx: &mut Transaction<'_, S>) -> Result<(), Error>
+/// Runs statements without parameters, one after the other.
+pub(crate) fn run_all<S: Alter>(tx: &mut Transaction<'_, S>, texts: &[&str]) -> Result<(), Error>
     requires inside { IsInside S.Store tx.old.conn }
     ensures step { IsStep S.Store tx.old.conn tx.new.conn result }
-    ensures refused { HasCleanDisk (state S.Store tx.new.conn.now) → IfErr result (λ e. (kind : StoreKind) → IsRefused S.Store kind tx.old.conn.now tx.new.conn.now e) }
-    ensures made { HasCleanDisk (state S.Store tx.new.conn.now) → OnOk result ((state S.Store tx.old.conn.now).now.schema ≡ no_schema → HasForm (state S.Store tx.new.conn.now).now) }
+    ensures refused { HasCleanDisk (state S.Store tx.new.conn.now) → IfErr result (λ e. (kind : StoreKind)
+        → AllByRecursion (IsMaking kind) (map (λ text. text.now) texts.now) → IsRefused S.Store kind tx.old.conn.now tx.new.conn.now e) }
+    ensures ran { HasCleanDisk (state S.Store tx.new.conn.now) → OnOk result (ExecuteAll S.Store (map (λ text. text.now) texts.now) tx.old.conn.now tx.new.conn.now) }
 {
-    run(
-        tx,
-        "CREATE TABLE form (number INTEGER NOT NULL CHECK (number BETWEEN 1 AND 1000))",
-        &[],
-    )
-}
-
-/// Makes the table of the store's rows.
-fn make_rows<S: Alter>(tx: &mut Transaction<'_, S>, kind: StoreKind) -> Result<(), Error>
-    requires inside { IsInside S.Store tx.old.conn }
-    ensures step { IsStep S.Store tx.old.conn tx.new.conn result }
-    ensures refused { HasCleanDisk (state S.Store tx.new.conn.now) → IfErr result (IsRefused S.Store kind tx.old.conn.now tx.new.conn.now) }
-    ensures made { HasCleanDisk (state S.Store tx.new.conn.now) → OnOk result (HasForm (state S.Store tx.old.conn.now).now → HasTables kind (state S.Store tx.new.conn.now).now) }
-{
-    run(tx, rows_text(kind), &[])
-}
-
-/// Puts the number of the form into `form`.
-fn put_number<S: Alter>(tx: &mut Transaction<'_, S>) -> Result<(), Error>
-    requires inside { IsInside S.Store tx.old.conn }
-    ensures step { IsStep S.Store tx.old.conn tx.new.conn result }
-    ensures refused { HasCleanDisk (state S.Store tx.new.conn.now) → IfErr result (λ e. (kind : StoreKind) → IsRefused S.Store kind tx.old.conn.now tx.new.conn.now e) }
-    ensures made { HasCleanDisk (state S.Store tx.new.conn.now) → OnOk result ((kind : StoreKind) → HasTables kind (state S.Store tx.old.conn.now).now → HasNumber kind (state S.Store tx.new.conn.now).now) }
-{
-    run(tx, "INSERT INTO form VALUES (1)", &[])
+    for text in texts {
+        run(tx, text, &[])?;
+    }
+    Ok(())
 }
 
 /// Makes what a store begins with: `form` with its number, and the table of its rows.
@@ -155,9 +138,12 @@ pub(crate) fn make_tables<S: Alter>(
     ensures refused { HasCleanDisk (state S.Store tx.new.conn.now) → IfErr result (IsRefused S.Store kind tx.old.conn.now tx.new.conn.now) }
     ensures made { HasCleanDisk (state S.Store tx.new.conn.now) → OnOk result ((state S.Store tx.old.conn.now).now.schema ≡ no_schema → HasNumber kind (state S.Store tx.new.conn.now).now) }
 {
-    make_form(tx)?;
-    make_rows(tx, kind)?;
-    put_number(tx)
+    let texts = [
+        "CREATE TABLE form (number INTEGER NOT NULL CHECK (number BETWEEN 1 AND 1000))",
+        rows_text(kind),
+        "INSERT INTO form VALUES (1)",
+    ];
+    run_all(tx, &texts)
 }
 
 /// Has the connection keep what the empty text means, so that it needs no memory when it is asked whether it
@@ -168,8 +154,10 @@ pub(crate) fn keep_probe<S: Alter>(tx: &mut Transaction<'_, S>) -> Result<(), Er
     ensures refused { HasCleanDisk (state S.Store tx.new.conn.now) → IfErr result (λ e. (kind : StoreKind) → IsRefused S.Store kind tx.old.conn.now tx.new.conn.now e) }
     ensures same { HasCleanDisk (state S.Store tx.new.conn.now) → OnOk result ((state S.Store tx.new.conn.now).now ≡ (state S.Store tx.old.conn.now).now) }
 {
-    let _nothing = tx.prepare("")?;
-    Ok(())
+    match tx.prepare("") {
+        Ok(_nothing) => Ok(()),
+        Err(error) => Err(error),
+    }
 }
 
 /// Makes what a journal or a book begins with, and has the connection ready to be asked.
@@ -180,8 +168,7 @@ fn make_store<S: Alter>(tx: &mut Transaction<'_, S>, kind: StoreKind) -> Result<
     ensures made { HasCleanDisk (state S.Store tx.new.conn.now) → OnOk result ((state S.Store tx.old.conn.now).now.schema ≡ no_schema → HasNumber kind (state S.Store tx.new.conn.now).now) }
 {
     make_tables(tx, kind)?;
-    keep_probe(tx)?;
-    Ok(())
+    keep_probe(tx)
 }
 
 /// Makes the tables of a journal or a book without rows, in one transaction.

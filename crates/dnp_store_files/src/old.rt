@@ -1,7 +1,7 @@
 //! A queue of the form for one centre, as an earlier release made it, which is brought to the form for two as it is opened.
 
 ghost use Rattle.std.specs.Prelude.{All};
-ghost use Rattle.dnp_eventbuf.specs.Carried.{IsCarried};
+ghost use Rattle.dnp_eventbuf.specs.FitsLane.{FitsLane};
 
 use crate::Fault;
 use crate::queues::{are_carried, are_numbered, event, show_all};
@@ -46,7 +46,7 @@ fn appended<P: PairLanes>(
     alloc: Global,
     rows: &[LaneRow],
 ) -> Result<(Vec<Row>, Vec<Row>), StoreFault>
-    requires { All IsCarried rows.now }
+    requires { All FitsLane rows.now }
 {
     match pair.append_both(alloc, rows) {
         Err(StoreFault::Memory) => pair.append_both(alloc, rows),

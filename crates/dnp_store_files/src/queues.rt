@@ -1,7 +1,7 @@
 //! A queue, step by step, for each lane and so for each kind of row.
 
 ghost use Rattle.std.specs.Prelude.{◌≡◌, true, All};
-ghost use Rattle.dnp_eventbuf.specs.Carried.{IsCarried};
+ghost use Rattle.dnp_eventbuf.specs.FitsLane.{FitsLane};
 
 use crate::Fault;
 use crate::stored::{Job, Stored};
@@ -25,7 +25,7 @@ pub(crate) fn event(lane: Lane, index: u16) -> LaneRow {
 
 /// Whether the lanes of the events can carry them.
 pub(crate) fn are_carried(rows: &[LaneRow]) -> bool
-    ensures { result ≡ true → All IsCarried rows.now }
+    ensures { result ≡ true → All FitsLane rows.now }
 {
     rows.iter().all(|row| is_carried(row))
 }

@@ -4,8 +4,8 @@ use Rattle.std.proofs.Common.{◌≡◌, ◌≢◌, ℕ, Bool, true, false, inl,
 use Rattle.std.specs.Prelude.{OnErr, option_to_list}
 use Rattle.std.proofs.lemmas.Bool.{cases_Bool, both_ways, and_from, and_parts}
 use Rattle.dnp_linkframe.specs.declared.frame.Frame.{Frame}
-use Rattle.dnp_linkstation.specs.Station.{Ends, ends, answer, Stands as Answers}
-use Rattle.dnp_transport.specs.Assembly.{Stands}
+use Rattle.dnp_linkstation.specs.Station.{Ends, ends, answer, AreHeard as Answers}
+use Rattle.dnp_transport.specs.Assembly.{ArePushed}
 use Rattle.dnp_transport.specs.Series.{is_left_out, kept, IsWhole}
 use Rattle.dnp_line.specs.Ports.{PortState, new_port, has_data, is_joined, Joins, TakesAfter, Takes, IsShown}
 use Rattle.dnp_line.specs.declared.port.Taken.{Taken}
@@ -30,7 +30,8 @@ whole_has_data [] before fragment w =
     absurd (both_ways true (subst (λ (x : List ℕ). is_left_out (kept w.recent) x ≡ false) none w.stays) refl)
 whole_has_data (octet ∷ octets) before fragment w = refl
 
-pub has_taken : (own peer : ℕ) (old new : PortState) (frame : Frame) (taken : Taken) → old ≡ new_port own peer false → Answers [] old.link → Stands [] old.assembly → Takes old frame new taken → HasTaken own peer frame new taken
+pub has_taken : (own peer : ℕ) (old new : PortState) (frame : Frame) (taken : Taken) → old ≡ new_port own peer false → Answers [] old.link
+    → ArePushed [] old.assembly → Takes old frame new taken → HasTaken own peer frame new taken
 has_taken own peer old new frame taken is_new answers stands takes =
     let ends_are : ends old.link ≡ station_ends own peer = ap (λ (p : PortState). ends p.link) is_new in
     let user : List ℕ = frame.user.items in

@@ -8,7 +8,7 @@ use Rattle.dnp_objects.specs.declared.limits.TheConstants.{LANES}
 use Rattle.dnp_pointdb.specs.Plan.{plan_of}
 use Rattle.dnp_pointdb.specs.Database.{new_database}
 use Rattle.dnp_pointdb.specs.declared.times.Times.{Times}
-use Rattle.dnp_eventbuf.specs.Stock.{empty_stock}
+use Rattle.dnp_eventbuf.specs.EventBuffer.{empty_buffer}
 use Rattle.dnp_controls.specs.Latches.{no_panel}
 use Rattle.dnp_outstation.specs.State.{State}
 use Rattle.dnp_outstation.specs.Station.{state_of, new_core}
@@ -25,7 +25,7 @@ times = record { confirm_ms = 5000; response_ms = 10000; select_ms = 5000; retri
 
 -- as it stands when the frame comes
 abbrev pub opened_station : State
-opened_station = (opened_of (state_of (new_core (new_database (plan_of [] [] [])) times) (empty_stock (replicate LANES 1)) no_panel) 0).state
+opened_station = (opened_of (state_of (new_core (new_database (plan_of [] [] [])) times) (empty_buffer (replicate LANES 1)) no_panel) 0).state
 
 -- the fragments that it sends for a fragment that comes (IEEE Std 1815-2012, application layer)
 abbrev pub responses : List ℕ → List (List ℕ)

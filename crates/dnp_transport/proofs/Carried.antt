@@ -10,7 +10,7 @@ use Rattle.std.specs.Str.{bytes_eq}
 use Rattle.dnp_transport.specs.Segments.{is_first, is_last, number, has_no_size}
 use Rattle.dnp_transport.specs.Cuts.{cut_count, cut_header, cut, cuts, begun_cuts}
 use Rattle.dnp_transport.specs.Series.{repeats, is_left_out, kept, IsSeries, joined, IsOpen, IsWhole, IsNothing}
-use Rattle.dnp_transport.specs.Laws.{pushed_after, IsCarried, SaysItsPlace}
+use Rattle.dnp_transport.specs.Laws.{pushed_after, IsAssembled, SaysItsPlace}
 use Rattle.dnp_transport.proofs.Histories.{kept_stays, open_not_whole, dropped_not_open}
 use Rattle.dnp_transport.specs.declared.limits.TheConstants.{MAX_FRAGMENT, MAX_SEGMENT, SEGMENT_DATA, SEGMENT_NUMBERS}
 use Rattle.dnp_transport.specs.declared.header.TheConstants.{FINAL, FIRST}
@@ -241,7 +241,7 @@ last_whole before f first (suc k) most some e =
     subst (λ (l : List (List ℕ)). IsWhole l f) (sym all) w
 
 -- the law
-pub carries : (before : List (List ℕ)) (f : List ℕ) (first : ℕ) → 0 < length f → length f ≤ MAX_FRAGMENT → IsCarried before f first
+pub carries : (before : List (List ℕ)) (f : List ℕ) (first : ℕ) → 0 < length f → length f ≤ MAX_FRAGMENT → IsAssembled before f first
 carries before f first some most =
     record {
       earlier = λ k h l. earlier_nothing before f first k most h l;

@@ -5,7 +5,7 @@ use Rattle.std.proofs.lemmas.Slice.Eq.{bytes_eq-Decides}
 use Rattle.std.specs.Str.{bytes_eq}
 use Rattle.dnp_transport.specs.Segments.{is_first, is_last, number, carried, has_no_size}
 use Rattle.dnp_transport.specs.Series.{repeats, is_left_out, kept, Follows, IsSeries, newest, joined, IsOpen, IsWhole, IsDropped, IsNothing}
-use Rattle.dnp_transport.specs.Assembly.{Assembly, Idle, Joining, Complete, IsJoining, IsIdle, Stands, Answers, Shows}
+use Rattle.dnp_transport.specs.Assembly.{Assembly, Idle, Joining, Complete, IsJoining, IsIdle, ArePushed, Answers, Shows}
 use Rattle.dnp_transport.specs.steps.Stages.{assembly, HasHistory, MayGoOn, First, Next, GoesOn, Passes, Completes, Waits, stage_after}
 use Rattle.dnp_transport.specs.declared.assembler.Stage.{Stage}
 use Rattle.dnp_transport.specs.declared.assembler.Stage.TheVariants as stage
@@ -47,43 +47,43 @@ NoSeries pushed = (series : List (List ℕ)) → IsOpen pushed series → ⊥
 -- what the stage says of the pushes
 
 pub no_series : (s : Stage) (last octets : List ℕ) (a : Assembly) (pushed : List (List ℕ)) (joining : Bool) → assembly s last octets ≡ a
-    → (joining ≡ true) ↔ (s ≡ stage.Joining) → joining ≡ false → Stands pushed a → NoSeries pushed
-unfolding Stands
+    → (joining ≡ true) ↔ (s ≡ stage.Joining) → joining ≡ false → ArePushed pushed a → NoSeries pushed
+unfolding ArePushed
 no_series stage.Idle last octets a pushed joining e n f h =
-    let i : IsIdle pushed = subst (λ (x : Assembly). Stands pushed x) (sym e) h in i.no_series
+    let i : IsIdle pushed = subst (λ (x : Assembly). ArePushed pushed x) (sym e) h in i.no_series
 no_series stage.Joining last octets a pushed joining e n f h = absurd (both_ways joining f (n.1 refl))
 no_series stage.Complete last octets a pushed joining e n f h =
-    let w : IsWhole pushed octets = subst (λ (x : Assembly). Stands pushed x) (sym e) h in
+    let w : IsWhole pushed octets = subst (λ (x : Assembly). ArePushed pushed x) (sym e) h in
     λ series o. open_not_whole pushed series octets o w
 
 pub is_joining : (s : Stage) (last octets : List ℕ) (a : Assembly) (pushed : List (List ℕ)) (joining : Bool) → assembly s last octets ≡ a
-    → (joining ≡ true) ↔ (s ≡ stage.Joining) → joining ≡ true → Stands pushed a → IsJoining pushed last octets
-unfolding Stands
+    → (joining ≡ true) ↔ (s ≡ stage.Joining) → joining ≡ true → ArePushed pushed a → IsJoining pushed last octets
+unfolding ArePushed
 is_joining s last octets a pushed joining e j t h =
     let is : Joining last octets ≡ a = ap (λ (u : Stage). assembly u last octets) (sym (j.0 t)) ∙ e in
-    subst (λ (x : Assembly). Stands pushed x) (sym is) h
+    subst (λ (x : Assembly). ArePushed pushed x) (sym is) h
 
 pub joining_is : (s : Stage) (last octets : List ℕ) (a : Assembly) (joining : Bool) → assembly s last octets ≡ a
     → (joining ≡ true) ↔ (s ≡ stage.Joining) → joining ≡ true → a ≡ Joining last octets
 joining_is s last octets a joining e j t = sym e ∙ ap (λ (u : Stage). assembly u last octets) (j.0 t)
 
 pub joining_stands : (s : Stage) (last octets : List ℕ) (a : Assembly) (pushed : List (List ℕ)) (joining : Bool) → assembly s last octets ≡ a
-    → (joining ≡ true) ↔ (s ≡ stage.Joining) → joining ≡ true → IsJoining pushed last octets → Stands pushed a
-unfolding Stands
+    → (joining ≡ true) ↔ (s ≡ stage.Joining) → joining ≡ true → IsJoining pushed last octets → ArePushed pushed a
+unfolding ArePushed
 joining_stands s last octets a pushed joining e j t h =
     let is : Joining last octets ≡ a = ap (λ (u : Stage). assembly u last octets) (sym (j.0 t)) ∙ e in
-    subst (λ (x : Assembly). Stands pushed x) is h
+    subst (λ (x : Assembly). ArePushed pushed x) is h
 
-pub idle_stands : (pushed : List (List ℕ)) → IsIdle pushed → Stands pushed Idle
-unfolding Stands
+pub idle_stands : (pushed : List (List ℕ)) → IsIdle pushed → ArePushed pushed Idle
+unfolding ArePushed
 idle_stands pushed i = i
 
-pub complete_stands : (pushed : List (List ℕ)) (f : List ℕ) → IsWhole pushed f → Stands pushed (Complete f)
-unfolding Stands
+pub complete_stands : (pushed : List (List ℕ)) (f : List ℕ) → IsWhole pushed f → ArePushed pushed (Complete f)
+unfolding ArePushed
 complete_stands pushed f w = w
 
-pub at_joining : (pushed : List (List ℕ)) (last octets : List ℕ) → IsJoining pushed last octets → Stands pushed (Joining last octets)
-unfolding Stands
+pub at_joining : (pushed : List (List ℕ)) (last octets : List ℕ) → IsJoining pushed last octets → ArePushed pushed (Joining last octets)
+unfolding ArePushed
 at_joining pushed last octets j = j
 
 -- nothing is whole or dropped while a series is open
@@ -311,7 +311,7 @@ next_after before s last so_far j z n fresh turn =
 
 -- how the assembler is after the push, and what it answers
 pub record IsAfter (before : List (List ℕ)) (s : List ℕ) (new : Assembly) (answer : Pushed) : Type 0 where
-  pub stands : Stands (s ∷ before) new
+  pub stands : ArePushed (s ∷ before) new
   pub answers : Answers (s ∷ before) answer
 
 pub settled : (before : List (List ℕ)) (s so_far octets last : List ℕ) (answer : Pushed) → IsNext before s so_far → GoesOn so_far s octets answer
@@ -343,27 +343,27 @@ same_joining stage.Joining last octets last' octets' e = (cc, cc)
 same_joining stage.Complete last octets last' octets' e = absurd (cc)
 
 next_of : (u : Stage) (last octets : List ℕ) (a : Assembly) (s so_far : List ℕ) (before : List (List ℕ)) → assembly u last octets ≡ a
-    → has_no_size s ≡ false → MayGoOn a s → GoesOnWith s octets so_far → Stands before a → IsNext before s so_far
-unfolding Stands
+    → has_no_size s ≡ false → MayGoOn a s → GoesOnWith s octets so_far → ArePushed before a → IsNext before s so_far
+unfolding ArePushed
 next_of u last octets a s so_far before is z may (inl first) h =
     subst (λ (l : List ℕ). IsNext before s l) (sym first.1) (next_first before s first.0 z)
 next_of u last octets a s so_far before is z (First first) (inr later) h = absurd (both_ways (is_first s) later.0 first)
 next_of u last octets a s so_far before is z (Next last' octets' joining no_first fresh turn) (inr later) h =
     let same : (last ≡ last') × (octets ≡ octets') = same_joining u last octets last' octets' (is ∙ joining) in
-    let j : IsJoining before last' octets' = subst (λ (x : Assembly). Stands before x) joining h in
+    let j : IsJoining before last' octets' = subst (λ (x : Assembly). ArePushed before x) joining h in
     subst (λ (l : List ℕ). IsNext before s l) (sym (later.1 ∙ same.1)) (next_after before s last' octets' j z no_first fresh turn)
 
 -- a segment that goes on with what the fields say
 pub went_on : (u : Stage) (last octets : List ℕ) (a : Assembly) (s so_far octets' last' : List ℕ) (answer : Pushed) → assembly u last octets ≡ a
     → has_no_size s ≡ false → MayGoOn a s → GoesOnWith s octets so_far → GoesOn so_far s octets' answer → last' ≡ s → (before : List (List ℕ))
-    → Stands before a → IsAfter before s (assembly (stage_after answer) last' octets') answer
+    → ArePushed before a → IsAfter before s (assembly (stage_after answer) last' octets') answer
 went_on u last octets a s so_far octets' last' answer is z may onto goes last_is before h =
     settled before s so_far octets' last' answer (next_of u last octets a s so_far before is z may onto h) goes last_is
 
 -- what `fragment` gives
 
-pub shows_complete : (pushed : List (List ℕ)) (f : List ℕ) → Stands pushed (Complete f) → Shows pushed f
-unfolding Stands
+pub shows_complete : (pushed : List (List ℕ)) (f : List ℕ) → ArePushed pushed (Complete f) → Shows pushed f
+unfolding ArePushed
 shows_complete pushed f w =
     record { whole = λ g v. one_whole pushed f g w v; none = λ n. absurd (n f w) }
 
@@ -371,12 +371,12 @@ pub shows_none : (pushed : List (List ℕ)) → ((f : List ℕ) → IsWhole push
 shows_none pushed n = record { whole = λ f w. absurd (n f w); none = λ _. refl }
 
 pub unfinished_shows_none : (s : Stage) (last octets : List ℕ) (a : Assembly) (pushed : List (List ℕ)) → assembly s last octets ≡ a
-    → (s ≡ stage.Idle) ⊎ (s ≡ stage.Joining) → Stands pushed a → Shows pushed []
-unfolding Stands
+    → (s ≡ stage.Idle) ⊎ (s ≡ stage.Joining) → ArePushed pushed a → Shows pushed []
+unfolding ArePushed
 unfinished_shows_none stage.Idle last octets a pushed e k h =
-    let i : IsIdle pushed = subst (λ (x : Assembly). Stands pushed x) (sym e) h in shows_none pushed i.no_whole
+    let i : IsIdle pushed = subst (λ (x : Assembly). ArePushed pushed x) (sym e) h in shows_none pushed i.no_whole
 unfinished_shows_none stage.Joining last octets a pushed e k h =
-    let j : IsJoining pushed last octets = subst (λ (x : Assembly). Stands pushed x) (sym e) h in
+    let j : IsJoining pushed last octets = subst (λ (x : Assembly). ArePushed pushed x) (sym e) h in
     shows_none pushed (λ f w. open_not_whole pushed j.series f j.opened w)
 unfinished_shows_none stage.Complete last octets a pushed e k h =
     absurd (elim k [ inl p ↦ (let q : stage.Complete ≡ stage.Idle = p in cc) | inr p ↦ (let q : stage.Complete ≡ stage.Joining = p in cc) ])

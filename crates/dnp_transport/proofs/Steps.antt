@@ -5,7 +5,7 @@ use Rattle.std.proofs.lemmas.Slice.Eq.{bytes_eq-Decides}
 use Rattle.std.specs.Str.{bytes_eq}
 use Rattle.dnp_transport.specs.Segments.{is_first, is_last, number, carried, has_no_size}
 use Rattle.dnp_transport.specs.Series.{newest, joined}
-use Rattle.dnp_transport.specs.Assembly.{Assembly, Idle, Joining, Complete, IsJoining, Stands, Answers, Shows}
+use Rattle.dnp_transport.specs.Assembly.{Assembly, Idle, Joining, Complete, IsJoining, ArePushed, Answers, Shows}
 use Rattle.dnp_transport.specs.steps.Stages.{Passes, Completes, Waits}
 use Rattle.dnp_transport.specs.declared.assembler.Pushed.{Pushed}
 use Rattle.dnp_transport.specs.declared.assembler.Pushed.TheVariants.{Nothing, Whole, Dropped}
@@ -15,8 +15,8 @@ use Rattle.dnp_transport.specs.declared.limits.TheConstants.{MAX_FRAGMENT, SEGME
 
 -- a list of pushes makes one assembler
 
-pub one_assembly : (pushed : List (List ℕ)) (a b : Assembly) → Stands pushed a → Stands pushed b → a ≡ b
-unfolding Stands
+pub one_assembly : (pushed : List (List ℕ)) (a b : Assembly) → ArePushed pushed a → ArePushed pushed b → a ≡ b
+unfolding ArePushed
 one_assembly pushed Idle Idle h k = refl
 one_assembly pushed Idle (Joining last octets) h k = absurd (h.no_series k.series k.opened)
 one_assembly pushed Idle (Complete f) h k = absurd (h.no_whole f k)
@@ -41,9 +41,9 @@ one_answer pushed Dropped t h k = sym (k.dropped.1 (h.dropped.0 refl))
 record Steps (a : Assembly) (s : List ℕ) : Type 0 where
   next : Assembly
   answer : Pushed
-  after : (before : List (List ℕ)) → Stands before a → IsAfter before s next answer
+  after : (before : List (List ℕ)) → ArePushed before a → IsAfter before s next answer
 
-taken : (a : Assembly) (s so_far : List ℕ) → ((before : List (List ℕ)) → Stands before a → IsNext before s so_far) → Steps a s
+taken : (a : Assembly) (s so_far : List ℕ) → ((before : List (List ℕ)) → ArePushed before a → IsNext before s so_far) → Steps a s
 taken a s so_far next =
     let octets : List ℕ = so_far ++ carried s in
     elim (cases_lt MAX_FRAGMENT (length octets)) [
@@ -68,7 +68,7 @@ taken a s so_far next =
 
 -- no series is in progress
 
-ignored : (a : Assembly) (s : List ℕ) → ((before : List (List ℕ)) → Stands before a → NoSeries before) → (is_first s ≡ false) ⊎ (has_no_size s ≡ true)
+ignored : (a : Assembly) (s : List ℕ) → ((before : List (List ℕ)) → ArePushed before a → NoSeries before) → (is_first s ≡ false) ⊎ (has_no_size s ≡ true)
     → Steps a s
 ignored a s none no_start =
     record {
@@ -81,7 +81,7 @@ ignored a s none no_start =
           };
     }
 
-step_idle : (a : Assembly) (s : List ℕ) → ((before : List (List ℕ)) → Stands before a → NoSeries before) → Steps a s
+step_idle : (a : Assembly) (s : List ℕ) → ((before : List (List ℕ)) → ArePushed before a → NoSeries before) → Steps a s
 step_idle a s none =
     elim (cases_Bool (has_no_size s)) [
       | inl unsized ↦ ignored a s none (inr unsized)
@@ -96,7 +96,7 @@ step_idle a s none =
 
 stays : (last octets s : List ℕ) → ((before : List (List ℕ)) → IsJoining before last octets → IsJoining (s ∷ before) last octets)
     → Steps (Joining last octets) s
-unfolding Stands
+unfolding ArePushed
 stays last octets s goes =
     record {
       next = Joining last octets;
@@ -109,7 +109,7 @@ stays last octets s goes =
     }
 
 step_later : (last octets s : List ℕ) → has_no_size s ≡ false → is_first s ≡ false → (s ≡ last → ⊥) → Steps (Joining last octets) s
-unfolding Stands
+unfolding ArePushed
 step_later last octets s sized no_first fresh =
     elim (cases_eq (number s) ((number last + 1) % SEGMENT_NUMBERS)) [
       | inl turn ↦ taken (Joining last octets) s octets (λ before h. next_after before s last octets h sized no_first fresh turn)
@@ -141,27 +141,27 @@ step_joining last octets s =
     ]
 
 step : (a : Assembly) (s : List ℕ) → Steps a s
-unfolding Stands
+unfolding ArePushed
 step Idle s = step_idle Idle s (λ before h. h.no_series)
 step (Joining last octets) s = step_joining last octets s
 step (Complete f) s = step_idle (Complete f) s (λ before h series o. open_not_whole before series f o h)
 
 -- which of the lists that made the assembler it was does not matter
 
-pub same_answer : (a : Assembly) (p q : List (List ℕ)) (s : List ℕ) (r t : Pushed) → Stands p a → Stands q a → Answers (s ∷ p) r → Answers (s ∷ q) t
+pub same_answer : (a : Assembly) (p q : List (List ℕ)) (s : List ℕ) (r t : Pushed) → ArePushed p a → ArePushed q a → Answers (s ∷ p) r → Answers (s ∷ q) t
     → r ≡ t
 same_answer a p q s r t h k x y =
     let i : Steps a s = step a s in
     one_answer (s ∷ p) r i.answer x (i.after p h).answers ∙ one_answer (s ∷ q) i.answer t (i.after q k).answers y
 
-pub same_next : (a : Assembly) (p q : List (List ℕ)) (s : List ℕ) (b c : Assembly) → Stands p a → Stands q a → Stands (s ∷ p) b → Stands (s ∷ q) c
+pub same_next : (a : Assembly) (p q : List (List ℕ)) (s : List ℕ) (b c : Assembly) → ArePushed p a → ArePushed q a → ArePushed (s ∷ p) b → ArePushed (s ∷ q) c
     → b ≡ c
 same_next a p q s b c h k x y =
     let i : Steps a s = step a s in
     one_assembly (s ∷ p) b i.next x (i.after p h).stands ∙ one_assembly (s ∷ q) i.next c (i.after q k).stands y
 
-pub same_shown : (a : Assembly) (p q : List (List ℕ)) (x y : List ℕ) → Stands p a → Stands q a → Shows p x → Shows q y → x ≡ y
-unfolding Stands
+pub same_shown : (a : Assembly) (p q : List (List ℕ)) (x y : List ℕ) → ArePushed p a → ArePushed q a → Shows p x → Shows q y → x ≡ y
+unfolding ArePushed
 same_shown Idle p q x y h k v w = v.none h.no_whole ∙ sym (w.none k.no_whole)
 same_shown (Joining last octets) p q x y h k v w =
     v.none (λ f i. open_not_whole p h.series f h.opened i) ∙ sym (w.none (λ f i. open_not_whole q k.series f k.opened i))

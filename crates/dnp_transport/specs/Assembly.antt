@@ -23,10 +23,10 @@ pub record IsIdle (pushed : List (List ℕ)) : Type 0 where
   pub no_whole : (fragment : List ℕ) → IsWhole pushed fragment → ⊥
 
 -- the assembler is as these pushed strings, newest first, make it: the strings since it was new or was reset
-unfoldable pub Stands : List (List ℕ) → Assembly → Type 0
-Stands pushed Idle = IsIdle pushed
-Stands pushed (Joining last octets) = IsJoining pushed last octets
-Stands pushed (Complete fragment) = IsWhole pushed fragment
+unfoldable pub ArePushed : List (List ℕ) → Assembly → Type 0
+ArePushed pushed Idle = IsIdle pushed
+ArePushed pushed (Joining last octets) = IsJoining pushed last octets
+ArePushed pushed (Complete fragment) = IsWhole pushed fragment
 
 -- the right answer to the last of these pushes, each one both ways
 pub record Answers (pushed : List (List ℕ)) (answer : Pushed) : Type 0 where

@@ -11,13 +11,13 @@ pushed_after before in_order = reverse in_order ++ before
 
 -- whatever was pushed before: where a fragment's segments are pushed in order, the last push completes the fragment,
 -- and each earlier one neither completes a fragment nor ends a series
-pub record IsCarried (before : List (List ℕ)) (fragment : List ℕ) (first : ℕ) : Type 0 where
+pub record IsAssembled (before : List (List ℕ)) (fragment : List ℕ) (first : ℕ) : Type 0 where
   pub earlier : (k : ℕ) → 0 < k → k < cut_count (length fragment) → IsNothing (pushed_after before (take k (cuts fragment first)))
   pub last : IsWhole (pushed_after before (cuts fragment first)) fragment
 
 abbrev pub CutsGiveWhole : Type 0
 CutsGiveWhole =
-    (before : List (List ℕ)) (fragment : List ℕ) (first : ℕ) → 0 < length fragment → length fragment ≤ MAX_FRAGMENT → IsCarried before fragment first
+    (before : List (List ℕ)) (fragment : List ℕ) (first : ℕ) → 0 < length fragment → length fragment ≤ MAX_FRAGMENT → IsAssembled before fragment first
 
 -- the pushes determine the fragment that the last of them completes
 abbrev pub OneFragment : Type 0

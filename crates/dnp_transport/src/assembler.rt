@@ -1,6 +1,6 @@
 //! Joins segments to fragments.
 ghost use Rattle.std.specs.Prelude.{◌≡◌, ◌≤◌, ◌↔◌, IsTrue, ℕ, List, [], ◌∷◌, length, false};
-ghost use Rattle.dnp_transport.specs.Assembly.{Idle, Stands, Answers, Shows};
+ghost use Rattle.dnp_transport.specs.Assembly.{Idle, ArePushed, Answers, Shows};
 ghost use Rattle.dnp_transport.specs.Segments.{has_no_size as no_size_of};
 ghost use Rattle.dnp_transport.specs.steps.Stages.{MayGoOn, GoesOn, stage_after};
 
@@ -86,7 +86,7 @@ impl Assembler {
     /// An assembler with no series.
     pub fn new() -> Self
         ensures empty { result ≡ Idle }
-        ensures stands { Stands [] result }
+        ensures stands { ArePushed [] result }
     {
         Assembler {
             stage: Stage::Idle,
@@ -101,8 +101,8 @@ impl Assembler {
     /// where no series is in progress. `Dropped` says that a series in progress is gone: its next number did not come,
     /// or it would have passed the longest fragment.
     pub fn push(&mut self, segment: &[u8]) -> Pushed
-        ensures stands { (before : List (List ℕ)) → Stands before self.old → Stands (segment.now ∷ before) self.new }
-        ensures answers { (before : List (List ℕ)) → Stands before self.old → Answers (segment.now ∷ before) result }
+        ensures stands { (before : List (List ℕ)) → ArePushed before self.old → ArePushed (segment.now ∷ before) self.new }
+        ensures answers { (before : List (List ℕ)) → ArePushed before self.old → Answers (segment.now ∷ before) result }
     {
         let joining = self.stage.is_joining();
 
@@ -136,8 +136,8 @@ impl Assembler {
     fn go_on(&mut self, segment: &[u8]) -> Pushed
         requires sized { no_size_of segment.now ≡ false }
         requires goes_on { MayGoOn self.old segment.now }
-        ensures stands { (before : List (List ℕ)) → Stands before self.old → Stands (segment.now ∷ before) self.new }
-        ensures answers { (before : List (List ℕ)) → Stands before self.old → Answers (segment.now ∷ before) result }
+        ensures stands { (before : List (List ℕ)) → ArePushed before self.old → ArePushed (segment.now ∷ before) self.new }
+        ensures answers { (before : List (List ℕ)) → ArePushed before self.old → Answers (segment.now ∷ before) result }
     {
         if is_first(segment) {
             self.octets.clear();
@@ -150,7 +150,7 @@ impl Assembler {
 
     /// The fragment that the last push completed, until the next push, and else no octets.
     pub fn fragment(&self) -> &[u8]
-        ensures shown { (pushed : List (List ℕ)) → Stands pushed self.now → Shows pushed result.now }
+        ensures shown { (pushed : List (List ℕ)) → ArePushed pushed self.now → Shows pushed result.now }
         ensures fits { length result.now ≤ MAX_FRAGMENT }
     {
         match self.stage {
@@ -183,7 +183,7 @@ impl Assembler {
     /// Some strings, pushed one after the other, make an assembler what this one is: each assembler has a history. It
     /// does nothing when it runs.
     pub fn has_a_history(&self)
-        ensures { (pushed : List (List ℕ)) × Stands pushed self.now }
+        ensures { (pushed : List (List ℕ)) × ArePushed pushed self.now }
     {
         let _stage = &self.stage;
     }
@@ -191,7 +191,7 @@ impl Assembler {
     /// Forgets all that was pushed.
     pub fn reset(&mut self)
         ensures empty { self.new ≡ Idle }
-        ensures stands { Stands [] self.new }
+        ensures stands { ArePushed [] self.new }
     {
         *self = Self::new();
     }

@@ -1,6 +1,6 @@
 //! Laws of the words of `specs/`: each function does nothing, and its contract is a law.
 ghost use Rattle.std.specs.Prelude.{◌≡◌, ◌^◌, ℕ, List, [], ◌∷◌, length};
-ghost use Rattle.dnp_transport.specs.Assembly.{Assembly, Idle, Stands, Answers, Shows};
+ghost use Rattle.dnp_transport.specs.Assembly.{Assembly, Idle, ArePushed, Answers, Shows};
 ghost use Rattle.dnp_transport.specs.Cuts.{cut_count, cuts, begun_cuts};
 ghost use Rattle.dnp_transport.specs.Laws.{CutsGiveWhole, OneFragment, WholeOrDropped, SaysItsPlace, OpenBy, WholeBy};
 ghost use Rattle.dnp_transport.specs.Series.{joined, IsOpen, IsWhole};
@@ -37,19 +37,19 @@ pub fn a_push_goes_on()
     ensures opens { (before series : List (List ℕ)) (segment : List ℕ) → IsOpen (segment ∷ before) series → OpenBy before segment series }
     ensures completes { (before : List (List ℕ)) (segment fragment : List ℕ) → IsWhole (segment ∷ before) fragment → WholeBy before segment fragment }
     ensures none_open { (series : List (List ℕ)) → IsOpen [] series → ⊥ }
-    ensures idle { Stands [] Idle }
+    ensures idle { ArePushed [] Idle }
 {}
 
 /// Some pushes make one assembler. Which of the lists of pushes that make the same assembler was pushed does not
 /// matter: the next push does the same after each, and the fragment that is shown is the same.
 pub fn history_does_not_matter()
-    ensures one { (pushed : List (List ℕ)) (a b : Assembly) → Stands pushed a → Stands pushed b → a ≡ b }
+    ensures one { (pushed : List (List ℕ)) (a b : Assembly) → ArePushed pushed a → ArePushed pushed b → a ≡ b }
     ensures answers { (a : Assembly) (before other : List (List ℕ)) (segment : List ℕ) (answer answer' : PushedValue) →
-        Stands before a → Stands other a → Answers (segment ∷ before) answer → Answers (segment ∷ other) answer' → answer ≡ answer' }
+        ArePushed before a → ArePushed other a → Answers (segment ∷ before) answer → Answers (segment ∷ other) answer' → answer ≡ answer' }
     ensures next { (a : Assembly) (before other : List (List ℕ)) (segment : List ℕ) (new new' : Assembly) →
-        Stands before a → Stands other a → Stands (segment ∷ before) new → Stands (segment ∷ other) new' → new ≡ new' }
+        ArePushed before a → ArePushed other a → ArePushed (segment ∷ before) new → ArePushed (segment ∷ other) new' → new ≡ new' }
     ensures shown { (a : Assembly) (pushed other : List (List ℕ)) (octets octets' : List ℕ) →
-        Stands pushed a → Stands other a → Shows pushed octets → Shows other octets' → octets ≡ octets' }
+        ArePushed pushed a → ArePushed other a → Shows pushed octets → Shows other octets' → octets ≡ octets' }
 {}
 
 /// The named limits are these numbers (IEEE Std 1815-2012, transport function: a segment is the user data of one frame,

@@ -1,7 +1,11 @@
 //! Check words and frames that the standard, a catalogue of such codes and hand-made examples
 //! give, and such frames in a stream.
 
+ghost use Rattle.std.specs.Prelude.{◌≤◌};
+
 use dnp_linkframe::{Frame, FrameFault, FrameReader, check_word, read_frame, write_frame};
+use std::alloc::{AllocError, Global};
+use std::process::Abort;
 
 /// A READ of classes 1, 2, 3 and 0 from master 1 to outstation 10.
 #[rattlefmt::skip]
@@ -72,26 +76,52 @@ const BROKEN: [(&[u8], FrameFault); 7] = [
     ], FrameFault::Size),
 ];
 
-#[test]
-fn units(rt: HostRuntime) {
-    let frame = read_frame(&CLASS_READ).expect(&rt, "a frame");
-    assert!(rt; frame.control == 0xC4 && frame.dest == 10 && frame.source == 1);
-    assert!(rt; frame.user.as_slice() == &CLASS_READ[10..25]);
-    assert!(rt; write_frame(&frame).as_slice() == CLASS_READ.as_slice());
-    for (case, (unit, fault)) in BROKEN.into_iter().enumerate() {
-        assert!(rt; read_frame(unit) == Err(fault), "case {case}");
+/// Whether the READ is read and written again.
+fn is_read_and_written() -> bool {
+    match read_frame(&CLASS_READ) {
+        Ok(frame) => {
+            frame.control == 0xC4
+                && frame.dest == 10
+                && frame.source == 1
+                && frame.user.as_slice() == &CLASS_READ[10..25]
+                && write_frame(&frame).as_slice() == CLASS_READ.as_slice()
+        }
+        Err(_) => false,
     }
+}
+
+/// Whether a unit is refused for this fault.
+fn is_refused(unit: &[u8], fault: FrameFault) -> bool {
+    match read_frame(unit) {
+        Ok(_) => false,
+        Err(found) => found == fault,
+    }
+}
+
+/// Each broken unit is refused for its first fault.
+fn broken_are_refused(rt: &impl Abort) {
+    for (case, (unit, fault)) in BROKEN.iter().enumerate() {
+        assert!(rt; is_refused(unit, *fault), "case {case}");
+    }
+}
+
+/// So is the READ cut at each place.
+fn cut_are_refused(rt: &impl Abort) {
     for count in 0..CLASS_READ.len() {
         let fault = if count < 10 {
             FrameFault::Short
         } else {
             FrameFault::Size
         };
-        assert!(rt;
-            read_frame(&CLASS_READ[..count]) == Err(fault),
-            "cut at {count}"
-        );
+        assert!(rt; is_refused(&CLASS_READ[..count], fault), "cut at {count}");
     }
+}
+
+#[test]
+fn units(rt: HostRuntime) {
+    assert!(rt; is_read_and_written());
+    broken_are_refused(&rt);
+    cut_are_refused(&rt);
 }
 
 /// Streams, and the units of the frames that they give: one frame; two frames, and between them
@@ -117,21 +147,49 @@ const STREAMS: [(&[u8], &[&[u8]]); 3] = [
     ], &[&CLASS_READ]),
 ];
 
+/// Feeds a stream in pieces of this size, where memory is there.
+fn feed(
+    reader: &mut FrameReader,
+    stream: &[u8],
+    size: usize,
+    out: &mut Vec<Frame>,
+) -> Result<(), AllocError>
+    requires { 1 ≤ size }
+{
+    for piece in stream.chunks(size) {
+        reader.feed(piece, out)?;
+    }
+    Ok(())
+}
+
+/// Whether a stream in pieces of this size gives the frames of these units.
+fn gives(alloc: Global, stream: &[u8], size: usize, units: &[&[u8]]) -> bool
+    requires { 1 ≤ size }
+{
+    let mut reader = FrameReader::new();
+    let mut out = Vec::new(alloc);
+    feed(&mut reader, stream, size, &mut out).is_ok() && are_of(&out, units)
+}
+
+/// Whether these are the frames of these units.
+fn are_of(frames: &[Frame], units: &[&[u8]]) -> bool {
+    frames.len() == units.len()
+        && frames
+            .iter()
+            .zip(units)
+            .all(|(frame, unit)| write_frame(frame).as_slice() == *unit)
+}
+
 /// Each stream in pieces of one octet, of two, and so on, to one piece: so it is cut at each
 /// place.
 #[test]
 fn streams(rt: HostRuntime) {
     for (stream, units) in STREAMS {
         for size in 1..=stream.len() {
-            let mut reader = FrameReader::new();
-            let mut out: Vec<Frame> = Vec::new(rt.alloc());
-            for piece in stream.chunks(size) {
-                assert!(rt; reader.feed(piece, &mut out).is_ok());
-            }
-            assert!(rt; out.len() == units.len(), "in pieces of {size}");
-            for (frame, unit) in out.iter().zip(units) {
-                assert!(rt; write_frame(frame).as_slice() == *unit);
-            }
+            assert!(rt;
+                gives(rt.alloc(), stream, size, units),
+                "in pieces of {size}"
+            );
         }
     }
 }

@@ -2,6 +2,8 @@
 
 use dnp_appfragment::{AppFault, Function, Header, Iin, Range, read_request, read_response};
 use dnp_objects::{Command, Kind, Row, Status};
+use std::alloc::AllocError;
+use std::process::Abort;
 
 /// What is no request, its fault, and the fault's number.
 #[rattlefmt::skip]
@@ -51,17 +53,27 @@ const NO_RESPONSES: [(&[u8], AppFault); 13] = [
     (&[0xC0, 0x81, 0, 0, 0x33, 0x01, 0x07, 1, 0xE8, 0x03, 0, 0, 0, 0, 0x02, 0x03, 0x00, 0, 0, 0x81, 0, 0], AppFault::QualifierUnknown),
 ];
 
-#[test]
-fn faults(rt: HostRuntime) {
-    for (case, (octets, fault, number)) in NO_REQUESTS.into_iter().enumerate() {
+/// What is no request is refused.
+fn no_requests(rt: &impl Abort) {
+    for (case, (octets, fault, number)) in NO_REQUESTS.iter().enumerate() {
         assert!(rt;
-            read_request(octets).err() == Some(fault) && fault as u8 == number,
+            read_request(octets).err() == Some(*fault) && *fault as u8 == *number,
             "case {case}"
         );
     }
-    for (case, (octets, fault)) in NO_RESPONSES.into_iter().enumerate() {
-        assert!(rt; read_response(octets).err() == Some(fault), "case {case}");
+}
+
+/// What is no response is refused.
+fn no_responses(rt: &impl Abort) {
+    for (case, (octets, fault)) in NO_RESPONSES.iter().enumerate() {
+        assert!(rt; read_response(octets).err() == Some(*fault), "case {case}");
     }
+}
+
+#[test]
+fn faults(rt: HostRuntime) {
+    no_requests(&rt);
+    no_responses(&rt);
     assert!(rt; AppFault::CommonTime as u8 == 8);
 }
 
@@ -89,11 +101,21 @@ const INDEXED: Range = Range::Indexed { wide: true, n: 1 };
 /// One object without an index.
 const COUNTED: Range = Range::Count { wide: false, n: 1 };
 
+/// A request, its function, its sequence number, its header, how many objects this has, and which command.
+type RequestCase = (
+    &'static [u8],
+    Function,
+    u8,
+    Option<Header<'static>>,
+    usize,
+    Option<Asked>,
+);
+
 /// Requests with one header or none: a READ of class 1, a SELECT of a control relay output block,
 /// WRITEs of the restart bit and of the time, and a CONFIRM, whatever follows its function. Then
 /// their functions, sequence numbers, headers, and how many objects and which command these have.
 #[rattlefmt::skip]
-const REQUESTS: [(&[u8], Function, u8, Option<Header<'static>>, usize, Option<Asked>); 5] = [
+const REQUESTS: [RequestCase; 5] = [
     (&[0xC1, 0x01, 0x3C, 0x02, 0x06], Function::Read, 1,
         Some(header!(60, 2, Range::All, &[])), 0, None),
     (&[0xC3, 0x03, 0x0C, 0x01, 0x28, 1, 0, 5, 0, 3, 1, 0, 0, 0, 0, 0, 0, 0, 0, 0],
@@ -107,53 +129,66 @@ const REQUESTS: [(&[u8], Function, u8, Option<Header<'static>>, usize, Option<As
     (&[0xD1, 0x00, 0x6E, 0x6E, 0x6E], Function::Confirm, 1, None, 0, None),
 ];
 
+/// Whether a header of a request with this function has so many objects, and this command or none.
+fn asks(header: &Header<'_>, function: Function, count: usize, command: Option<Asked>) -> bool {
+    header.fits(function)
+        && header.row(0).is_none()
+        && header.count() == count
+        && header.command(0) == command
+        && header.command(1).is_none()
+}
+
+/// Whether a request is read so.
+fn is_request(case: &RequestCase) -> bool {
+    let (octets, function, seq, header, count, command) = *case;
+    let Ok(mut request) = read_request(octets) else {
+        return false;
+    };
+    let is_only = request.function == function
+        && request.control.seq == seq
+        && request.headers.next() == header
+        && request.headers.next().is_none();
+    is_only
+        && match header {
+            Some(header) => asks(&header, function, count, command),
+            None => true,
+        }
+}
+
 #[test]
 fn requests(rt: HostRuntime) {
-    for (octets, function, seq, header, count, command) in REQUESTS {
-        let Ok(mut request) = read_request(octets) else {
-            assert!(rt; false, "{octets:?}");
-            return;
-        };
-        assert!(rt;
-            request.function == function && request.control.seq == seq,
-            "{octets:?}"
-        );
-        assert!(rt;
-            request.headers.next() == header && request.headers.next().is_none(),
-            "{octets:?}"
-        );
-        if let Some(header) = header {
-            assert!(rt;
-                header.fits(function) && header.row(0).is_none(),
-                "{octets:?}"
-            );
-            assert!(rt; header.count() == count, "{octets:?}");
-            assert!(rt;
-                header.command(0) == command && header.command(1).is_none(),
-                "{octets:?}"
-            );
-        }
+    for (case, request) in REQUESTS.iter().enumerate() {
+        assert!(rt; is_request(request), "case {case}");
     }
 }
 
-/// A READ of 2,048 octets has 682 headers.
+/// Puts a READ of 2,048 octets, which has 682 headers.
+fn put_longest_read(octets: &mut Vec<u8>) -> Result<(), AllocError> {
+    octets.extend_from_slice(&[0xC0, 0x01])?;
+    for _ in 0..682 {
+        octets.extend_from_slice(&[0x3C, 0x01, 0x06])?;
+    }
+    Ok(())
+}
+
+/// Whether a READ has so many headers of class 0, and no other.
+fn has_headers(octets: &[u8], count: usize) -> bool {
+    let Ok(mut request) = read_request(octets) else {
+        return false;
+    };
+    for _ in 0..count {
+        if request.headers.next() != Some(header!(60, 1, Range::All, &[])) {
+            return false;
+        }
+    }
+    request.headers.next().is_none()
+}
+
 #[test]
 fn the_longest_read(rt: HostRuntime) {
-    let mut octets = [0x06; 2_048];
-    octets[0] = 0xC0;
-    octets[1] = 0x01;
-    for k in 0..682 {
-        octets[2 + 3 * k] = 0x3C;
-        octets[3 + 3 * k] = 0x01;
-    }
-    let Ok(mut request) = read_request(&octets) else {
-        assert!(rt; false);
-        return;
-    };
-    for _ in 0..682 {
-        assert!(rt; request.headers.next() == Some(header!(60, 1, Range::All, &[])));
-    }
-    assert!(rt; request.headers.next().is_none());
+    let mut octets = Vec::new(rt.alloc());
+    assert!(rt; put_longest_read(&mut octets).is_ok() && octets.len() == 2_048);
+    assert!(rt; has_headers(&octets, 682));
 }
 
 macro_rules! row {
@@ -162,11 +197,20 @@ macro_rules! row {
     };
 }
 
+/// A response, its function, its indications, the object and count of its header, and its rows.
+type ResponseCase = (
+    &'static [u8],
+    Function,
+    Iin,
+    Option<(u8, u8, usize)>,
+    &'static [Row],
+);
+
 /// Responses with one header of rows, the fourth of packed bits, and two without rows: an
 /// unsolicited one that is empty, and a delay. Then their functions, indications, the object and
 /// count of the header, and its rows.
 #[rattlefmt::skip]
-const RESPONSES: [(&[u8], Function, Iin, Option<(u8, u8, usize)>, &[Row]); 6] = [
+const RESPONSES: [ResponseCase; 6] = [
     (&[0xE1, 0x81, 0, 0, 0x02, 0x02, 0x28, 1, 0, 3, 0, 0x81, 0xE8, 0x03, 0, 0, 0, 0],
         Function::Response, Iin::NONE, Some((2, 2, 1)),
         &[row!(Binary, 3, 0x01, 1, Some(1_000))]),
@@ -190,37 +234,54 @@ const RESPONSES: [(&[u8], Function, Iin, Option<(u8, u8, usize)>, &[Row]); 6] = 
         Function::Response, Iin { one: 0x80, two: 0x01 }, Some((52, 2, 1)), &[]),
 ];
 
-#[test]
-fn responses(rt: HostRuntime) {
-    for (case, (octets, function, iin, object, rows)) in RESPONSES.into_iter().enumerate() {
-        let Ok(mut response) = read_response(octets) else {
-            assert!(rt; false, "case {case}");
-            return;
-        };
-        assert!(rt;
-            response.function == function && response.iin == iin,
-            "case {case}"
-        );
-        let header = response.headers.next();
-        let found = header.map(|header| (header.group, header.variation, header.count()));
-        assert!(rt;
-            found == object && response.headers.next().is_none(),
-            "case {case}"
-        );
-        if let Some(header) = header {
-            for (k, row) in rows.iter().enumerate() {
-                assert!(rt; header.row(k) == Some(*row), "row {k} of case {case}");
-            }
-            assert!(rt; header.row(rows.len()).is_none() && header.command(0).is_none());
+/// Whether a header has these rows, and no command.
+fn has_rows(header: &Header<'_>, rows: &[Row]) -> bool {
+    for (k, row) in rows.iter().enumerate() {
+        if header.row(k) != Some(*row) {
+            return false;
         }
     }
+    header.row(rows.len()).is_none() && header.command(0).is_none()
 }
+
+/// Whether a response is read so.
+fn is_response(case: &ResponseCase) -> bool {
+    let (octets, function, iin, object, rows) = *case;
+    let Ok(mut response) = read_response(octets) else {
+        return false;
+    };
+    let header = response.headers.next();
+    let found = header.map(|header| (header.group, header.variation, header.count()));
+    let is_only = response.function == function
+        && response.iin == iin
+        && found == object
+        && response.headers.next().is_none();
+    is_only
+        && match header {
+            Some(header) => has_rows(&header, rows),
+            None => true,
+        }
+}
+
+#[test]
+fn responses(rt: HostRuntime) {
+    for (case, response) in RESPONSES.iter().enumerate() {
+        assert!(rt; is_response(response), "case {case}");
+    }
+}
+
+/// A response, its headers with their common times, and the rows of all.
+type RelativeCase = (
+    &'static [u8],
+    &'static [(u8, u8, Option<u64>)],
+    &'static [Row],
+);
 
 /// Responses in which times are given after a common one: after the time of 51.1, as often as it is needed; after that of
 /// 51.2, which an empty header leaves as it was; and after the last of two times. Then their headers, with the common
 /// times that these have, and the rows.
 #[rattlefmt::skip]
-const RELATIVES: [(&[u8], &[(u8, u8, Option<u64>)], &[Row]); 4] = [
+const RELATIVES: [RelativeCase; 4] = [
     (&[0xE1, 0x81, 0, 0, 0x33, 0x01, 0x07, 1, 0xE8, 0x03, 0, 0, 0, 0,
         0x02, 0x03, 0x28, 3, 0, 0, 0, 0x81, 0, 0, 0, 0, 0x01, 5, 0, 0, 0, 0x81, 0xFF, 0xFF],
         &[(51, 1, None), (2, 3, Some(1_000))],
@@ -242,27 +303,44 @@ const RELATIVES: [(&[u8], &[(u8, u8, Option<u64>)], &[Row]); 4] = [
         &[row!(Binary, 0, 0x01, 1, Some(281_474_976_710_655))]),
 ];
 
+/// The place after a header's rows, where they stand among these from this one on.
+fn place_after(header: &Header<'_>, rows: &[Row], from: usize) -> Option<usize> {
+    let mut place = from;
+    for k in 0..header.count() {
+        if let Some(row) = header.row(k) {
+            if rows.get(place) != Some(&row) {
+                return None;
+            }
+            place = place.saturating_add(1);
+        }
+    }
+    Some(place)
+}
+
+/// Whether a response with common times is read so.
+fn is_relative(case: &RelativeCase) -> bool {
+    let (octets, objects, rows) = *case;
+    let Ok(response) = read_response(octets) else {
+        return false;
+    };
+    let mut seen = 0usize;
+    let mut place = 0;
+    for header in response.headers {
+        if objects.get(seen) != Some(&(header.group, header.variation, header.common)) {
+            return false;
+        }
+        let Some(after) = place_after(&header, rows, place) else {
+            return false;
+        };
+        seen = seen.saturating_add(1);
+        place = after;
+    }
+    seen == objects.len() && place == rows.len()
+}
+
 #[test]
 fn rows_after_a_common_time(rt: HostRuntime) {
-    for (case, (octets, objects, rows)) in RELATIVES.into_iter().enumerate() {
-        let Ok(response) = read_response(octets) else {
-            assert!(rt; false, "case {case}");
-            return;
-        };
-        let mut objects = objects.iter();
-        let mut rows = rows.iter();
-        for header in response.headers {
-            let found = (header.group, header.variation, header.common);
-            assert!(rt; objects.next() == Some(&found), "case {case}");
-            for k in 0..header.count() {
-                if let Some(row) = header.row(k) {
-                    assert!(rt; rows.next() == Some(&row), "row {k} of case {case}");
-                }
-            }
-        }
-        assert!(rt;
-            objects.next().is_none() && rows.next().is_none(),
-            "case {case}"
-        );
+    for (case, response) in RELATIVES.iter().enumerate() {
+        assert!(rt; is_relative(response), "case {case}");
     }
 }

@@ -19,7 +19,7 @@ use Rattle.dnp_world.specs.declared.link_event.Way.TheVariants as way
 use Rattle.dnp_world.specs.Behind.{Elsewhere, rows_of}
 use Rattle.dnp_world.specs.Channels.{ChannelState}
 use Rattle.dnp_world.specs.Joined.{rows_made_by}
-use Rattle.dnp_world.specs.Link.{Link}
+use Rattle.dnp_world.specs.LawLink.{LawLink}
 use Rattle.dnp_world.specs.OneLinkEvents.{ComesDown, HappensOn, LinkState, Steps}
 use Rattle.dnp_world.specs.Systems.{System, middle_of, middle_panel}
 use Rattle.dnp_world.specs.SystemEvents.{ComesDownAbove, MiddleAnswers}
@@ -50,7 +50,7 @@ answered grounds laws left e as_event old new h substation port [] heard made ca
     (record { port = port; given = []; heard = heard; came = refl }))
     came
 answered grounds laws left e as_event old new h substation port (fragment ∷ others) heard made came =
-    let l : Link = h.links.above in
+    let l : LawLink = h.links.above in
     let s : State = middle_of old.concentrator in
     let panel : Panel = middle_panel old.concentrator old.now in
     let spans : List Spans = old.concentrator.indices in

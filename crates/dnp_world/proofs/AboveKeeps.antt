@@ -9,17 +9,17 @@ use Rattle.dnp_concentrator.specs.declared.span.Spans.{Spans}
 use Rattle.dnp_controls.specs.Book.{Ledger}
 use Rattle.dnp_controls.specs.Panel.{Panel}
 use Rattle.dnp_eventbuf.specs.Archive.{Archive}
-use Rattle.dnp_eventbuf.specs.Stock.{Stock, lost_in, row_of}
+use Rattle.dnp_eventbuf.specs.EventBuffer.{EventBuffer, lost_in, row_of}
 use Rattle.dnp_objects.specs.Counts.{IsCoveredBy}
 use Rattle.dnp_objects.specs.declared.command.Command.{Command}
 use Rattle.dnp_objects.specs.declared.row.Row.{Row}
 use Rattle.dnp_outstation.specs.State.{Core}
 use Rattle.dnp_world.specs.declared.link_event.LinkEvent.{LinkEvent}
-use Rattle.dnp_world.specs.Behind.{Elsewhere, does_nothing, rows_of, with_links, Grows, Turn}
+use Rattle.dnp_world.specs.Behind.{Elsewhere, does_nothing, rows_of, with_links, Grows, OneEvent}
 use Rattle.dnp_world.specs.Channels.{ChannelState}
 use Rattle.dnp_world.specs.Joined.{Follows, rows_made_by}
 use Rattle.dnp_world.specs.Kept.{commands_below, commands_in, kept_in, orders_in, used_commands, used_orders}
-use Rattle.dnp_world.specs.Link.{Link}
+use Rattle.dnp_world.specs.LawLink.{LawLink}
 use Rattle.dnp_world.specs.OneLinkEvents.{LinkState, HappensOn}
 use Rattle.dnp_world.specs.OutstationSeen.{ShowOctets}
 use Rattle.dnp_world.specs.Stations.{of_substation, HasSameCounts}
@@ -35,7 +35,7 @@ use Rattle.dnp_world.proofs.Turning.{by_substation}
 -- journal, and the lines.
 pub record Above : Type 0 where
   pub core : Core
-  pub queue : Stock
+  pub queue : EventBuffer
   pub commands : List Command
   pub link : Relaying
   pub journal : Archive
@@ -69,19 +69,19 @@ shown_above : (s : System) → ShowOctets (middle_panel s.concentrator s.now)
 shown_above s = record { outputs = omega arith; status = λ index low. omega arith }
 
 -- what the link by itself lists: these rows were taken besides, and these released
-pub record ListsMore (l : Link) (taken released : List Row) (lists : RowLists) : Type 0 where
+pub record ListsMore (l : LawLink) (taken released : List Row) (lists : RowLists) : Type 0 where
   pub taken_is : lists.taken ≡ rows_of l.took ++ taken
   pub released_is : lists.released ≡ rows_of l.released ++ released
   pub left_is : lists.left ≡ rows_of l.left
 
-pub none_listed : (l : Link) → ListsMore l [] [] (lists_of l)
+pub none_listed : (l : LawLink) → ListsMore l [] [] (lists_of l)
 none_listed l = record { taken_is = sym (append-nil (rows_of l.took)); released_is = sym (append-nil (rows_of l.released)); left_is = refl }
 
 turn_above : (old : System) {el : Elsewhere} (h : IsStanding el old) (substation : ℕ) (a : Above) (orders : Ledger) (taken released : List Row)
-    (asked : List Command) (link : Link) → StoresShow old a orders taken asked
+    (asked : List Command) (link : LawLink) → StoresShow old a orders taken asked
     → Grows h.links.above link (record does_nothing { discarded = released; taken = taken; asked = asked; performed = a.commands })
     → HasSameCounts (rows_of link.lanes) (kept_in (with_orders orders (changed_above a old))).queue
-    → Turn old.indices substation h.links (kept_in old) (kept_in (with_orders orders (changed_above a old)))
+    → OneEvent old.indices substation h.links (kept_in old) (kept_in (with_orders orders (changed_above a old)))
 turn_above old h substation a orders taken released asked link shows grows lanes =
     let new : System = with_orders orders (changed_above a old) in
     let spans : List Spans = old.concentrator.indices in
@@ -125,16 +125,16 @@ pub above_follows : TurnLaws → (old : System) {el : Elsewhere} (h : IsStanding
     → Keeps el substation [] old (with_orders orders (changed_above a old))
 unfolding turn_above
 above_follows laws old h substation a orders taken released asked lists shows listed f =
-    let l : Link = h.links.above in
+    let l : LawLink = h.links.above in
     let next : System = with_orders orders (changed_above a old) in
     let s' : LinkState ⊤ = seen_above next lists in
     let before : List Command = (middle_panel old.concentrator old.now).performed in
-    let link : Link = f.link in
+    let link : LawLink = f.link in
     let grows : Grows l link (record does_nothing { discarded = released; taken = taken; asked = asked; performed = a.commands }) =
     subst (λ (xs : List Command). Grows l link (record does_nothing { discarded = released; taken = taken; asked = asked; performed = xs }))
     (ap (λ (xs : List Command). drop (length before) xs) shows.performs ∙ drop-append_seam before a.commands)
     (grows_by [] taken released [] asked before l s' listed.taken_is listed.released_is (listed.left_is ∙ sym (append-nil (rows_of l.left))) f) in
-    let t : Turn old.indices substation h.links (kept_in old) (kept_in next) =
+    let t : OneEvent old.indices substation h.links (kept_in old) (kept_in next) =
     turn_above old h substation a orders taken released asked link shows grows
     (same_is (rows_of link.lanes) (kept_in next).queue (lane_rows s' link f.joined)) in
     record {

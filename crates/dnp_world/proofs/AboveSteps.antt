@@ -17,7 +17,7 @@ use Rattle.dnp_concentrator.specs.declared.span.Spans.{Spans}
 use Rattle.dnp_controls.specs.Book.{Ledger, added}
 use Rattle.dnp_controls.specs.Panel.{Panel, accepted}
 use Rattle.dnp_controls.specs.Selecting.{Select, answer}
-use Rattle.dnp_eventbuf.specs.Stock.{Stock, lost_in, without}
+use Rattle.dnp_eventbuf.specs.EventBuffer.{EventBuffer, lost_in, without}
 use Rattle.dnp_objects.specs.Status as status
 use Rattle.dnp_objects.specs.declared.command.Command.{Command}
 use Rattle.dnp_objects.specs.declared.limits.TheConstants.{MAX_FRAGMENT}
@@ -45,7 +45,7 @@ pub record ComingLaws : Type 0 where
       → s.core.session.unsolicited ≡ Some w → Releases s w.upto (connection_after s o now octets)
   pub others : (s : State) (o : Panel) (now : ℕ) (octets : List ℕ) → case_of s.core octets ≢ case.Confirms
       → case_of s.core octets ≢ case.ConfirmsUnsolicited → ReleasesNone s (connection_after s o now octets)
-  pub lost : (s : Stock) (upto : List ℕ) → lost_in (without s upto) ≡ lost_in s
+  pub lost : (s : EventBuffer) (upto : List ℕ) → lost_in (without s upto) ≡ lost_in s
   -- what it performs
   pub only : (s : State) (o : Panel) (now : ℕ) (octets : List ℕ) → function_in octets ≢ function_octet function.Operate
       → function_in octets ≢ function_octet function.DirectOperate → function_in octets ≢ function_octet function.DirectOperateNr

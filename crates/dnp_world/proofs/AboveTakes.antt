@@ -5,7 +5,7 @@ use Rattle.std.proofs.lemmas.List.{map-append}
 use Rattle.dnp_concentrator.specs.Relaying as relaying
 use Rattle.dnp_controls.specs.Panel.{Panel}
 use Rattle.dnp_eventbuf.specs.Archive.{numbered, with_events}
-use Rattle.dnp_eventbuf.specs.Stock.{row_of}
+use Rattle.dnp_eventbuf.specs.EventBuffer.{row_of}
 use Rattle.dnp_line.specs.Lines.{LineState, delivered_on, front_of, repeated_on}
 use Rattle.dnp_line.specs.Ports.{PortState}
 use Rattle.dnp_line.specs.Ways.{HearsIfAny}
@@ -19,7 +19,7 @@ use Rattle.dnp_world.specs.declared.link_event.Way.TheVariants as way
 use Rattle.dnp_world.specs.Behind.{Elsewhere, rows_of}
 use Rattle.dnp_world.specs.Channels.{ChannelState}
 use Rattle.dnp_world.specs.Joined.{rows_made_by}
-use Rattle.dnp_world.specs.Link.{Link}
+use Rattle.dnp_world.specs.LawLink.{LawLink}
 use Rattle.dnp_world.specs.OneLinkEvents as one
 use Rattle.dnp_world.specs.OneLinkEvents.{HappensOn, LinkState, Receives, Takes}
 use Rattle.dnp_world.specs.SystemEvents.{ComesUp, MasterReceives, MasterTakes}
@@ -66,7 +66,7 @@ received : Grounds → (left : LineState → LineState) (e : LinkEvent) → IsCo
     → (r : Result Taking MasterFault) → receive_of old.centre.link.master old.now fragment ≡ r
     → MasterReceives (link.Above centre) r (record old { above = heard_lines left port old }) new → Keeps el substation [] old new
 received grounds left e as_event centre old new h substation port fragment others heard made (Ok t) is (room, (down, after)) =
-    let l : Link = h.links.above in
+    let l : LawLink = h.links.above in
     let lines : ChannelState = heard_lines left port old in
     let base : LinkState ⊤ = seen_above (record old { above = lines }) (lists_of l) in
     let a : Above = record {

@@ -5,9 +5,9 @@ use Rattle.dnp_objects.specs.declared.command.Command.{Command}
 use Rattle.dnp_objects.specs.Counts.{IsCoveredBy}
 use Rattle.dnp_world.specs.Lists.{picked}
 use Rattle.dnp_world.specs.Octets.{after, commands_in, seq_in}
-use Rattle.dnp_world.specs.Link.{Asks, Awaited, AwaitedReport, Confirms, ConfirmsReport, Continuing, Down, FirstSent, Fragment, FurtherSent, LastRequest, Link, Master, NothingSent, Phase, Received, Reports, Requested, Responding, Responds, fin_of, report_down, report_up, seq_of, solicited_down, solicited_up}
+use Rattle.dnp_world.specs.LawLink.{Asks, Awaited, AwaitedReport, Confirms, ConfirmsReport, Continuing, Down, FirstSent, SentFragment, FurtherSent, LastRequest, LawLink, LawMaster, NothingSent, Phase, Received, Reports, Requested, Responding, Responds, fin_of, report_down, report_up, seq_of, solicited_down, solicited_up}
 use Rattle.dnp_world.specs.Moves.{IsOffered, IsOther, MayAwait, confirmed, continued, received, repeated, report_confirmed, report_repeated, report_sent, responded, stopped_waiting}
-use Rattle.dnp_world.specs.Standing.{Agrees, AllIn, Conversation, IsOfReport, Reporting, Solicited, Stands, Unsolicited, conversation, inventory, reporting_of}
+use Rattle.dnp_world.specs.Standing.{Agrees, AllIn, Conversation, IsOfReport, Reporting, Solicited, CarriesLaw, Unsolicited, conversation, inventory, reporting_of}
 use Rattle.dnp_world.proofs.Counting.{count_by-append}
 use Rattle.dnp_world.proofs.Connections.{not_asked, picked_none, picked_one}
 use Rattle.dnp_world.proofs.Responses
@@ -17,12 +17,12 @@ use Rattle.dnp_world.proofs.EventMoves
 
 -- ---- the outstation
 
-heard_agrees : (c : Fragment) (m : Master) (phase : Phase) (q : List ℕ) → phase ≡ Requested q → Agrees phase c m → Agrees (Received q) c m
+heard_agrees : (c : SentFragment) (m : LawMaster) (phase : Phase) (q : List ℕ) → phase ≡ Requested q → Agrees phase c m → Agrees (Received q) c m
 heard_agrees c m phase q e a = subst (λ (t : Phase). Agrees t c m) e a
 
-pub received_stands : (l : Link) (q : List ℕ) (rest : List Down) (commands : List Command) → l.down ≡ Asks q ∷ rest →
+pub received_stands : (l : LawLink) (q : List ℕ) (rest : List Down) (commands : List Command) → l.down ≡ Asks q ∷ rest →
     l.outstation.is_open ≡ true →
-    IsOther q l.outstation.last → IsCoveredBy commands (commands_in q) → Stands l → Stands (received q commands l)
+    IsOther q l.outstation.last → IsCoveredBy commands (commands_in q) → CarriesLaw l → CarriesLaw (received q commands l)
 received_stands l q rest commands down_is opens other few s =
     let v : Conversation = conversation l in
     let downs : v.down ≡ Asks q ∷ picked solicited_down rest = ap (picked solicited_down) down_is in
@@ -46,21 +46,21 @@ received_stands l q rest commands down_is opens other few s =
       unsolicited = s.unsolicited;
     }
 
-answer_agrees : (phase : Phase) (c f : Fragment) (q : List ℕ) (m : Master) → phase ≡ Received q → seq_of f ≡ seq_in q → Agrees phase c m →
+answer_agrees : (phase : Phase) (c f : SentFragment) (q : List ℕ) (m : LawMaster) → phase ≡ Received q → seq_of f ≡ seq_in q → Agrees phase c m →
     Agrees Responding f m
 answer_agrees phase c f q m e number a =
     let b : Agrees (Received q) c m = subst (λ (t : Phase). Agrees t c m) e a in
     (b.0, b.1 ∙ sym number)
 
-pub responded_stands : (l : Link) (q : List ℕ) (f : Fragment) (was_more more : Bool) (awaited : Option Awaited) →
+pub responded_stands : (l : LawLink) (q : List ℕ) (f : SentFragment) (was_more more : Bool) (awaited : Option Awaited) →
     l.outstation.last ≡ Some (record { request = q; reply = NothingSent; more = was_more }) → seq_of f ≡ seq_in q →
-    IsOffered false l.lanes l.last_id f → (more ≡ true → fin_of f ≡ false) → MayAwait f awaited → Stands l → Stands (responded q f more awaited l)
+    IsOffered false l.lanes l.last_id f → (more ≡ true → fin_of f ≡ false) → MayAwait f awaited → CarriesLaw l → CarriesLaw (responded q f more awaited l)
 responded_stands l q f was_more more awaited last_is number offered ended waits s =
     record {
       rows = EventMoves.rows_sent (inventory l) f offered s.rows;
       commands = not_asked l.outstation.is_open Responding l.asked l.performed (λ p e. absurd (cc)) s.commands.covered;
       solicited = λ o.
-          subst (λ (u : List Fragment). Solicited
+          subst (λ (u : List SentFragment). Solicited
           (record (conversation l) {
             last = Some
                 (record { request = q; reply = FirstSent f.octets f.upto; more = more });
@@ -75,31 +75,31 @@ responded_stands l q f was_more more awaited last_is number offered ended waits 
       agrees = λ o m. answer_agrees l.phase l.current f q l.master (Responses.is_heard (conversation l) q was_more last_is (s.solicited o)) number
           (s.agrees o m);
       unsolicited = λ o.
-          subst (λ (u : List Fragment). Unsolicited (record (reporting_of l) { up = u })) (sym (picked_none report_up l.up (Responds f) refl))
+          subst (λ (u : List SentFragment). Unsolicited (record (reporting_of l) { up = u })) (sym (picked_none report_up l.up (Responds f) refl))
           (s.unsolicited o);
     }
 
-pub repeated_stands : (l : Link) (q : List ℕ) (octets upto : List ℕ) (more : Bool) (awaited : Option Awaited) →
+pub repeated_stands : (l : LawLink) (q : List ℕ) (octets upto : List ℕ) (more : Bool) (awaited : Option Awaited) →
     l.outstation.last ≡ Some (record { request = q; reply = FirstSent octets upto; more = more }) →
-    (awaited ≡ l.outstation.awaited) ⊎ (awaited ≡ Some (record { seq = seq_in q; upto = upto })) → Stands l → Stands (repeated awaited l)
+    (awaited ≡ l.outstation.awaited) ⊎ (awaited ≡ Some (record { seq = seq_in q; upto = upto })) → CarriesLaw l → CarriesLaw (repeated awaited l)
 repeated_stands l q octets upto more awaited last_is waits s =
     record {
       rows = EventMoves.rows_again (inventory l) (Responds l.current) (s.rows.current.rows, s.rows.current.says) s.rows;
       commands = s.commands;
       solicited = λ o.
-          subst (λ (u : List Fragment). Solicited (record (conversation l) { awaited = awaited; up = u }))
+          subst (λ (u : List SentFragment). Solicited (record (conversation l) { awaited = awaited; up = u }))
           (sym (picked_one solicited_up l.up (Responds l.current) l.current refl))
           (Responses.answers_again (conversation l) q octets upto more awaited last_is waits (s.solicited o));
       agrees = s.agrees;
       unsolicited = λ o.
-          subst (λ (u : List Fragment). Unsolicited (record (reporting_of l) { up = u }))
+          subst (λ (u : List SentFragment). Unsolicited (record (reporting_of l) { up = u }))
           (sym (picked_none report_up l.up (Responds l.current) refl)) (s.unsolicited o);
     }
 
 -- ---- confirms
 
-pub confirmed_stands : (l : Link) (w : Awaited) (rest : List Down) → l.down ≡ Confirms w.seq ∷ rest → l.outstation.is_open ≡ true →
-    l.outstation.awaited ≡ Some w → Stands l → Stands (confirmed w l)
+pub confirmed_stands : (l : LawLink) (w : Awaited) (rest : List Down) → l.down ≡ Confirms w.seq ∷ rest → l.outstation.is_open ≡ true →
+    l.outstation.awaited ≡ Some w → CarriesLaw l → CarriesLaw (confirmed w l)
 confirmed_stands l w rest down_is opens waits s =
     let v : Conversation = conversation l in
     let wait : (w.seq ≡ seq_of l.current) × (w.upto ≡ l.current.upto) = subst (λ (o : Option Awaited). MayAwait l.current o) waits
@@ -116,16 +116,16 @@ confirmed_stands l w rest down_is opens waits s =
       unsolicited = s.unsolicited;
     }
 
-gone_on_agrees : (phase : Phase) (c f : Fragment) (m : Master) → phase ≡ Continuing → seq_of f ≡ after (seq_of c) → Agrees phase c m →
+gone_on_agrees : (phase : Phase) (c f : SentFragment) (m : LawMaster) → phase ≡ Continuing → seq_of f ≡ after (seq_of c) → Agrees phase c m →
     Agrees Responding f m
 gone_on_agrees phase c f m e number a =
     let b : Agrees Continuing c m = subst (λ (t : Phase). Agrees t c m) e a in
     (b.0, b.1 ∙ sym number)
 
-pub continued_stands : (l : Link) (a : LastRequest) (rest : List Down) (f : Fragment) (more : Bool) (awaited : Option Awaited) →
+pub continued_stands : (l : LawLink) (a : LastRequest) (rest : List Down) (f : SentFragment) (more : Bool) (awaited : Option Awaited) →
     l.down ≡ Confirms (seq_of l.current) ∷ rest → l.outstation.last ≡ Some a → a.more ≡ true → seq_of f ≡ after (seq_of l.current) →
-    IsOffered false l.lanes l.last_id f → (more ≡ true → fin_of f ≡ false) → MayAwait f awaited → Stands l →
-    Stands (continued a.request f more awaited l)
+    IsOffered false l.lanes l.last_id f → (more ≡ true → fin_of f ≡ false) → MayAwait f awaited → CarriesLaw l →
+    CarriesLaw (continued a.request f more awaited l)
 continued_stands l a rest f more awaited down_is last_is more_left number offered ended waits s =
     let v : Conversation = conversation l in
     let downs : v.down ≡ Confirms (seq_of l.current) ∷ picked solicited_down rest = ap (picked solicited_down) down_is in
@@ -133,7 +133,7 @@ continued_stands l a rest f more awaited down_is last_is more_left number offere
       rows = EventMoves.rows_sent (inventory l) f offered s.rows;
       commands = not_asked l.outstation.is_open Responding l.asked l.performed (λ p e. absurd (cc)) s.commands.covered;
       solicited = λ o.
-          subst (λ (u : List Fragment). Solicited
+          subst (λ (u : List SentFragment). Solicited
           (record v {
             last = Some (record { request = a.request; reply = FurtherSent; more = more });
             awaited = awaited;
@@ -147,15 +147,15 @@ continued_stands l a rest f more awaited down_is last_is more_left number offere
       agrees = λ o m. gone_on_agrees l.phase l.current f l.master
           (Responses.is_going v a (picked solicited_down rest) downs last_is more_left (s.solicited o)).0 number (s.agrees o m);
       unsolicited = λ o.
-          subst (λ (u : List Fragment). Unsolicited (record (reporting_of l) { up = u })) (sym (picked_none report_up l.up (Responds f) refl))
+          subst (λ (u : List SentFragment). Unsolicited (record (reporting_of l) { up = u })) (sym (picked_none report_up l.up (Responds f) refl))
           (s.unsolicited o);
     }
 
-pub report_confirmed_stands : (l : Link) (w : AwaitedReport) (rest : List Down) → l.down ≡ ConfirmsReport w.seq ∷ rest →
-    l.outstation.is_open ≡ true → l.outstation.report ≡ Some w → Stands l → Stands (report_confirmed w l)
+pub report_confirmed_stands : (l : LawLink) (w : AwaitedReport) (rest : List Down) → l.down ≡ ConfirmsReport w.seq ∷ rest →
+    l.outstation.is_open ≡ true → l.outstation.report ≡ Some w → CarriesLaw l → CarriesLaw (report_confirmed w l)
 report_confirmed_stands l w rest down_is opens waits s =
     let v : Reporting = reporting_of l in
-    let r : Fragment = l.reported in
+    let r : SentFragment = l.reported in
     let wait : IsOfReport r w =
     subst (λ (o : Option AwaitedReport). IfSome o (λ x. IsOfReport r x)) waits
     (s.unsolicited opens).wait in
@@ -170,7 +170,7 @@ report_confirmed_stands l w rest down_is opens waits s =
       unsolicited = λ o. ReportMoves.waits_no_longer v w (picked report_down rest) downs waits (s.unsolicited o);
     }
 
-pub stopped_waiting_stands : (l : Link) → Stands l → Stands (stopped_waiting l)
+pub stopped_waiting_stands : (l : LawLink) → CarriesLaw l → CarriesLaw (stopped_waiting l)
 stopped_waiting_stands l s =
     record {
       rows = s.rows;
@@ -182,18 +182,18 @@ stopped_waiting_stands l s =
 
 -- ---- unsolicited responses
 
-pub report_sent_stands : (l : Link) (f : Fragment) → l.outstation.report ≡ None → seq_of f ≡ l.outstation.next →
-    IsOffered true l.lanes l.last_id f → Stands l → Stands (report_sent f l)
+pub report_sent_stands : (l : LawLink) (f : SentFragment) → l.outstation.report ≡ None → seq_of f ≡ l.outstation.next →
+    IsOffered true l.lanes l.last_id f → CarriesLaw l → CarriesLaw (report_sent f l)
 report_sent_stands l f none number offered s =
     record {
       rows = EventMoves.rows_reported (inventory l) f offered s.rows;
       commands = s.commands;
       solicited = λ o.
-          subst (λ (u : List Fragment). Solicited (record (conversation l) { up = u })) (sym (picked_none solicited_up l.up (Reports f) refl))
+          subst (λ (u : List SentFragment). Solicited (record (conversation l) { up = u })) (sym (picked_none solicited_up l.up (Reports f) refl))
           (s.solicited o);
       agrees = s.agrees;
       unsolicited = λ o.
-          subst (λ (u : List Fragment). Unsolicited
+          subst (λ (u : List SentFragment). Unsolicited
           (record (reporting_of l) {
             report = Some
                 (record { octets = f.octets; seq = seq_of f; upto = f.upto });
@@ -204,17 +204,17 @@ report_sent_stands l f none number offered s =
           (sym (picked_one report_up l.up (Reports f) f refl)) (ReportMoves.starts (reporting_of l) f none number (s.unsolicited o));
     }
 
-pub report_repeated_stands : (l : Link) (w : AwaitedReport) → l.outstation.report ≡ Some w → Stands l → Stands (report_repeated l)
+pub report_repeated_stands : (l : LawLink) (w : AwaitedReport) → l.outstation.report ≡ Some w → CarriesLaw l → CarriesLaw (report_repeated l)
 report_repeated_stands l w waits s =
     record {
       rows = EventMoves.rows_again (inventory l) (Reports l.reported) (s.rows.reported.rows, s.rows.reported.says) s.rows;
       commands = s.commands;
       solicited = λ o.
-          subst (λ (u : List Fragment). Solicited (record (conversation l) { up = u }))
+          subst (λ (u : List SentFragment). Solicited (record (conversation l) { up = u }))
           (sym (picked_none solicited_up l.up (Reports l.reported) refl)) (s.solicited o);
       agrees = s.agrees;
       unsolicited = λ o.
-          subst (λ (u : List Fragment). Unsolicited (record (reporting_of l) { up = u }))
+          subst (λ (u : List SentFragment). Unsolicited (record (reporting_of l) { up = u }))
           (sym (picked_one report_up l.up (Reports l.reported) l.reported refl))
           (ReportMoves.reports_again (reporting_of l) w waits (s.unsolicited o));
     }

@@ -7,16 +7,16 @@ use Rattle.std.proofs.lemmas.List.{reverse-append, length-append, take_at}
 use Rattle.std.proofs.lemmas.List.FromFn.{length-map-range_with_len}
 use Rattle.dnp_linkframe.specs.Frames.{Spells}
 use Rattle.dnp_linkframe.specs.declared.frame.Frame.{Frame}
-use Rattle.dnp_linkstation.specs.Station.{ends, Stands as Answers}
-use Rattle.dnp_transport.specs.Assembly.{Stands}
+use Rattle.dnp_linkstation.specs.Station.{ends, AreHeard as Answers}
+use Rattle.dnp_transport.specs.Assembly.{ArePushed}
 use Rattle.dnp_transport.specs.Cuts.{cut_count, cut, cuts}
-use Rattle.dnp_transport.specs.Laws.{IsCarried, pushed_after}
+use Rattle.dnp_transport.specs.Laws.{IsAssembled, pushed_after}
 use Rattle.dnp_transport.specs.Series.{IsWhole}
 use Rattle.dnp_transport.specs.declared.limits.TheConstants.{MAX_FRAGMENT}
 use Rattle.dnp_line.specs.Flows.{AreFacing}
 use Rattle.dnp_line.specs.Lines.{LineState, line_of, front_of, delivered_on}
 use Rattle.dnp_line.specs.Ports.{PortState, data_frame, has_data, is_joined, Joins, TakesAfter, Takes}
-use Rattle.dnp_line.specs.Ways.{Hears, AFrame, NoFrame, HearsIfAny}
+use Rattle.dnp_line.specs.Ways.{HearsUnit, AFrame, NoFrame, HearsIfAny}
 use Rattle.dnp_line.specs.steps.Lower.{Lower}
 use Rattle.dnp_line.proofs.Hearing.{sent_joins, has_joined}
 
@@ -27,12 +27,12 @@ pub record HasTaken (sender old new : PortState) (x : List ℕ) (pushed given : 
   pub same_ends : ends new.link ≡ ends old.link
   pub heard : List Frame
   pub answers : Answers heard new.link
-  pub stands : Stands (x ∷ pushed) new.assembly
+  pub stands : ArePushed (x ∷ pushed) new.assembly
   pub none : ((g : List ℕ) → IsWhole (x ∷ pushed) g → ⊥) → given ≡ []
   pub one : (g : List ℕ) → IsWhole (x ∷ pushed) g → given ≡ g ∷ []
 
 pub has_taken : Lower → (sender old new : PortState) (u x : List ℕ) (heard : List Frame) (pushed given : List (List ℕ)) → has_data x ≡ true
-    → AreFacing sender old → Answers heard old.link → Stands pushed old.assembly → Spells u (data_frame sender x) → Hears u old new [] given
+    → AreFacing sender old → Answers heard old.link → ArePushed pushed old.assembly → Spells u (data_frame sender x) → HearsUnit u old new [] given
     → HasTaken sender old new x pushed given
 has_taken low sender old new u x heard pushed given some facing answers stands spells hears =
     elim hears [
@@ -66,7 +66,7 @@ pub delivered_from : (l : LineState) (u : List ℕ) (us : List (List ℕ)) → l
 delivered_from l u us e = subst (λ (xs : List (List ℕ)). delivered_on (line_of xs l.lost) ≡ line_of us 0) (sym e) refl
 
 pub heard_front : (l : LineState) (u : List ℕ) (us : List (List ℕ)) (old new : PortState) (given given' : List (List ℕ)) → l.units ≡ u ∷ us
-    → HearsIfAny (front_of l) old new given given' → Hears u old new given given'
+    → HearsIfAny (front_of l) old new given given' → HearsUnit u old new given given'
 heard_front l u us old new given given' e h = subst (λ (xs : List (List ℕ)). HearsIfAny (slice_get xs 0) old new given given') e h
 
 -- ---- the segments of a fragment
@@ -91,7 +91,7 @@ cuts_have_data : (f : List ℕ) (n : ℕ) (places : List ℕ) → HaveData (map 
 cuts_have_data f n [] = tt
 cuts_have_data f n (k ∷ places) = (refl, cuts_have_data f n places)
 
-gives_from : (f : List ℕ) (first : ℕ) (before : List (List ℕ)) → IsCarried before f first → length (cuts f first) ≡ cut_count (length f)
+gives_from : (f : List ℕ) (first : ℕ) (before : List (List ℕ)) → IsAssembled before f first → length (cuts f first) ≡ cut_count (length f)
     → (done : List (List ℕ)) (x : List ℕ) (segs : List (List ℕ)) → cuts f first ≡ done ++ x ∷ segs → HaveData (x ∷ segs)
     → WillGive f (pushed_after before done) (x ∷ segs)
 gives_from f first before carried as_many done x [] cut_is have =

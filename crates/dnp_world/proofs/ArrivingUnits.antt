@@ -4,11 +4,11 @@ use Rattle.std.specs.Prelude.{slice_get}
 use Rattle.std.proofs.lemmas.List.{set-set}
 use Rattle.dnp_linkframe.specs.Frames.{Spells}
 use Rattle.dnp_linkframe.specs.declared.frame.Frame.{Frame}
-use Rattle.dnp_linkstation.specs.Station.{ends, Stands as Answers}
+use Rattle.dnp_linkstation.specs.Station.{ends, AreHeard as Answers}
 use Rattle.dnp_controls.specs.Latches.{PlainState}
 use Rattle.dnp_objects.specs.declared.command.Command.{Command}
 use Rattle.dnp_objects.specs.declared.row.Row.{Row}
-use Rattle.dnp_transport.specs.Assembly.{Stands}
+use Rattle.dnp_transport.specs.Assembly.{ArePushed}
 use Rattle.dnp_transport.specs.Cuts.{cuts}
 use Rattle.dnp_line.specs.Flows.{AreFacing}
 use Rattle.dnp_line.specs.Lines.{LineState, delivered_on, front_of}
@@ -194,7 +194,7 @@ record OneCame (on : Link) (way : Way) (sender : PortState) (x : List ℕ) (push
 
 one_comes : Lower → (on : Link) (way : Way) (sender : PortState) (u x : List ℕ) (pushed us : List (List ℕ)) (c : ChannelState) (old new : System)
     (heard : List Frame) → channel_on old on ≡ Some c → has_data x ≡ true → (line_of way c).units ≡ u ∷ us → Spells u (data_frame sender x)
-    → AreFacing sender (receiver_at way c) → Answers heard (receiver_at way c).link → Stands pushed (receiver_at way c).assembly
+    → AreFacing sender (receiver_at way c) → Answers heard (receiver_at way c).link → ArePushed pushed (receiver_at way c).assembly
     → Happens old (Deliver on way) new → OneCame on way sender x pushed us c old new
 one_comes low on way sender u x pushed us c old new heard there some units spells facing answers stands happens =
     let d : Delivery on way c old new = delivery on way c old new there happens in
@@ -209,7 +209,7 @@ one_comes low on way sender u x pushed us c old new heard there some units spell
 segments_come : Lower → (on : Link) (way : Way) (sender : PortState) (f : List ℕ) (pushed : List (List ℕ)) (x : List ℕ)
     (segs units tail : List (List ℕ)) (c : ChannelState) (old new : System) (heard : List Frame)
     → channel_on old on ≡ Some c → WillGive f pushed (x ∷ segs) → (line_of way c).units ≡ units ++ tail → AreSpelled sender (x ∷ segs) units
-    → AreFacing sender (receiver_at way c) → Answers heard (receiver_at way c).link → Stands pushed (receiver_at way c).assembly
+    → AreFacing sender (receiver_at way c) → Answers heard (receiver_at way c).link → ArePushed pushed (receiver_at way c).assembly
     → RunsTo Happens old (deliveries (suc (length segs)) on way) new → Reached on way f tail c old new
 segments_come low on way sender f pushed x [] units tail c old new heard there will line spelled facing answers stands runs =
     let us : List (List ℕ) = spelled.1 in

@@ -28,7 +28,7 @@ use Rattle.dnp_world.specs.Behind.{Elsewhere, rows_of}
 use Rattle.dnp_world.specs.Channels.{ChannelState, GoDown}
 use Rattle.dnp_world.specs.Happened.{HappenedAsEvents}
 use Rattle.dnp_world.specs.Joined.{rows_made_by}
-use Rattle.dnp_world.specs.Link.{Link}
+use Rattle.dnp_world.specs.LawLink.{LawLink}
 use Rattle.dnp_world.specs.OneLinkEvents as one
 use Rattle.dnp_world.specs.OneLinkEvents.{HappensOn, LinkState, Receives, Takes}
 use Rattle.dnp_world.specs.Systems.{SubstationState, System, has_substation, panel_of}
@@ -107,7 +107,7 @@ received : Grounds → ArrivalLaws
     → receive_of (link_in old.concentrator.links substation).master old.now fragment ≡ r
     → MasterReceives (Below substation) r (with_substation old substation (heard_at left c.port c.was)) new → Keeps el substation [] old new
 received grounds laws left e old new h substation c events fragment others given (Ok t) is (room, change) =
-    let l : Link = h.links.below substation in
+    let l : LawLink = h.links.below substation in
     let r : Relaying = link_in old.concentrator.links substation in
     let mid : SubstationState = heard_at left c.port c.was in
     let between : System = with_substation old substation mid in

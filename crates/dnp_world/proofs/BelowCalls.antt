@@ -22,7 +22,7 @@ use Rattle.dnp_world.specs.declared.link_event.LinkEvent.TheVariants as event
 use Rattle.dnp_world.specs.declared.link_event.Way.{Way}
 use Rattle.dnp_world.specs.Behind.{Elsewhere, rows_of}
 use Rattle.dnp_world.specs.Channels.{ChannelState, DamagesAt, GoDown, cleared}
-use Rattle.dnp_world.specs.Link.{Link}
+use Rattle.dnp_world.specs.LawLink.{LawLink}
 use Rattle.dnp_world.specs.OneLinkEvents.{AsksBy, AsksIfOwn, Steps, is_own, opening}
 use Rattle.dnp_world.specs.Systems.{SubstationState, System, has_substation, station_of}
 use Rattle.dnp_world.specs.SystemEvents.{AsksOn, HangsUpOn, LinesChange, MasterTicks, OpensOn, master_gone, request_of, with_link, with_lost, with_substation}
@@ -36,7 +36,7 @@ use Rattle.dnp_world.proofs.SystemPlans.{asked_still, link_here, link_there}
 pub record CallLaws : Type 0 where
   pub open_none : (s : State) (now : ℕ) → ReleasesNone s (opened_of s now)
   pub open_performs : (s : State) (now : ℕ) → (opened_of s now).state.performed ≡ s.performed
-  pub lost_sound : (database : Database) (number : ℕ) → points.IsSound database → points.IsSound (lost_of database number)
+  pub lost_sound : (database : Database) (number : ℕ) → points.IsSoundDatabase database → points.IsSoundDatabase (lost_of database number)
 
 -- ---- what the concentrator has of the substation
 
@@ -88,7 +88,7 @@ opens grounds laws old new substation has h e =
     let r : Relaying = link_in old.concentrator.links substation in
     let middle : Middle = with_link_to old substation (relaying.opened r) in
     let step : Step = opened_of (station_of was) old.now in
-    let l : Link = h.links.below substation in
+    let l : LawLink = h.links.below substation in
     let gone : Gone = record { confirmed = step.does.discarded; overwritten = []; emptied = [] } in
     let lists : RowLists = with_released (lists_of l) step.does.discarded in
     below_keeps grounds old new h substation was is middle gone lists event.Open e.there (link_keeps old substation (relaying.opened r) refl)

@@ -9,7 +9,7 @@ use Rattle.dnp_concentrator.specs.Below.{link_in}
 use Rattle.dnp_concentrator.specs.Relaying.{Relaying}
 use Rattle.dnp_line.specs.Lines.{LineState, delivered_on, repeated_on}
 use Rattle.dnp_controls.specs.Panel.{Panel}
-use Rattle.dnp_eventbuf.specs.Stock.{rows_in, without_all}
+use Rattle.dnp_eventbuf.specs.EventBuffer.{rows_in, without_all}
 use Rattle.dnp_outstation.specs.Calls.{connection_after, restarted_core}
 use Rattle.dnp_outstation.specs.Connection.{closed}
 use Rattle.dnp_outstation.specs.State.{Step}
@@ -23,7 +23,7 @@ use Rattle.dnp_world.specs.declared.event.Link.TheVariants.{Below}
 use Rattle.dnp_world.specs.Behind.{Elsewhere, rows_of}
 use Rattle.dnp_world.specs.Channels.{ChannelState, lost_at, hung_up_at}
 use Rattle.dnp_world.specs.Joined.{rows_made_by}
-use Rattle.dnp_world.specs.Link.{Link}
+use Rattle.dnp_world.specs.LawLink.{LawLink}
 use Rattle.dnp_world.specs.OneLinkEvents.{LinkState, HappensOn, ComesDown, ComeDown, Steps}
 use Rattle.dnp_world.specs.OutstationSeen.{ShowOctets}
 use Rattle.dnp_world.specs.Systems.{SubstationState, System, at_substation, in_state, panel_of, station_of}
@@ -47,7 +47,7 @@ none_behind xs = sym (append-nil xs)
 abbrev pub nothing_gone : Gone
 nothing_gone = record { confirmed = []; overwritten = []; emptied = [] }
 
-pub nothing_listed : (l : Link) → IsListed l nothing_gone (lists_of l)
+pub nothing_listed : (l : LawLink) → IsListed l nothing_gone (lists_of l)
 nothing_listed l = record { taken = refl; released = none_behind (rows_of l.released); left = none_behind (rows_of l.left) }
 
 pub no_performs : (was is : SubstationState) → is.outputs.performed ≡ was.outputs.performed → performs was is ≡ []
@@ -126,7 +126,7 @@ restarts grounds old new substation h e =
       lanes = without_all was.lanes;
       channel = hung_up_at end.Outstation was.channel;
     } in
-    let l : Link = h.links.below substation in
+    let l : LawLink = h.links.below substation in
     let gone : Gone = record { confirmed = []; overwritten = []; emptied = rows_in was.lanes } in
     let after : SubstationState → System = λ s. record (with_substation old substation s) {
       history = record old.history { gone = old.history.gone ++ at_substation substation (rows_in was.lanes) };
@@ -171,7 +171,7 @@ pub step_keeps : Grounds → (old new : System) {el : Elsewhere} (h : IsStanding
     }
     → Keeps el substation (rows_made_by was.core.points (e ∷ [])) old new
 step_keeps grounds old new h substation was is e step dropped there none steps as_event after =
-    let l : Link = h.links.below substation in
+    let l : LawLink = h.links.below substation in
     let gone : Gone = record { confirmed = step.does.discarded; overwritten = dropped; emptied = [] } in
     let lists : RowLists = record (lists_of l) { left = rows_of l.left ++ dropped } in
     let is' : SubstationState = record (in_state was step.state) { channel = is.channel } in
@@ -184,7 +184,7 @@ step_keeps grounds old new h substation was is e step dropped there none steps a
 -- ---- the front unit comes to it
 
 -- what a fragment, or none, makes of the substation is what it makes of the link by itself
-answered : (old : System) (substation : ℕ) (l : Link) (base is : SubstationState) (given : List (List ℕ)) (released : List Row)
+answered : (old : System) (substation : ℕ) (l : LawLink) (base is : SubstationState) (given : List (List ℕ)) (released : List Row)
     → SubstationAnswers given old.now released base is
     → ComeDown (panel_of base) given (seen_at old substation base (lists_of l)) (seen_at old substation is (with_released (lists_of l) released))
 answered old substation l base is [] released (none, stays) =
@@ -210,7 +210,7 @@ comes grounds left e as_event old new substation h c =
     let was : SubstationState = c.came.was in
     let is : SubstationState = c.came.is in
     let x = c.came.changed in
-    let l : Link = h.links.below substation in
+    let l : LawLink = h.links.below substation in
     let base : SubstationState = record was { channel = record was.channel { down = left was.channel.down; outstation_port = x.port } } in
     let gone : Gone = record { confirmed = c.released; overwritten = []; emptied = [] } in
     let lists : RowLists = record (lists_of l) { released = rows_of l.released ++ c.released } in

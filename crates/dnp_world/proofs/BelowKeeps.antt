@@ -8,7 +8,7 @@ use Rattle.std.proofs.lemmas.List.Sorted.{IsPermutation-refl}
 use Rattle.dnp_objects.specs.Counts.{IsCoveredBy}
 use Rattle.dnp_objects.specs.declared.command.Command.{Command}
 use Rattle.dnp_objects.specs.declared.row.Row.{Row}
-use Rattle.dnp_eventbuf.specs.Stock.{rows_in}
+use Rattle.dnp_eventbuf.specs.EventBuffer.{rows_in}
 use Rattle.dnp_controls.specs.Book.{Ledger}
 use Rattle.dnp_controls.specs.Panel.{Panel}
 use Rattle.dnp_concentrator.specs.BookOutputs.{ordered}
@@ -20,15 +20,15 @@ use Rattle.dnp_pointdb.specs.Sound as points
 use Rattle.dnp_concentrator.specs.Relaying.{Relaying}
 use Rattle.dnp_concentrator.specs.declared.span.Spans.{Spans}
 use Rattle.dnp_world.specs.declared.link_event.LinkEvent.{LinkEvent}
-use Rattle.dnp_world.specs.Behind.{Elsewhere, does_nothing, Does, Grows, Links, with_links, IsBehind, Turn, made_at, rows_of}
+use Rattle.dnp_world.specs.Behind.{Elsewhere, does_nothing, LinkDoes, Grows, Links, with_links, IsBehind, OneEvent, made_at, rows_of}
 use Rattle.dnp_world.specs.Joined.{Follows, Joined, rows_made_by}
-use Rattle.dnp_world.specs.Kept.{Kept, kept_in, lane_rows_of, orders_in, shown_of, used_orders, used_commands}
-use Rattle.dnp_world.specs.Link.{Link}
+use Rattle.dnp_world.specs.Kept.{KeptLists, kept_in, lane_rows_of, orders_in, shown_of, used_orders, used_commands}
+use Rattle.dnp_world.specs.LawLink.{LawLink}
 use Rattle.dnp_world.specs.Moves.{Done}
 use Rattle.dnp_world.specs.OneLinkEvents.{LinkState, HappensOn}
 use Rattle.dnp_world.specs.OutstationSeen.{ShowOctets, Shows}
 use Rattle.dnp_world.specs.Reports.{IsFate}
-use Rattle.dnp_world.specs.Standing.{Stands}
+use Rattle.dnp_world.specs.Standing.{CarriesLaw}
 use Rattle.dnp_world.specs.Stations.{of_substation, HasSameCounts}
 use Rattle.dnp_world.specs.Systems.{SubstationState, System, at_substation, middle_of, panel_of}
 use Rattle.dnp_world.specs.SystemStanding.{RowLists, lists_of, no_sink, points_asked, seen, seen_above, seen_below, IsJoinedBelow, IsStanding, Keeps}
@@ -42,16 +42,16 @@ use Rattle.dnp_world.proofs.Turning.{by_substation}
 
 -- what a law of a system's lists says
 pub record TurnLaws : Type 0 where
-  pub kept : (indices : List Spans) {el : Elsewhere} (substation : ℕ) (links : Links) (old new : Kept) → IsBehind indices el links old
-      → (turn : Turn indices substation links old new) → IsBehind indices el (with_links links substation turn.below turn.above) new
-  pub fate : (indices : List Spans) {el : Elsewhere} (substation : ℕ) (links : Links) (old new : Kept) → IsBehind indices el links old
-      → (turn : Turn indices substation links old new)
+  pub kept : (indices : List Spans) {el : Elsewhere} (substation : ℕ) (links : Links) (old new : KeptLists) → IsBehind indices el links old
+      → (turn : OneEvent indices substation links old new) → IsBehind indices el (with_links links substation turn.below turn.above) new
+  pub fate : (indices : List Spans) {el : Elsewhere} (substation : ℕ) (links : Links) (old new : KeptLists) → IsBehind indices el links old
+      → (turn : OneEvent indices substation links old new)
       → IsFate (made_at substation turn.here.made) (shown_of indices old) (shown_of indices new)
 
 -- and the law of one link, of an event by itself
 pub record Grounds : Type 0 where
   pub turns : TurnLaws
-  pub happens : (panel : Panel) (s new : LinkState ⊤) (event : LinkEvent) (l : Link) → ShowOctets panel → Stands l → Joined [] s l
+  pub happens : (panel : Panel) (s new : LinkState ⊤) (event : LinkEvent) (l : LawLink) → ShowOctets panel → CarriesLaw l → Joined [] s l
       → HappensOn no_sink panel s event new
       → Follows [] (rows_made_by s.outstation.core.points (event ∷ [])) [] s.outstation.performed l new
 
@@ -63,7 +63,7 @@ none_more xs = same_is xs (xs ++ []) (sym (append-nil xs))
 pub none_used : {A : Type 0} (xs : List A) → IsCoveredBy (xs ++ []) xs
 none_used xs = record { at_most = λ test. omega (arith, count_by-append test xs []) }
 
-pub stays_still : (l : Link) → Grows l l does_nothing
+pub stays_still : (l : LawLink) → Grows l l does_nothing
 stays_still l = record {
   moves = Done;
   stood = none_more (rows_of l.stood);
@@ -76,14 +76,14 @@ stays_still l = record {
 
 -- ---- a link by itself, with the lists of its link, at any moment
 
-pub relisted : (s : LinkState ⊤) (l : Link) (now : ℕ) → Joined [] s l
+pub relisted : (s : LinkState ⊤) (l : LawLink) (now : ℕ) → Joined [] s l
     → Joined [] (record s { now = now; taken = rows_of l.took; released = rows_of l.released; left = rows_of l.left }) l
 relisted s l now j =
     with_lists [] [] s l s.sink now (rows_of l.took) (rows_of l.released) (rows_of l.left) j (IsPermutation-refl (rows_of l.took)) refl
     (subst (λ (xs : List Row). IsPermutation (rows_of l.left) xs) (sym (append-nil (rows_of l.left))) (IsPermutation-refl (rows_of l.left)))
 
 -- another outstation that the link shows, over the same lines
-pub shown_by : (s : LinkState ⊤) (l : Link) (outstation : State) → outstation.core.is_open ≡ s.outstation.core.is_open → Shows outstation l
+pub shown_by : (s : LinkState ⊤) (l : LawLink) (outstation : State) → outstation.core.is_open ≡ s.outstation.core.is_open → Shows outstation l
     → Joined [] s l → Joined [] (record s { outstation = outstation }) l
 shown_by s l outstation same shows j = record {
   outstation = shows;
@@ -100,7 +100,7 @@ shown_by s l outstation same shows j = record {
 }
 
 -- other readings of its points are no matter of the link
-pub points_set : (s : LinkState ⊤) (l : Link) (database : Database) → points.IsSound database → Joined [] s l
+pub points_set : (s : LinkState ⊤) (l : LawLink) (database : Database) → points.IsSoundDatabase database → Joined [] s l
     → Joined [] (record s { outstation = record s.outstation { core = with_points s.outstation.core database } }) l
 points_set s l database sound j =
     let shows : Shows s.outstation l = j.outstation in
@@ -119,11 +119,11 @@ points_set s l database sound j =
     }) j
 
 -- the rows in its lanes
-pub lane_rows : (s : LinkState ⊤) (l : Link) → Joined [] s l → rows_of l.lanes ≡ rows_in s.outstation.lanes
+pub lane_rows : (s : LinkState ⊤) (l : LawLink) → Joined [] s l → rows_of l.lanes ≡ rows_in s.outstation.lanes
 lane_rows s l j = ap rows_of j.outstation.lanes.rows ∙ rows_from 0 s.outstation.lanes.lanes
 
 -- what the link did, by the lists of the link by itself
-pub grows_by : (came taken released left : List Row) (asked before : List Command) (l : Link) (new : LinkState ⊤)
+pub grows_by : (came taken released left : List Row) (asked before : List Command) (l : LawLink) (new : LinkState ⊤)
     → new.taken ≡ rows_of l.took ++ taken → new.released ≡ rows_of l.released ++ released → new.left ≡ rows_of l.left ++ left
     → (f : Follows [] came asked before l new)
     → Grows l f.link (record {
@@ -135,7 +135,7 @@ pub grows_by : (came taken released left : List Row) (asked before : List Comman
       performed = drop (length before) new.outstation.performed;
     })
 grows_by came taken released left asked before l new takes releases leaves f =
-    let link : Link = f.link in
+    let link : LawLink = f.link in
     let j : Joined [] new link = f.joined in
     let performed : drop (length before) new.outstation.performed ≡ f.commands =
     ap (λ (xs : List Command). drop (length before) xs) f.performed ∙ drop-append_seam before f.commands in
@@ -189,7 +189,7 @@ changed_below substation was is middle gone s = record s {
 pub record KeepsMiddle (substation : ℕ) (middle : Middle) (s : System) : Type 0 where
   pub others : (i : ℕ) → i ≢ substation → link_in middle.links i ≡ link_in s.concentrator.links i
   pub masters : map points_asked middle.links ≡ map points_asked s.concentrator.links
-  pub sound : points.IsSound s.concentrator.core.points → points.IsSound middle.points
+  pub sound : points.IsSoundDatabase s.concentrator.core.points → points.IsSoundDatabase middle.points
 
 pub middle_same : (substation : ℕ) (s : System) → KeepsMiddle substation (middle_in s) s
 middle_same substation s = record { others = λ i other. refl; masters = refl; sound = λ h. h }
@@ -225,7 +225,7 @@ pub record BookShows (old : System) (substation : ℕ) (controls : Ledger) (aske
   pub shown : map (ordered old.concentrator.indices) controls.entries ≡ map (ordered old.concentrator.indices) old.concentrator.controls.entries
 
 -- what happened to the link
-abbrev did : SubstationState → SubstationState → Gone → List Row → List Command → Does
+abbrev did : SubstationState → SubstationState → Gone → List Row → List Command → LinkDoes
 did was is gone came asked = record {
   made = came;
   discarded = gone.confirmed;
@@ -236,10 +236,10 @@ did was is gone came asked = record {
 }
 
 turn_below : (old : System) {el : Elsewhere} (links : Links) (substation : ℕ) (was is : SubstationState) (middle : Middle) (controls : Ledger) (gone : Gone)
-    (came : List Row) (asked : List Command) (link : Link)
+    (came : List Row) (asked : List Command) (link : LawLink)
     → IsBehind old.indices el links (kept_in old) → slice_get old.substations substation ≡ Some was → BookShows old substation controls asked
     → Grows (links.below substation) link (did was is gone came asked) → rows_of link.lanes ≡ rows_in is.lanes
-    → Turn old.indices substation links (kept_in old) (kept_in (with_controls controls (changed_below substation was is middle gone old)))
+    → OneEvent old.indices substation links (kept_in old) (kept_in (with_controls controls (changed_below substation was is middle gone old)))
 turn_below old links substation was is middle controls gone came asked link b there book grows lanes =
     let new : System = with_controls controls (changed_below substation was is middle gone old) in
     record {
@@ -275,7 +275,7 @@ turn_below old links substation was is middle controls gone came asked link b th
     }
 
 -- what a link by itself lists after it
-pub record IsListed (l : Link) (gone : Gone) (lists : RowLists) : Type 0 where
+pub record IsListed (l : LawLink) (gone : Gone) (lists : RowLists) : Type 0 where
   pub taken : lists.taken ≡ rows_of l.took
   pub released : lists.released ≡ rows_of l.released ++ gone.confirmed
   pub left : lists.left ≡ rows_of l.left ++ (gone.overwritten ++ gone.emptied)
@@ -295,11 +295,11 @@ pub below_follows : TurnLaws → (old : System) {el : Elsewhere} (h : IsStanding
     → Keeps el substation came old (with_controls controls (changed_below substation was is middle gone old))
 unfolding turn_below
 below_follows laws old h substation was is middle controls gone lists came asked there keeps shown listed book f =
-    let l : Link = h.links.below substation in
+    let l : LawLink = h.links.below substation in
     let next : System = with_controls controls (changed_below substation was is middle gone old) in
     let s' : LinkState ⊤ = seen_below old.now (link_in middle.links substation) is lists in
-    let link : Link = f.link in
-    let t : Turn old.indices substation h.links (kept_in old) (kept_in next) =
+    let link : LawLink = f.link in
+    let t : OneEvent old.indices substation h.links (kept_in old) (kept_in next) =
     turn_below old h.links substation was is middle controls gone came asked link h.behind there book
     (grows_by came [] gone.confirmed (gone.overwritten ++ gone.emptied) asked was.outputs.performed l s'
     (listed.taken ∙ sym (append-nil (rows_of l.took))) listed.released listed.left f)
@@ -332,7 +332,7 @@ pub below_keeps : Grounds → (old new : System) {el : Elsewhere} (h : IsStandin
     (seen_below old.now (link_in middle.links substation) is lists)
     → new ≡ changed_below substation was is middle gone old → Keeps el substation (rows_made_by was.core.points (e ∷ [])) old new
 below_keeps grounds old new {el = el} h substation was is middle gone lists e there keeps shown listed happens after =
-    let l : Link = h.links.below substation in
+    let l : LawLink = h.links.below substation in
     let came : List Row = rows_made_by was.core.points (e ∷ []) in
     let r : Relaying = link_in old.concentrator.links substation in
     let before : IsJoinedBelow old.now r l was = some_of (IsJoinedBelow old.now r l) (slice_get old.substations substation) was there (h.below substation) in

@@ -6,7 +6,7 @@ use Rattle.dnp_objects.specs.declared.command.Command.{Command}
 use Rattle.dnp_objects.specs.declared.lane.LaneRow.{LaneRow}
 use Rattle.dnp_objects.specs.declared.row.Kind.{Kind}
 use Rattle.dnp_objects.specs.declared.row.Row.{Row}
-use Rattle.dnp_eventbuf.specs.Stock.{arriving}
+use Rattle.dnp_eventbuf.specs.EventBuffer.{arriving}
 use Rattle.dnp_outstation.specs.Calls.{tick_of, change_of}
 use Rattle.dnp_outstation.specs.Links.{ReleasesNone}
 use Rattle.dnp_outstation.specs.State.{State, Step}
@@ -19,7 +19,7 @@ use Rattle.dnp_world.specs.declared.link_event.End.TheVariants as end
 use Rattle.dnp_world.specs.declared.link_event.LinkEvent.TheVariants as event
 use Rattle.dnp_world.specs.Behind.{Elsewhere, rows_of}
 use Rattle.dnp_world.specs.Joined.{rows_made_by}
-use Rattle.dnp_world.specs.Link.{Link}
+use Rattle.dnp_world.specs.LawLink.{LawLink}
 use Rattle.dnp_world.specs.OneLinkEvents.{LinkState, Changes, Steps}
 use Rattle.dnp_world.specs.Systems.{SubstationState, System, at_substation, station_of}
 use Rattle.dnp_world.specs.SystemEvents.{OutstationTicks, Reads, ReadsBy, SubstationSteps, with_substation}
@@ -52,7 +52,7 @@ ticks grounds laws old new substation h e =
     let was : SubstationState = e.was in
     let is : SubstationState = e.is in
     let step : Step = tick_of (station_of was) old.now in
-    let l : Link = h.links.below substation in
+    let l : LawLink = h.links.below substation in
     let with_operated : List (ℕ × Row) → List (ℕ × Command) → System = λ overwritten operated. record (with_substation old substation is) {
       history = record old.history { overwritten = overwritten; operated = operated };
     } in
@@ -77,7 +77,7 @@ reads_by : Grounds → StepLaws → (old new : System) {el : Elsewhere} (h : IsS
 reads_by grounds laws old new h substation kind index reading was (Ok made) answer there (room, e) =
     let step : Step = change_of (station_of was) old.now kind index reading made in
     let is : SubstationState = e.is in
-    let l : Link = h.links.below substation in
+    let l : LawLink = h.links.below substation in
     let dropped : List Row = step.does.overwritten in
     let s : LinkState ⊤ = seen_at old substation was (lists_of l) in
     let steps : SubstationSteps step was.channel was is =

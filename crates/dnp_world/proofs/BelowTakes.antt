@@ -15,9 +15,9 @@ use Rattle.dnp_concentrator.specs.declared.plan.SubPlan.{SubPlan}
 use Rattle.dnp_concentrator.specs.declared.span.Spans.{Spans}
 use Rattle.dnp_controls.specs.Latches.{PlainState}
 use Rattle.dnp_eventbuf.specs.Buffered.{Buffered, buffered_row}
-use Rattle.dnp_eventbuf.specs.Carried.{IsCarried}
-use Rattle.dnp_eventbuf.specs.Sound.{IsSound}
-use Rattle.dnp_eventbuf.specs.Stock.{Stock, arriving, dropped_by, exhausts, lost_in, rows_in, with_rows}
+use Rattle.dnp_eventbuf.specs.FitsLane.{FitsLane}
+use Rattle.dnp_eventbuf.specs.Sound.{IsSoundBuffer}
+use Rattle.dnp_eventbuf.specs.EventBuffer.{EventBuffer, arriving, dropped_by, exhausts, lost_in, rows_in, with_rows}
 use Rattle.dnp_master.specs.Calls.{Taking, receive_of}
 use Rattle.dnp_master.specs.State as master
 use Rattle.dnp_objects.specs.Counts.{IsEqualityTest}
@@ -30,16 +30,16 @@ use Rattle.dnp_outstation.specs.State.{State}
 use Rattle.dnp_pointdb.specs.Database.{Database}
 use Rattle.dnp_pointdb.specs.Sound as points
 use Rattle.dnp_world.specs.declared.link_event.LinkEvent.{LinkEvent}
-use Rattle.dnp_world.specs.Behind.{Elsewhere, does_nothing, rows_of, with_links, Grows, Turn}
+use Rattle.dnp_world.specs.Behind.{Elsewhere, does_nothing, rows_of, with_links, Grows, OneEvent}
 use Rattle.dnp_world.specs.Happened.{HappenedAsEvents}
 use Rattle.dnp_world.specs.Joined.{Follows, rows_made_by, with_others_rows}
 use Rattle.dnp_world.specs.Kept.{kept_in, lane_rows_of, orders_in, report_of, rows_below, used_commands, used_orders}
-use Rattle.dnp_world.specs.Link.{Link}
+use Rattle.dnp_world.specs.LawLink.{LawLink}
 use Rattle.dnp_world.specs.Moves.{Moves}
 use Rattle.dnp_world.specs.OneLinkEvents.{LinkState, HappensOn}
 use Rattle.dnp_world.specs.OutstationSeen.{ShowOctets, Shows, Simulates}
 use Rattle.dnp_world.specs.Reports.{happened}
-use Rattle.dnp_world.specs.Standing.{Stands}
+use Rattle.dnp_world.specs.Standing.{CarriesLaw}
 use Rattle.dnp_world.specs.Stations.{of_substation, HasSameCounts}
 use Rattle.dnp_world.specs.SystemEvents.{HasNumbers, concentrator_taken, dropped_for}
 use Rattle.dnp_world.specs.Systems.{ConcentratorState, SubstationState, System, middle_of, panel_of}
@@ -60,13 +60,13 @@ use Rattle.dnp_world.proofs.Turning.{by_substation}
 
 -- what the laws of a link, of lanes, of points and of the index map promise
 pub record ArrivalLaws : Type 0 where
-  pub goes_on : (old new : Link) → Moves old new → Stands old → Stands new
+  pub goes_on : (old new : LawLink) → Moves old new → CarriesLaw old → CarriesLaw new
   pub stood : (s : System) {el : Elsewhere} (h : IsStanding el s) (substation : ℕ)
       → HasSameCounts (rows_of (h.links.below substation).stood) (of_substation substation (happened (report_of s)))
   pub rows : IsEqualityTest row_eq
-  pub appends : (s : State) (rows : List LaneRow) (l : Link) → All IsCarried rows → exhausts s.lanes rows ≡ false
+  pub appends : (s : State) (rows : List LaneRow) (l : LawLink) → All FitsLane rows → exhausts s.lanes rows ≡ false
       → Shows s l → Simulates s (arriving rows) (append_of s rows) l
-  pub lost : (s : Stock) (rows : List LaneRow) → IsSound s → lost_in (with_rows s rows) ≡ lost_in s + length (dropped_by s rows)
+  pub lost : (s : EventBuffer) (rows : List LaneRow) → IsSoundBuffer s → lost_in (with_rows s rows) ≡ lost_in s + length (dropped_by s rows)
   pub queued : (plan : Plan) (substation : ℕ) (planned : SubPlan) (m : master.State) (now : ℕ) (octets : List ℕ)
       → KeepsLimits plan → IsMap (map_of plan) → slice_get plan.substations substation ≡ Some planned
       → m.plan ≡ points_below planned
@@ -78,13 +78,13 @@ pub record ArrivalLaws : Type 0 where
 -- ---- what is taken happened
 
 -- where a row that the master took passes a test, one that happened at the substation does
-taken_happened : ArrivalLaws → (old : System) {el : Elsewhere} (h : IsStanding el old) (substation : ℕ) (link : Link) (taken : List Row)
+taken_happened : ArrivalLaws → (old : System) {el : Elsewhere} (h : IsStanding el old) (substation : ℕ) (link : LawLink) (taken : List Row)
     → Moves (h.links.below substation) link → HasSameCounts (rows_of link.stood) (rows_of (h.links.below substation).stood ++ [])
     → HasSameCounts (rows_of link.took) (rows_of (h.links.below substation).took ++ taken)
     → (test : Row → Bool) → 0 < count_by test taken → 0 < count_by test (of_substation substation (happened (report_of old)))
 taken_happened laws old h substation link taken moves stood took test some =
-    let l : Link = h.links.below substation in
-    let stands : Stands link = laws.goes_on l link moves (h.behind.below_stands substation) in
+    let l : LawLink = h.links.below substation in
+    let stands : CarriesLaw link = laws.goes_on l link moves (h.behind.below_stands substation) in
     let in_test : Buffered → Bool = λ x. test (buffered_row x) in
     let took_some : 0 < count_by in_test link.took =
     omega (arith, some, took.same test, count_by-append test (rows_of l.took) taken, count_by-map test buffered_row link.took) in
@@ -99,7 +99,7 @@ taken_happened laws old h substation link taken moves stood took test some =
     )
 
 -- so each can be written as an event
-events_taken : ArrivalLaws → (old : System) {el : Elsewhere} (h : IsStanding el old) (substation : ℕ) (link : Link) (taken : List Row) → HappenedAsEvents old
+events_taken : ArrivalLaws → (old : System) {el : Elsewhere} (h : IsStanding el old) (substation : ℕ) (link : LawLink) (taken : List Row) → HappenedAsEvents old
     → Moves (h.links.below substation) link
     → HasSameCounts (rows_of link.stood) (rows_of (h.links.below substation).stood ++ [])
     → HasSameCounts (rows_of link.took) (rows_of (h.links.below substation).took ++ taken) → All IsEvent taken
@@ -115,11 +115,11 @@ abbrev queued_on : System → RowLists → List LaneRow → LinkState ⊤
 queued_on s lists rows =
     record (with_others_rows rows (seen_above s lists)) { left = lists.left ++ dropped_by s.concentrator.queue rows }
 
-queued_follows : ArrivalLaws → (old : System) {el : Elsewhere} (h : IsStanding el old) (rows : List LaneRow) → All IsCarried rows
+queued_follows : ArrivalLaws → (old : System) {el : Elsewhere} (h : IsStanding el old) (rows : List LaneRow) → All FitsLane rows
     → exhausts old.concentrator.queue rows ≡ false
     → Follows [] (arriving rows) [] (middle_of old.concentrator).performed h.links.above (queued_on old (lists_of h.links.above) rows)
 queued_follows laws old h rows carried fits =
-    let l : Link = h.links.above in
+    let l : LawLink = h.links.above in
     let s : LinkState ⊤ = seen_above old (lists_of l) in
     let dropped : List Row = dropped_by old.concentrator.queue rows in
     let f : Follows ([] ++ dropped) (arriving rows) [] (middle_of old.concentrator).performed l (with_others_rows rows s) =
@@ -166,7 +166,8 @@ taken_with substation is t s = record s {
   history = record s.history { dropped = s.history.dropped ++ dropped_for s.concentrator substation t };
 }
 
-turn_taken : ArrivalLaws → (old : System) {el : Elsewhere} (h : IsStanding el old) (substation : ℕ) (was is : SubstationState) (t : Taking) (below above : Link)
+turn_taken : ArrivalLaws → (old : System) {el : Elsewhere} (h : IsStanding el old) (substation : ℕ) (was is : SubstationState) (t : Taking)
+    (below above : LawLink)
     → slice_get old.substations substation ≡ Some was
     → length (queued_for old substation t.events) ≡ length t.events
     → Grows (h.links.below substation) below (record does_nothing { taken = t.events })
@@ -174,7 +175,7 @@ turn_taken : ArrivalLaws → (old : System) {el : Elsewhere} (h : IsStanding el 
     (record does_nothing { made = arriving (queued_for old substation t.events); left = dropped_for old.concentrator substation t })
     → rows_of below.lanes ≡ rows_in is.lanes
     → rows_of above.lanes ≡ rows_in (with_rows old.concentrator.queue (queued_for old substation t.events))
-    → Turn old.indices substation h.links (kept_in old) (kept_in (taken_with substation is t old))
+    → OneEvent old.indices substation h.links (kept_in old) (kept_in (taken_with substation is t old))
 turn_taken laws old h substation was is t below above there all below_grows above_grows lanes queue =
     let new : System = taken_with substation is t old in
     let rows : List LaneRow = queued_for old substation t.events in
@@ -222,13 +223,13 @@ pub takes_keep : Grounds → ArrivalLaws → (old new : System) {el : Elsewhere}
     → t.state.plan ≡ (link_in old.concentrator.links substation).master.plan
     → rows_made_by was.core.points (e ∷ []) ≡ []
     → (let r : Relaying = link_in old.concentrator.links substation in
-    let l : Link = h.links.below substation in
+    let l : LawLink = h.links.below substation in
     HappensOn no_sink (panel_of was) (seen_below old.now r was (lists_of l)) e
     (seen_below old.now (relaying.received r t) is (record (lists_of l) { taken = rows_of l.took ++ t.events })))
     → new ≡ taken_with substation is t old → Keeps el substation [] old new
 unfolding turn_taken
 takes_keep grounds laws old new {el = el} h substation was is t e events low there same shown all room plan made happens after =
-    let l : Link = h.links.below substation in
+    let l : LawLink = h.links.below substation in
     let c : ConcentratorState = old.concentrator in
     let r : Relaying = link_in c.links substation in
     let next : System = taken_with substation is t old in
@@ -245,7 +246,7 @@ takes_keep grounds laws old new {el = el} h substation was is t e events low the
     (grows_by [] t.events [] [] [] was.outputs.performed l s' refl (sym (append-nil (rows_of l.released))) (sym (append-nil (rows_of l.left))) f) in
     let rows : List LaneRow = queued_for old substation t.events in
     let dropped : List Row = dropped_for c substation t in
-    let a : Link = h.links.above in
+    let a : LawLink = h.links.above in
     let performed : List Command = (middle_of c).performed in
     let s2 : LinkState ⊤ = queued_on old (lists_of a) rows in
     let g : Follows [] (arriving rows) [] performed a s2 =
@@ -255,12 +256,12 @@ takes_keep grounds laws old new {el = el} h substation was is t e events low the
     subst (λ (performs : List Command). Grows a g.link (record does_nothing { made = arriving rows; left = dropped; performed = performs }))
     (none_performed performed)
     (grows_by (arriving rows) [] [] dropped [] performed a s2 (sym (append-nil (rows_of a.took))) (sym (append-nil (rows_of a.released))) refl g) in
-    let turn : Turn old.indices substation h.links (kept_in old) (kept_in next) =
+    let turn : OneEvent old.indices substation h.links (kept_in old) (kept_in next) =
     turn_taken laws old h substation was is t f.link g.link there all below_grows above_grows (lane_rows s' f.link f.joined)
     (lane_rows s2 g.link g.joined) in
     let first : Database = readings_set c.indices substation c.core.points t.events in
     let last : Database = readings_set c.indices substation first t.statics in
-    let sound : points.IsSound last =
+    let sound : points.IsSoundDatabase last =
     readings_sound laws.set_sound c.indices substation first t.statics
     (readings_sound laws.set_sound c.indices substation c.core.points t.events h.above.outstation.well.points) in
     subst (λ (x : System). Keeps el substation [] old x) (sym after)

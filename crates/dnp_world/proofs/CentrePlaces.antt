@@ -12,7 +12,7 @@ use Rattle.dnp_concentrator.specs.declared.two.Two.{Two}
 use Rattle.dnp_controls.specs.Book.{Ledger}
 use Rattle.dnp_eventbuf.specs.Archive.{Archive}
 use Rattle.dnp_eventbuf.specs.Sides.{other_than}
-use Rattle.dnp_eventbuf.specs.Stock.{Stock}
+use Rattle.dnp_eventbuf.specs.EventBuffer.{EventBuffer}
 use Rattle.dnp_eventbuf.specs.declared.pair.TheConstants.{CENTRES}
 use Rattle.dnp_objects.specs.declared.command.Command.{Command}
 use Rattle.dnp_pointdb.specs.Plan as points
@@ -31,10 +31,10 @@ use Rattle.dnp_world.proofs.Seen.{sees_same}
 -- ---- what is seen there
 
 -- the concentrator as a centre sees it
-abbrev pub middle_view : {Q A : Type 0} → (Q → ℕ → Stock) → (A → Ledger) → ℕ → Concentrator Q A → ConcentratorState
-middle_view stock ledger n c = record {
+abbrev pub middle_view : {Q A : Type 0} → (Q → ℕ → EventBuffer) → (A → Ledger) → ℕ → Concentrator Q A → ConcentratorState
+middle_view buffer ledger n c = record {
   core = core_of n c;
-  queue = stock (queue_of c) n;
+  queue = buffer (queue_of c) n;
   indices = indices_of c;
   points = plan_above c;
   controls = ledger (book_of c);
@@ -45,31 +45,32 @@ middle_view stock ledger n c = record {
 abbrev pub centre_view : {J B : Type 0} → (J → Archive) → (B → Ledger) → ℕ → Whole → Centre J B → Channel → System
 centre_view archive orders n rest k lines = record (seen_by n rest) { centre = centre_of archive orders k; above = state_of lines }
 
-abbrev pub middle_seen : {Q A : Type 0} → (Q → ℕ → Stock) → (A → Ledger) → ℕ → Whole → Concentrator Q A → Channel → System
-middle_seen stock controls n rest c lines =
-    record (seen_by n rest) { concentrator = middle_view stock controls n c; above = state_of lines }
+abbrev pub middle_seen : {Q A : Type 0} → (Q → ℕ → EventBuffer) → (A → Ledger) → ℕ → Whole → Concentrator Q A → Channel → System
+middle_seen buffer controls n rest c lines =
+    record (seen_by n rest) { concentrator = middle_view buffer controls n c; above = state_of lines }
 
-abbrev pub both_seen : {Q J A B : Type 0} → (Q → ℕ → Stock) → (J → Archive) → (A → Ledger) → (B → Ledger) → ℕ → Whole → Concentrator Q A
+abbrev pub both_seen : {Q J A B : Type 0} → (Q → ℕ → EventBuffer) → (J → Archive) → (A → Ledger) → (B → Ledger) → ℕ → Whole → Concentrator Q A
     → Centre J B → Channel → System
-both_seen stock archive controls orders n rest c k lines =
-    record (seen_by n rest) { concentrator = middle_view stock controls n c; centre = centre_of archive orders k; above = state_of lines }
+both_seen buffer archive controls orders n rest c k lines =
+    record (seen_by n rest) { concentrator = middle_view buffer controls n c; centre = centre_of archive orders k; above = state_of lines }
 
 -- ---- what stands at the other centre
 
 -- What a call for one centre leaves of the concentrator, as another sees it: the book has these commands more.
-pub record StaysApart {Q A : Type 0} (stock : Q → ℕ → Stock) (ledger : A → Ledger) (n : ℕ) (commands : List Command) (c d : Concentrator Q A) : Type 0 where
-  pub core : core_of (other_than n) d ≡ core_of (other_than n) c
-  pub queue : stock (queue_of d) (other_than n) ≡ stock (queue_of c) (other_than n)
-  pub indices : indices_of d ≡ indices_of c
-  pub points : plan_above d ≡ plan_above c
-  pub controls : ledger (book_of d) ≡ all_added (indices_of c) (ledger (book_of c)) commands
-  pub links : links_of d ≡ links_of c
+pub record StaysApart {Q A : Type 0} (buffer : Q → ℕ → EventBuffer) (ledger : A → Ledger) (n : ℕ) (commands : List Command) (c d : Concentrator Q A) : Type 0
+  where
+    pub core : core_of (other_than n) d ≡ core_of (other_than n) c
+    pub queue : buffer (queue_of d) (other_than n) ≡ buffer (queue_of c) (other_than n)
+    pub indices : indices_of d ≡ indices_of c
+    pub points : plan_above d ≡ plan_above c
+    pub controls : ledger (book_of d) ≡ all_added (indices_of c) (ledger (book_of c)) commands
+    pub links : links_of d ≡ links_of c
 
 -- so that one sees it
-apart_seen : {Q A : Type 0} (stock : Q → ℕ → Stock) (ledger : A → Ledger) (n : ℕ) (commands : List Command) (c d : Concentrator Q A) (rest : System)
-    → StaysApart stock ledger n commands c d
-    → (let see = middle_view stock ledger (other_than n) in SeesElsewhere (record rest { concentrator = see c }) (record rest { concentrator = see d }))
-apart_seen stock ledger n commands c d rest stays = record {
+apart_seen : {Q A : Type 0} (buffer : Q → ℕ → EventBuffer) (ledger : A → Ledger) (n : ℕ) (commands : List Command) (c d : Concentrator Q A) (rest : System)
+    → StaysApart buffer ledger n commands c d
+    → (let see = middle_view buffer ledger (other_than n) in SeesElsewhere (record rest { concentrator = see c }) (record rest { concentrator = see d }))
+apart_seen buffer ledger n commands c d rest stays = record {
   commands = commands;
   issues = [];
   after = rw append-nil (cc (stays.core, stays.queue, stays.indices, stays.points, stays.controls, stays.links));
@@ -136,43 +137,44 @@ issued_there archive orders (suc zero) low Change rest centres was k issues ther
 issued_there archive orders (suc (suc n)) low Change rest centres was k issues there changed = absurd (omega (arith, low))
 
 -- the concentrator where it serves the centre, and the lines between them
-pub middle_there : {Q A : Type 0} (stock : Q → ℕ → Stock) (controls : A → Ledger) (n : ℕ) → n < CENTRES → (Change : System → System → Type 0) (rest : Whole)
-    (c d : Concentrator Q A) (commands : List Command) → StaysApart stock controls n commands c d → (above : Two Channel) (before lines : Channel)
-    → before ≡ at n above → Change (middle_seen stock controls n rest c before) (middle_seen stock controls n rest d lines)
-    → ChangesAll (Some n) Change (record rest { concentrator = concentrator_of stock controls c; above = of_both state_of above })
-    (record rest { concentrator = concentrator_of stock controls d; above = of_both state_of (with_at n above lines) })
-middle_there stock controls zero low Change rest c d commands stays above before lines there changed =
-    for_both _ (rw there at changed) (apart_seen stock controls 0 commands c d (record (seen_by 1 rest) { above = state_of above.second }) stays)
-middle_there stock controls (suc zero) low Change rest c d commands stays above before lines there changed =
-    for_both _ (apart_seen stock controls 1 commands c d (record (seen_by 0 rest) { above = state_of above.first }) stays) (rw there at changed)
-middle_there stock controls (suc (suc n)) low Change rest c d commands stays above before lines there changed = absurd (omega (arith, low))
+pub middle_there : {Q A : Type 0} (buffer : Q → ℕ → EventBuffer) (controls : A → Ledger) (n : ℕ) → n < CENTRES
+    → (Change : System → System → Type 0) (rest : Whole)
+    (c d : Concentrator Q A) (commands : List Command) → StaysApart buffer controls n commands c d → (above : Two Channel) (before lines : Channel)
+    → before ≡ at n above → Change (middle_seen buffer controls n rest c before) (middle_seen buffer controls n rest d lines)
+    → ChangesAll (Some n) Change (record rest { concentrator = concentrator_of buffer controls c; above = of_both state_of above })
+    (record rest { concentrator = concentrator_of buffer controls d; above = of_both state_of (with_at n above lines) })
+middle_there buffer controls zero low Change rest c d commands stays above before lines there changed =
+    for_both _ (rw there at changed) (apart_seen buffer controls 0 commands c d (record (seen_by 1 rest) { above = state_of above.second }) stays)
+middle_there buffer controls (suc zero) low Change rest c d commands stays above before lines there changed =
+    for_both _ (apart_seen buffer controls 1 commands c d (record (seen_by 0 rest) { above = state_of above.first }) stays) (rw there at changed)
+middle_there buffer controls (suc (suc n)) low Change rest c d commands stays above before lines there changed = absurd (omega (arith, low))
 
 -- all three
-pub link_there : {Q J A B : Type 0} (stock : Q → ℕ → Stock) (archive : J → Archive) (controls : A → Ledger) (orders : B → Ledger) (n : ℕ) → n < CENTRES
-    → (Change : System → System → Type 0) (rest : Whole) (c d : Concentrator Q A) (commands : List Command) → StaysApart stock controls n commands c d
+pub link_there : {Q J A B : Type 0} (buffer : Q → ℕ → EventBuffer) (archive : J → Archive) (controls : A → Ledger) (orders : B → Ledger) (n : ℕ) → n < CENTRES
+    → (Change : System → System → Type 0) (rest : Whole) (c d : Concentrator Q A) (commands : List Command) → StaysApart buffer controls n commands c d
     → (centres : Two (Centre J B)) (above : Two Channel) (was k : Centre J B) (before lines : Channel) → was ≡ at n centres → before ≡ at n above
-    → Change (both_seen stock archive controls orders n rest c was before) (both_seen stock archive controls orders n rest d k lines)
+    → Change (both_seen buffer archive controls orders n rest c was before) (both_seen buffer archive controls orders n rest d k lines)
     → ChangesAll (Some n) Change
     (record rest {
-      concentrator = concentrator_of stock controls c;
+      concentrator = concentrator_of buffer controls c;
       centres = of_both (centre_of archive orders) centres;
       above = of_both state_of above;
     })
     (record rest {
-      concentrator = concentrator_of stock controls d;
+      concentrator = concentrator_of buffer controls d;
       centres = of_both (centre_of archive orders) (with_at n centres k);
       above = of_both state_of (with_at n above lines);
     })
-link_there stock archive controls orders zero low Change rest c d commands stays centres above was k before lines there lines_there changed =
+link_there buffer archive controls orders zero low Change rest c d commands stays centres above was k before lines there lines_there changed =
     for_both _ (rw (there, lines_there) at changed)
-    (apart_seen stock controls 0 commands c d
+    (apart_seen buffer controls 0 commands c d
     (record (seen_by 1 rest) { centre = centre_of archive orders centres.second; above = state_of above.second }) stays)
-link_there stock archive controls orders (suc zero) low Change rest c d commands stays centres above was k before lines there lines_there changed =
+link_there buffer archive controls orders (suc zero) low Change rest c d commands stays centres above was k before lines there lines_there changed =
     for_both _
-    (apart_seen stock controls 1 commands c d
+    (apart_seen buffer controls 1 commands c d
     (record (seen_by 0 rest) { centre = centre_of archive orders centres.first; above = state_of above.first }) stays)
     (rw (there, lines_there) at changed)
-link_there stock archive controls orders (suc (suc n)) low Change rest c d commands stays centres above was k before lines there lines_there changed =
+link_there buffer archive controls orders (suc (suc n)) low Change rest c d commands stays centres above was k before lines there lines_there changed =
     absurd (omega (arith, low))
 
 -- nothing was written there

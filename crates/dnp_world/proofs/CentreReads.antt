@@ -10,7 +10,7 @@ use Rattle.dnp_concentrator.specs.declared.two.Two.{Two}
 use Rattle.dnp_controls.specs.Book.{Ledger}
 use Rattle.dnp_eventbuf.specs.Archive.{Archive}
 use Rattle.dnp_eventbuf.specs.Sides.{ForEach, beside_of, centre_in, other_than, pair_in}
-use Rattle.dnp_eventbuf.specs.Stock.{Stock}
+use Rattle.dnp_eventbuf.specs.EventBuffer.{EventBuffer}
 use Rattle.dnp_eventbuf.specs.declared.pair.TheConstants.{CENTRES}
 use Rattle.dnp_eventbuf.specs.declared.side.Side.{Side}
 use Rattle.dnp_world.specs.Causes.{TellsDevice}
@@ -168,24 +168,24 @@ module _ {Q J A B : Type 0} (queue_stopped : Q → Bool) (journal_stopped : J �
 -- ---- a side of the queue was read
 
 -- what stands in the queue for a centre
-pub stock_there : {Q : Type 0} (stock : Q → ℕ → Stock) (q : Q) (n : ℕ) → n < CENTRES
-    → at n (record { first = stock q 0; second = stock q 1 }) ≡ stock q n
-stock_there stock q zero low = refl
-stock_there stock q (suc zero) low = refl
-stock_there stock q (suc (suc n)) low = absurd (omega (arith, low))
+pub buffer_there : {Q : Type 0} (buffer : Q → ℕ → EventBuffer) (q : Q) (n : ℕ) → n < CENTRES
+    → at n (record { first = buffer q 0; second = buffer q 1 }) ≡ buffer q n
+buffer_there buffer q zero low = refl
+buffer_there buffer q (suc zero) low = refl
+buffer_there buffer q (suc (suc n)) low = absurd (omega (arith, low))
 
 -- the queue is what it was, by both its sides
-pub queue_read : {Q A : Type 0} (stock : Q → ℕ → Stock) (ledger : A → Ledger) (rest : Whole) (c : Concentrator Q A) (was is : Q)
-    → was ≡ concentrator.queue_of c → ForEach (λ n. stock is n ≡ stock was n)
-    → record rest { concentrator = concentrator_of stock ledger (concentrator.with_queue c is) }
-    ≡ record rest { concentrator = concentrator_of stock ledger c }
-queue_read stock ledger rest c was is its same = cc (same 0 (omega arith), same 1 (omega arith))
+pub queue_read : {Q A : Type 0} (buffer : Q → ℕ → EventBuffer) (ledger : A → Ledger) (rest : Whole) (c : Concentrator Q A) (was is : Q)
+    → was ≡ concentrator.queue_of c → ForEach (λ n. buffer is n ≡ buffer was n)
+    → record rest { concentrator = concentrator_of buffer ledger (concentrator.with_queue c is) }
+    ≡ record rest { concentrator = concentrator_of buffer ledger c }
+queue_read buffer ledger rest c was is its same = cc (same 0 (omega arith), same 1 (omega arith))
 
 -- what was read of it for a centre is that of the queue that the centre sees
-pub queue_there : {Q A : Type 0} (stock : Q → ℕ → Stock) (n : ℕ) → n < CENTRES → (c : Concentrator Q A) (was : Q) → was ≡ concentrator.queue_of c
-    → stock was n ≡ at n (record { first = stock (concentrator.queue_of c) 0; second = stock (concentrator.queue_of c) 1 })
-queue_there {Q} {A} stock n low c was its =
-    ap (λ (q : Q). stock q n) its ∙ sym (stock_there stock (concentrator.queue_of c) n low)
+pub queue_there : {Q A : Type 0} (buffer : Q → ℕ → EventBuffer) (n : ℕ) → n < CENTRES → (c : Concentrator Q A) (was : Q) → was ≡ concentrator.queue_of c
+    → buffer was n ≡ at n (record { first = buffer (concentrator.queue_of c) 0; second = buffer (concentrator.queue_of c) 1 })
+queue_there {Q} {A} buffer n low c was its =
+    ap (λ (q : Q). buffer q n) its ∙ sym (buffer_there buffer (concentrator.queue_of c) n low)
 
 -- a side's centre is one of the two
 pub centre_low : {Q : Type 0} (s : Side Q) → centre_in s < CENTRES
@@ -196,24 +196,24 @@ centre_low s = by s.is_second
     by false = omega arith
 
 -- by what a call of one side leaves: where it stands, what it holds, and what is beside it
-module _ {Q : Type 0} (stock : Q → ℕ → Stock) (n : ℕ) (q : Q) (old new : Side Q) (its : pair_in old ≡ q) (its_centre : centre_in old ≡ n)
+module _ {Q : Type 0} (buffer : Q → ℕ → EventBuffer) (n : ℕ) (q : Q) (old new : Side Q) (its : pair_in old ≡ q) (its_centre : centre_in old ≡ n)
     (stays : centre_in new ≡ centre_in old) where
-  pub own_side : stock (pair_in new) (centre_in new) ≡ stock (pair_in old) (centre_in old) → stock (pair_in new) n ≡ stock q n
+  pub own_side : buffer (pair_in new) (centre_in new) ≡ buffer (pair_in old) (centre_in old) → buffer (pair_in new) n ≡ buffer q n
   own_side same = cc
 
-  other_side : beside_of stock (centre_in new) (pair_in new) ≡ beside_of stock (centre_in old) (pair_in old)
-      → stock (pair_in new) (other_than n) ≡ stock q (other_than n)
+  other_side : beside_of buffer (centre_in new) (pair_in new) ≡ beside_of buffer (centre_in old) (pair_in old)
+      → buffer (pair_in new) (other_than n) ≡ buffer q (other_than n)
   other_side beside = cc
 
-  pub both_sides : n < CENTRES → stock (pair_in new) (centre_in new) ≡ stock (pair_in old) (centre_in old)
-      → beside_of stock (centre_in new) (pair_in new) ≡ beside_of stock (centre_in old) (pair_in old)
-      → ForEach (λ m. stock (pair_in new) m ≡ stock q m)
+  pub both_sides : n < CENTRES → buffer (pair_in new) (centre_in new) ≡ buffer (pair_in old) (centre_in old)
+      → beside_of buffer (centre_in new) (pair_in new) ≡ beside_of buffer (centre_in old) (pair_in old)
+      → ForEach (λ m. buffer (pair_in new) m ≡ buffer q m)
   both_sides low same beside = by n low (own_side same) (other_side beside)
     where
-      by : (n : ℕ) → n < CENTRES → stock (pair_in new) n ≡ stock q n → stock (pair_in new) (other_than n) ≡ stock q (other_than n)
-          → ForEach (λ m. stock (pair_in new) m ≡ stock q m)
-      by zero low own other = for_both (λ m. stock (pair_in new) m ≡ stock q m) own other
-      by (suc zero) low own other = for_both (λ m. stock (pair_in new) m ≡ stock q m) other own
+      by : (n : ℕ) → n < CENTRES → buffer (pair_in new) n ≡ buffer q n → buffer (pair_in new) (other_than n) ≡ buffer q (other_than n)
+          → ForEach (λ m. buffer (pair_in new) m ≡ buffer q m)
+      by zero low own other = for_both (λ m. buffer (pair_in new) m ≡ buffer q m) own other
+      by (suc zero) low own other = for_both (λ m. buffer (pair_in new) m ≡ buffer q m) other own
       by (suc (suc m)) low own other = absurd (omega (arith, low))
 
 -- the stores, where the queue alone was read

@@ -10,9 +10,9 @@ use Rattle.dnp_objects.specs.Counts.{IsCoveredBy}
 use Rattle.dnp_eventbuf.specs.Buffered.{Buffered}
 use Rattle.dnp_world.specs.Lists.{picked}
 use Rattle.dnp_world.specs.Octets.{after, commands_in, seq_in}
-use Rattle.dnp_world.specs.Link.{Asks, Confirms, ConfirmsReport, Continuing, Down, Fragment, Idle, Link, Master, Outstation, Phase, Received, Reports, Requested, Responding, Responds, Up, con_of, fin_of, report_down, report_up, seq_of, solicited_down, solicited_up}
+use Rattle.dnp_world.specs.LawLink.{Asks, Confirms, ConfirmsReport, Continuing, Down, SentFragment, Idle, LawLink, LawMaster, LawOutstation, Phase, Received, Reports, Requested, Responding, Responds, Up, con_of, fin_of, report_down, report_up, seq_of, solicited_down, solicited_up}
 use Rattle.dnp_world.specs.Moves.{appended, asking, confirm_of, dropped, lost_down, lost_up, nothing_sent, opened, report_taken, taken, with_master, with_outstation}
-use Rattle.dnp_world.specs.Standing.{Agrees, Commands, Conversation, IsOnItsWay, Solicited, Stands, Unsolicited, conversation, expected, inventory, reporting_of}
+use Rattle.dnp_world.specs.Standing.{Agrees, Commands, Conversation, IsOnItsWay, Solicited, CarriesLaw, Unsolicited, conversation, expected, inventory, reporting_of}
 use Rattle.dnp_world.proofs.Lists.{drop_end, end_none, picked_both, picked_end}
 use Rattle.dnp_world.proofs.Counting.{count_by-append, covered_more}
 use Rattle.dnp_world.proofs.Beginning.{reported_seq, sent_fin, sent_seq}
@@ -32,7 +32,7 @@ picked_one pick xs x y e = picked_both pick xs (x ∷ []) ∙ ap (λ (l : List _
 
 -- ---- the lanes
 
-pub appended_stands : (l : Link) (x : Buffered) → l.last_id < x.id → Stands l → Stands (appended x l)
+pub appended_stands : (l : LawLink) (x : Buffered) → l.last_id < x.id → CarriesLaw l → CarriesLaw (appended x l)
 appended_stands l x newer s =
     record {
       rows = EventMoves.rows_appended (inventory l) x newer s.rows;
@@ -42,7 +42,7 @@ appended_stands l x newer s =
       unsolicited = s.unsolicited;
     }
 
-pub dropped_stands : (l : Link) (stay gone : List Buffered) → IsPermutation l.lanes (stay ++ gone) → Stands l → Stands (dropped stay gone l)
+pub dropped_stands : (l : LawLink) (stay gone : List Buffered) → IsPermutation l.lanes (stay ++ gone) → CarriesLaw l → CarriesLaw (dropped stay gone l)
 dropped_stands l stay gone parts s =
     record {
       rows = EventMoves.rows_dropped (inventory l) stay gone parts s.rows;
@@ -59,7 +59,7 @@ pub not_asked : (is_open : Bool) (phase : Phase) (asked performed : List Command
     IsCoveredBy performed asked → Commands is_open phase asked performed
 not_asked is_open phase asked performed never h = record { covered = h; pending = λ o q e. absurd (never q e) }
 
-pub opened_stands : (l : Link) → Stands l → Stands (opened l)
+pub opened_stands : (l : LawLink) → CarriesLaw l → CarriesLaw (opened l)
 opened_stands l s =
     record {
       rows = EventMoves.rows_opened (inventory l) s.rows;
@@ -77,7 +77,7 @@ opened_stands l s =
       unsolicited = λ _. record { wait = tt; number = sym (ap (λ (n : ℕ). after n) reported_seq); order = tt; taken = tt; up = tt };
     }
 
-pub closed_master_stands : (l : Link) (m : Master) → m.is_open ≡ false → Stands l → Stands (with_master m l)
+pub closed_master_stands : (l : LawLink) (m : LawMaster) → m.is_open ≡ false → CarriesLaw l → CarriesLaw (with_master m l)
 closed_master_stands l m closed s =
     record {
       rows = s.rows;
@@ -87,7 +87,7 @@ closed_master_stands l m closed s =
       unsolicited = s.unsolicited;
     }
 
-pub closed_outstation_stands : (l : Link) (o : Outstation) → o.is_open ≡ false → Stands l → Stands (with_outstation o l)
+pub closed_outstation_stands : (l : LawLink) (o : LawOutstation) → o.is_open ≡ false → CarriesLaw l → CarriesLaw (with_outstation o l)
 closed_outstation_stands l o closed s =
     record {
       rows = s.rows;
@@ -97,7 +97,7 @@ closed_outstation_stands l o closed s =
       unsolicited = λ opens. absurd (cc);
     }
 
-pub lost_down_stands : (l : Link) (n : ℕ) → Stands l → Stands (lost_down n l)
+pub lost_down_stands : (l : LawLink) (n : ℕ) → CarriesLaw l → CarriesLaw (lost_down n l)
 lost_down_stands l n s =
     record {
       rows = s.rows;
@@ -109,7 +109,7 @@ lost_down_stands l n s =
           (s.unsolicited o);
     }
 
-pub lost_up_stands : (l : Link) (n : ℕ) → Stands l → Stands (lost_up n l)
+pub lost_up_stands : (l : LawLink) (n : ℕ) → CarriesLaw l → CarriesLaw (lost_up n l)
 lost_up_stands l n s =
     record {
       rows = EventMoves.rows_lost (inventory l) (drop n l.up) (drop_end n l.up) s.rows;
@@ -121,7 +121,7 @@ lost_up_stands l n s =
 
 -- ---- the master asks
 
-idle_rests : (phase : Phase) (c : Fragment) (m : Master) → m.is_busy ≡ false → Agrees phase c m → (phase ≡ Idle) × (m.seq ≡ after (seq_of c))
+idle_rests : (phase : Phase) (c : SentFragment) (m : LawMaster) → m.is_busy ≡ false → Agrees phase c m → (phase ≡ Idle) × (m.seq ≡ after (seq_of c))
 idle_rests Idle c m idle a = (refl, a.1)
 idle_rests (Requested q) c m idle a = let busy : m.is_busy ≡ true = a.0 in absurd (cc)
 idle_rests (Received q) c m idle a = let busy : m.is_busy ≡ true = a.0 in absurd (cc)
@@ -146,8 +146,8 @@ asked_commands is_open phase asked performed q h =
           };
     }
 
-pub asking_stands : (l : Link) (q : List ℕ) → l.master.is_open ≡ true → l.master.is_busy ≡ false → seq_in q ≡ l.master.seq → Stands l →
-    Stands (asking q l)
+pub asking_stands : (l : LawLink) (q : List ℕ) → l.master.is_open ≡ true → l.master.is_busy ≡ false → seq_in q ≡ l.master.seq → CarriesLaw l →
+    CarriesLaw (asking q l)
 asking_stands l q opens idle number s =
     record {
       rows = s.rows;
@@ -165,7 +165,7 @@ asking_stands l q opens idle number s =
 
 -- ---- the master takes
 
-taken_agrees : (fin busy : Bool) (c : Fragment) (m : Master) → m.is_busy ≡ not fin → m.seq ≡ after (seq_of c) →
+taken_agrees : (fin busy : Bool) (c : SentFragment) (m : LawMaster) → m.is_busy ≡ not fin → m.seq ≡ after (seq_of c) →
     Agrees (if fin then Idle else Continuing) c m
 taken_agrees true busy c m e number = (e, number)
 taken_agrees false busy c m e number = (e, number)
@@ -189,15 +189,15 @@ confirm_unsolicited_none : (con : Bool) (down : List Down) (s : ℕ) →
 confirm_unsolicited_none true down s = picked_none solicited_down down (ConfirmsReport s) refl
 confirm_unsolicited_none false down s = ap (picked solicited_down) (append-nil down)
 
-pub taken_stands : (l : Link) (f : Fragment) (rest : List Up) → l.up ≡ Responds f ∷ rest → l.master.is_open ≡ true → l.master.is_busy ≡ true →
-    seq_of f ≡ l.master.seq → Stands l → Stands (taken f l)
+pub taken_stands : (l : LawLink) (f : SentFragment) (rest : List Up) → l.up ≡ Responds f ∷ rest → l.master.is_open ≡ true → l.master.is_busy ≡ true →
+    seq_of f ≡ l.master.seq → CarriesLaw l → CarriesLaw (taken f l)
 taken_stands l f rest up_is opens busy number s =
     let v : Conversation = conversation l in
     let ups : v.up ≡ f ∷ picked solicited_up rest = ap (picked solicited_up) up_is in
     let is : l.outstation.is_open ≡ true → (l.phase ≡ Responding) × (f ≡ l.current) = λ o.
     Exchanges.owed l.phase l.trigger l.outstation.last l.current f (picked solicited_up rest) l.master (s.solicited o).cause
     (s.agrees o opens) busy number
-    (subst (λ (u : List Fragment). IsOnItsWay l.phase l.current u) ups (s.solicited o).up) in
+    (subst (λ (u : List SentFragment). IsOnItsWay l.phase l.current u) ups (s.solicited o).up) in
     record {
       rows = EventMoves.rows_taken (inventory l) (Responds f) rest up_is s.rows;
       commands = not_asked l.outstation.is_open (if (fin_of f) then Idle else Continuing) l.asked l.performed
@@ -206,7 +206,7 @@ taken_stands l f rest up_is opens busy number s =
           let came : (l.phase ≡ Responding) × (f ≡ l.current) = is o in
           subst (λ (d : List Down). Solicited (record v { phase = if (fin_of f) then Idle else Continuing; down = d; took = l.took ++ f.rows }))
           (sym (confirm_solicited (con_of f) l.down (seq_of f)))
-          (subst (λ (g : Fragment). Solicited
+          (subst (λ (g : SentFragment). Solicited
           (record v {
             phase = if (fin_of g) then Idle else Continuing;
             down = v.down ++ confirm_of g
@@ -214,16 +214,16 @@ taken_stands l f rest up_is opens busy number s =
             took = l.took ++ g.rows;
           })) (sym came.1)
           (Exchanges.takes v (picked solicited_up rest) (fin_of l.current) refl came.0
-          (subst (λ (g : Fragment). v.up ≡ g ∷ picked solicited_up rest) came.1 ups) (s.solicited o)));
+          (subst (λ (g : SentFragment). v.up ≡ g ∷ picked solicited_up rest) came.1 ups) (s.solicited o)));
       agrees = λ o _. taken_agrees (fin_of f) true l.current (taken f l).master refl
-          (ap (λ (n : ℕ). after n) (sym number ∙ ap (λ (g : Fragment). seq_of g) (is o).1));
+          (ap (λ (n : ℕ). after n) (sym number ∙ ap (λ (g : SentFragment). seq_of g) (is o).1));
       unsolicited = λ o.
           subst (λ (d : List ℕ). Unsolicited (record (reporting_of l) { down = d; took = l.took ++ f.rows }))
           (sym (confirm_solicited_none (con_of f) l.down (seq_of f)))
           (ReportMoves.takes_more (reporting_of l) f.rows (s.unsolicited o));
     }
 
-report_taken_unsolicited : (l : Link) (f : Fragment) (rest : List Fragment) (con : Bool) → picked report_up l.up ≡ f ∷ rest →
+report_taken_unsolicited : (l : LawLink) (f : SentFragment) (rest : List SentFragment) (con : Bool) → picked report_up l.up ≡ f ∷ rest →
     Unsolicited (reporting_of l) →
     Unsolicited (record (reporting_of l) {
       down = picked report_down
@@ -239,7 +239,7 @@ report_taken_unsolicited l f rest false up_is u =
     (sym (append-nil l.down))
     (ReportMoves.takes_more (reporting_of l) f.rows u)
 
-pub report_taken_stands : (l : Link) (f : Fragment) (rest : List Up) → l.up ≡ Reports f ∷ rest → Stands l → Stands (report_taken f l)
+pub report_taken_stands : (l : LawLink) (f : SentFragment) (rest : List Up) → l.up ≡ Reports f ∷ rest → CarriesLaw l → CarriesLaw (report_taken f l)
 report_taken_stands l f rest up_is s =
     record {
       rows = EventMoves.rows_taken (inventory l) (Reports f) rest up_is s.rows;

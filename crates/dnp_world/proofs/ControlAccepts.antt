@@ -21,7 +21,7 @@ use Rattle.dnp_objects.specs.Status.{success}
 use Rattle.dnp_objects.specs.declared.command.Command.{Command}
 use Rattle.dnp_world.specs.CommandWidths.{HasWidths}
 use Rattle.dnp_world.specs.ControlAnswers.{Awaits, WasAsked}
-use Rattle.dnp_world.specs.ControlExchanges.{AnswersAll, CanBegin, ChecksAs, Ends, GoesOver, HasSelected, HearsAll, OperateComesTo, Refused, SelectComesTo, Stands, next_step, status_at}
+use Rattle.dnp_world.specs.ControlExchanges.{AnswersAll, CanBegin, ChecksAs, ExchangeEnds, GoesOver, HasSelected, HearsAnswers, OperateComesTo, Refused, SelectComesTo, Stands, next_step, status_at}
 use Rattle.dnp_world.specs.Controls.{found_in, status_in}
 use Rattle.dnp_world.specs.Octets.{after}
 use Rattle.dnp_world.specs.SystemEvents.{IsRefused, requests_of}
@@ -57,7 +57,7 @@ status_told book id e status found =
 -- ---- the SELECT
 
 -- the step after a SELECT that was answered with another status
-told_next : (target : ℕ) (entry : Entry) (ends : Ends) (r : Relaying) (status : ℕ) → ends.link ≡ heard_status r (task.Select entry.command) status
+told_next : (target : ℕ) (entry : Entry) (ends : ExchangeEnds) (r : Relaying) (status : ℕ) → ends.link ≡ heard_status r (task.Select entry.command) status
     → r.progress ≡ Some (record { id = entry.id; command = entry.command; stage = stage.Selecting }) → r.master.is_open ≡ true
     → (status == success) ≡ false → next_step target ends ≡ Finishes entry.id status
 told_next target entry ends r status link_is progress opens other =
@@ -67,7 +67,7 @@ told_next target entry ends r status link_is progress opens other =
 not_select : (seq number : ℕ) (command : Command) → request_as seq function.Operate command ≢ request_octets (request_for number (task.Select command))
 not_select seq number command e = let codes : 4 ≡ 3 = ap (λ (xs : List ℕ). slice_index xs 1) e in omega (arith, codes)
 
-stands : (entry : Entry) (ends : Ends) (r : Relaying) (seq status : ℕ) → ends.link ≡ heard_status r (task.Select entry.command) status
+stands : (entry : Entry) (ends : ExchangeEnds) (r : Relaying) (seq status : ℕ) → ends.link ≡ heard_status r (task.Select entry.command) status
     → r.progress ≡ Some (record { id = entry.id; command = entry.command; stage = stage.Selecting }) → r.master.is_open ≡ true
     → (status == success) ≡ true → found_in ends.book.entries entry.id ≡ Some entry → HasWidths entry.command
     → WasAsked (request_octets (request_for seq (task.Select entry.command))) ends.station.core → AreConfirms ends.going → HasSelected entry ends
@@ -91,11 +91,11 @@ stands entry ends r seq status link_is progress opens good found widths asked co
       confirms = confirms;
     }
 
-pub record Began (target check : ℕ) (entry : Entry) (commands : List Command) (ends : Ends) : Type 0 where
+pub record Began (target check : ℕ) (entry : Entry) (commands : List Command) (ends : ExchangeEnds) : Type 0 where
   pub none : commands ≡ []
   pub comes : SelectComesTo target check entry ends
 
-pub select_goes : ControlLaws → (target now check : ℕ) (entry : Entry) (old selected : Ends) (commands : List Command) → check < 128
+pub select_goes : ControlLaws → (target now check : ℕ) (entry : Entry) (old selected : ExchangeEnds) (commands : List Command) → check < 128
     → CanBegin target entry old → GoesOver target now (ChecksAs entry.command check) commands old selected → Began target check entry commands selected
 select_goes laws target now check entry old selected commands low can g =
     let c : Command = entry.command in
@@ -112,9 +112,9 @@ select_goes laws target now check entry old selected commands low can g =
     let sel : Selected c seq check selected.station g.sent commands =
     select_comes laws now seq check c old.station selected.station g.sent commands can.number can.widths low can.is_open can.reports can.other
     (subst (λ (xs : List (List ℕ)). AnswersAll now (ChecksAs c check) xs old.station selected.station g.sent commands) fragments_are g.answered) in
-    let heard : HearsAll now (sel.sends.before ++ sel.sends.response ∷ sel.sends.behind) link selected.link selected.going =
-    subst (λ (xs : List (List ℕ)). HearsAll now xs link selected.link selected.going) sel.sends.is
-    (subst (λ (r : Relaying). HearsAll now g.sent r selected.link selected.going) link_is g.heard) in
+    let heard : HearsAnswers now (sel.sends.before ++ sel.sends.response ∷ sel.sends.behind) link selected.link selected.going =
+    subst (λ (xs : List (List ℕ)). HearsAnswers now xs link selected.link selected.going) sel.sends.is
+    (subst (λ (r : Relaying). HearsAnswers now g.sent r selected.link selected.going) link_is g.heard) in
     let unmoved : Unmoved (heard_status link (task.Select c) check) selected.link selected.going =
     hears_answer laws now check (task.Select c) c sel.sends.before sel.sends.response sel.sends.behind link selected.link selected.going refl can.widths
     (awaits_it old.link.master now (task.Select c) can.idle can.number) sel.sends.before_are sel.sends.behind_are sel.sends.repeats heard in
@@ -139,16 +139,17 @@ select_goes laws target now check entry old selected commands low can g =
 -- ---- the OPERATE
 
 -- the step of a master at which the control stands selected
-pub second_step : SameLaw → (target : ℕ) (entry : Entry) (ends : Ends) → HasSelected entry ends → next_step target ends ≡ Operates entry.id entry.command
+pub second_step : SameLaw → (target : ℕ) (entry : Entry) (ends : ExchangeEnds) → HasSelected entry ends
+    → next_step target ends ≡ Operates entry.id entry.command
 second_step same target entry ends has = rw (has.idle, has.progress) (rw has.selected (rw (same entry.command) refl))
 
-finishing : (target : ℕ) (entry : Entry) (ends : Ends) (r : Relaying) (status : ℕ) → ends.link ≡ heard_status r (task.Operate entry.command) status
+finishing : (target : ℕ) (entry : Entry) (ends : ExchangeEnds) (r : Relaying) (status : ℕ) → ends.link ≡ heard_status r (task.Operate entry.command) status
     → r.progress ≡ Some (record { id = entry.id; command = entry.command; stage = stage.Operating }) → r.master.is_open ≡ true
     → next_step target ends ≡ Finishes entry.id status
 finishing target entry ends r status link_is progress opens =
     ap (λ (x : Relaying). step_of x ends.book.entries target) link_is ∙ rw (opens, progress) refl
 
-pub operate_goes : ControlLaws → (target now check : ℕ) (entry : Entry) (selected operated : Ends) (commands : List Command) → check < 128
+pub operate_goes : ControlLaws → (target now check : ℕ) (entry : Entry) (selected operated : ExchangeEnds) (commands : List Command) → check < 128
     → HasSelected entry selected → GoesOver target now (ChecksAs entry.command check) commands selected operated
     → OperateComesTo target check entry commands operated
 operate_goes laws target now check entry selected operated commands low has g =
@@ -167,9 +168,9 @@ operate_goes laws target now check entry selected operated commands low has g =
     let op : Operated c seq check operated.station g.sent commands =
     operate_comes laws now seq check c selected.going selected.station operated.station g.sent commands has.number has.widths low has.confirms has.new
     (subst (λ (xs : List (List ℕ)). AnswersAll now (ChecksAs c check) xs selected.station operated.station g.sent commands) fragments_are g.answered) in
-    let heard : HearsAll now (op.sends.before ++ op.sends.response ∷ op.sends.behind) link operated.link operated.going =
-    subst (λ (xs : List (List ℕ)). HearsAll now xs link operated.link operated.going) op.sends.is
-    (subst (λ (r : Relaying). HearsAll now g.sent r operated.link operated.going) link_is g.heard) in
+    let heard : HearsAnswers now (op.sends.before ++ op.sends.response ∷ op.sends.behind) link operated.link operated.going =
+    subst (λ (xs : List (List ℕ)). HearsAnswers now xs link operated.link operated.going) op.sends.is
+    (subst (λ (r : Relaying). HearsAnswers now g.sent r operated.link operated.going) link_is g.heard) in
     let unmoved : Unmoved (heard_status link (task.Operate c) op.status) operated.link operated.going =
     hears_answer laws now op.status (task.Operate c) c op.sends.before op.sends.response op.sends.behind link operated.link operated.going refl has.widths
     (awaits_it selected.link.master now (task.Operate c) has.idle has.number) op.sends.before_are op.sends.behind_are op.sends.repeats heard in
@@ -209,11 +210,11 @@ free_leaves book r target none = by (is_idle r.master)
     by true = rw none (of_entry (next_of book.entries target))
     by false = record { same = refl; taken = λ refused. refused }
 
-pub record Finishing (target : ℕ) (commands : List Command) (ends : Ends) : Type 0 where
+pub record Finishing (target : ℕ) (commands : List Command) (ends : ExchangeEnds) : Type 0 where
   pub none : commands ≡ []
   pub leaves : LeavesBook ends.book (next_step target ends)
 
-pub finish_goes : ControlLaws → (target now check : ℕ) (entry : Entry) (operates commands : List Command) (operated new : Ends)
+pub finish_goes : ControlLaws → (target now check : ℕ) (entry : Entry) (operates commands : List Command) (operated new : ExchangeEnds)
     → OperateComesTo target check entry operates operated → GoesOver target now (ChecksAs entry.command check) commands operated new
     → Finishing target commands new
 finish_goes laws target now check entry operates commands operated new op g =
@@ -230,5 +231,5 @@ finish_goes laws target now check entry operates commands operated new op g =
     let link_is : relaying_after operated.link now (next_step target operated) ≡ link = ap (relaying_after operated.link now) op.next in
     let unmoved : Unmoved link new.link new.going =
     hears_reports now g.sent link new.link new.going quiet.reports
-    (subst (λ (r : Relaying). HearsAll now g.sent r new.link new.going) link_is g.heard) in
+    (subst (λ (r : Relaying). HearsAnswers now g.sent r new.link new.going) link_is g.heard) in
     record { none = quiet.none; leaves = free_leaves new.book new.link target (ap (λ (r : Relaying). r.progress) unmoved.same) }

@@ -26,7 +26,7 @@ use Rattle.dnp_outstation.specs.State.{Core, State, Step}
 use Rattle.dnp_outstation.specs.declared.session.LastRequest.{LastRequest}
 use Rattle.dnp_world.specs.CommandWidths.{HasWidths}
 use Rattle.dnp_world.specs.ControlAnswers.{Answers, AreReports, Awaits, ConfirmsReport, HearsStatus, IsNewTo, PassesReport, Repeats, WasAsked, operated_by}
-use Rattle.dnp_world.specs.ControlExchanges.{AnswersAll, ChecksAs, Hears, HearsAll}
+use Rattle.dnp_world.specs.ControlExchanges.{AnswersAll, ChecksAs, HearsAnswer, HearsAnswers}
 use Rattle.dnp_world.specs.Octets.{after, uns_in}
 use Rattle.dnp_world.proofs.CommandRequests.{ReadLaws}
 use Rattle.dnp_world.proofs.ControlAnswers.{ControlLaw, ResponseLaw, asking}
@@ -226,17 +226,17 @@ pub record Unmoved (r new : Relaying) (confirms : List (List ℕ)) : Type 0 wher
   pub are : AreConfirms confirms
 
 hears_one : (now : ℕ) (r new : Relaying) (fragment : List ℕ) (confirms : List (List ℕ)) → uns_in fragment ≡ true
-    → Hears (receive_of r.master now fragment) r new confirms → Unmoved r new confirms
+    → HearsAnswer (receive_of r.master now fragment) r new confirms → Unmoved r new confirms
 hears_one now r new fragment confirms uns h = by (receive_of r.master now fragment) refl h
   where
-    by : (x : Result Taking MasterFault) → receive_of r.master now fragment ≡ x → Hears x r new confirms → Unmoved r new confirms
+    by : (x : Result Taking MasterFault) → receive_of r.master now fragment ≡ x → HearsAnswer x r new confirms → Unmoved r new confirms
     by (Ok t) is (new_is, confirms_is) =
         let passes : PassesReport r.master t = report_heard r.master now fragment t uns is in
         record { same = new_is ∙ received_same r t passes; are = subst AreConfirms (sym confirms_is) (confirm_listed t.confirm passes.confirm) }
     by (Err fault) is (new_is, confirms_is) = record { same = new_is; are = subst AreConfirms (sym confirms_is) (All-nil ConfirmsReport) }
 
 pub hears_reports : (now : ℕ) (fragments : List (List ℕ)) (r new : Relaying) (confirms : List (List ℕ)) → AreReports fragments
-    → HearsAll now fragments r new confirms → Unmoved r new confirms
+    → HearsAnswers now fragments r new confirms → Unmoved r new confirms
 hears_reports now [] r new confirms reports (new_is, confirms_is) =
     record { same = new_is; are = subst AreConfirms (sym confirms_is) (All-nil ConfirmsReport) }
 hears_reports now (f ∷ fs) r new confirms reports (next, first, later, heard, confirms_is, rest) =
@@ -265,13 +265,13 @@ received_status r task status t h =
 
 pub hears_answer : ControlLaws → (now status : ℕ) (task : Task) (command : Command) (before : List (List ℕ)) (response : List ℕ) (behind : List (List ℕ))
     (r new : Relaying) (confirms : List (List ℕ)) → command_for task ≡ Some command → HasWidths command → Awaits task r.master → AreReports before
-    → AreReports behind → Repeats command r.master.seq status response → HearsAll now (before ++ response ∷ behind) r new confirms
+    → AreReports behind → Repeats command r.master.seq status response → HearsAnswers now (before ++ response ∷ behind) r new confirms
     → Unmoved (heard_status r task status) new confirms
 hears_answer laws now status task command [] response behind r new confirms is_for widths awaits before_are behind_are repeats
     (next, first, later, heard, confirms_is, rest) =
     let h : Heard task status now r.master response =
     answer_heard laws.reads laws.same task command status now r.master response is_for widths awaits repeats in
-    let took : Hears (Ok h.taking) r next first = subst (λ (x : Result Taking MasterFault). Hears x r next first) h.takes heard in
+    let took : HearsAnswer (Ok h.taking) r next first = subst (λ (x : Result Taking MasterFault). HearsAnswer x r next first) h.takes heard in
     let next_is : next ≡ heard_status r task status = took.0 ∙ received_status r task status h.taking h.hears in
     let first_is : first ≡ [] = took.1 ∙ ap (λ (o : Option (List ℕ)). option_to_list o) h.hears.confirm in
     let others : Unmoved next new later = hears_reports now behind next new later behind_are rest in
@@ -284,7 +284,7 @@ hears_answer laws now status task command (f ∷ fs) response behind r new confi
     let one : Unmoved r next first = hears_one now r next f first (All-head (λ (x : List ℕ). uns_in x ≡ true) f fs before_are) heard in
     let others : Unmoved (heard_status r task status) new later =
     hears_answer laws now status task command fs response behind r new later is_for widths awaits (All-tail (λ (x : List ℕ). uns_in x ≡ true) f fs before_are)
-    behind_are repeats (subst (λ (x : Relaying). HearsAll now (fs ++ response ∷ behind) x new later) one.same rest) in
+    behind_are repeats (subst (λ (x : Relaying). HearsAnswers now (fs ++ response ∷ behind) x new later) one.same rest) in
     record {
       same = others.same;
       are = subst AreConfirms (sym confirms_is) (All-append ConfirmsReport first later one.are others.are);

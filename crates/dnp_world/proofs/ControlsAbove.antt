@@ -9,12 +9,12 @@ use Rattle.dnp_controls.specs.Panel.{Panel}
 use Rattle.dnp_master.specs.Calls.{Taking, receive_of}
 use Rattle.dnp_master.specs.declared.fault.MasterFault.{MasterFault}
 use Rattle.dnp_objects.specs.declared.command.Command.{Command}
-use Rattle.dnp_eventbuf.specs.Stock.{Stock}
+use Rattle.dnp_eventbuf.specs.EventBuffer.{EventBuffer}
 use Rattle.dnp_outstation.specs.Calls.{connection_after, performed_in}
 use Rattle.dnp_outstation.specs.State.{Core}
 use Rattle.dnp_world.specs.Arriving.{Arrive, Arrives, HearsAt, UnderWay, confirms_of}
 use Rattle.dnp_world.specs.Channels.{ChannelState}
-use Rattle.dnp_world.specs.ControlExchanges.{AnswersAll, ChecksAs, Ends, Hears, HearsAll, next_step, status_at, told_to}
+use Rattle.dnp_world.specs.ControlExchanges.{AnswersAll, ChecksAs, ExchangeEnds, HearsAnswer, HearsAnswers, next_step, status_at, told_to}
 use Rattle.dnp_world.specs.Controls.{PassesBack}
 use Rattle.dnp_world.specs.SystemEvents.{LinesChange, MasterReceives, Refuses, RelaysOn, SendsDown, Steps, requests_of, told}
 use Rattle.dnp_world.specs.SystemRuns.{Happens}
@@ -64,7 +64,7 @@ added_more spans book [] more = refl
 added_more spans book (command ∷ first) more = added_more spans (added_for book (command_below spans command)) first more
 
 -- the concentrator's outstation has come into this state, and these commands are in its book
-abbrev moved : List Spans → List Command → Core → Stock → System → System
+abbrev moved : List Spans → List Command → Core → EventBuffer → System → System
 moved spans commands core queue s = record s {
   concentrator = record s.concentrator { core = core; queue = queue; controls = all_added spans s.concentrator.controls commands };
 }
@@ -150,11 +150,11 @@ abbrev beyond : System → Beyond
 beyond s = record { around = around s; orders = s.centre.orders; concentrator = s.concentrator }
 
 pub record UpAbove (fragments answers : List (List ℕ)) (old new : System) : Type 0 where
-  pub all : HearsAll old.now fragments old.centre.link new.centre.link answers
+  pub all : HearsAnswers old.now fragments old.centre.link new.centre.link answers
   pub keeps : beyond new ≡ beyond old
 
 abbrev OneUp : Result Taking MasterFault → System → System → Type 0
-OneUp r old new = Hears r old.centre.link new.centre.link (confirms_of r) × (beyond new ≡ beyond old)
+OneUp r old new = HearsAnswer r old.centre.link new.centre.link (confirms_of r) × (beyond new ≡ beyond old)
 
 up_from : (centre : ℕ) (r : Result Taking MasterFault) (old new : System) (lines : ChannelState)
     → MasterReceives (Above centre) r (with_above old lines) new → OneUp r old new
@@ -176,9 +176,9 @@ above_up centre (f ∷ fs) answers old new (first, more, next, arrives, rest, an
         next.centre.link,
         first,
         more,
-        subst (Hears r old.centre.link next.centre.link) (sym sends) one.0,
+        subst (HearsAnswer r old.centre.link next.centre.link) (sym sends) one.0,
         answers_is,
-        subst (λ (n : ℕ). HearsAll n fs next.centre.link new.centre.link more) (ap (λ (b : Beyond). b.around.now) one.1) h.all,
+        subst (λ (n : ℕ). HearsAnswers n fs next.centre.link new.centre.link more) (ap (λ (b : Beyond). b.around.now) one.1) h.all,
       );
       keeps = h.keeps ∙ one.1;
     }
@@ -186,10 +186,10 @@ above_up centre (f ∷ fs) answers old new (first, more, next, arrives, rest, an
 -- ---- a step of relaying, and what comes of it
 
 -- the ends of the link above
-abbrev pub ends_above : System → List (List ℕ) → Ends
+abbrev pub ends_above : System → List (List ℕ) → ExchangeEnds
 ends_above s going = record { link = s.centre.link; book = s.centre.orders; station = middle_of s.concentrator; going = going }
 
-pub record SeenAbove (centre : ℕ) (spans : List Spans) (reserved : Option Command) (s : System) (ends : Ends) : Type 0 where
+pub record SeenAbove (centre : ℕ) (spans : List Spans) (reserved : Option Command) (s : System) (ends : ExchangeEnds) : Type 0 where
   pub going : List (List ℕ)
   pub is : ends ≡ ends_above s going
   pub under : UnderWay (Above centre) going [] s
@@ -259,9 +259,9 @@ back_from laws centre spans reserved id command old new going under checked p ta
             same
             (subst (λ (c : ConcentratorState). AnswersAll p.relayed.now Outputs (going ++ requests) (middle_of p.relayed.concentrator) (middle_of c) answers
             d.commands) (sym middle_is) d.all));
-        heard = subst (λ (n : ℕ). HearsAll n answers (relaying_after old.centre.link old.now (next_step 0 (ends_above old going))) new.centre.link confirms)
+        heard = subst (λ (n : ℕ). HearsAnswers n answers (relaying_after old.centre.link old.now (next_step 0 (ends_above old going))) new.centre.link confirms)
             (ap (λ (s : System). s.now) d.after ∙ now_is)
-            (subst (λ (x : Relaying). HearsAll p.answered.now answers x new.centre.link confirms)
+            (subst (λ (x : Relaying). HearsAnswers p.answered.now answers x new.centre.link confirms)
             (ap (λ (s : System). s.centre.link) d.after ∙ ap (λ (s : System). s.centre.link) after) u.all);
         told = ap (λ (b : Beyond). b.orders) u.keeps ∙ ap (λ (s : System). s.centre.orders) d.after ∙ book_is;
       };

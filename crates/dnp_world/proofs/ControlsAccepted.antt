@@ -11,7 +11,7 @@ use Rattle.dnp_controls.specs.declared.book.State.TheVariants.{Pending, Spent, F
 use Rattle.dnp_objects.specs.Status.{success}
 use Rattle.dnp_objects.specs.declared.command.Command.{Command}
 use Rattle.dnp_world.specs.ControlAnswers.{operated_by}
-use Rattle.dnp_world.specs.ControlExchanges.{CanBegin, ChecksAs, Ends, GoesOver, HasSelected, OperateComesTo, Refused, SelectComesTo, Stands, next_step, status_at, told_to}
+use Rattle.dnp_world.specs.ControlExchanges.{CanBegin, ChecksAs, ExchangeEnds, GoesOver, HasSelected, OperateComesTo, Refused, SelectComesTo, Stands, next_step, status_at, told_to}
 use Rattle.dnp_world.specs.Controls.{IsAccepted, Passes, PassesBack, status_on}
 use Rattle.dnp_world.specs.SystemEvents.{IsMissing, IsRefused}
 use Rattle.dnp_world.specs.SystemRuns.{Happens}
@@ -24,7 +24,7 @@ use Rattle.dnp_world.proofs.ControlArrivals.{ControlLaws}
 use Rattle.dnp_world.proofs.StepBooks.{entry_put}
 
 -- the step is one that the book doesn't refuse
-abbrev pub IsTaken : ℕ → Ends → Type 0
+abbrev pub IsTaken : ℕ → ExchangeEnds → Type 0
 IsTaken target ends = IsRefused ends.book.entries (next_step target ends) → ⊥
 
 -- the book says nothing but SUCCESS of the control
@@ -33,9 +33,9 @@ SaysSuccess book id = (status : ℕ) → status_at book id ≡ Some status → s
 
 -- A step of relaying and what comes of it, over ends that a view of the system shows: these commands were performed, and what is kept
 -- by that is kept.
-pub record Back (View : System → Ends → Type 0) (Kept : List Command → System → System → Type 0) (target id check : ℕ) (command : Command)
-    (old new : System) (ends : Ends) : Type 0 where
-  pub after : Ends
+pub record Back (View : System → ExchangeEnds → Type 0) (Kept : List Command → System → System → Type 0) (target id check : ℕ) (command : Command)
+    (old new : System) (ends : ExchangeEnds) : Type 0 where
+  pub after : ExchangeEnds
   pub now : ℕ
   pub commands : List Command
   pub view : View new after
@@ -44,25 +44,25 @@ pub record Back (View : System → Ends → Type 0) (Kept : List Command → Sys
   pub told : SaysSuccess (told_to target ends) id
 
 -- a step of relaying alone
-pub record Told (Kept : List Command → System → System → Type 0) (target : ℕ) (book : System → Ledger) (old new : System) (ends : Ends) : Type 0 where
+pub record Told (Kept : List Command → System → System → Type 0) (target : ℕ) (book : System → Ledger) (old new : System) (ends : ExchangeEnds) : Type 0 where
   pub kept : Kept [] old new
   pub is : book new ≡ told_to target ends
 
 -- What there is of one link: what a system shows of its ends, what is kept where commands were performed, its book, and what comes of a
 -- step of relaying over it, where the outputs have this status for the command.
 pub record OverLink (on : Link) (target id check : ℕ) (command : Command) : Type 1 where
-  pub View : System → Ends → Type 0
+  pub View : System → ExchangeEnds → Type 0
   pub Kept : List Command → System → System → Type 0
   pub book : System → Ledger
   pub join : (first more : List Command) (a b c : System) → Kept first a b → Kept more b c → Kept (first ++ more) a c
-  pub back : (old new : System) (ends : Ends) → View old ends → PassesBack Happens itself on (Some id) old new → IsTaken target ends
+  pub back : (old new : System) (ends : ExchangeEnds) → View old ends → PassesBack Happens itself on (Some id) old new → IsTaken target ends
       → Back View Kept target id check command old new ends
-  pub step : (old new : System) (ends : Ends) → View old ends → Happens old (Relay on) new → IsTaken target ends → Told Kept target book old new ends
+  pub step : (old new : System) (ends : ExchangeEnds) → View old ends → Happens old (Relay on) new → IsTaken target ends → Told Kept target book old new ends
   pub says : (s : System) → status_on s on (Some id) ≡ status_at (book s) id
 
 -- ---- steps that are taken
 
-pub select_taken : (target : ℕ) (entry : Entry) (ends : Ends) → CanBegin target entry ends → IsTaken target ends
+pub select_taken : (target : ℕ) (entry : Entry) (ends : ExchangeEnds) → CanBegin target entry ends → IsTaken target ends
 select_taken target entry ends can refused = subst (IsRefused ends.book.entries) can.selects refused
 
 -- an entry in another state than those that the test passes
@@ -74,12 +74,13 @@ not_past entries id e test there fails (inr has) =
     let never : false ≡ true = sym fails ∙ passes in
     cc
 
-pub operate_taken : (target : ℕ) (entry : Entry) (ends : Ends) → next_step target ends ≡ Operates entry.id entry.command
+pub operate_taken : (target : ℕ) (entry : Entry) (ends : ExchangeEnds) → next_step target ends ≡ Operates entry.id entry.command
     → entry_of ends.book.entries entry.id ≡ Some entry → is_pending entry.state ≡ true → IsTaken target ends
 operate_taken target entry ends next there pending refused =
     not_past ends.book.entries entry.id entry (λ state. not (is_pending state)) there (ap not pending) (subst (IsRefused ends.book.entries) next refused)
 
-pub finish_taken : (target id status : ℕ) (e : Entry) (ends : Ends) → next_step target ends ≡ Finishes id status → entry_of ends.book.entries id ≡ Some e
+pub finish_taken : (target id status : ℕ) (e : Entry) (ends : ExchangeEnds) → next_step target ends ≡ Finishes id status
+    → entry_of ends.book.entries id ≡ Some e
     → is_finished e.state ≡ false → IsTaken target ends
 finish_taken target id status e ends next there unfinished refused =
     not_past ends.book.entries id e is_finished there unfinished (subst (IsRefused ends.book.entries) next refused)
@@ -92,7 +93,7 @@ pending_open (Finished status) e = absurd (cc)
 -- ---- where a control stands before its way
 
 -- its SELECT comes next, or its OPERATE, or the book is told a status other than SUCCESS
-pub data Starts (target : ℕ) (entry : Entry) (ends : Ends) : Type 0 where
+pub data Starts (target : ℕ) (entry : Entry) (ends : ExchangeEnds) : Type 0 where
   Begins : CanBegin target entry ends → Starts target entry ends
   IsSelected : HasSelected entry ends → Starts target entry ends
   Tells : (status : ℕ) → status ≢ success → next_step target ends ≡ Finishes entry.id status → status_at (told_to target ends) entry.id ≡ Some status
@@ -107,9 +108,9 @@ pub record Accepted (id check : ℕ) (command : Command) (Kept : List Command �
   pub says : status_at (book new) id ≡ Some success
 
 -- its OPERATE was answered, and what became of it can be told
-pub record Answered (View : System → Ends → Type 0) (Kept : List Command → System → System → Type 0) (target check : ℕ) (entry : Entry)
+pub record Answered (View : System → ExchangeEnds → Type 0) (Kept : List Command → System → System → Type 0) (target check : ℕ) (entry : Entry)
     (old new : System) : Type 0 where
-  pub after : Ends
+  pub after : ExchangeEnds
   pub commands : List Command
   pub view : View new after
   pub kept : Kept commands old new
@@ -117,9 +118,9 @@ pub record Answered (View : System → Ends → Type 0) (Kept : List Command →
   pub taken : IsTaken target after
 
 -- the book was told
-pub record Ended (View : System → Ends → Type 0) (Kept : List Command → System → System → Type 0) (target : ℕ) (book : Ledger) (commands : List Command)
+pub record Ended (View : System → ExchangeEnds → Type 0) (Kept : List Command → System → System → Type 0) (target : ℕ) (book : Ledger) (commands : List Command)
     (old new : System) : Type 0 where
-  pub after : Ends
+  pub after : ExchangeEnds
   pub view : View new after
   pub kept : Kept commands old new
   pub is : after.book ≡ book
@@ -130,7 +131,7 @@ module _ (laws : ControlLaws) (on : Link) (target check : ℕ) (entry : Entry) (
   AnsweredOver old new = Answered over.View over.Kept target check entry old new
 
   -- its OPERATE goes over the link
-  pub answered_over : (old new : System) (ends : Ends) → over.View old ends → HasSelected entry ends → entry_of ends.book.entries entry.id ≡ Some entry
+  pub answered_over : (old new : System) (ends : ExchangeEnds) → over.View old ends → HasSelected entry ends → entry_of ends.book.entries entry.id ≡ Some entry
       → is_pending entry.state ≡ true → PassesBack Happens itself on (Some entry.id) old new → AnsweredOver old new
   answered_over old new ends view has there pending operates =
       let step : next_step target ends ≡ Operates entry.id entry.command = second_step laws.same target entry ends has in
@@ -151,14 +152,14 @@ module _ (laws : ControlLaws) (on : Link) (target check : ℕ) (entry : Entry) (
       }
 
   -- the status that the book says once it was told
-  pub told_of : (new : System) (ends : Ends) (status : ℕ) → status_at (told_to target ends) entry.id ≡ Some status → over.book new ≡ told_to target ends
+  pub told_of : (new : System) (ends : ExchangeEnds) (status : ℕ) → status_at (told_to target ends) entry.id ≡ Some status → over.book new ≡ told_to target ends
       → status_at (over.book new) entry.id ≡ Some status
   told_of new ends status told is = ap (λ (b : Ledger). status_at b entry.id) is ∙ told
 
   -- ---- its SELECT comes first
 
   -- the OPERATE, and what became of it
-  operated_over : (old mid operated new : System) (ends : Ends) → check ≡ success → over.View mid ends → over.Kept [] old mid → HasSelected entry ends
+  operated_over : (old mid operated new : System) (ends : ExchangeEnds) → check ≡ success → over.View mid ends → over.Kept [] old mid → HasSelected entry ends
       → entry_of ends.book.entries entry.id ≡ Some entry → is_pending entry.state ≡ true → PassesBack Happens itself on (Some entry.id) mid operated
       → Passes Happens itself on (Some entry.id) operated new → Accepted entry.id check entry.command over.Kept over.book old new
   operated_over old mid operated new ends checks view before has there pending operates finishes =
@@ -202,7 +203,7 @@ module _ (laws : ControlLaws) (on : Link) (target check : ℕ) (entry : Entry) (
       → over.book new ≡ told_to target e.after → status_at (over.book new) entry.id ≡ Some a.comes.status
   ended_says old operated ended new a e is = ap (λ (b : Ledger). status_at b entry.id) (is ∙ e.leaves.same ∙ e.is) ∙ a.comes.told
 
-  begun_over : (old new : System) (ends : Ends) → over.View old ends → HasSelected entry ends
+  begun_over : (old new : System) (ends : ExchangeEnds) → over.View old ends → HasSelected entry ends
       → entry_of ends.book.entries entry.id ≡ Some entry → is_pending entry.state ≡ true → IsAccepted Happens itself on (Some entry.id) old new
       → Accepted entry.id check entry.command over.Kept over.book old new
   begun_over old new ends view has there pending accepted =
@@ -220,7 +221,7 @@ module _ (laws : ControlLaws) (on : Link) (target check : ℕ) (entry : Entry) (
         says = ended_says old accepted.selected accepted.operated new a e last.is ∙ ap (λ (n : ℕ). Some n) good;
       }
 
-  pub accepted_over : (old new : System) (ends : Ends) → over.View old ends → Starts target entry ends
+  pub accepted_over : (old new : System) (ends : ExchangeEnds) → over.View old ends → Starts target entry ends
       → entry_of ends.book.entries entry.id ≡ Some entry → is_pending entry.state ≡ true → IsAccepted Happens itself on (Some entry.id) old new
       → Accepted entry.id check entry.command over.Kept over.book old new
   accepted_over old new ends view (IsSelected has) there pending a = begun_over old new ends view has there pending a
@@ -236,7 +237,7 @@ module _ (laws : ControlLaws) (on : Link) (target check : ℕ) (entry : Entry) (
       let there' : entry_of first.after.book.entries entry.id ≡ Some entry = ap (λ (b : Ledger). entry_of b.entries entry.id) book ∙ there in
       by first.after first.view there' (subst (λ (xs : List Command). over.Kept xs old a.selected) began.none first.kept) began.comes
     where
-      by : (e : Ends) → over.View a.selected e → entry_of e.book.entries entry.id ≡ Some entry → over.Kept [] old a.selected
+      by : (e : ExchangeEnds) → over.View a.selected e → entry_of e.book.entries entry.id ≡ Some entry → over.Kept [] old a.selected
           → SelectComesTo target check entry e
           → Accepted entry.id check entry.command over.Kept over.book old new
       by e seen here kept (Stands good seq asked has) = operated_over old a.selected a.operated new e good seen kept has here pending a.operates a.finishes

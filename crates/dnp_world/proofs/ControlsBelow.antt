@@ -15,7 +15,7 @@ use Rattle.dnp_outstation.specs.Calls.{connection_after, performed_in}
 use Rattle.dnp_outstation.specs.State.{State, Step}
 use Rattle.dnp_world.specs.Arriving.{Arrive, HearsAt, SubstationTakes, answers_below, confirms_of}
 use Rattle.dnp_world.specs.Channels.{ChannelState}
-use Rattle.dnp_world.specs.ControlExchanges.{AnswersAll, ChecksAs, Hears, HearsAll}
+use Rattle.dnp_world.specs.ControlExchanges.{AnswersAll, ChecksAs, HearsAnswer, HearsAnswers}
 use Rattle.dnp_world.specs.SystemEvents.{LinesChange, MasterReceives, SubstationAnswers, with_substation}
 use Rattle.dnp_world.specs.Systems.{CentreState, SubstationState, System, at_substation, in_state, link_at, panel_of, station_of}
 use Rattle.dnp_world.specs.declared.event.Link.TheVariants.{Below}
@@ -197,7 +197,7 @@ pub record UpBelow (substation : ℕ) (was : SubstationState) (fragments answers
   pub there : slice_get new.substations substation ≡ Some is
   pub stays : station_of is ≡ station_of was
   pub many : HasAsMany was is
-  pub all : HearsAll old.now fragments (link_at old.concentrator substation) (link_at new.concentrator substation) answers
+  pub all : HearsAnswers old.now fragments (link_at old.concentrator substation) (link_at new.concentrator substation) answers
   pub kept : KeptBelow substation [] old new
   pub controls : new.concentrator.controls ≡ old.concentrator.controls
 
@@ -205,7 +205,7 @@ record OneUp (substation : ℕ) (r : Result Taking MasterFault) (was : Substatio
   is : SubstationState
   there : slice_get new.substations substation ≡ Some is
   is_as : is ≡ on_lines was is.channel
-  hears : Hears r (link_at old.concentrator substation) (link_at new.concentrator substation) (confirms_of r)
+  hears : HearsAnswer r (link_at old.concentrator substation) (link_at new.concentrator substation) (confirms_of r)
   kept : KeptBelow substation [] old new
   controls : new.concentrator.controls ≡ old.concentrator.controls
 
@@ -274,9 +274,9 @@ below_up substation was (f ∷ fs) answers old new there long (first, more, next
         link_at next.concentrator substation,
         first,
         more,
-        subst (Hears r (link_at old.concentrator substation) (link_at next.concentrator substation)) (sym sends) one.hears,
+        subst (HearsAnswer r (link_at old.concentrator substation) (link_at next.concentrator substation)) (sym sends) one.hears,
         answers_is,
-        subst (λ (n : ℕ). HearsAll n fs (link_at next.concentrator substation) (link_at new.concentrator substation) more)
+        subst (λ (n : ℕ). HearsAnswers n fs (link_at next.concentrator substation) (link_at new.concentrator substation) more)
             (ap (λ b. b.now) one.kept.beside_is) h.all,
       );
       kept = join_below substation [] [] old next new one.kept h.kept;

@@ -10,7 +10,7 @@ use Rattle.dnp_concentrator.specs.Reserving.{is_reserved}
 use Rattle.dnp_concentrator.specs.Mapped.{command_below}
 use Rattle.dnp_concentrator.specs.Relaying.{Relaying, step_of}
 use Rattle.dnp_concentrator.specs.declared.span.Spans.{Spans}
-use Rattle.dnp_controls.specs.Book.{Ledger, IsSound, added, is_pending, next_of}
+use Rattle.dnp_controls.specs.Book.{Ledger, IsSoundLedger, added, is_pending, next_of}
 use Rattle.dnp_controls.specs.Latches.{can_perform, plain_check}
 use Rattle.dnp_controls.specs.declared.book.Entry.{Entry}
 use Rattle.dnp_controls.specs.declared.book.State.TheVariants.{Pending}
@@ -128,7 +128,7 @@ added_next book substation command none =
 
 pub below_begins : (old s : System) {el : Elsewhere} (substation : ℕ) (was : SubstationState) (entry : Entry) → IsStanding el old
     → is_quiet_on old (Below substation) ≡ true → slice_get old.substations substation ≡ Some was → (link_at old.concentrator substation).progress ≡ None
-    → s.concentrator.links ≡ old.concentrator.links → next_of s.concentrator.controls.entries substation ≡ Some entry → IsSound s.concentrator.controls
+    → s.concentrator.links ≡ old.concentrator.links → next_of s.concentrator.controls.entries substation ≡ Some entry → IsSoundLedger s.concentrator.controls
     → HasWidths entry.command → CanBegin substation entry (ends_below substation s was [])
 below_begins old s substation was entry h quiet there free links next sound widths =
     let link : link_at s.concentrator substation ≡ link_at old.concentrator substation =

@@ -6,7 +6,7 @@ use Rattle.std.proofs.lemmas.Bool.{and_parts, ltb-true}
 use Rattle.std.proofs.lemmas.Option.{none-some, same_Some}
 use Rattle.dnp_concentrator.specs.BookOutputs.{added_for, relay_check}
 use Rattle.dnp_concentrator.specs.Mapped.{command_below}
-use Rattle.dnp_controls.specs.Book.{Ledger, IsSound, added, entry_of, is_pending, next_of}
+use Rattle.dnp_controls.specs.Book.{Ledger, IsSoundLedger, added, entry_of, is_pending, next_of}
 use Rattle.dnp_controls.specs.Latches.{plain_check}
 use Rattle.dnp_controls.specs.declared.book.Entry.{Entry}
 use Rattle.dnp_controls.specs.declared.book.State.TheVariants.{Pending}
@@ -169,9 +169,9 @@ module _ (laws : CleanLaws) (centre : ℕ) (old : System) {el : Elsewhere} (stan
       setpoints_are = refl;
     }
 
-    sound : IsSound above.concentrator.controls
+    sound : IsSoundLedger above.concentrator.controls
     sound =
-        subst (λ (b : Ledger). IsSound b) (sym controls) ((added_carries laws.sound old.concentrator.controls substation command).sound steps.controls)
+        subst (λ (b : Ledger). IsSoundLedger b) (sym controls) ((added_carries laws.sound old.concentrator.controls substation command).sound steps.controls)
 
     below_starts : Starts substation its (ends_below substation above was [])
     unfolding its

@@ -17,12 +17,12 @@ use Rattle.dnp_outstation.specs.declared.session.Reply.{Reply}
 use Rattle.dnp_outstation.specs.declared.session.Reply.TheVariants.{Held, Silent, First, Further}
 use Rattle.dnp_outstation.specs.declared.session.Session.{Session}
 use Rattle.dnp_world.specs.Joined.{Joined}
-use Rattle.dnp_world.specs.Link as link
-use Rattle.dnp_world.specs.Link.{Link, Outstation, Master, Phase, Idle, Requested, Received, Responding, Continuing, seq_of}
+use Rattle.dnp_world.specs.LawLink as link
+use Rattle.dnp_world.specs.LawLink.{LawLink, LawOutstation, LawMaster, Phase, Idle, Requested, Received, Responding, Continuing, seq_of}
 use Rattle.dnp_world.specs.Octets.{after, seq_in}
 use Rattle.dnp_world.specs.OneLinkEvents.{LinkState}
 use Rattle.dnp_world.specs.OutstationSeen.{last_seen, reply_seen}
-use Rattle.dnp_world.specs.Standing.{Agrees, IsReply, Stands}
+use Rattle.dnp_world.specs.Standing.{Agrees, IsReply, CarriesLaw}
 use Rattle.dnp_world.proofs.MasterAsks.{asked_seq, not_busy}
 
 -- octets that are the last request again
@@ -39,7 +39,7 @@ none_before : (session : Session) (octets : List ℕ) → session.last ≡ None 
 none_before session octets none = rw none refl
 
 -- an idle master agrees with the idle phase alone
-idle_phase : (p : Phase) (c : link.Fragment) (m : Master) → Agrees p c m → m.is_busy ≡ false → (p ≡ Idle) × (m.seq ≡ after (seq_of c))
+idle_phase : (p : Phase) (c : link.SentFragment) (m : LawMaster) → Agrees p c m → m.is_busy ≡ false → (p ≡ Idle) × (m.seq ≡ after (seq_of c))
 idle_phase Idle c m agrees idle = (refl, agrees.1)
 idle_phase (Requested q) c m agrees idle = absurd (let never : true ≡ false = sym agrees.0 ∙ idle in cc)
 idle_phase (Received q) c m agrees idle = absurd (let never : true ≡ false = sym agrees.0 ∙ idle in cc)
@@ -55,8 +55,8 @@ unfolding seq_in
 low_number octets = omega arith
 
 -- a request that isn't a READ
-other_request : {Sink : Type 0} (others : List Row) (s : LinkState Sink) (l : Link) (t : Task)
-    → (function_in (request_octets (request_for s.master.seq t)) ≡ 1 → ⊥) → Joined others s l → Stands l
+other_request : {Sink : Type 0} (others : List Row) (s : LinkState Sink) (l : LawLink) (t : Task)
+    → (function_in (request_octets (request_for s.master.seq t)) ≡ 1 → ⊥) → Joined others s l → CarriesLaw l
     → is_idle s.master ≡ true → s.outstation.core.is_open ≡ true
     → is_last_request s.outstation.core.session (request_octets (request_for s.master.seq t)) ≡ false
 other_request others s l t is_no_read j stands idle opens = by s.outstation.core.session.last refl
@@ -71,22 +71,22 @@ other_request others s l t is_no_read j stands idle opens = by s.outstation.core
     parts = and_parts s.master.is_open (is_none s.master.request) idle
 
     opens' : l.outstation.is_open ≡ true
-    opens' = sym (ap (λ (o : Outstation). o.is_open) j.outstation.outstation) ∙ opens
+    opens' = sym (ap (λ (o : LawOutstation). o.is_open) j.outstation.outstation) ∙ opens
 
     agrees : (l.phase ≡ Idle) × (l.master.seq ≡ after (seq_of l.current))
     agrees =
-        idle_phase l.phase l.current l.master (stands.agrees opens' (ap (λ (m : Master). m.is_open) j.master ∙ parts.0))
-        (ap (λ (m : Master). m.is_busy) j.master ∙ not_busy s.master.request parts.1)
+        idle_phase l.phase l.current l.master (stands.agrees opens' (ap (λ (m : LawMaster). m.is_open) j.master ∙ parts.0))
+        (ap (λ (m : LawMaster). m.is_busy) j.master ∙ not_busy s.master.request parts.1)
 
     number : s.master.seq ≡ after (seq_of l.current)
-    number = sym (ap (λ (m : Master). m.seq) j.master) ∙ agrees.1
+    number = sym (ap (λ (m : LawMaster). m.seq) j.master) ∙ agrees.1
 
     -- what was sent for the last request
     replied : (last : LastRequest) → session.last ≡ Some last
         → IsReply l.phase l.current session.request (is_some last.left) (reply_seen session.response last.reply)
     replied last there =
         subst (λ (o : Option link.LastRequest). IfSome o (λ a. IsReply l.phase l.current a.request a.more a.reply))
-        (sym (ap (λ (o : Outstation). o.last) j.outstation.outstation) ∙ ap (option_map (last_seen session)) there) (stands.solicited opens').reply
+        (sym (ap (λ (o : LawOutstation). o.last) j.outstation.outstation) ∙ ap (option_map (last_seen session)) there) (stands.solicited opens').reply
 
     -- it was a READ
     read : (last : LastRequest) → session.last ≡ Some last → last.reply ≡ Further → q ≡ session.request → ⊥
@@ -114,13 +114,13 @@ other_request others s l t is_no_read j stands idle opens = by s.outstation.core
         same_request session q last there
         (by_reply last there last.reply refl (replied last there))
 
-pub other_select : {Sink : Type 0} (others : List Row) (s : LinkState Sink) (l : Link) (command : Command) → Joined others s l → Stands l
+pub other_select : {Sink : Type 0} (others : List Row) (s : LinkState Sink) (l : LawLink) (command : Command) → Joined others s l → CarriesLaw l
     → is_idle s.master ≡ true → s.outstation.core.is_open ≡ true
     → is_last_request s.outstation.core.session (request_octets (request_for s.master.seq (task.Select command))) ≡ false
 other_select others s l command =
     other_request others s l (task.Select command) (λ same. let code : 3 ≡ 1 = same in omega (arith, code))
 
-pub other_operate : {Sink : Type 0} (others : List Row) (s : LinkState Sink) (l : Link) (command : Command) → Joined others s l → Stands l
+pub other_operate : {Sink : Type 0} (others : List Row) (s : LinkState Sink) (l : LawLink) (command : Command) → Joined others s l → CarriesLaw l
     → is_idle s.master ≡ true → s.outstation.core.is_open ≡ true
     → is_last_request s.outstation.core.session (request_octets (request_for s.master.seq (task.Operate command))) ≡ false
 other_operate others s l command =

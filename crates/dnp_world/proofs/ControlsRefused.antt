@@ -8,7 +8,7 @@ use Rattle.dnp_controls.specs.declared.book.Entry.{Entry}
 use Rattle.dnp_objects.specs.Status.{success}
 use Rattle.dnp_objects.specs.declared.command.Command.{Command}
 use Rattle.dnp_world.specs.ControlAnswers.{operated_by}
-use Rattle.dnp_world.specs.ControlExchanges.{Ends, HasSelected, Refused, SelectComesTo, Stands}
+use Rattle.dnp_world.specs.ControlExchanges.{ExchangeEnds, HasSelected, Refused, SelectComesTo, Stands}
 use Rattle.dnp_world.specs.Controls.{First, IsRefusedOn, IsTold, PassesBack, Second, Third}
 use Rattle.dnp_world.specs.SystemRuns.{Happens}
 use Rattle.dnp_world.specs.Systems.{System, itself}
@@ -38,7 +38,7 @@ module _ (laws : ControlLaws) (on : Link) (target check : ℕ) (entry : Entry) (
 
   -- ---- its SELECT was answered before
 
-  begun_rests : (old new : System) (ends : Ends) (status : ℕ) → over.View old ends → HasSelected entry ends
+  begun_rests : (old new : System) (ends : ExchangeEnds) (status : ℕ) → over.View old ends → HasSelected entry ends
       → entry_of ends.book.entries entry.id ≡ Some entry → is_pending entry.state ≡ true → IsRefusedOn Happens itself on (Some entry.id) status old new
       → over.Kept [] old new
   begun_rests old new ends status view has there pending (First told) =
@@ -56,7 +56,7 @@ module _ (laws : ControlLaws) (on : Link) (target check : ℕ) (entry : Entry) (
 
   -- ---- its SELECT is asked, or the book is told at once
 
-  told_rests : (old new : System) (ends : Ends) (status : ℕ) → over.View old ends → IsTaken target ends
+  told_rests : (old new : System) (ends : ExchangeEnds) (status : ℕ) → over.View old ends → IsTaken target ends
       → ((selected : System) → PassesBack Happens itself on (Some entry.id) old selected → ⊥) → IsRefusedOn Happens itself on (Some entry.id) status old new
       → over.Kept [] old new
   told_rests old new ends status view taken never (First told) = (over.step old new ends view told.relays taken).kept
@@ -64,7 +64,7 @@ module _ (laws : ControlLaws) (on : Link) (target check : ℕ) (entry : Entry) (
   told_rests old new ends status view taken never (Third selected operated selects operates told) = absurd (never selected selects)
 
   -- once it was selected, or the book can be told its status
-  selected_rests : (old selected new : System) (e : Ends) (status : ℕ) → over.View selected e → over.Kept [] old selected
+  selected_rests : (old selected new : System) (e : ExchangeEnds) (status : ℕ) → over.View selected e → over.Kept [] old selected
       → entry_of e.book.entries entry.id ≡ Some entry → is_pending entry.state ≡ true → SelectComesTo target check entry e
       → IsTold Happens itself on (Some entry.id) status selected new → over.Kept [] old new
   selected_rests old selected new e status seen kept here pending comes told =
@@ -74,7 +74,7 @@ module _ (laws : ControlLaws) (on : Link) (target check : ℕ) (entry : Entry) (
       taken (Stands good seq asked has) = operate_taken target entry e (second_step laws.same target entry e has) here pending
       taken (Refused other next says) = finish_taken target entry.id check entry e next here (pending_open entry.state pending)
 
-  operated_rests : (old selected operated new : System) (e : Ends) (status : ℕ) → over.View selected e → over.Kept [] old selected
+  operated_rests : (old selected operated new : System) (e : ExchangeEnds) (status : ℕ) → over.View selected e → over.Kept [] old selected
       → entry_of e.book.entries entry.id ≡ Some entry → is_pending entry.state ≡ true → PassesBack Happens itself on (Some entry.id) selected operated
       → IsTold Happens itself on (Some entry.id) status operated new → SelectComesTo target check entry e → over.Kept [] old new
   operated_rests old selected operated new e status seen kept here pending operates told (Stands good seq asked has) =
@@ -86,7 +86,7 @@ module _ (laws : ControlLaws) (on : Link) (target check : ℕ) (entry : Entry) (
       absurd (other (second.told check says))
 
   -- so nothing is performed
-  pub refused_over : (old new : System) (ends : Ends) (status : ℕ) → over.View old ends → Starts target entry ends
+  pub refused_over : (old new : System) (ends : ExchangeEnds) (status : ℕ) → over.View old ends → Starts target entry ends
       → entry_of ends.book.entries entry.id ≡ Some entry → is_pending entry.state ≡ true → IsRefusedOn Happens itself on (Some entry.id) status old new
       → over.Kept [] old new
   refused_over old new ends status view (IsSelected has) there pending refused = begun_rests old new ends status view has there pending refused
@@ -99,7 +99,7 @@ module _ (laws : ControlLaws) (on : Link) (target check : ℕ) (entry : Entry) (
       taken = select_taken target entry ends can
 
       Selected : System → Type 0
-      Selected selected = (e : Ends) × over.View selected e × over.Kept [] old selected × (entry_of e.book.entries entry.id ≡ Some entry)
+      Selected selected = (e : ExchangeEnds) × over.View selected e × over.Kept [] old selected × (entry_of e.book.entries entry.id ≡ Some entry)
           × SelectComesTo target check entry e
 
       comes : (selected : System) → PassesBack Happens itself on (Some entry.id) old selected → Selected selected

@@ -19,7 +19,7 @@ use Rattle.dnp_world.specs.Behind.{Elsewhere}
 use Rattle.dnp_world.specs.Channels.{are_quiet}
 use Rattle.dnp_world.specs.CommandWidths.{HasWidths}
 use Rattle.dnp_world.specs.ControlAnswers.{ConfirmsReport}
-use Rattle.dnp_world.specs.ControlExchanges.{CanBegin, Ends, HasSelected, next_step, status_at}
+use Rattle.dnp_world.specs.ControlExchanges.{CanBegin, ExchangeEnds, HasSelected, next_step, status_at}
 use Rattle.dnp_world.specs.Controls.{found_in, is_free_for}
 use Rattle.dnp_world.specs.ControlsInStep.{GoesWith, InStep, IsOfEntry, IsUnspent}
 use Rattle.dnp_world.specs.Rounds.{is_quiet_above}
@@ -41,7 +41,7 @@ chosen equal (Some x) command is = ap (λ (c : Command). Some c) ((equal.decides
 
 module _ (equal : IsEqualityTest command_eq) (s : System) {el : Elsewhere} (entry : Entry) (h : IsStanding el s) (steps : InStep s)
     (quiet : is_quiet_above s ≡ true) (next : next_of s.centre.orders.entries 0 ≡ Some entry) where
-  abbrev ends : Ends
+  abbrev ends : ExchangeEnds
   ends = ends_above s []
 
   idle : is_idle s.centre.link.master ≡ true

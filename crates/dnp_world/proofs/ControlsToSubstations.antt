@@ -10,7 +10,7 @@ use Rattle.dnp_controls.specs.Panel.{Panel}
 use Rattle.dnp_objects.specs.declared.command.Command.{Command}
 use Rattle.dnp_outstation.specs.State.{State}
 use Rattle.dnp_world.specs.Arriving.{UnderWay, channel_at}
-use Rattle.dnp_world.specs.ControlExchanges.{AnswersAll, ChecksAs, Ends, HearsAll, next_step, status_at, told_to}
+use Rattle.dnp_world.specs.ControlExchanges.{AnswersAll, ChecksAs, ExchangeEnds, HearsAnswers, next_step, status_at, told_to}
 use Rattle.dnp_world.specs.Controls.{Passes, PassesBack}
 use Rattle.dnp_world.specs.SystemEvents.{Refuses, RelaysOn, Steps, requests_of, told}
 use Rattle.dnp_world.specs.SystemRuns.{Happens, IfThere}
@@ -32,12 +32,12 @@ under_has substation down up s u = by (has_substation s substation) u.there
     by true there = refl
     by false there = absurd (none-some u.channel there)
 
-abbrev pub ends_below : ℕ → System → SubstationState → List (List ℕ) → Ends
+abbrev pub ends_below : ℕ → System → SubstationState → List (List ℕ) → ExchangeEnds
 ends_below substation s was going =
     record { link = link_at s.concentrator substation; book = s.concentrator.controls; station = station_of was; going = going }
 
 -- its outputs are so many
-pub record SeenBelow (substation outputs setpoints : ℕ) (s : System) (ends : Ends) : Type 0 where
+pub record SeenBelow (substation outputs setpoints : ℕ) (s : System) (ends : ExchangeEnds) : Type 0 where
   pub was : SubstationState
   pub there : slice_get s.substations substation ≡ Some was
   pub going : List (List ℕ)
@@ -88,7 +88,7 @@ relayed_below laws substation was old relayed going there long under (Steps pend
           (ap (λ (s : System). s.history.operated) sends.after);
     }
 
-told_below : (substation id : ℕ) (old relayed : System) (ends : Ends) → Passes Happens itself (Below substation) (Some id) old relayed
+told_below : (substation id : ℕ) (old relayed : System) (ends : ExchangeEnds) → Passes Happens itself (Below substation) (Some id) old relayed
     → relayed.concentrator.controls ≡ told_to substation ends → SaysSuccess (told_to substation ends) id
 told_below substation id old relayed ends p controls status says = p.passes status (ap (λ (b : Ledger). status_at b id) controls ∙ says)
 
@@ -140,9 +140,9 @@ back_from laws law substation id command outputs setpoints was old new going the
             (ap station_of r.is_as)
             (subst (λ (x : State). AnswersAll p.relayed.now (Kinds check) (going ++ requests) (station_of r.is) x answers d.commands) (sym u.stays)
             (subst (λ (n : ℕ). AnswersAll p.relayed.now (Kinds n) (going ++ requests) (station_of r.is) (station_of d.is) answers d.commands) check_is d.all)));
-        heard = subst (λ (n : ℕ). HearsAll n answers link (link_at new.concentrator substation) confirms)
+        heard = subst (λ (n : ℕ). HearsAnswers n answers link (link_at new.concentrator substation) confirms)
             (ap (λ b. b.now) d.kept.beside_is ∙ now_is)
-            (subst (λ (x : Relaying). HearsAll p.answered.now answers x (link_at new.concentrator substation) confirms)
+            (subst (λ (x : Relaying). HearsAnswers p.answered.now answers x (link_at new.concentrator substation) confirms)
             (ap (λ c. link_at c substation) d.concentrator ∙ r.link) u.all);
         told = u.controls ∙ ap (λ c. c.controls) d.concentrator ∙ r.controls;
       };

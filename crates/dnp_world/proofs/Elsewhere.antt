@@ -10,7 +10,7 @@ use Rattle.dnp_world.specs.BothSteady.{IssuesAs, RelaysAs, StaysBeside}
 use Rattle.dnp_world.specs.Centres.{SeesElsewhere}
 use Rattle.dnp_world.specs.Joined.{Joined}
 use Rattle.dnp_world.specs.Kept.{report_of}
-use Rattle.dnp_world.specs.Link.{Link}
+use Rattle.dnp_world.specs.LawLink.{LawLink}
 use Rattle.dnp_world.specs.OneLinkEvents.{LinkState}
 use Rattle.dnp_world.specs.OutstationSeen.{Shows}
 use Rattle.dnp_world.specs.Stations.{of_substation}
@@ -24,7 +24,7 @@ use Rattle.dnp_world.proofs.SystemMapping.{added_unused}
 use Rattle.dnp_world.proofs.SystemPlans.{still_of_plan}
 
 -- what others had performed is no matter of the link
-performed_set : (s : LinkState ⊤) (l : Link) (performed : List Command) → Joined [] s l
+performed_set : (s : LinkState ⊤) (l : LawLink) (performed : List Command) → Joined [] s l
     → Joined [] (record s { outstation = record s.outstation { performed = performed } }) l
 performed_set s l performed j =
     let shows : Shows s.outstation l = j.outstation in

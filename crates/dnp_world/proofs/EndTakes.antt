@@ -9,7 +9,7 @@ use Rattle.dnp_objects.specs.Lanes.{lane_number}
 use Rattle.dnp_controls.specs.Book.{Ledger}
 use Rattle.dnp_eventbuf.specs.Archive.{Archive, with_events}
 use Rattle.dnp_eventbuf.specs.Sides.{AreSame, BothHave, ForEach, either_exhausts}
-use Rattle.dnp_eventbuf.specs.Stock.{Stock, dropped_by, exhausts, dropped_from, LaneState, is_full, lane_at, with_row}
+use Rattle.dnp_eventbuf.specs.EventBuffer.{EventBuffer, dropped_by, exhausts, dropped_from, LaneState, is_full, lane_at, with_row}
 use Rattle.dnp_master.specs.declared.actions.MasterActions.{MasterActions}
 use Rattle.dnp_master.specs.declared.fault.MasterFault.{MasterFault}
 use Rattle.dnp_master.specs.Calls.{Taking, actions_of}
@@ -63,54 +63,54 @@ book_before : {B : Type 0} (honest : B → Type 0) (is_stopped : B → Bool) (ol
 book_before {B} honest is_stopped old new same well = subst (λ (b : B). honest b × (is_stopped b ≡ false)) same well
 
 -- a concentrator by its parts
-concentrator_by : {Q A : Type 0} (stock : Q → ℕ → Stock) (ledger : A → Ledger) (old new : Concentrator Q A) (cores : Two Core) (queues : Two Stock)
-    (links : List Relaying) → core_of 0 new ≡ cores.first → core_of 1 new ≡ cores.second → stock (queue_of new) 0 ≡ queues.first
-    → stock (queue_of new) 1 ≡ queues.second → outputs_of new ≡ outputs_of old → links_of new ≡ links
+concentrator_by : {Q A : Type 0} (buffer : Q → ℕ → EventBuffer) (ledger : A → Ledger) (old new : Concentrator Q A) (cores : Two Core) (queues : Two EventBuffer)
+    (links : List Relaying) → core_of 0 new ≡ cores.first → core_of 1 new ≡ cores.second → buffer (queue_of new) 0 ≡ queues.first
+    → buffer (queue_of new) 1 ≡ queues.second → outputs_of new ≡ outputs_of old → links_of new ≡ links
     → plan_above new ≡ plan_above old
-    → concentrator_of stock ledger new ≡ record (concentrator_of stock ledger old) { cores = cores; queues = queues; links = links }
-concentrator_by stock ledger old new cores queues links first_core second_core first_queue second_queue outputs links_is plan =
+    → concentrator_of buffer ledger new ≡ record (concentrator_of buffer ledger old) { cores = cores; queues = queues; links = links }
+concentrator_by buffer ledger old new cores queues links first_core second_core first_queue second_queue outputs links_is plan =
     rw (first_core, second_core, first_queue, second_queue) cc
 
 -- what a concentrator took on a link
-taken_below : {Q A : Type 0} (stock : Q → ℕ → Stock) (ledger : A → Ledger) (old new : Concentrator Q A) (link : ℕ) (r : Result Taking MasterFault)
+taken_below : {Q A : Type 0} (buffer : Q → ℕ → EventBuffer) (ledger : A → Ledger) (old new : Concentrator Q A) (link : ℕ) (r : Result Taking MasterFault)
     (answer : Result (MasterActions × List Row) MasterFault)
     → IfOk answer (λ a. IfOk r (λ t. a.0 ≡ actions_of t a.0.dropped))
-    → IfOk answer (λ a. IfOk r (λ t. a.0.dropped ≡ dropped_by (stock (queue_of old) 0) (queued_at old link t.events)))
-    → IfOk answer (λ a. IfOk r (λ t. a.1 ≡ dropped_by (stock (queue_of old) 1) (queued_at old link t.events)))
+    → IfOk answer (λ a. IfOk r (λ t. a.0.dropped ≡ dropped_by (buffer (queue_of old) 0) (queued_at old link t.events)))
+    → IfOk answer (λ a. IfOk r (λ t. a.1 ≡ dropped_by (buffer (queue_of old) 1) (queued_at old link t.events)))
     → OnOk answer (IfOk r (λ t. SetsLink old link (received (link_at old link) t) new))
-    → OnOk answer (IfOk r (λ t. BothHave (stock (queue_of old)) (queued_at old link t.events) (stock (queue_of new))))
+    → OnOk answer (IfOk r (λ t. BothHave (buffer (queue_of old)) (queued_at old link t.events) (buffer (queue_of new))))
     → OnOk answer (IfOk r (λ t. ForEach (λ centre. core_of centre new ≡ with_readings centre old link t.events t.statics))) → outputs_of new ≡ outputs_of old
     → plan_above new ≡ plan_above old
-    → OnOk answer (IfOk r (λ t. t.events ≢ [] → either_exhausts (stock (queue_of old)) (queued_at old link t.events) ≡ false))
-    → IfOk answer (λ a. IfOk r (λ t. (a.0 ≡ actions_of t (dropped_for (concentrator_of stock ledger old) link t).first)
-    × (a.1 ≡ (dropped_for (concentrator_of stock ledger old) link t).second) × (HaveNumbers (concentrator_of stock ledger old) link t
-    × (concentrator_of stock ledger new ≡ concentrator_taken (concentrator_of stock ledger old) link t))))
-taken_below stock ledger old new link r (Err fault) actions dropped dropped_too links queued core outputs plan room = tt
-taken_below stock ledger old new link (Err fault) (Ok a) actions dropped dropped_too links queued core outputs plan room = tt
-taken_below stock ledger old new link (Ok t) (Ok a) actions dropped dropped_too links queued core outputs plan room =
-    let was : WholeConcentrator = concentrator_of stock ledger old in
+    → OnOk answer (IfOk r (λ t. t.events ≢ [] → either_exhausts (buffer (queue_of old)) (queued_at old link t.events) ≡ false))
+    → IfOk answer (λ a. IfOk r (λ t. (a.0 ≡ actions_of t (dropped_for (concentrator_of buffer ledger old) link t).first)
+    × (a.1 ≡ (dropped_for (concentrator_of buffer ledger old) link t).second) × (HaveNumbers (concentrator_of buffer ledger old) link t
+    × (concentrator_of buffer ledger new ≡ concentrator_taken (concentrator_of buffer ledger old) link t))))
+taken_below buffer ledger old new link r (Err fault) actions dropped dropped_too links queued core outputs plan room = tt
+taken_below buffer ledger old new link (Err fault) (Ok a) actions dropped dropped_too links queued core outputs plan room = tt
+taken_below buffer ledger old new link (Ok t) (Ok a) actions dropped dropped_too links queued core outputs plan room =
+    let was : WholeConcentrator = concentrator_of buffer ledger old in
     let is : WholeConcentrator = concentrator_taken was link t in
-    let exhausted : ℕ → Bool = λ centre. exhausts (stock (queue_of old) centre) (queued_at old link t.events) in (
+    let exhausted : ℕ → Bool = λ centre. exhausts (buffer (queue_of old) centre) (queued_at old link t.events) in (
       actions ∙ ap (λ (rows : List Row). actions_of t rows) dropped,
       dropped_too,
       (
         λ some. let none = or_parts (exhausted 0) (exhausted 1) (room some) in
             for_both (λ centre. exhausts (at centre was.queues) (queued_at old link t.events) ≡ false) none.0 none.1,
-        concentrator_by stock ledger old new is.cores is.queues is.links
+        concentrator_by buffer ledger old new is.cores is.queues is.links
             (core 0 (omega arith)) (core 1 (omega arith)) (queued 0 (omega arith)) (queued 1 (omega arith)) outputs links plan,
       ),
     )
 
 -- what a concentrator refused
-kept_below : {Q A Answer : Type 0} (stock : Q → ℕ → Stock) (ledger : A → Ledger) (old new : Concentrator Q A) (answer : Result Answer MasterFault)
+kept_below : {Q A Answer : Type 0} (buffer : Q → ℕ → EventBuffer) (ledger : A → Ledger) (old new : Concentrator Q A) (answer : Result Answer MasterFault)
     → OnErr answer (links_of new ≡ links_of old) → OnErr answer (ForEach (λ centre. core_of centre new ≡ core_of centre old))
-    → IfErr answer (λ _. AreSame stock (queue_of old) (queue_of new)) → outputs_of new ≡ outputs_of old → plan_above new ≡ plan_above old
-    → OnErr answer (concentrator_of stock ledger new ≡ concentrator_of stock ledger old)
-kept_below stock ledger old new (Ok a) links core queue outputs plan = tt
-kept_below stock ledger old new (Err fault) links core queue outputs plan =
+    → IfErr answer (λ _. AreSame buffer (queue_of old) (queue_of new)) → outputs_of new ≡ outputs_of old → plan_above new ≡ plan_above old
+    → OnErr answer (concentrator_of buffer ledger new ≡ concentrator_of buffer ledger old)
+kept_below buffer ledger old new (Ok a) links core queue outputs plan = tt
+kept_below buffer ledger old new (Err fault) links core queue outputs plan =
     cc (links, core 0 (omega arith), core 1 (omega arith), queue 0 (omega arith), queue 1 (omega arith))
 
-all_dropped : (s : Stock) (rows : List LaneRow) → length (dropped_by s rows) ≤ length rows
+all_dropped : (s : EventBuffer) (rows : List LaneRow) → length (dropped_by s rows) ≤ length rows
 all_dropped s [] = omega arith
 all_dropped s (x ∷ xs) =
     let lane : LaneState = lane_at s (lane_number x.lane) in
@@ -125,7 +125,7 @@ all_queued f [] = omega arith
 all_queued f (x ∷ xs) = omega (arith, one_queued (f x) (filter_map f xs), all_queued f xs)
 
 -- no more rows are dropped than come
-few_from : (s : Stock) (c : WholeConcentrator) (link : ℕ) (t : Taking) → length (dropped_by s (queued_for c link t)) ≤ length t.events
+few_from : (s : EventBuffer) (c : WholeConcentrator) (link : ℕ) (t : Taking) → length (dropped_by s (queued_for c link t)) ≤ length t.events
 few_from s c link t = omega (arith, all_dropped s (queued_for c link t), all_queued (queued_row c.indices c.points link) t.events)
 
 few_below : (c : WholeConcentrator) (link : ℕ) (t : Taking)
@@ -133,7 +133,7 @@ few_below : (c : WholeConcentrator) (link : ℕ) (t : Taking)
 few_below c link t = (few_from c.queues.first c link t, few_from c.queues.second c link t)
 
 -- what a concentrator's call promises, as the master's end of a link promises it
-module _ {Q B : Type 0} (queue : Q → Type 0) (queue_stopped : Q → Bool) (stock : Q → ℕ → Stock) (book : B → Type 0) (book_stopped : B → Bool)
+module _ {Q B : Type 0} (queue : Q → Type 0) (queue_stopped : Q → Bool) (buffer : Q → ℕ → EventBuffer) (book : B → Type 0) (book_stopped : B → Bool)
     (ledger : B → Ledger) where
   abbrev AreHonest : Concentrator Q B → Type 0
   AreHonest c = queue (queue_of c) × IsBookWell book book_stopped c
@@ -144,29 +144,29 @@ module _ {Q B : Type 0} (queue : Q → Type 0) (queue_stopped : Q → Bool) (sto
       → OnOk answer (IfOk r (λ t. SetsLink old link (received (link_at old link) t) new))
       → IfOk answer (λ a. IfOk r (λ t. a.0 ≡ actions_of t a.0.dropped))
       → (queue (queue_of new)
-      → OnOk answer (IfOk r (λ t. BothHave (stock (queue_of old)) (queued_at old link t.events) (stock (queue_of new)))))
+      → OnOk answer (IfOk r (λ t. BothHave (buffer (queue_of old)) (queued_at old link t.events) (buffer (queue_of new)))))
       → (queue (queue_of new)
-      → IfOk answer (λ a. IfOk r (λ t. a.0.dropped ≡ dropped_by (stock (queue_of old) 0) (queued_at old link t.events))))
+      → IfOk answer (λ a. IfOk r (λ t. a.0.dropped ≡ dropped_by (buffer (queue_of old) 0) (queued_at old link t.events))))
       → (queue (queue_of new)
-      → IfOk answer (λ a. IfOk r (λ t. a.1 ≡ dropped_by (stock (queue_of old) 1) (queued_at old link t.events))))
+      → IfOk answer (λ a. IfOk r (λ t. a.1 ≡ dropped_by (buffer (queue_of old) 1) (queued_at old link t.events))))
       → OnOk answer (IfOk r (λ t. ForEach (λ centre. core_of centre new ≡ with_readings centre old link t.events t.statics)))
       → plan_above new ≡ plan_above old → outputs_of new ≡ outputs_of old
-      → LeavesQueue queue queue_stopped stock (queue_of old) (queue_of new) answer
+      → LeavesQueue queue queue_stopped buffer (queue_of old) (queue_of new) answer
       → (queue (queue_of new)
-      → OnOk answer (IfOk r (λ t. t.events ≢ [] → either_exhausts (stock (queue_of old)) (queued_at old link t.events) ≡ false)))
+      → OnOk answer (IfOk r (λ t. t.events ≢ [] → either_exhausts (buffer (queue_of old)) (queued_at old link t.events) ≡ false)))
       → TakesIn AreHonest
-      (λ t. HaveNumbers (concentrator_of stock ledger old) link t
-      × (concentrator_of stock ledger new ≡ concentrator_taken (concentrator_of stock ledger old) link t))
-      (λ t. dropped_for (concentrator_of stock ledger old) link t) (concentrator_of stock ledger new ≡ concentrator_of stock ledger old)
-      (concentrator_of stock ledger new ≡ concentrator_of stock ledger old) r old new answer
+      (λ t. HaveNumbers (concentrator_of buffer ledger old) link t
+      × (concentrator_of buffer ledger new ≡ concentrator_taken (concentrator_of buffer ledger old) link t))
+      (λ t. dropped_for (concentrator_of buffer ledger old) link t) (concentrator_of buffer ledger new ≡ concentrator_of buffer ledger old)
+      (concentrator_of buffer ledger new ≡ concentrator_of buffer ledger old) r old new answer
   concentrator_takes old new link r answer P refused named links unchanged sets actions queued dropped dropped_too readings plan outputs kept room =
-      let same : AreHonest new → OnErr answer (concentrator_of stock ledger new ≡ concentrator_of stock ledger old) = λ well.
-      kept_below stock ledger old new answer links unchanged (kept.unchanged well.0) outputs plan in
+      let same : AreHonest new → OnErr answer (concentrator_of buffer ledger new ≡ concentrator_of buffer ledger old) = λ well.
+      kept_below buffer ledger old new answer links unchanged (kept.unchanged well.0) outputs plan in
       record {
         held = λ well. (kept.held well.0, well_before book book_stopped _ _ outputs well.1);
-        taken = λ well. taken_below stock ledger old new link r answer actions (dropped well.0) (dropped_too well.0) sets (queued well.0) readings outputs
+        taken = λ well. taken_below buffer ledger old new link r answer actions (dropped well.0) (dropped_too well.0) sets (queued well.0) readings outputs
             plan (room well.0);
-        few = any_ok r _ (few_below (concentrator_of stock ledger old) link);
+        few = any_ok r _ (few_below (concentrator_of buffer ledger old) link);
         kept = same;
         refused = refused;
         unasked = λ well. unasked_by answer r _ refused (same well);

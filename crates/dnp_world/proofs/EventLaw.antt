@@ -10,7 +10,7 @@ use Rattle.dnp_objects.specs.declared.row.Row.{Row}
 use Rattle.dnp_objects.specs.Counts.{IsCoveredBy, HasNoRepeat}
 use Rattle.dnp_eventbuf.specs.Buffered.{Buffered, buffered_row, is_named}
 use Rattle.dnp_world.specs.Lists.{Each}
-use Rattle.dnp_world.specs.Link.{Fragment, Link, Up}
+use Rattle.dnp_world.specs.LawLink.{SentFragment, LawLink, Up}
 use Rattle.dnp_world.specs.Standing.{AllIn, Events, Inventory, IsFresh, IsOfLanes, IsOfStood, inventory}
 use Rattle.dnp_world.proofs.Counting.{count_by-append, count_by-cons, one_if}
 use Rattle.dnp_world.proofs.Offers.{of_lanes_reported, of_lanes_sent, same_permutation}
@@ -104,7 +104,7 @@ pub took_rows_stood : (v : Inventory) → Events v
 took_rows_stood v r = members_map buffered_row v.took (v.lanes ++ (v.released ++ v.left)) (took_stood v r)
 
 -- before the first opening
-pub rows_fresh : (l : Link) → IsFresh l → Events (inventory l)
+pub rows_fresh : (l : LawLink) → IsFresh l → Events (inventory l)
 rows_fresh l fresh =
     let all : l.lanes ≡ l.lanes ++ (l.released ++ l.left) =
     sym (append-nil l.lanes) ∙ ap (λ (r : List Buffered). l.lanes ++ r) (sym (ap (λ (r : List Buffered). r ++ l.left) fresh.released ∙ fresh.left)) in
@@ -115,8 +115,8 @@ rows_fresh l fresh =
       released = subst (λ (xs : List Buffered). AllIn xs l.took) (sym fresh.released) (All-nil (Contains l.took));
       took = subst (λ (xs : List Buffered). AllIn xs l.stood) (sym fresh.took) (All-nil (Contains l.stood));
       up = subst (λ (u : List Up). Each (IsOfStood l.stood) u) (sym fresh.up) tt;
-      current = subst (λ (f : Fragment). IsOfLanes false l.lanes l.stood l.last_id f) (sym fresh.current)
+      current = subst (λ (f : SentFragment). IsOfLanes false l.lanes l.stood l.last_id f) (sym fresh.current)
           (of_lanes_sent l.lanes l.stood l.last_id fresh.ids);
-      reported = subst (λ (f : Fragment). IsOfLanes true l.lanes l.stood l.last_id f) (sym fresh.reported)
+      reported = subst (λ (f : SentFragment). IsOfLanes true l.lanes l.stood l.last_id f) (sym fresh.reported)
           (of_lanes_reported l.lanes l.stood l.last_id fresh.ids);
     }

@@ -8,7 +8,7 @@ use Rattle.std.proofs.lemmas.List.Elements.{All-head, All-tail, All-append, All-
 use Rattle.std.proofs.lemmas.List.Sorted.{IsPermutation-trans, IsPermutation-append_left, IsPermutation-append_right, IsPermutation-append_comm, IsPermutation-filter_both, All-permutation}
 use Rattle.dnp_eventbuf.specs.Buffered.{Buffered, is_named, is_upto}
 use Rattle.dnp_world.specs.Lists.{Each, IsEnd}
-use Rattle.dnp_world.specs.Link.{Fragment, Reports, Responds, Up, fragment_of}
+use Rattle.dnp_world.specs.LawLink.{SentFragment, Reports, Responds, Up, fragment_of}
 use Rattle.dnp_world.specs.Moves.{IsOffered, nothing_reported, nothing_sent, released, taken}
 use Rattle.dnp_world.specs.Standing.{AllIn, Events, Inventory, IsOfLanes, IsOfStood}
 use Rattle.dnp_world.proofs.Lists.{each_both, each_end, each_weaker}
@@ -150,18 +150,18 @@ lanes_stood v r =
     (All-permutation (Contains v.stood) v.stood (v.lanes ++ (v.released ++ v.left)) r.whole (All-contains_itself v.stood))
 
 -- other fragments are on the way up, and others are current
-rows_up : (v : Inventory) (up : List Up) (current reported : Fragment) → Each (IsOfStood v.stood) up → IsOfLanes false v.lanes v.stood v.last_id current
+rows_up : (v : Inventory) (up : List Up) (current reported : SentFragment) → Each (IsOfStood v.stood) up → IsOfLanes false v.lanes v.stood v.last_id current
     → IsOfLanes true v.lanes v.stood v.last_id reported → Events v → Events (record v { up = up; current = current; reported = reported })
 rows_up v up current reported there sent says r =
     record { whole = r.whole; once = r.once; ids = r.ids; released = r.released; took = r.took; up = there; current = sent; reported = says }
 
-pub rows_sent : (v : Inventory) (f : Fragment) → IsOffered false v.lanes v.last_id f → Events v →
+pub rows_sent : (v : Inventory) (f : SentFragment) → IsOffered false v.lanes v.last_id f → Events v →
     Events (record v { up = v.up ++ Responds f ∷ []; current = f })
 rows_sent v f o r =
     let new : IsOfLanes false v.lanes v.stood v.last_id f = of_lanes_offered false v.lanes v.stood v.last_id f (lanes_stood v r) o in
     rows_up v (v.up ++ Responds f ∷ []) f v.reported (each_both (IsOfStood v.stood) v.up (Responds f ∷ []) r.up ((new.rows, new.says), tt)) new r.reported r
 
-pub rows_reported : (v : Inventory) (f : Fragment) → IsOffered true v.lanes v.last_id f → Events v →
+pub rows_reported : (v : Inventory) (f : SentFragment) → IsOffered true v.lanes v.last_id f → Events v →
     Events (record v { up = v.up ++ Reports f ∷ []; reported = f })
 rows_reported v f o r =
     let new : IsOfLanes true v.lanes v.stood v.last_id f = of_lanes_offered true v.lanes v.stood v.last_id f (lanes_stood v r) o in

@@ -7,7 +7,7 @@ use Rattle.dnp_concentrator.specs.declared.plan.Plan.{Plan}
 use Rattle.dnp_concentrator.specs.declared.plan.SubPlan.{SubPlan}
 use Rattle.dnp_controls.specs.Book.{Ledger}
 use Rattle.dnp_eventbuf.specs.Archive.{Archive}
-use Rattle.dnp_eventbuf.specs.Stock.{Stock, empty_stock, rows_in}
+use Rattle.dnp_eventbuf.specs.EventBuffer.{EventBuffer, empty_buffer, rows_in}
 use Rattle.dnp_objects.specs.Events.{IsEvent}
 use Rattle.dnp_objects.specs.declared.lane.LaneRow.{LaneRow}
 use Rattle.dnp_objects.specs.declared.row.Kind.{Kind}
@@ -55,7 +55,7 @@ all_made_events makes database events =
 
 -- ---- at first
 
-empty_rows : (capacities : List ℕ) → rows_in (empty_stock capacities) ≡ []
+empty_rows : (capacities : List ℕ) → rows_in (empty_buffer capacities) ≡ []
 empty_rows [] = refl
 empty_rows (capacity ∷ capacities) = empty_rows capacities
 
@@ -65,7 +65,7 @@ none_listed times n m (plan ∷ plans) =
     ap (λ (rows : List Row). at_substation n rows ++ listed_from lane_rows_of (n + 1) (fresh_substations times (suc m) plans)) (empty_rows plan.lanes)
     ∙ none_listed times (n + 1) (suc m) plans
 
-pub none_happened : (plan : Plan) (centre : ℕ) (queue : Stock) (journal : Archive) (controls orders : Ledger)
+pub none_happened : (plan : Plan) (centre : ℕ) (queue : EventBuffer) (journal : Archive) (controls orders : Ledger)
     → happened (report_of (fresh_system plan centre queue journal controls orders)) ≡ []
 none_happened plan centre queue journal controls orders =
     ap (λ (rows : List (ℕ × Row)). rows ++ []) (none_listed plan.times 0 0 plan.substations)

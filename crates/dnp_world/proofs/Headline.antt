@@ -16,10 +16,10 @@ use Rattle.dnp_eventbuf.specs.Buffered.{buffered_row}
 use Rattle.dnp_concentrator.specs.declared.span.Spans.{Spans}
 use Rattle.dnp_concentrator.specs.Mapped.{row_below, command_below}
 use Rattle.dnp_world.specs.Behind.{Elsewhere, Links, IsBehind, rows_of}
-use Rattle.dnp_world.specs.Kept.{Kept, shown_of, rows_below, commands_below, is_used, order_of, command_of, used_orders, commands_in, used_commands}
-use Rattle.dnp_world.specs.Link.{Link}
+use Rattle.dnp_world.specs.Kept.{KeptLists, shown_of, rows_below, commands_below, is_used, order_of, command_of, used_orders, commands_in, used_commands}
+use Rattle.dnp_world.specs.LawLink.{LawLink}
 use Rattle.dnp_world.specs.Reports.{Holds, happened, times}
-use Rattle.dnp_world.specs.Standing.{Stands}
+use Rattle.dnp_world.specs.Standing.{CarriesLaw}
 use Rattle.dnp_world.specs.Stations.{of_substation, HasSameCounts}
 use Rattle.dnp_world.proofs.Counting.{count_by-append}
 use Rattle.dnp_world.proofs.BySubstations.{Covers, count_pair, covered_by_substations, contains_counts, some_there}
@@ -27,10 +27,10 @@ use Rattle.dnp_world.proofs.SystemCounts.{count_by-filter_map, passes, picked, c
 
 -- what the law of a link promises
 pub record LinkLaws : Type 0 where
-  pub covered : (l : Link) → Stands l → IsCoveredBy (rows_of l.released) (rows_of l.took)
-  pub stood : (l : Link) → Stands l → All (Contains (rows_of (l.lanes ++ (l.released ++ l.left)))) (rows_of l.took)
-  pub whole : (l : Link) → Stands l → IsPermutation l.stood (l.lanes ++ (l.released ++ l.left))
-  pub performed : (l : Link) → Stands l → IsCoveredBy l.performed l.asked
+  pub covered : (l : LawLink) → CarriesLaw l → IsCoveredBy (rows_of l.released) (rows_of l.took)
+  pub stood : (l : LawLink) → CarriesLaw l → All (Contains (rows_of (l.lanes ++ (l.released ++ l.left)))) (rows_of l.took)
+  pub whole : (l : LawLink) → CarriesLaw l → IsPermutation l.stood (l.lanes ++ (l.released ++ l.left))
+  pub performed : (l : LawLink) → CarriesLaw l → IsCoveredBy l.performed l.asked
 
 -- and the crate of rows and commands
 pub record Laws : Type 0 where
@@ -42,7 +42,7 @@ pub record Laws : Type 0 where
 -- ---- one link
 
 -- the rows that ever stood in its lanes, by where they are now
-pub stood_counts : LinkLaws → (l : Link) → Stands l → (test : Row → Bool)
+pub stood_counts : LinkLaws → (l : LawLink) → CarriesLaw l → (test : Row → Bool)
     → count_by test (rows_of l.stood) ≡ count_by test (rows_of l.lanes) + (count_by test (rows_of l.released) + count_by test (rows_of l.left))
 stood_counts laws l stands test =
     let now : ℕ = count_by test (rows_of (l.lanes ++ (l.released ++ l.left))) in
@@ -60,7 +60,7 @@ stood_counts laws l stands test =
     )
 
 -- where some row that the sink took passes a test, some row that stood in the lanes does
-took_stood : LinkLaws → (l : Link) → Stands l → (test : Row → Bool) → 0 < count_by test (rows_of l.took) → 0 < count_by test (rows_of l.stood)
+took_stood : LinkLaws → (l : LawLink) → CarriesLaw l → (test : Row → Bool) → 0 < count_by test (rows_of l.took) → 0 < count_by test (rows_of l.stood)
 took_stood laws l stands test some =
     let now : List Row = rows_of (l.lanes ++ (l.released ++ l.left)) in
     let there : 0 < count_by test now = some_there test (rows_of l.took) now (laws.stood l stands) some in
@@ -72,10 +72,10 @@ took_stood laws l stands test some =
 -- ---- what happened
 
 -- what happened at a substation is what ever stood in its lanes
-pub happened_stood : LinkLaws → (indices : List Spans) {el : Elsewhere} (links : Links) (k : Kept) → IsBehind indices el links k → (i : ℕ)
+pub happened_stood : LinkLaws → (indices : List Spans) {el : Elsewhere} (links : Links) (k : KeptLists) → IsBehind indices el links k → (i : ℕ)
     → HasSameCounts (rows_of (links.below i).stood) (of_substation i (happened (shown_of indices k)))
 happened_stood laws indices links k b i =
-    let l : Link = links.below i in
+    let l : LawLink = links.below i in
     let left : List (ℕ × Row) = k.overwritten ++ k.gone in
     let parts : of_substation i (k.buffered ++ (k.confirmed ++ left)) ≡ of_substation i k.buffered ++ (of_substation i k.confirmed ++ of_substation i left) =
     of_substation-append i k.buffered (k.confirmed ++ left)
@@ -97,7 +97,7 @@ happened_stood laws indices links k b i =
 -- ---- nothing is invented
 
 -- a row that stood in the queue was taken below, so it stood in its substation's lanes
-stood_happened : LinkLaws → (indices : List Spans) {el : Elsewhere} (links : Links) (k : Kept) → IsBehind indices el links k → (x : ℕ × Row)
+stood_happened : LinkLaws → (indices : List Spans) {el : Elsewhere} (links : Links) (k : KeptLists) → IsBehind indices el links k → (x : ℕ × Row)
     → 0 < count_by (λ row. passes (pair_eq nat_eq row_eq x) (row_below indices row)) (rows_of links.above.stood)
     → 0 < times x (happened (shown_of indices k))
 stood_happened laws indices links k b x stood =
@@ -110,7 +110,7 @@ stood_happened laws indices links k b x stood =
     omega (arith, below, (happened_stood laws indices links k b x.0).same (row_eq x.1), count_pair row_eq x all)
 
 -- a row of the journal was taken above, so it stood in the queue
-journal_happened : LinkLaws → (indices : List Spans) {el : Elsewhere} (links : Links) (k : Kept) → IsBehind indices el links k → (x : ℕ × Row)
+journal_happened : LinkLaws → (indices : List Spans) {el : Elsewhere} (links : Links) (k : KeptLists) → IsBehind indices el links k → (x : ℕ × Row)
     → 0 < times x (rows_below indices k.journal) → 0 < times x (happened (shown_of indices k))
 journal_happened laws indices links k b x some =
     let test : Row → Bool = λ row. passes (pair_eq nat_eq row_eq x) (row_below indices row) in
@@ -118,7 +118,7 @@ journal_happened laws indices links k b x some =
     stood_happened laws indices links k b x
     (took_stood laws links.above b.above_stands test (omega (arith, some, counted, b.journal.same test)))
 
-nothing_invented : Laws → (indices : List Spans) {el : Elsewhere} (links : Links) (k : Kept) → IsBehind indices el links k
+nothing_invented : Laws → (indices : List Spans) {el : Elsewhere} (links : Links) (k : KeptLists) → IsBehind indices el links k
     → All (λ x. 1 ≤ times x (happened (shown_of indices k))) (rows_below indices k.journal)
 nothing_invented laws indices links k b =
     let journal : List (ℕ × Row) = rows_below indices k.journal in
@@ -129,7 +129,7 @@ nothing_invented laws indices links k b =
 -- ---- what stands in the queue
 
 -- a row of the queue stood there
-pub queue_happened : LinkLaws → (indices : List Spans) {el : Elsewhere} (links : Links) (k : Kept) → IsBehind indices el links k → (x : ℕ × Row)
+pub queue_happened : LinkLaws → (indices : List Spans) {el : Elsewhere} (links : Links) (k : KeptLists) → IsBehind indices el links k → (x : ℕ × Row)
     → 0 < times x (rows_below indices k.queue) → 0 < times x (happened (shown_of indices k))
 queue_happened laws indices links k b x some =
     let test : Row → Bool = λ row. passes (pair_eq nat_eq row_eq x) (row_below indices row) in
@@ -164,14 +164,14 @@ least : (test : Row → Bool) (rows : List Row) → count_by test rows ≤ count
 least test rows = omega (arith, counted_all rows, count_by-le-length test rows)
 
 -- as all rows that stood in the queue have
-stood_mapped : (indices : List Spans) {el : Elsewhere} (links : Links) (k : Kept) → IsBehind indices el links k
+stood_mapped : (indices : List Spans) {el : Elsewhere} (links : Links) (k : KeptLists) → IsBehind indices el links k
     → length (rows_below indices (rows_of links.above.stood)) ≡ length (rows_of links.above.stood)
 stood_mapped indices links k b = omega (arith, b.mapped, length-map links.above.stood buffered_row)
 
-pub queue_mapped : LinkLaws → (indices : List Spans) {el : Elsewhere} (links : Links) (k : Kept) → IsBehind indices el links k
+pub queue_mapped : LinkLaws → (indices : List Spans) {el : Elsewhere} (links : Links) (k : KeptLists) → IsBehind indices el links k
     → length (rows_below indices k.queue) ≡ length k.queue
 queue_mapped laws indices links k b =
-    let l : Link = links.above in
+    let l : LawLink = links.above in
     part_mapped indices (rows_of l.stood) k.queue (λ test. count_by test (rows_of l.released) + count_by test (rows_of l.left))
     (stood_mapped indices links k b)
     (λ test. omega (arith, stood_counts laws l b.above_stands test, b.queue.same test))
@@ -184,12 +184,12 @@ both_counts test rows =
     omega (arith, length-filter_both test other (λ row. refl) rows, length-filter test rows, length-filter other rows)
 
 -- what was taken above stood in the queue
-pub journal_mapped : LinkLaws → (indices : List Spans) {el : Elsewhere} (links : Links) (k : Kept) → IsBehind indices el links k
+pub journal_mapped : LinkLaws → (indices : List Spans) {el : Elsewhere} (links : Links) (k : KeptLists) → IsBehind indices el links k
     → length (rows_below indices k.journal) ≡ length k.journal
 journal_mapped laws indices links k b =
     omega (arith, below k.journal, both_counts mapped k.journal, b.journal.same unmapped, none_taken (cases_lt 0 (count_by unmapped (rows_of l.took))))
   where
-    l : Link
+    l : LawLink
     l = links.above
 
     mapped : Row → Bool
@@ -211,7 +211,7 @@ journal_mapped laws indices links k b =
 -- ---- nothing vanishes
 
 -- the rows that ever stood in the queue are in it, or were dropped, or were released, and then taken above
-stood_covered : LinkLaws → (l : Link) (queue dropped journal : List Row) → Stands l → HasSameCounts (rows_of l.lanes) queue
+stood_covered : LinkLaws → (l : LawLink) (queue dropped journal : List Row) → CarriesLaw l → HasSameCounts (rows_of l.lanes) queue
     → HasSameCounts (rows_of l.left) dropped → HasSameCounts (rows_of l.took) journal → IsCoveredBy (rows_of l.stood) (queue ++ (dropped ++ journal))
 stood_covered laws l queue dropped journal stands held left took = record {
   at_most = λ test.
@@ -233,7 +233,7 @@ rows_below-parts indices xs ys zs =
     filter_map-append (row_below indices) xs (ys ++ zs)
     ∙ ap (λ (l : List (ℕ × Row)). rows_below indices xs ++ l) (filter_map-append (row_below indices) ys zs)
 
-nothing_vanishes : Laws → (indices : List Spans) {el : Elsewhere} (links : Links) (k : Kept) → IsBehind indices el links k
+nothing_vanishes : Laws → (indices : List Spans) {el : Elsewhere} (links : Links) (k : KeptLists) → IsBehind indices el links k
     → IsCoveredBy k.confirmed (rows_below indices k.queue ++ (rows_below indices k.dropped ++ rows_below indices k.journal))
 nothing_vanishes laws indices links k b =
     let came : List (ℕ × Row) = rows_below indices (rows_of links.above.stood) in
@@ -254,10 +254,10 @@ nothing_vanishes laws indices links k b =
 
 -- ---- what was dropped was counted
 
-pub dropped_mapped : LinkLaws → (indices : List Spans) {el : Elsewhere} (links : Links) (k : Kept) → IsBehind indices el links k
+pub dropped_mapped : LinkLaws → (indices : List Spans) {el : Elsewhere} (links : Links) (k : KeptLists) → IsBehind indices el links k
     → length (rows_below indices k.dropped) ≡ length k.dropped
 dropped_mapped laws indices links k b =
-    let l : Link = links.above in
+    let l : LawLink = links.above in
     part_mapped indices (rows_of l.stood) k.dropped (λ test. count_by test (rows_of l.lanes) + count_by test (rows_of l.released))
     (stood_mapped indices links k b)
     (λ test. omega (arith, stood_counts laws l b.above_stands test, b.dropped.same test))
@@ -270,7 +270,8 @@ commands_entered : (indices : List Spans) (entries : List Entry)
 commands_entered indices entries = covered_filter_map (command_below indices) (used_commands entries) (commands_in entries)
     (picked is_used command_of entries)
 
-no_command_twice : Laws → (indices : List Spans) {el : Elsewhere} (links : Links) (k : Kept) → IsBehind indices el links k → IsCoveredBy k.operated k.issued
+no_command_twice : Laws → (indices : List Spans) {el : Elsewhere} (links : Links) (k : KeptLists) → IsBehind indices el links k
+    → IsCoveredBy k.operated k.issued
 no_command_twice laws indices {el = el} links k b =
     let below : IsCoveredBy k.operated (used_orders k.controls) = covered_by_substations command_eq laws.commands k.operated (used_orders k.controls)
     (λ i. record {
@@ -302,7 +303,7 @@ no_command_twice laws indices {el = el} links k b =
 
 -- ---- all of it
 
-pub headline : Laws → (indices : List Spans) {el : Elsewhere} (links : Links) (k : Kept) → IsBehind indices el links k → Holds (shown_of indices k)
+pub headline : Laws → (indices : List Spans) {el : Elsewhere} (links : Links) (k : KeptLists) → IsBehind indices el links k → Holds (shown_of indices k)
 headline laws indices links k b = record {
   nothing_invented = nothing_invented laws indices links k b;
   nothing_vanishes = nothing_vanishes laws indices links k b;

@@ -10,7 +10,7 @@ use Rattle.dnp_controls.specs.declared.book.State.TheVariants.{Pending}
 use Rattle.dnp_concentrator.specs.declared.span.Spans.{Spans}
 use Rattle.dnp_concentrator.specs.IndexMap.{IsMap}
 use Rattle.dnp_concentrator.specs.Mapped.{command_above, command_below}
-use Rattle.dnp_world.specs.Behind.{Elsewhere, does_nothing, with_links, Turn}
+use Rattle.dnp_world.specs.Behind.{Elsewhere, does_nothing, with_links, OneEvent}
 use Rattle.dnp_world.specs.Kept.{kept_in, report_of, command_of, commands_below, commands_in, orders_in, used_commands, used_orders}
 use Rattle.dnp_world.specs.Reports.{happened}
 use Rattle.dnp_world.specs.Stations.{of_substation}
@@ -60,7 +60,8 @@ ordered_more undoes s substation command above m e =
     ∙ ap (λ (o : Option (ℕ × Command)). given o []) (undoes s.indices substation command above m e))
 
 issue_turn : Undoes → (s : System) {el : Elsewhere} (h : IsStanding el s) (substation : ℕ) (command above : Command) → IsMap s.indices
-    → command_above s.indices substation command ≡ Some above → Turn s.indices substation h.links (kept_in s) (kept_in (with_order s substation command above))
+    → command_above s.indices substation command ≡ Some above → OneEvent s.indices substation h.links (kept_in s)
+    (kept_in (with_order s substation command above))
 issue_turn undoes s h substation command above m e =
     let used : used_commands (s.centre.orders.entries ++ entry_of_order s above ∷ []) ≡ used_commands s.centre.orders.entries =
     pending_last command_of s.centre.orders.entries (entry_of_order s above) refl in
@@ -98,7 +99,7 @@ issued : TurnLaws → Undoes → (s : System) {el : Elsewhere} (h : IsStanding e
 unfolding issue_turn
 issued laws undoes s h substation command above m e =
     let new : System = with_order s substation command above in
-    let t : Turn s.indices substation h.links (kept_in s) (kept_in new) = issue_turn undoes s h substation command above m e in
+    let t : OneEvent s.indices substation h.links (kept_in s) (kept_in new) = issue_turn undoes s h substation command above m e in
     record {
       standing = record {
         plan = h.plan;

@@ -4,7 +4,7 @@ use Rattle.std.proofs.lemmas.Bool.{both_ways}
 use Rattle.dnp_objects.specs.declared.lane.LaneRow.{LaneRow}
 use Rattle.dnp_objects.specs.declared.row.Kind.{Kind}
 use Rattle.dnp_objects.specs.declared.row.Row.{Row}
-use Rattle.dnp_eventbuf.specs.Stock.{arriving, with_rows, dropped_by}
+use Rattle.dnp_eventbuf.specs.EventBuffer.{arriving, with_rows, dropped_by}
 use Rattle.dnp_pointdb.specs.Database.{answer_of, changed_of}
 use Rattle.dnp_pointdb.specs.Runs.{rows_made}
 use Rattle.dnp_pointdb.specs.declared.fault.ChangeFault.{ChangeFault}
@@ -14,9 +14,9 @@ use Rattle.dnp_outstation.specs.Connection.{at_end}
 use Rattle.dnp_outstation.specs.Links.{EndsAs}
 use Rattle.dnp_outstation.specs.State.{Step, nothing}
 use Rattle.dnp_world.specs.Joined.{Joined, Follows}
-use Rattle.dnp_world.specs.Link.{Link}
+use Rattle.dnp_world.specs.LawLink.{LawLink}
 use Rattle.dnp_world.specs.OneLinkEvents.{LinkState, Changes}
-use Rattle.dnp_world.specs.Standing.{Stands}
+use Rattle.dnp_world.specs.Standing.{CarriesLaw}
 use Rattle.dnp_world.specs.steps.MoveLaws.{MoveLaws}
 use Rattle.dnp_world.proofs.JoinedSteps.{Beside, after_step, beside_of, stays_as}
 
@@ -29,9 +29,9 @@ still_closed now step h closed =
       | inr starts ↦ absurd (both_ways step.state.core.is_open closed starts.is_open)
     ]
 
-change_if : {Sink : Type 0} → MoveLaws → (others : List Row) (s new : LinkState Sink) (l : Link) (kind : Kind) (index : ℕ) (reading : Reading)
+change_if : {Sink : Type 0} → MoveLaws → (others : List Row) (s new : LinkState Sink) (l : LawLink) (kind : Kind) (index : ℕ) (reading : Reading)
     → (r : Result (Option LaneRow) ChangeFault)
-    → answer_of s.outstation.core.points kind index reading ≡ r → Stands l → Joined others s l → Changes r kind index reading s new
+    → answer_of s.outstation.core.points kind index reading ≡ r → CarriesLaw l → Joined others s l → Changes r kind index reading s new
     → Follows others (arriving (rows_made r)) [] s.outstation.performed l new
 change_if {Sink = Sink} laws others s new l kind index reading (Ok made) answer stands j h =
     let step : Step = change_of s.outstation s.now kind index reading made in
@@ -52,9 +52,9 @@ change_if {Sink = Sink} laws others s new l kind index reading (Ok made) answer 
 change_if {Sink = Sink} laws others s new l kind index reading (Err fault) answer stands j h =
     stays_as others l new s h j
 
-pub change_follows : {Sink : Type 0} → MoveLaws → (others : List Row) (s new : LinkState Sink) (l : Link) (kind : Kind) (index : ℕ)
+pub change_follows : {Sink : Type 0} → MoveLaws → (others : List Row) (s new : LinkState Sink) (l : LawLink) (kind : Kind) (index : ℕ)
     → (reading : Reading)
-    → Stands l → Joined others s l → Changes (answer_of s.outstation.core.points kind index reading) kind index reading s new
+    → CarriesLaw l → Joined others s l → Changes (answer_of s.outstation.core.points kind index reading) kind index reading s new
     → Follows others (arriving (rows_made (answer_of s.outstation.core.points kind index reading))) [] s.outstation.performed l new
 change_follows laws others s new l kind index reading stands j h =
     change_if laws others s new l kind index reading (answer_of s.outstation.core.points kind index reading) refl stands j h

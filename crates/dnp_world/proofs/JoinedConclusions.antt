@@ -10,24 +10,24 @@ use Rattle.dnp_objects.specs.Counts.{IsCoveredBy}
 use Rattle.dnp_objects.specs.declared.command.Command.{Command}
 use Rattle.dnp_objects.specs.declared.row.Row.{Row}
 use Rattle.dnp_eventbuf.specs.Buffered.{buffered_row}
-use Rattle.dnp_eventbuf.specs.Stock.{rows_in}
+use Rattle.dnp_eventbuf.specs.EventBuffer.{rows_in}
 use Rattle.dnp_world.specs.Joined.{Joined, Follows, IsJoined, KeepsLaw, stood_in}
-use Rattle.dnp_world.specs.Link.{Link}
+use Rattle.dnp_world.specs.LawLink.{LawLink}
 use Rattle.dnp_world.specs.OneLinkEvents.{LinkState}
-use Rattle.dnp_world.specs.Standing.{Stands}
+use Rattle.dnp_world.specs.Standing.{CarriesLaw}
 use Rattle.dnp_world.proofs.Counting.{one_if}
 use Rattle.dnp_world.proofs.Keeping.{moves_stand}
 use Rattle.dnp_world.proofs.OutstationOpenings.{rows_from}
 
 -- what the law of the link says
 pub record LinkLaws : Type 0 where
-  pub covered : (l : Link) → Stands l → IsCoveredBy (map buffered_row l.released) (map buffered_row l.took)
-  pub stood : (l : Link) → Stands l → All (Contains (map buffered_row (l.lanes ++ (l.released ++ l.left)))) (map buffered_row l.took)
-  pub whole : (l : Link) → Stands l → IsPermutation l.stood (l.lanes ++ (l.released ++ l.left))
+  pub covered : (l : LawLink) → CarriesLaw l → IsCoveredBy (map buffered_row l.released) (map buffered_row l.took)
+  pub stood : (l : LawLink) → CarriesLaw l → All (Contains (map buffered_row (l.lanes ++ (l.released ++ l.left)))) (map buffered_row l.took)
+  pub whole : (l : LawLink) → CarriesLaw l → IsPermutation l.stood (l.lanes ++ (l.released ++ l.left))
 
 -- ---- what stood in the lanes
 
-same_stood : {Sink : Type 0} (others : List Row) (s : LinkState Sink) (l : Link) → Joined others s l
+same_stood : {Sink : Type 0} (others : List Row) (s : LinkState Sink) (l : LawLink) → Joined others s l
     → IsPermutation (map buffered_row (l.lanes ++ (l.released ++ l.left))) (stood_in others s)
 same_stood others s l j =
     let lanes : map buffered_row l.lanes ≡ rows_in s.outstation.lanes = ap (map buffered_row) j.outstation.lanes.rows ∙ rows_from 0 s.outstation.lanes.lanes in
@@ -40,7 +40,7 @@ same_stood others s l j =
     (IsPermutation-append_right (rows_in s.outstation.lanes) (s.released ++ map buffered_row l.left) (s.released ++ (s.left ++ others))
     (IsPermutation-append_right s.released (map buffered_row l.left) (s.left ++ others) j.left))
 
-all_stood : {Sink : Type 0} → LinkLaws → (others : List Row) (s : LinkState Sink) (l : Link) → Stands l → Joined others s l
+all_stood : {Sink : Type 0} → LinkLaws → (others : List Row) (s : LinkState Sink) (l : LawLink) → CarriesLaw l → Joined others s l
     → IsPermutation (map buffered_row l.stood) (stood_in others s)
 all_stood laws others s l stands j =
     IsPermutation-trans (map buffered_row l.stood) (map buffered_row (l.lanes ++ (l.released ++ l.left))) (stood_in others s)
@@ -55,7 +55,7 @@ covered_in_order xs ys zs same h = record {
 
 pub law_of : {Sink : Type 0} → LinkLaws → (others : List Row) (s : LinkState Sink) → IsJoined others s → KeepsLaw others s
 law_of laws others s h =
-    let l : Link = h.link in
+    let l : LawLink = h.link in
     let j : Joined others s l = h.joined in
     let all : List Row = map buffered_row (l.lanes ++ (l.released ++ l.left)) in
     let stood : All (Contains all) s.taken =
@@ -69,11 +69,11 @@ law_of laws others s h =
 
 -- ---- what it grows by
 
-pub kept_by : {Sink : Type 0} (others came : List Row) (before : List Command) (l : Link) (new : LinkState Sink) → Stands l
+pub kept_by : {Sink : Type 0} (others came : List Row) (before : List Command) (l : LawLink) (new : LinkState Sink) → CarriesLaw l
     → Follows others came [] before l new → IsJoined others new
 kept_by others came before l new stands f = record { link = f.link; stands = moves_stand l f.link f.moves stands; joined = f.joined }
 
-pub grown_by : {Sink : Type 0} → LinkLaws → (others others' came : List Row) (s new : LinkState Sink) (l : Link) → Stands l
+pub grown_by : {Sink : Type 0} → LinkLaws → (others others' came : List Row) (s new : LinkState Sink) (l : LawLink) → CarriesLaw l
     → Joined others s l → Follows others' came [] s.outstation.performed l new
     → IsPermutation (stood_in others' new) (stood_in others s ++ came)
 grown_by laws others others' came s new l stands j f =

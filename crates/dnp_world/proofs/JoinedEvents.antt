@@ -8,7 +8,7 @@ use Rattle.std.proofs.lemmas.List.Elements.{All-nil}
 use Rattle.dnp_objects.specs.declared.row.Row.{Row}
 use Rattle.dnp_controls.specs.Panel.{Panel}
 use Rattle.dnp_eventbuf.specs.Buffered.{Buffered, buffered_row}
-use Rattle.dnp_eventbuf.specs.Stock.{arriving}
+use Rattle.dnp_eventbuf.specs.EventBuffer.{arriving}
 use Rattle.dnp_line.specs.Lines.{LineState, lost_on, delivered_on, repeated_on}
 use Rattle.dnp_line.specs.Ports.{reset_of}
 use Rattle.dnp_outstation.specs.Calls.{tick_of, opened_of, restart_of, emptied_of}
@@ -21,11 +21,11 @@ use Rattle.dnp_world.specs.declared.link_event.LinkEvent.{LinkEvent}
 use Rattle.dnp_world.specs.declared.link_event.LinkEvent.TheVariants as event
 use Rattle.dnp_world.specs.Channels.{ChannelState, hung_up_at, left_by}
 use Rattle.dnp_world.specs.Joined.{Carries, Joined, Follows, point_moves}
-use Rattle.dnp_world.specs.Link.{Link}
+use Rattle.dnp_world.specs.LawLink.{LawLink}
 use Rattle.dnp_world.specs.Moves.{LoseDown, Open, lost_down, opened}
 use Rattle.dnp_world.specs.OneLinkEvents.{LinkState, Steps, ComesDown, ComesUp, HappensOn, opening, outstation_gone, outstation_restarted}
 use Rattle.dnp_world.specs.OutstationSeen.{octets_of, ShowOctets, Simulates}
-use Rattle.dnp_world.specs.Standing.{Stands}
+use Rattle.dnp_world.specs.Standing.{CarriesLaw}
 use Rattle.dnp_world.specs.steps.MoveLaws.{MoveLaws}
 use Rattle.dnp_world.proofs.JoinedChanges.{change_follows}
 use Rattle.dnp_world.proofs.JoinedMaster.{came_up, asks_follow, tick_follows, master_goes}
@@ -37,7 +37,7 @@ use Rattle.dnp_world.proofs.OutstationSteps.{moves_after, one_move}
 -- ---- the front unit of a line
 
 comes_down : {Sink : Type 0} → MoveLaws → (left : LineState → LineState) → CarriesOver left → (panel : Panel) → ShowOctets panel → (others : List Row)
-    (s new : LinkState Sink) (l : Link) → Stands l → Joined others s l → ComesDown panel (left s.channel.down) s new
+    (s new : LinkState Sink) (l : LawLink) → CarriesLaw l → Joined others s l → ComesDown panel (left s.channel.down) s new
     → Follows others [] [] s.outstation.performed l new
 comes_down laws left over panel shown others s new l stands j h =
     let was : ChannelState = s.channel in
@@ -45,7 +45,7 @@ comes_down laws left over panel shown others s new l stands j h =
     (over was.down was.master_port was.outstation_port h.port s.master.is_open j.going_down h.given h.heard j.down) h.came
 
 comes_up : {Sink : Type 0} → MoveLaws → (left : LineState → LineState) → CarriesOver left → (takes : Sink → List Row → List Row → List Row → Sink → Type 0)
-    (others : List Row) (s new : LinkState Sink) (l : Link) → Stands l → Joined others s l → ComesUp takes (left s.channel.up) s new
+    (others : List Row) (s new : LinkState Sink) (l : LawLink) → CarriesLaw l → Joined others s l → ComesUp takes (left s.channel.up) s new
     → Follows others [] [] s.outstation.performed l new
 comes_up laws left over takes others s new l stands j h =
     let was : ChannelState = s.channel in
@@ -54,14 +54,14 @@ comes_up laws left over takes others s new l stands j h =
 
 -- ---- the outstation goes
 
-goes_away : {Sink : Type 0} → MoveLaws → (others : List Row) (s new : LinkState Sink) (l : Link) (step : Step) → step.does.send ≡ []
+goes_away : {Sink : Type 0} → MoveLaws → (others : List Row) (s new : LinkState Sink) (l : LawLink) (step : Step) → step.does.send ≡ []
     → step.does.discarded ≡ []
     → step.state.core.is_open ≡ false → Joined others s l → Simulates s.outstation [] step l
     → new ≡ record s { outstation = step.state; channel = hung_up_at end.Outstation s.channel; left = s.left ++ step.does.overwritten }
     → Follows others [] [] s.outstation.performed l new
 goes_away {Sink = Sink} laws others s new l step silent none closes j sim h =
     let all : ℕ = length sim.link.down in
-    let link : Link = lost_down all sim.link in
+    let link : LawLink = lost_down all sim.link in
     let after : LinkState Sink = record s { outstation = step.state; channel = hung_up_at end.Outstation s.channel; left = s.left ++ step.does.overwritten } in
     let up_is : map octets_of sim.link.up ≡ map octets_of l.up =
     ap (map octets_of) sim.up ∙ map-append octets_of l.up sim.sent ∙ ap (λ (fs : List (List ℕ)). map octets_of l.up ++ fs) (sim.octets ∙ silent)
@@ -95,21 +95,21 @@ goes_away {Sink = Sink} laws others s new l step silent none closes j sim h =
       performed_is = sim.performed_seen;
     }
 
-hangs_up : {Sink : Type 0} → MoveLaws → (others : List Row) (s new : LinkState Sink) (l : Link) → Joined others s l → new ≡ outstation_gone s
+hangs_up : {Sink : Type 0} → MoveLaws → (others : List Row) (s new : LinkState Sink) (l : LawLink) → Joined others s l → new ≡ outstation_gone s
     → Follows others [] [] s.outstation.performed l new
 hangs_up {Sink = Sink} laws others s new l j h =
     let step : Step = still (record s.outstation { core = closed s.outstation.core }) in
     let after : List Row → LinkState Sink = λ left. record s { outstation = step.state; channel = hung_up_at end.Outstation s.channel; left = left } in
     goes_away laws others s new l step refl refl refl j (laws.outstation.closes s.outstation l j.outstation) (h ∙ ap after (sym (append-nil s.left)))
 
-restarts : {Sink : Type 0} → MoveLaws → (others : List Row) (s new : LinkState Sink) (l : Link) → Joined others s l
+restarts : {Sink : Type 0} → MoveLaws → (others : List Row) (s new : LinkState Sink) (l : LawLink) → Joined others s l
     → new ≡ outstation_restarted s → Follows others [] [] s.outstation.performed l new
 restarts laws others s new l j h =
     let step : Step = record { state = restart_of s.outstation false; does = record nothing { overwritten = emptied_of s.outstation false } } in
     goes_away laws others s new l step refl refl refl j (laws.outstation.restarts s.outstation false l j.outstation) h
 
 -- it restarts, and keeps its lanes
-pub restarts_kept : {Sink : Type 0} → MoveLaws → (others : List Row) (s new : LinkState Sink) (l : Link) → Joined others s l
+pub restarts_kept : {Sink : Type 0} → MoveLaws → (others : List Row) (s new : LinkState Sink) (l : LawLink) → Joined others s l
     → new ≡ record s { outstation = restart_of s.outstation true; channel = hung_up_at end.Outstation s.channel }
     → Follows others [] [] s.outstation.performed l new
 restarts_kept {Sink = Sink} laws others s new l j h =
@@ -119,7 +119,7 @@ restarts_kept {Sink = Sink} laws others s new l j h =
 
 -- ---- both ends are opened
 
-opens : {Sink : Type 0} → MoveLaws → (others : List Row) (s new : LinkState Sink) (l : Link) → Stands l → Joined others s l
+opens : {Sink : Type 0} → MoveLaws → (others : List Row) (s new : LinkState Sink) (l : LawLink) → CarriesLaw l → Joined others s l
     → Steps (opened_of s.outstation s.now) (opening s) new → Follows others [] [] s.outstation.performed l new
 opens {Sink = Sink} laws others s new l stands j h =
     let step : Step = opened_of s.outstation s.now in
@@ -144,8 +144,8 @@ opens {Sink = Sink} laws others s new l stands j h =
 -- ---- each event
 
 pub event_follows : {Sink : Type 0} → MoveLaws → (takes : Sink → List Row → List Row → List Row → Sink → Type 0) (panel : Panel)
-    → ShowOctets panel → (others : List Row) (s new : LinkState Sink) (l : Link) (e : LinkEvent)
-    → Stands l → Joined others s l → HappensOn takes panel s e new
+    → ShowOctets panel → (others : List Row) (s new : LinkState Sink) (l : LawLink) (e : LinkEvent)
+    → CarriesLaw l → Joined others s l → HappensOn takes panel s e new
     → Follows others (arriving (rows_of s.outstation.core.points (point_moves e))) [] s.outstation.performed l new
 event_follows laws takes panel shown others s new l event.Open stands j h = opens laws others s new l stands j h
 event_follows laws takes panel shown others s new l (event.HangUp end.Master) stands j h = master_goes laws others s new l j h

@@ -8,7 +8,7 @@ use Rattle.dnp_objects.specs.declared.row.Kind.{Kind}
 use Rattle.dnp_objects.specs.declared.row.Row.{Row}
 use Rattle.dnp_objects.specs.Lanes.{kind_number}
 use Rattle.dnp_controls.specs.Panel.{Panel}
-use Rattle.dnp_eventbuf.specs.Stock.{arriving, with_rows, dropped_by}
+use Rattle.dnp_eventbuf.specs.EventBuffer.{arriving, with_rows, dropped_by}
 use Rattle.dnp_pointdb.specs.Database.{Database, blocks_of, with_blocks, has_index, state_in, checked, made_from, answer_of, changed_of, changed_in, changed_state, updated, updated_in}
 use Rattle.dnp_pointdb.specs.Ranges.{is_carried, is_in_time, is_in_range}
 use Rattle.dnp_pointdb.specs.Runs.{Move, moved, made, rows_of}

@@ -21,13 +21,13 @@ use Rattle.dnp_master.specs.State as master
 use Rattle.dnp_master.specs.LinkCalls.{Asks as MasterAsks, PassesOver, TakesReport, TakesResponse, control_in}
 use Rattle.dnp_world.specs.Channels.{ChannelState}
 use Rattle.dnp_world.specs.Joined.{Carries, Joined, Follows}
-use Rattle.dnp_world.specs.Link.{Down, Asks, Link}
+use Rattle.dnp_world.specs.LawLink.{Down, Asks, LawLink}
 use Rattle.dnp_world.specs.MasterSeen.{MasterTakes, master_hung_up, with_master_of}
 use Rattle.dnp_world.specs.Moves.{Move, Moves, LoseUp, lost_up, asking}
 use Rattle.dnp_world.specs.Octets.{commands_in}
 use Rattle.dnp_world.specs.OneLinkEvents.{LinkState, ComeUp, Receives, Takes, IsAsked, AsksBy, AsksIfOwn, is_own, master_gone}
 use Rattle.dnp_world.specs.OutstationSeen.{down_of, octets_of}
-use Rattle.dnp_world.specs.Standing.{Stands}
+use Rattle.dnp_world.specs.Standing.{CarriesLaw}
 use Rattle.dnp_world.specs.steps.MoveLaws.{LineLaws, MasterLaws, MoveLaws}
 use Rattle.dnp_world.proofs.AskedCommands.{own_asks_none}
 use Rattle.dnp_world.proofs.JoinedOctets.{AreOctets, confirms_octets, asked_octets}
@@ -70,13 +70,13 @@ down_is : (ds after : List Down) (going confirms : List (List ℕ)) → ds ≡ m
 down_is ds after going confirms e f = f ∙ ap (λ (xs : List Down). xs ++ map down_of confirms) e ∙ sym (map-append down_of going confirms)
 
 after_taking : {Sink : Type 0} → LineLaws → (takes : Sink → List Row → List Row → List Row → Sink → Type 0) (others : List Row)
-    → (s new : LinkState Sink) (l : Link) (t : Taking)
+    → (s new : LinkState Sink) (l : LawLink) (t : Taking)
     → KeepsBounds s.master t → (s.master.is_open ≡ false → t ≡ unheeded s.master)
     → Joined others s l → MasterTakes t l → Takes takes t s new → Follows others [] [] s.outstation.performed l new
 after_taking {Sink = Sink} line takes others s new l t bounds quiet j m h =
     let was : ChannelState = s.channel in
     let is : ChannelState = new.channel in
-    let link : Link = record l { master = m.link.master; down = m.link.down; took = m.link.took; phase = m.link.phase } in
+    let link : LawLink = record l { master = m.link.master; down = m.link.down; took = m.link.took; phase = m.link.phase } in
     let after : LinkState Sink = record s {
       master = t.state;
       sink = new.sink;
@@ -106,7 +106,7 @@ after_taking {Sink = Sink} line takes others s new l t bounds quiet j m h =
     } in
     record {
       link = link;
-      moves = subst (λ (x : Link). Moves l x) m.same m.moves;
+      moves = subst (λ (x : LawLink). Moves l x) m.same m.moves;
       joined = subst (λ (x : LinkState Sink). Joined others x link)
           (sym (h.after
           ∙ ap (λ (c : ChannelState). record s { master = t.state; sink = new.sink; channel = c; taken = s.taken ++ t.events }) h.goes.after)) joined;
@@ -121,7 +121,7 @@ same_ok : (t x : Taking) → (let r : Result Taking MasterFault = Ok t in r) ≡
 same_ok t x e = cc
 
 after_receiving : {Sink : Type 0} → LineLaws → (takes : Sink → List Row → List Row → List Row → Sink → Type 0) (others : List Row)
-    → (s new : LinkState Sink) (l : Link) (octets : List ℕ)
+    → (s new : LinkState Sink) (l : LawLink) (octets : List ℕ)
     (r : Result Taking MasterFault) → IfOk r (λ t. PassesOver s.master t ⊎ (TakesResponse s.master octets t ⊎ TakesReport s.master octets t))
     → (s.master.is_open ≡ false → r ≡ Ok (unheeded s.master)) → IfOk r (λ t. MasterTakes t l)
     → Joined others s l → Receives takes r s new → Follows others [] [] s.outstation.performed l new
@@ -131,9 +131,9 @@ after_receiving line takes others s new l octets (Err fault) which quiet m j h =
     stays_as others l new s h j
 
 pub came_up : {Sink : Type 0} → MoveLaws → (takes : Sink → List Row → List Row → List Row → Sink → Type 0) (others : List Row)
-    → (s new : LinkState Sink) (l : Link)
+    → (s new : LinkState Sink) (l : LawLink)
     (line : LineState) (port : PortState) (given : List (List ℕ))
-    → Stands l → (j : Joined others s l) → IsSamePort s.channel.master_port port
+    → CarriesLaw l → (j : Joined others s l) → IsSamePort s.channel.master_port port
     → Came line s.channel.outstation_port port s.outstation.core.is_open (map octets_of l.up) given
     → ComeUp takes given (record s { channel = record s.channel { up = line; master_port = port } }) new → Follows others [] [] s.outstation.performed l new
 came_up {Sink = Sink} laws takes others s new l line port given stands j same came h = by came.gives
@@ -152,7 +152,7 @@ came_up {Sink = Sink} laws takes others s new l line port given stands j same ca
         (with_lines others s l s.channel.down line s.channel.outstation_port port s.now j down
         (subst (λ (fs : List (List ℕ)). Carries line s.channel.outstation_port port s.outstation.core.is_open fs) left_is came.carries))
     by (One n fragment at left_is one) =
-        let first : Link = lost_up n l in
+        let first : LawLink = lost_up n l in
         let lose : Move l first = LoseUp n refl in
         let joined : Joined others base first = record {
           outstation = shows_still s.outstation l first refl refl refl j.outstation;
@@ -178,7 +178,7 @@ came_up {Sink = Sink} laws takes others s new l line port given stands j same ca
 of_ok : (P : List ℕ → Type 0) (r : Result (List ℕ) AskFault) (octets : List ℕ) → r ≡ Ok octets → IfOk r P → P octets
 of_ok P r octets e h = subst (λ (r : Result (List ℕ) AskFault). IfOk r P) e h
 
-pub after_asking : {Sink : Type 0} → LineLaws → MasterLaws → (others : List Row) (s new : LinkState Sink) (l : Link) (task : Task) (octets : List ℕ)
+pub after_asking : {Sink : Type 0} → LineLaws → MasterLaws → (others : List Row) (s new : LinkState Sink) (l : LawLink) (task : Task) (octets : List ℕ)
     → AreOctets (request_octets (request_for s.master.seq task)) → Joined others s l
     → ask_answer s.master task ≡ Ok octets → IsAsked task octets s new → Follows others [] (commands_in octets) s.outstation.performed l new
 after_asking {Sink = Sink} line laws others s new l task octets low j answer h =
@@ -187,7 +187,7 @@ after_asking {Sink = Sink} line laws others s new l task octets low j answer h =
     let m = laws.asks s.master s.now task octets l j.number j.master answer in
     let law : MasterAsks s.master task octets (asked s.master s.now task) =
     of_ok (λ octets. MasterAsks s.master task octets (asked s.master s.now task)) (ask_answer s.master task) octets answer (laws.asked s.master s.now task) in
-    let link : Link = asking octets l in
+    let link : LawLink = asking octets l in
     let after : LinkState Sink = record s {
       master = asked s.master s.now task;
       channel = record was { down = is.down; master_port = is.master_port };
@@ -223,7 +223,7 @@ after_asking {Sink = Sink} line laws others s new l task octets low j answer h =
       performed_is = sym (append-nil l.performed);
     }
 
-asks_by : {Sink : Type 0} → MoveLaws → (others : List Row) (s new : LinkState Sink) (l : Link) (task : Task) (r : Result (List ℕ) AskFault)
+asks_by : {Sink : Type 0} → MoveLaws → (others : List Row) (s new : LinkState Sink) (l : LawLink) (task : Task) (r : Result (List ℕ) AskFault)
     → ask_answer s.master task ≡ r
     → is_own task ≡ true → Joined others s l → AsksBy r task s new → Follows others [] [] s.outstation.performed l new
 asks_by laws others s new l task (Ok octets) answer own j h =
@@ -235,22 +235,22 @@ asks_by laws others s new l task (Ok octets) answer own j h =
     (after_asking laws.line laws.master others s new l task octets (asked_octets s.master.seq task j.number own) j answer h)
 asks_by laws others s new l task (Err fault) answer own j h = stays_as others l new s h j
 
-asks_if : {Sink : Type 0} → MoveLaws → (others : List Row) (s new : LinkState Sink) (l : Link) (task : Task) (own : Bool) → is_own task ≡ own
+asks_if : {Sink : Type 0} → MoveLaws → (others : List Row) (s new : LinkState Sink) (l : LawLink) (task : Task) (own : Bool) → is_own task ≡ own
     → Joined others s l → AsksIfOwn own task s new → Follows others [] [] s.outstation.performed l new
 asks_if laws others s new l task true own j h = asks_by laws others s new l task (ask_answer s.master task) refl own j h
 asks_if laws others s new l task false own j h = stays_as others l new s h j
 
-pub asks_follow : {Sink : Type 0} → MoveLaws → (others : List Row) (s new : LinkState Sink) (l : Link) (task : Task)
+pub asks_follow : {Sink : Type 0} → MoveLaws → (others : List Row) (s new : LinkState Sink) (l : LawLink) (task : Task)
     → Joined others s l → AsksIfOwn (is_own task) task s new → Follows others [] [] s.outstation.performed l new
 asks_follow laws others s new l task j h = asks_if laws others s new l task (is_own task) refl j h
 
 -- ---- it closes
 
-pub tick_follows : {Sink : Type 0} → MoveLaws → (others : List Row) (s new : LinkState Sink) (l : Link) → Joined others s l
+pub tick_follows : {Sink : Type 0} → MoveLaws → (others : List Row) (s new : LinkState Sink) (l : LawLink) → Joined others s l
     → new ≡ record s { master = master.ticked s.master s.now } → Follows others [] [] s.outstation.performed l new
 tick_follows {Sink = Sink} laws others s new l j h =
     let m : master.State = master.ticked s.master s.now in
-    let link : Link = with_master_of m l in
+    let link : LawLink = with_master_of m l in
     let after : LinkState Sink = record s { master = m } in
     let joined : Joined others after link = record {
       outstation = shows_still s.outstation l link refl refl refl j.outstation;
@@ -285,10 +285,10 @@ tick_follows {Sink = Sink} laws others s new l j h =
     by_open true closed = refl
     by_open false closed = closed
 
-pub master_goes : {Sink : Type 0} → MoveLaws → (others : List Row) (s new : LinkState Sink) (l : Link) → Joined others s l
+pub master_goes : {Sink : Type 0} → MoveLaws → (others : List Row) (s new : LinkState Sink) (l : LawLink) → Joined others s l
     → new ≡ master_gone s → Follows others [] [] s.outstation.performed l new
 master_goes {Sink = Sink} laws others s new l j h =
-    let link : Link = master_hung_up s.master l in
+    let link : LawLink = master_hung_up s.master l in
     let joined : Joined others (master_gone s) link = record {
       outstation = shows_still s.outstation l link refl refl refl j.outstation;
       master = refl;

@@ -11,7 +11,7 @@ use Rattle.dnp_objects.specs.declared.row.Row.{Row}
 use Rattle.dnp_controls.specs.Latches.{no_panel}
 use Rattle.dnp_controls.specs.Panel.{Panel}
 use Rattle.dnp_eventbuf.specs.Buffered.{Buffered, buffered_row}
-use Rattle.dnp_eventbuf.specs.Stock.{Stock, arriving, with_rows, dropped_by}
+use Rattle.dnp_eventbuf.specs.EventBuffer.{EventBuffer, arriving, with_rows, dropped_by}
 use Rattle.dnp_line.specs.Flows.{Flows}
 use Rattle.dnp_line.specs.Ways.{new_way}
 use Rattle.dnp_pointdb.specs.Database.{Database, new_database}
@@ -25,11 +25,11 @@ use Rattle.dnp_world.specs.declared.link_event.Way.TheVariants as way
 use Rattle.dnp_world.specs.declared.link_event.LinkEvent.{LinkEvent}
 use Rattle.dnp_world.specs.declared.link_event.LinkEvent.TheVariants as event
 use Rattle.dnp_world.specs.Joined.{Carries, Joined, Follows, point_moves, rows_made_by, new_link_of, with_others_rows}
-use Rattle.dnp_world.specs.Link.{Link}
+use Rattle.dnp_world.specs.LawLink.{LawLink}
 use Rattle.dnp_world.specs.Lanes.{fresh_link}
 use Rattle.dnp_world.specs.OneLinkEvents.{LinkState, HappensOn, RunsTo, CountsFor, StopsAt, StopsAfter}
 use Rattle.dnp_world.specs.OutstationSeen.{octets_of, ShowOctets, Shows, Simulates}
-use Rattle.dnp_world.specs.Standing.{Stands}
+use Rattle.dnp_world.specs.Standing.{CarriesLaw}
 use Rattle.dnp_world.specs.steps.MoveLaws.{MoveLaws}
 use Rattle.dnp_world.proofs.JoinedEvents.{event_follows}
 use Rattle.dnp_world.proofs.JoinedHappenings.{made_behind, event_points}
@@ -39,7 +39,7 @@ use Rattle.dnp_world.proofs.OutstationSteps.{moves_after}
 
 -- ---- one after the other
 
-follows_both : {Sink : Type 0} (others first second : List Row) (before : List Command) (l : Link) (next new : LinkState Sink)
+follows_both : {Sink : Type 0} (others first second : List Row) (before : List Command) (l : LawLink) (next new : LinkState Sink)
     (f : Follows others first [] before l next)
     → Follows others second [] next.outstation.performed f.link new → Follows others (first ++ second) [] before l new
 follows_both others first second before l next new f g = record {
@@ -58,8 +58,8 @@ no_octets : ShowOctets no_panel
 no_octets = record { outputs = omega arith; status = λ index low. omega arith }
 
 pub run_follows : {Sink : Type 0} → MoveLaws → (takes : Sink → List Row → List Row → List Row → Sink → Type 0) (others : List Row)
-    → (s new : LinkState Sink) (l : Link) (events : List LinkEvent)
-    → Stands l → Joined others s l → RunsTo takes s events new
+    → (s new : LinkState Sink) (l : LawLink) (events : List LinkEvent)
+    → CarriesLaw l → Joined others s l → RunsTo takes s events new
     → Follows others (rows_made_by s.outstation.core.points events) [] s.outstation.performed l new
 run_follows laws takes others s new l [] stands j h = stays_as others l new s h j
 run_follows laws takes others s new l (e ∷ events) stands j (next, first, later) =
@@ -78,8 +78,8 @@ run_follows laws takes others s new l (e ∷ events) stands j (next, first, late
 
 -- one event, whatever the outputs
 pub one_follows : {Sink : Type 0} → MoveLaws → (takes : Sink → List Row → List Row → List Row → Sink → Type 0) (panel : Panel) → ShowOctets panel
-    → (others : List Row) (s new : LinkState Sink) (l : Link) (e : LinkEvent)
-    → Stands l → Joined others s l → HappensOn takes panel s e new
+    → (others : List Row) (s new : LinkState Sink) (l : LawLink) (e : LinkEvent)
+    → CarriesLaw l → Joined others s l → HappensOn takes panel s e new
     → Follows others (rows_made_by s.outstation.core.points (e ∷ [])) [] s.outstation.performed l new
 one_follows laws takes panel shown others s new l e stands j h =
     subst (λ (moves : List Move). Follows others (arriving (rows_of s.outstation.core.points moves)) [] s.outstation.performed l new)
@@ -89,8 +89,8 @@ one_follows laws takes panel shown others s new l e stands j h =
 -- ---- a list that stops
 
 counts_follows : {Sink : Type 0} → MoveLaws → (takes : Sink → List Row → List Row → List Row → Sink → Type 0) (others : List Row)
-    → (s new : LinkState Sink) (l : Link) (e : LinkEvent)
-    → Stands l → Joined others s l → CountsFor takes s e new → Follows others [] [] s.outstation.performed l new
+    → (s new : LinkState Sink) (l : LawLink) (e : LinkEvent)
+    → CarriesLaw l → Joined others s l → CountsFor takes s e new → Follows others [] [] s.outstation.performed l new
 counts_follows laws takes others s new l (event.Deliver way.Down) stands j h =
     event_follows laws takes no_panel no_octets others s new l (event.Lose way.Down) stands j h
 counts_follows laws takes others s new l (event.Deliver way.Up) stands j h =
@@ -98,16 +98,16 @@ counts_follows laws takes others s new l (event.Deliver way.Up) stands j h =
 counts_follows laws takes others s new l e stands j h = stays_as others l new s h j
 
 pub stop_follows : {Sink : Type 0} → MoveLaws → (takes : Sink → List Row → List Row → List Row → Sink → Type 0) (keeps : Sink → Sink → Type 0)
-    → (others : List Row) (s new : LinkState Sink) (l : Link)
-    (e : LinkEvent) → Stands l → Joined others s l → StopsAt takes keeps s e new
+    → (others : List Row) (s new : LinkState Sink) (l : LawLink)
+    (e : LinkEvent) → CarriesLaw l → Joined others s l → StopsAt takes keeps s e new
     → Follows others [] [] s.outstation.performed l new
 stop_follows laws takes keeps others s new l e stands j h =
     counts_follows laws takes others (record s { sink = h.sink }) new l e stands
     (with_lists others others s l h.sink s.now s.taken s.released s.left j j.taken j.released j.left) h.counts
 
 pub stopped_follows : {Sink : Type 0} → MoveLaws → (takes : Sink → List Row → List Row → List Row → Sink → Type 0)
-    → (keeps : Sink → Sink → Type 0) (others : List Row) (s new : LinkState Sink) (l : Link)
-    (events : List LinkEvent) (done : ℕ) → Stands l → Joined others s l → StopsAfter takes keeps s events done new
+    → (keeps : Sink → Sink → Type 0) (others : List Row) (s new : LinkState Sink) (l : LawLink)
+    (events : List LinkEvent) (done : ℕ) → CarriesLaw l → Joined others s l → StopsAfter takes keeps s events done new
     → Follows others (rows_made_by s.outstation.core.points (take done events)) [] s.outstation.performed l new
 stopped_follows laws takes keeps others s new l events done stands j h =
     let rows : List Row = rows_made_by s.outstation.core.points (take done events) in
@@ -122,7 +122,7 @@ stopped_follows laws takes keeps others s new l events done stands j h =
 abbrev pub append_of : outstation.State → List LaneRow → Step
 append_of s rows = record { state = record s { lanes = with_rows s.lanes rows }; does = record nothing { overwritten = dropped_by s.lanes rows } }
 
-pub append_follows : {Sink : Type 0} (others : List Row) (s : LinkState Sink) (l : Link) (rows : List LaneRow) → Joined others s l
+pub append_follows : {Sink : Type 0} (others : List Row) (s : LinkState Sink) (l : LawLink) (rows : List LaneRow) → Joined others s l
     → Simulates s.outstation (arriving rows) (append_of s.outstation rows) l
     → Follows (others ++ dropped_by s.outstation.lanes rows) (arriving rows) [] s.outstation.performed l (with_others_rows rows s)
 append_follows others s l rows j sim =
@@ -156,7 +156,7 @@ append_follows others s l rows j sim =
     }
 
 -- what left for others may be listed with the rest
-pub listed : {Sink : Type 0} (others dropped : List Row) (s : LinkState Sink) (l : Link) → Joined (others ++ dropped) s l
+pub listed : {Sink : Type 0} (others dropped : List Row) (s : LinkState Sink) (l : LawLink) → Joined (others ++ dropped) s l
     → Joined others (record s { left = s.left ++ dropped }) l
 listed others dropped s l j =
     with_lists (others ++ dropped) others s l s.sink s.now s.taken s.released (s.left ++ dropped) j j.taken j.released
@@ -169,7 +169,7 @@ listed others dropped s l j =
 abbrev pub Opened : Type 0
 Opened = (own peer : ℕ) (from_master : Bool) → Flows (new_way own peer from_master) []
 
-pub new_joined : {Sink : Type 0} → Opened → (plan : Plan) (times : Times) (lanes : Stock) (performed : List Command) (peer own : ℕ)
+pub new_joined : {Sink : Type 0} → Opened → (plan : Plan) (times : Times) (lanes : EventBuffer) (performed : List Command) (peer own : ℕ)
     → (sink : Sink)
     → (let o : outstation.State = record { core = new_core (new_database plan) times; lanes = lanes; performed = performed } in Shows o (fresh_link lanes))
     → Joined [] (new_link_of plan times lanes performed peer own sink) (fresh_link lanes)

@@ -19,12 +19,12 @@ use Rattle.dnp_outstation.specs.State as outstation
 use Rattle.dnp_outstation.specs.State.{Step, still}
 use Rattle.dnp_world.specs.Channels.{ChannelState}
 use Rattle.dnp_world.specs.Joined.{Carries, Joined, Follows}
-use Rattle.dnp_world.specs.Link.{Down, Link}
+use Rattle.dnp_world.specs.LawLink.{Down, LawLink}
 use Rattle.dnp_world.specs.MasterSeen.{master_of}
 use Rattle.dnp_world.specs.Moves.{Moves, Done, LoseDown, lost_down}
 use Rattle.dnp_world.specs.OneLinkEvents.{LinkState, Steps, ComeDown}
 use Rattle.dnp_world.specs.OutstationSeen.{down_of, octets_of, ShowOctets, Shows, Simulates}
-use Rattle.dnp_world.specs.Standing.{Stands}
+use Rattle.dnp_world.specs.Standing.{CarriesLaw}
 use Rattle.dnp_world.specs.steps.MoveLaws.{LineLaws, MoveLaws}
 use Rattle.dnp_world.proofs.JoinedPoints.{received_leaves}
 use Rattle.dnp_world.proofs.JoinedWays.{Came, carries_still, carries_sent, back_all_sent, back_came, IsSamePort}
@@ -32,7 +32,7 @@ use Rattle.dnp_world.proofs.Keeping.{move_stands}
 use Rattle.dnp_world.proofs.OutstationSteps.{moves_after, one_move}
 
 -- what is joined but for the outstation: whether it was open before, and what had left the lanes
-pub record Beside {Sink : Type 0} (others listed : List Row) (s : LinkState Sink) (was_open : Bool) (l : Link) : Type 0 where
+pub record Beside {Sink : Type 0} (others listed : List Row) (s : LinkState Sink) (was_open : Bool) (l : LawLink) : Type 0 where
   pub master : l.master ≡ master_of s.master
   pub number : s.master.seq < 16
   pub going_down : List (List ℕ)
@@ -44,7 +44,7 @@ pub record Beside {Sink : Type 0} (others listed : List Row) (s : LinkState Sink
   pub released : map buffered_row l.released ≡ s.released
   pub left : IsPermutation (map buffered_row l.left) (listed ++ others)
 
-pub beside_of : {Sink : Type 0} (others left : List Row) (s : LinkState Sink) (l : Link) → Joined others s l
+pub beside_of : {Sink : Type 0} (others left : List Row) (s : LinkState Sink) (l : LawLink) → Joined others s l
     → Beside others s.left (record s { left = left }) s.outstation.core.is_open l
 beside_of others left s l j = record {
   master = j.master;
@@ -62,7 +62,7 @@ beside_of others left s l j = record {
 -- ---- what isn't of the stations changes
 
 -- a line or a port, or the moment
-pub with_lines : {Sink : Type 0} (others : List Row) (s : LinkState Sink) (l : Link) (down up : LineState) (outstation_port master_port : PortState)
+pub with_lines : {Sink : Type 0} (others : List Row) (s : LinkState Sink) (l : LawLink) (down up : LineState) (outstation_port master_port : PortState)
     (now : ℕ) (j : Joined others s l) → Carries down master_port outstation_port s.master.is_open j.going_down
     → Carries up outstation_port master_port s.outstation.core.is_open (map octets_of l.up)
     → Joined others (record s { channel = record { down = down; up = up; outstation_port = outstation_port; master_port = master_port }; now = now }) l
@@ -81,7 +81,7 @@ with_lines others s l down up outstation_port master_port now j going_down going
 }
 
 -- the sink, of which the law sees what it took and no more, the moment, or how the rows are listed
-pub with_lists : {Sink : Type 0} (others listed : List Row) (s : LinkState Sink) (l : Link) (sink : Sink) (now : ℕ) (taken released left : List Row)
+pub with_lists : {Sink : Type 0} (others listed : List Row) (s : LinkState Sink) (l : LawLink) (sink : Sink) (now : ℕ) (taken released left : List Row)
     → Joined others s l → IsPermutation taken (map buffered_row l.took) → map buffered_row l.released ≡ released
     → IsPermutation (map buffered_row l.left) (left ++ listed)
     → Joined listed (record s { sink = sink; now = now; taken = taken; released = released; left = left }) l
@@ -100,7 +100,7 @@ with_lists others listed s l sink now taken released left j is_taken is_released
 }
 
 -- a link with the same outstation and lanes
-pub shows_still : (s : outstation.State) (l l' : Link) → l'.outstation ≡ l.outstation → l'.lanes ≡ l.lanes → l'.last_id ≡ l.last_id → Shows s l → Shows s l'
+pub shows_still : (s : outstation.State) (l l' : LawLink) → l'.outstation ≡ l.outstation → l'.lanes ≡ l.lanes → l'.last_id ≡ l.last_id → Shows s l → Shows s l'
 shows_still s l l' same lanes last_id shows = record {
   outstation = shows.outstation ∙ sym same;
   lanes = record { rows = lanes ∙ shows.lanes.rows; last_id = last_id ∙ shows.lanes.last_id };
@@ -120,7 +120,7 @@ left_behind all first others gone h =
 
 -- ---- a step
 
-pub after_step : {Sink : Type 0} → LineLaws → (others listed came : List Row) (s new : LinkState Sink) (was_open : Bool) (l : Link)
+pub after_step : {Sink : Type 0} → LineLaws → (others listed came : List Row) (s new : LinkState Sink) (was_open : Bool) (l : LawLink)
     → (step : Step)
     → s.left ≡ listed ++ step.does.overwritten
     → (was_open ≡ false → step.does.send ≡ []) → (was_open ≡ false → step.state.core.is_open ≡ false)
@@ -171,7 +171,7 @@ after_step {Sink = Sink} line others listed came s new was_open l step grown qui
     }
 
 -- moves in front
-pub moves_before : {Sink : Type 0} (others came : List Row) (asked before : List Command) (l first : Link) (new : LinkState Sink) → Moves l first
+pub moves_before : {Sink : Type 0} (others came : List Row) (asked before : List Command) (l first : LawLink) (new : LinkState Sink) → Moves l first
     → map buffered_row first.stood ≡ map buffered_row l.stood → first.asked ≡ l.asked → first.performed ≡ l.performed
     → Follows others came asked before first new → Follows others came asked before l new
 moves_before others came asked before l first new moves same asks performs f = record {
@@ -186,7 +186,7 @@ moves_before others came asked before l first new moves same asks performs f = r
 }
 
 -- nothing comes to the lanes, and no move is made
-pub stays_as : {Sink : Type 0} (others : List Row) (l : Link) (new after : LinkState Sink) → new ≡ after → Joined others after l
+pub stays_as : {Sink : Type 0} (others : List Row) (l : LawLink) (new after : LinkState Sink) → new ≡ after → Joined others after l
     → Follows others [] [] after.outstation.performed l new
 stays_as {Sink = Sink} others l new after e j = record {
   link = l;
@@ -216,7 +216,7 @@ still_closed : (s : outstation.State) (step : Step) → step ≡ still s → s.c
 still_closed s step e closed = ap (λ (x : Step). x.state.core.is_open) e ∙ closed
 
 -- a step that drops nothing, of an outstation that does nothing where it is closed
-pub plain_step : {Sink : Type 0} → LineLaws → (others : List Row) (s new : LinkState Sink) (l : Link) (step : Step)
+pub plain_step : {Sink : Type 0} → LineLaws → (others : List Row) (s new : LinkState Sink) (l : LawLink) (step : Step)
     → step.does.overwritten ≡ [] → (s.outstation.core.is_open ≡ false → step ≡ still s.outstation)
     → Joined others s l → Simulates s.outstation [] step l → Steps step s new → Follows others [] [] s.outstation.performed l new
 plain_step line others s new l step none quiet j sim steps =
@@ -226,8 +226,8 @@ plain_step line others s new l step none quiet j sim steps =
     (beside_of others s.left s l j) sim steps
 
 -- what the port gives comes to the outstation
-come_down : {Sink : Type 0} → MoveLaws → (panel : Panel) → ShowOctets panel → (others : List Row) (s new : LinkState Sink) (l : Link)
-    → (fragment : List ℕ) (rest : List Down) → Stands l → Joined others s l
+come_down : {Sink : Type 0} → MoveLaws → (panel : Panel) → ShowOctets panel → (others : List Row) (s new : LinkState Sink) (l : LawLink)
+    → (fragment : List ℕ) (rest : List Down) → CarriesLaw l → Joined others s l
     → All (λ octet. octet < 2 ^ 8) fragment → l.down ≡ down_of fragment ∷ rest
     → Steps (connection_after s.outstation panel s.now fragment) s new → Follows others [] [] s.outstation.performed l new
 come_down laws panel shown others s new l fragment rest stands j small down_is steps =
@@ -237,9 +237,9 @@ come_down laws panel shown others s new l fragment rest stands j small down_is s
     (laws.outstation.comes s.outstation panel s.now fragment l rest shown small j.outstation stands down_is) steps
 
 pub came_down : {Sink : Type 0} → MoveLaws → (panel : Panel) → ShowOctets panel
-    → (others : List Row) (s new : LinkState Sink) (l : Link) (line : LineState) (port : PortState)
+    → (others : List Row) (s new : LinkState Sink) (l : LawLink) (line : LineState) (port : PortState)
     → (given : List (List ℕ))
-    → Stands l → (j : Joined others s l) → IsSamePort s.channel.outstation_port port
+    → CarriesLaw l → (j : Joined others s l) → IsSamePort s.channel.outstation_port port
     → Came line s.channel.master_port port s.master.is_open j.going_down given
     → ComeDown panel given (record s { channel = record s.channel { down = line; outstation_port = port } }) new
     → Follows others [] [] s.outstation.performed l new
@@ -259,11 +259,11 @@ came_down {Sink = Sink} laws panel shown others s new l line port given stands j
         (with_lines others s l line s.channel.up port s.channel.master_port s.now j
         (subst (λ (fs : List (List ℕ)). Carries line s.channel.master_port port s.master.is_open fs) left_is came.carries) up)
     by (One n fragment at left_is one) =
-        let first : Link = lost_down n l in
+        let first : LawLink = lost_down n l in
         let there : drop n j.going_down ≡ fragment ∷ drop (suc n) j.going_down = left_at n j.going_down fragment at in
         let small : All (All (λ octet. octet < 2 ^ 8)) (fragment ∷ drop (suc n) j.going_down) =
         subst (λ (fs : List (List ℕ)). All (All (λ octet. octet < 2 ^ 8)) fs) there (All-drop (All (λ octet. octet < 2 ^ 8)) n j.going_down j.octets) in
-        let stands_first : Stands first = move_stands l first (LoseDown n refl) stands in
+        let stands_first : CarriesLaw first = move_stands l first (LoseDown n refl) stands in
         let joined : Joined others base first = record {
           outstation = shows_still s.outstation l first refl refl refl j.outstation;
           master = j.master;

@@ -2,9 +2,9 @@
 use Rattle.std.proofs.Common.{◌≡◌, false, List, sym, subst}
 use Rattle.dnp_objects.specs.declared.command.Command.{Command}
 use Rattle.dnp_objects.specs.Counts.{IsCoveredBy}
-use Rattle.dnp_world.specs.Link.{Link}
+use Rattle.dnp_world.specs.LawLink.{LawLink}
 use Rattle.dnp_world.specs.Moves.{Append, Ask, CloseMaster, CloseOutstation, Confirm, ConfirmReport, Continue, Done, Drop, LoseDown, LoseUp, Move, Moves, Open, Receive, Repeat, RepeatReport, Respond, StartReport, StopWaiting, Take, TakeReport, Then, appended, asking, confirmed, continued, dropped, lost_down, lost_up, opened, received, repeated, report_confirmed, report_repeated, report_sent, report_taken, responded, stopped_waiting, taken, with_master, with_outstation}
-use Rattle.dnp_world.specs.Standing.{IsFresh, Stands}
+use Rattle.dnp_world.specs.Standing.{IsFresh, CarriesLaw}
 use Rattle.dnp_world.proofs.Counting.{covered_nil}
 use Rattle.dnp_world.proofs.Connections.{appended_stands, asking_stands, closed_master_stands, closed_outstation_stands, dropped_stands, lost_down_stands, lost_up_stands, opened_stands, report_taken_stands, taken_stands}
 use Rattle.dnp_world.proofs.Answering.{confirmed_stands, continued_stands, received_stands, repeated_stands, report_confirmed_stands, report_repeated_stands, report_sent_stands, responded_stands, stopped_waiting_stands}
@@ -12,10 +12,10 @@ use Rattle.dnp_world.proofs.EventLaw
 
 -- ---- every move
 
-moved : (old new after_it : Link) → new ≡ after_it → Stands after_it → Stands new
-moved old new after_it e s = subst (λ (l : Link). Stands l) (sym e) s
+moved : (old new after_it : LawLink) → new ≡ after_it → CarriesLaw after_it → CarriesLaw new
+moved old new after_it e s = subst (λ (l : LawLink). CarriesLaw l) (sym e) s
 
-pub move_stands : (old new : Link) → Move old new → Stands old → Stands new
+pub move_stands : (old new : LawLink) → Move old new → CarriesLaw old → CarriesLaw new
 move_stands old new (Append x newer e) s = moved old new (appended x old) e (appended_stands old x newer s)
 move_stands old new (Drop stay gone parts e) s = moved old new (dropped stay gone old) e (dropped_stands old stay gone parts s)
 move_stands old new (Open e) s = moved old new (opened old) e (opened_stands old s)
@@ -42,11 +42,11 @@ move_stands old new (StopWaiting e) s = moved old new (stopped_waiting old) e (s
 move_stands old new (StartReport f none number offered e) s = moved old new (report_sent f old) e (report_sent_stands old f none number offered s)
 move_stands old new (RepeatReport w waits e) s = moved old new (report_repeated old) e (report_repeated_stands old w waits s)
 
-pub moves_stand : (old new : Link) → Moves old new → Stands old → Stands new
+pub moves_stand : (old new : LawLink) → Moves old new → CarriesLaw old → CarriesLaw new
 moves_stand old new Done s = s
 moves_stand old new (Then {next = next} ms m) s = move_stands next new m (moves_stand old next ms s)
 
-pub fresh_stands : (l : Link) → IsFresh l → Stands l
+pub fresh_stands : (l : LawLink) → IsFresh l → CarriesLaw l
 fresh_stands l fresh =
     record {
       rows = EventLaw.rows_fresh l fresh;

@@ -12,7 +12,7 @@ use Rattle.dnp_master.specs.Requests.{is_good, request_for}
 use Rattle.dnp_master.specs.State.{State, closed, is_idle, is_timed_out, ticked}
 use Rattle.dnp_master.specs.LinkCalls as seen
 use Rattle.dnp_world.specs.Octets.{seq_in}
-use Rattle.dnp_world.specs.Link.{Asks, Master, Link, Up}
+use Rattle.dnp_world.specs.LawLink.{Asks, LawMaster, LawLink, Up}
 use Rattle.dnp_world.specs.Moves.{asking, Move, Moves, Done, Then, Ask, CloseMaster, LoseUp}
 use Rattle.dnp_world.specs.MasterSeen.{master_of, down_of, with_master_of, master_hung_up}
 
@@ -47,20 +47,20 @@ answers_idle s task idle follows good =
     rw parts.0 (rw (not_busy s.request parts.1) (rw follows (rw good refl)))
 
 master_same : (is_open is_open' busy busy' : Bool) (seq seq' : ℕ) → is_open ≡ is_open' → busy ≡ busy' → seq ≡ seq'
-    → (let m : Master = record { is_open = is_open; is_busy = busy; seq = seq } in m)
-    ≡ (let m : Master = record { is_open = is_open'; is_busy = busy'; seq = seq' } in m)
+    → (let m : LawMaster = record { is_open = is_open; is_busy = busy; seq = seq } in m)
+    ≡ (let m : LawMaster = record { is_open = is_open'; is_busy = busy'; seq = seq' } in m)
 master_same is_open is_open' busy busy' seq seq' e f g = cc
 
-abbrev IsAsking : State → ℕ → Task → Link → List ℕ → Type 0
+abbrev IsAsking : State → ℕ → Task → LawLink → List ℕ → Type 0
 IsAsking s now task l octets =
     Move l (asking octets l) × ((asking octets l).master ≡ master_of (asked s now task)) × (down_of octets ≡ Asks octets)
 
-asking_moves : (s : State) (now : ℕ) (task : Task) (octets : List ℕ) (l : Link) → s.seq < 16 → l.master ≡ master_of s
+asking_moves : (s : State) (now : ℕ) (task : Task) (octets : List ℕ) (l : LawLink) → s.seq < 16 → l.master ≡ master_of s
     → seen.Asks s task octets (asked s now task) → IsAsking s now task l octets
 asking_moves s now task octets l low shows a =
-    let opens : l.master.is_open ≡ true = ap (λ (m : Master). m.is_open) shows ∙ a.was_open in
-    let idle : l.master.is_busy ≡ false = ap (λ (m : Master). m.is_busy) shows ∙ busy_none s.request a.idle in
-    let seq : l.master.seq ≡ s.seq = ap (λ (m : Master). m.seq) shows in
+    let opens : l.master.is_open ≡ true = ap (λ (m : LawMaster). m.is_open) shows ∙ a.was_open in
+    let idle : l.master.is_busy ≡ false = ap (λ (m : LawMaster). m.is_busy) shows ∙ busy_none s.request a.idle in
+    let seq : l.master.seq ≡ s.seq = ap (λ (m : LawMaster). m.seq) shows in
     let number : seq_in octets ≡ l.master.seq = ap seq_in a.octets_are ∙ asked_seq s.seq task low ∙ sym seq in (
       Ask octets opens idle number refl,
       master_same l.master.is_open (asked s now task).is_open true (is_some (asked s now task).request) l.master.seq (asked s now task).seq
@@ -71,7 +71,7 @@ asking_moves s now task octets l low shows a =
 of_ok : (P : List ℕ → Type 0) (r : Result (List ℕ) AskFault) (octets : List ℕ) → r ≡ Ok octets → IfOk r P → P octets
 of_ok P r octets e h = subst (λ (r : Result (List ℕ) AskFault). IfOk r P) e h
 
-pub asks : Law → (s : State) (now : ℕ) (task : Task) (octets : List ℕ) (l : Link) → s.seq < 16 → l.master ≡ master_of s
+pub asks : Law → (s : State) (now : ℕ) (task : Task) (octets : List ℕ) (l : LawLink) → s.seq < 16 → l.master ≡ master_of s
     → ask_answer s task ≡ Ok octets → IsAsking s now task l octets
 asks law s now task octets l low shows e =
     asking_moves s now task octets l low shows
@@ -79,19 +79,19 @@ asks law s now task octets l low shows e =
 
 -- ---- closing
 
-closes : (s : State) (l : Link) → Move l (with_master_of (closed s) l)
+closes : (s : State) (l : LawLink) → Move l (with_master_of (closed s) l)
 closes s l = CloseMaster (master_of (closed s)) refl refl
 
-pub hangs_up : (s : State) (l : Link) → Moves l (master_hung_up s l)
+pub hangs_up : (s : State) (l : LawLink) → Moves l (master_hung_up s l)
 hangs_up s l =
-    let first : Link = with_master_of (closed s) l in
+    let first : LawLink = with_master_of (closed s) l in
     let all : ℕ = length l.up in
     let none : drop all l.up ≡ [] = drop_all all l.up (omega arith) in
     Then {next = first} (Then {next = l} Done (closes s l)) (LoseUp all (ap (λ (us : List Up). record first { up = us }) (sym none)))
 
-pub ticks : (s : State) (now : ℕ) (l : Link) → l.master ≡ master_of s → Moves l (with_master_of (ticked s now) l)
+pub ticks : (s : State) (now : ℕ) (l : LawLink) → l.master ≡ master_of s → Moves l (with_master_of (ticked s now) l)
 ticks s now l shows = by_time (is_timed_out s now)
   where
     by_time : (b : Bool) → Moves l (with_master_of (if b then closed s else s) l)
     by_time true = Then {next = l} Done (closes s l)
-    by_time false = subst (λ (m : Master). Moves l (record l { master = m })) shows Done
+    by_time false = subst (λ (m : LawMaster). Moves l (record l { master = m })) shows Done

@@ -18,9 +18,9 @@ use Rattle.dnp_master.specs.State.{State}
 use Rattle.dnp_master.specs.LinkCalls.{events_at, PassesOver, TakesResponse, TakesReport}
 use Rattle.dnp_world.specs.Lists.{Each}
 use Rattle.dnp_world.specs.Octets.{after, control_in, seq_in, uns_in, con_in, fin_in, rows_in}
-use Rattle.dnp_world.specs.Link.{Fragment, seq_of, fin_of, Down, Confirms, ConfirmsReport, Up, Responds, Reports, Master, Link}
+use Rattle.dnp_world.specs.LawLink.{SentFragment, seq_of, fin_of, Down, Confirms, ConfirmsReport, Up, Responds, Reports, LawMaster, LawLink}
 use Rattle.dnp_world.specs.Moves.{Says, confirm_of, taken, report_taken, lost_up, Move, Done, Then, Take, TakeReport, LoseUp}
-use Rattle.dnp_world.specs.Standing.{IsOfStood, Stands}
+use Rattle.dnp_world.specs.Standing.{IsOfStood, CarriesLaw}
 use Rattle.dnp_world.specs.MasterSeen.{master_of, down_of, octets_of, MasterTakes}
 use Rattle.dnp_world.proofs.Keeping.{move_stands}
 
@@ -75,12 +75,12 @@ report_confirms control true low uns =
     ap (λ (b : Bool). down_of (request_octets (confirmation control.seq b)) ∷ []) uns ∙ ap (λ (d : Down). d ∷ []) (own_report_confirm control.seq low)
 report_confirms control false low uns = refl
 
-sent_for : (f : Fragment) → uns_in f.octets ≡ false
+sent_for : (f : SentFragment) → uns_in f.octets ≡ false
     → map down_of (option_to_list (confirm_for (control_in f.octets))) ≡ confirm_of f (Confirms (seq_of f))
 unfolding uns_in seq_in con_in
 sent_for f uns = confirms (control_in f.octets) (control_in f.octets).con (low_seq f.octets) uns
 
-sent_for_report : (f : Fragment) → uns_in f.octets ≡ true
+sent_for_report : (f : SentFragment) → uns_in f.octets ≡ true
     → map down_of (option_to_list (confirm_for (control_in f.octets))) ≡ confirm_of f (ConfirmsReport (seq_of f))
 unfolding uns_in seq_in con_in
 sent_for_report f uns = report_confirms (control_in f.octets) (control_in f.octets).con (low_seq f.octets) uns
@@ -100,7 +100,7 @@ took_rows took rows read h =
 
 -- ---- what a fragment makes of the link
 
-passes : (s : State) (t : Taking) (l : Link) → l.master ≡ master_of s → PassesOver s t → MasterTakes t l
+passes : (s : State) (t : Taking) (l : LawLink) → l.master ≡ master_of s → PassesOver s t → MasterTakes t l
 passes s t l shows p =
     record {
       link = l;
@@ -112,21 +112,21 @@ passes s t l shows p =
       same = refl;
     }
 
-pub nothing_taken : (s : State) (l : Link) → l.master ≡ master_of s → MasterTakes (unheeded s) l
+pub nothing_taken : (s : State) (l : LawLink) → l.master ≡ master_of s → MasterTakes (unheeded s) l
 nothing_taken s l shows = passes s (unheeded s) l shows (record { state = refl; events = refl; statics = refl; confirm = refl })
 
 master_same : (is_open is_open' busy busy' : Bool) (seq seq' : ℕ) → is_open ≡ is_open' → busy ≡ busy' → seq ≡ seq'
-    → (let m : Master = record { is_open = is_open; is_busy = busy; seq = seq } in m)
-    ≡ (let m : Master = record { is_open = is_open'; is_busy = busy'; seq = seq' } in m)
+    → (let m : LawMaster = record { is_open = is_open; is_busy = busy; seq = seq } in m)
+    ≡ (let m : LawMaster = record { is_open = is_open'; is_busy = busy'; seq = seq' } in m)
 master_same is_open is_open' busy busy' seq seq' e f g = cc
 
-response : (s : State) (t : Taking) (f : Fragment) (l : Link) (rest : List Up) → l.master ≡ master_of s → l.up ≡ Responds f ∷ rest
+response : (s : State) (t : Taking) (f : SentFragment) (l : LawLink) (rest : List Up) → l.master ≡ master_of s → l.up ≡ Responds f ∷ rest
     → Says false f → TakesResponse s f.octets t → MasterTakes t l
 unfolding seq_in fin_in
 response s t f l rest shows up_is says r =
-    let opens : l.master.is_open ≡ true = ap (λ (m : Master). m.is_open) shows ∙ r.was_open in
-    let busy : l.master.is_busy ≡ true = ap (λ (m : Master). m.is_busy) shows ∙ r.busy in
-    let seq : l.master.seq ≡ s.seq = ap (λ (m : Master). m.seq) shows in
+    let opens : l.master.is_open ≡ true = ap (λ (m : LawMaster). m.is_open) shows ∙ r.was_open in
+    let busy : l.master.is_busy ≡ true = ap (λ (m : LawMaster). m.is_busy) shows ∙ r.busy in
+    let seq : l.master.seq ≡ s.seq = ap (λ (m : LawMaster). m.seq) shows in
     let number : seq_of f ≡ l.master.seq = r.seq ∙ sym seq in
     record {
       link = taken f l;
@@ -140,7 +140,7 @@ response s t f l rest shows up_is says r =
       same = refl;
     }
 
-report : (s : State) (t : Taking) (f : Fragment) (l : Link) (rest : List Up) → l.master ≡ master_of s → l.up ≡ Reports f ∷ rest
+report : (s : State) (t : Taking) (f : SentFragment) (l : LawLink) (rest : List Up) → l.master ≡ master_of s → l.up ≡ Reports f ∷ rest
     → Says true f → TakesReport s f.octets t → MasterTakes t l
 report s t f l rest shows up_is says r =
     record {
@@ -154,10 +154,10 @@ report s t f l rest shows up_is says r =
       same = refl;
     }
 
-head_says : (l : Link) (up : Up) (rest : List Up) → l.up ≡ up ∷ rest → Stands l → IsOfStood l.stood up
+head_says : (l : LawLink) (up : Up) (rest : List Up) → l.up ≡ up ∷ rest → CarriesLaw l → IsOfStood l.stood up
 head_says l up rest e stands = (subst (λ (us : List Up). Each (IsOfStood l.stood) us) e stands.rows.up).0
 
-takes : (s : State) (t : Taking) (l : Link) (up : Up) (rest : List Up) → l.master ≡ master_of s → l.up ≡ up ∷ rest → IsOfStood l.stood up
+takes : (s : State) (t : Taking) (l : LawLink) (up : Up) (rest : List Up) → l.master ≡ master_of s → l.up ≡ up ∷ rest → IsOfStood l.stood up
     → PassesOver s t ⊎ (TakesResponse s (octets_of up) t ⊎ TakesReport s (octets_of up) t) → MasterTakes t l
 unfolding uns_in
 takes s t l (Responds f) rest shows up_is stood h =
@@ -181,7 +181,7 @@ if_taken : (P Q : Taking → Type 0) (r : Result Taking MasterFault) → ((t : T
 if_taken P Q (Ok t) f h = f t h
 if_taken P Q (Err fault) f h = tt
 
-pub first_taken : Law → (s : State) (now : ℕ) (l : Link) (up : Up) (rest : List Up) → Stands l → l.master ≡ master_of s → l.up ≡ up ∷ rest
+pub first_taken : Law → (s : State) (now : ℕ) (l : LawLink) (up : Up) (rest : List Up) → CarriesLaw l → l.master ≡ master_of s → l.up ≡ up ∷ rest
     → IfOk (receive_of s now (octets_of up)) (λ t. MasterTakes t l)
 first_taken law s now l up rest stands shows up_is =
     if_taken (λ t. PassesOver s t ⊎ (TakesResponse s (octets_of up) t ⊎ TakesReport s (octets_of up) t)) (λ t. MasterTakes t l)
@@ -201,7 +201,7 @@ head_at zero (up ∷ us) octets e = record { up = up; rest = us; us_is = refl; o
 head_at (suc n) [] octets e = absurd (none-some octets e)
 head_at (suc n) (up ∷ us) octets e = head_at n us octets e
 
-pub came_up : Law → (s : State) (now : ℕ) (l : Link) (n : ℕ) (octets : List ℕ) → Stands l → l.master ≡ master_of s
+pub came_up : Law → (s : State) (now : ℕ) (l : LawLink) (n : ℕ) (octets : List ℕ) → CarriesLaw l → l.master ≡ master_of s
     → slice_get (map octets_of l.up) n ≡ Some octets
     → Move l (lost_up n l) × IfOk (receive_of s now octets) (λ t. MasterTakes t (lost_up n l))
 came_up law s now l n octets stands shows at =

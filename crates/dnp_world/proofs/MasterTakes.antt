@@ -5,7 +5,7 @@ use Rattle.std.proofs.lemmas.List.{length-take}
 use Rattle.dnp_objects.specs.declared.row.Row.{Row}
 use Rattle.dnp_line.specs.Lines.{LineState, front_of}
 use Rattle.dnp_line.specs.Ports.{PortState, IsShown}
-use Rattle.dnp_line.specs.Ways.{Hears, HearsIfAny}
+use Rattle.dnp_line.specs.Ways.{HearsUnit, HearsIfAny}
 use Rattle.dnp_master.specs.declared.actions.MasterActions.{MasterActions}
 use Rattle.dnp_master.specs.declared.fault.MasterFault.{MasterFault}
 use Rattle.dnp_master.specs.Calls.{Taking, actions_of, receive_of}
@@ -22,7 +22,7 @@ use Rattle.dnp_world.proofs.OneLinkArrivals.{events_first}
 
 -- the front unit is heard, whether it completes a fragment or not
 pub heard_unit : (line : LineState) (unit : List ℕ) (old new : PortState) (whole : Bool) → Some unit ≡ front_of line
-    → ((given : List (List ℕ)) (fragment : List ℕ) → IsShown new fragment → Hears unit old new given (if whole then given ++ fragment ∷ [] else given))
+    → ((given : List (List ℕ)) (fragment : List ℕ) → IsShown new fragment → HearsUnit unit old new given (if whole then given ++ fragment ∷ [] else given))
     → (fragment : List ℕ) → IsShown new fragment → HearsIfAny (front_of line) old new [] (if whole then fragment ∷ [] else [])
 heard_unit line unit old new whole front hears fragment shown =
     subst (λ (o : Option (List ℕ)). HearsIfAny o old new [] (if whole then fragment ∷ [] else [])) front (hears [] fragment shown)

@@ -18,8 +18,8 @@ use Rattle.dnp_concentrator.proofs.SoundPoints.{sound_above, sound_at}
 use Rattle.dnp_controls.specs.Book.{Ledger}
 use Rattle.dnp_eventbuf.specs.Archive.{Archive}
 use Rattle.dnp_eventbuf.specs.Buffered.{buffered_as, buffered_from}
-use Rattle.dnp_eventbuf.specs.Sound as stock
-use Rattle.dnp_eventbuf.specs.Stock.{LaneState, Stock, empty_lane, empty_stock, lane_rows, row_of, rows_in}
+use Rattle.dnp_eventbuf.specs.Sound as buffer
+use Rattle.dnp_eventbuf.specs.EventBuffer.{LaneState, EventBuffer, empty_lane, empty_buffer, lane_rows, row_of, rows_in}
 use Rattle.dnp_eventbuf.specs.declared.numbered.Numbered.{Numbered}
 use Rattle.dnp_master.specs.State.{new_state}
 use Rattle.dnp_objects.specs.declared.command.Command.{Command}
@@ -50,11 +50,11 @@ pub record NewLaws : Type 0 where
   pub at_first : (indices : List Spans) (links : Links) → ((i : ℕ) → IsUntouched (links.below i)) → IsUntouched links.above
       → IsBehind indices alone links nothing_kept
   pub is_map : (spans : List Spans) → (IsTooWide spans → ⊥) → (Overlaps spans → ⊥) → IsMap spans
-  pub sound_points : (plan : points.Plan) → points.IsSound plan → database.IsSound (new_database plan)
+  pub sound_points : (plan : points.Plan) → points.IsSoundPlan plan → database.IsSoundDatabase (new_database plan)
   pub sound_lanes : (capacities : List ℕ) → length capacities ≡ LANES → All (λ capacity. 1 ≤ capacity) capacities
-      → stock.IsSound (empty_stock capacities)
-  pub fresh : (s : Stock) → stock.IsSound s → IsFresh (fresh_link s) × HasLanes s (fresh_link s)
-  pub shown : (base : Database) (times : Times) (lanes : Stock) (performed : List Command) → database.IsSound base → stock.IsSound lanes
+      → buffer.IsSoundBuffer (empty_buffer capacities)
+  pub fresh : (s : EventBuffer) → buffer.IsSoundBuffer s → IsFresh (fresh_link s) × HasLanes s (fresh_link s)
+  pub shown : (base : Database) (times : Times) (lanes : EventBuffer) (performed : List Command) → database.IsSoundDatabase base → buffer.IsSoundBuffer lanes
       → Shows (record { core = new_core base times; lanes = lanes; performed = performed }) (fresh_link lanes)
   pub opened : Opened
 
@@ -75,14 +75,14 @@ none_in [] = refl
 none_in (capacity ∷ capacities) = none_in capacities
 
 -- sound lanes without rows
-record AreNew (s : Stock) : Type 0 where
-  sound : stock.IsSound s
+record AreNew (s : EventBuffer) : Type 0 where
+  sound : buffer.IsSoundBuffer s
   none : rows_in s ≡ []
 
-untouched : NewLaws → (s : Stock) → AreNew s → IsUntouched (fresh_link s)
+untouched : NewLaws → (s : EventBuffer) → AreNew s → IsUntouched (fresh_link s)
 untouched laws s new = record { fresh = (laws.fresh s new.sound).0; lanes = none_buffered 0 s.lanes new.none; asked = refl }
 
-new_lanes : NewLaws → (s : SubPlan) → KeepsSubLimits s → HasAllLanes s → AreNew (empty_stock s.lanes)
+new_lanes : NewLaws → (s : SubPlan) → KeepsSubLimits s → HasAllLanes s → AreNew (empty_buffer s.lanes)
 new_lanes laws s keeps nine = record {
   sound = laws.sound_lanes s.lanes nine (All-weaker IsCapacity (λ capacity. 1 ≤ capacity) (λ capacity h. h.0) s.lanes keeps.lanes);
   none = none_in s.lanes;
@@ -90,8 +90,8 @@ new_lanes laws s keeps nine = record {
 
 -- ---- a new link, whose master may ask for other points than its outstation has
 
-new_joined_to : NewLaws → (base : Database) (asks : points.Plan) (times : Times) (lanes : Stock) (performed : List Command) (peer own : ℕ)
-    → database.IsSound base → AreNew lanes
+new_joined_to : NewLaws → (base : Database) (asks : points.Plan) (times : Times) (lanes : EventBuffer) (performed : List Command) (peer own : ℕ)
+    → database.IsSoundDatabase base → AreNew lanes
     → Joined [] (seen (record { core = new_core base times; lanes = lanes; performed = performed }) (new_state asks times) (fresh_channel own peer) 0
     (lists_of (fresh_link lanes))) (fresh_link lanes)
 new_joined_to laws base asks times lanes performed peer own sound new =
@@ -113,27 +113,27 @@ new_joined_to laws base asks times lanes performed peer own sound new =
 -- ---- the substations
 
 new_substation : NewLaws → (times : Times) (number : ℕ) (s : SubPlan) → KeepsSubLimits s → HasAllLanes s
-    → IsJoinedBelow 0 (new_link times s) (fresh_link (empty_stock s.lanes)) (fresh_substation times number s)
+    → IsJoinedBelow 0 (new_link times s) (fresh_link (empty_buffer s.lanes)) (fresh_substation times number s)
 new_substation laws times number s keeps nine =
     let it : SubstationState = fresh_substation times number s in
     record {
-      joined = new_joined_to laws (new_database (points_at s)) (points_below s) times (empty_stock s.lanes) []
+      joined = new_joined_to laws (new_database (points_at s)) (points_below s) times (empty_buffer s.lanes) []
           MASTER_BELOW (outstation_address number) (laws.sound_points (points_at s) (sound_at s keeps)) (new_lanes laws s keeps nine);
       shown = shown_with it it (omega (arith, keeps.few_outputs)) refl;
     }
 
 -- the lanes of a substation; a number that the plan has no substation for has the queue's, which are empty too
-abbrev lanes_in : Stock → Option SubstationState → Stock
+abbrev lanes_in : EventBuffer → Option SubstationState → EventBuffer
 lanes_in queue None = queue
 lanes_in queue (Some s) = s.lanes
 
 -- each substation is joined to the link before its first opening, and the lanes behind each number are new
-record AreJoined (queue : Stock) (times : Times) (number : ℕ) (plans : List SubPlan) (i : ℕ) : Type 0 where
+record AreJoined (queue : EventBuffer) (times : Times) (number : ℕ) (plans : List SubPlan) (i : ℕ) : Type 0 where
   joined : IfSome (slice_get (fresh_substations times number plans) i)
       (λ s. IsJoinedBelow 0 (link_in (map (new_link times) plans) i) (fresh_link s.lanes) s)
   new : AreNew (lanes_in queue (slice_get (fresh_substations times number plans) i))
 
-all_joined : NewLaws → (queue : Stock) → AreNew queue → (times : Times) (number : ℕ) (plans : List SubPlan) → All KeepsSubLimits plans
+all_joined : NewLaws → (queue : EventBuffer) → AreNew queue → (times : Times) (number : ℕ) (plans : List SubPlan) → All KeepsSubLimits plans
     → All HasAllLanes plans → (i : ℕ) → AreJoined queue times number plans i
 all_joined laws queue empty times number [] keeps nine zero = record { joined = tt; new = empty }
 all_joined laws queue empty times number [] keeps nine (suc i) = record { joined = tt; new = empty }
@@ -146,7 +146,7 @@ all_joined laws queue empty times number (s ∷ plans) keeps nine (suc i) =
     all_joined laws queue empty times (suc number) plans (All-tail KeepsSubLimits s plans keeps) (All-tail HasAllLanes s plans nine) i in
     record { joined = rest.joined; new = rest.new }
 
-joined_in : (queue : Stock) (r : Relaying) (o : Option SubstationState) → IfSome o (λ s. IsJoinedBelow 0 r (fresh_link s.lanes) s)
+joined_in : (queue : EventBuffer) (r : Relaying) (o : Option SubstationState) → IfSome o (λ s. IsJoinedBelow 0 r (fresh_link s.lanes) s)
     → IfSome o (IsJoinedBelow 0 r (fresh_link (lanes_in queue o)))
 joined_in queue r None h = tt
 joined_in queue r (Some s) h = h
@@ -159,13 +159,13 @@ none_listed times n number (s ∷ plans) =
 
 -- ---- the system
 
-nothing_in : (plan : Plan) (centre : ℕ) (queue : Stock) (journal : Archive) (controls orders : Ledger) → AreEmpty queue journal controls orders
+nothing_in : (plan : Plan) (centre : ℕ) (queue : EventBuffer) (journal : Archive) (controls orders : Ledger) → AreEmpty queue journal controls orders
     → kept_in (fresh_system plan centre queue journal controls orders) ≡ nothing_kept
 nothing_in plan centre queue journal controls orders empty =
     let journaled : map row_of journal.rows ≡ [] = ap (map row_of) empty.no_events in
     rw (none_listed plan.times 0 0 plan.substations, empty.no_rows, journaled, empty.none_lost, empty.no_controls, empty.no_orders)
 
-pub nothing_to_show : (plan : Plan) (centre : ℕ) (queue : Stock) (journal : Archive) (controls orders : Ledger) → AreEmpty queue journal controls orders
+pub nothing_to_show : (plan : Plan) (centre : ℕ) (queue : EventBuffer) (journal : Archive) (controls orders : Ledger) → AreEmpty queue journal controls orders
     → report_of (fresh_system plan centre queue journal controls orders) ≡ nothing_shown
 nothing_to_show plan centre queue journal controls orders empty =
     ap (shown_of (map_of plan)) (nothing_in plan centre queue journal controls orders empty)
@@ -174,7 +174,7 @@ pub masters_ask : (times : Times) (plans : List SubPlan) → map points_asked (m
 masters_ask times [] = refl
 masters_ask times (s ∷ plans) = ap (λ (ps : List points.Plan). points_below s ∷ ps) (masters_ask times plans)
 
-new_of_plan : NewLaws → (plan : Plan) (centre : ℕ) (queue : Stock) (journal : Archive) (controls orders : Ledger) → CanBegin plan
+new_of_plan : NewLaws → (plan : Plan) (centre : ℕ) (queue : EventBuffer) (journal : Archive) (controls orders : Ledger) → CanBegin plan
     → IsOfPlan plan (fresh_system plan centre queue journal controls orders)
 new_of_plan laws plan centre queue journal controls orders can = record {
   limits = can.limits;
@@ -186,7 +186,7 @@ new_of_plan laws plan centre queue journal controls orders can = record {
   masters = masters_ask plan.times plan.substations;
 }
 
-pub stands_at_first : NewLaws → (plan : Plan) (centre : ℕ) (queue : Stock) (journal : Archive) (controls orders : Ledger) → CanBegin plan
+pub stands_at_first : NewLaws → (plan : Plan) (centre : ℕ) (queue : EventBuffer) (journal : Archive) (controls orders : Ledger) → CanBegin plan
     → AreEmpty queue journal controls orders
     → (standing : IsStanding alone (fresh_system plan centre queue journal controls orders)) × (standing.links.above.performed ≡ [])
 stands_at_first laws plan centre queue journal controls orders can empty =

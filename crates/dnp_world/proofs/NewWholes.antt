@@ -14,7 +14,7 @@ use Rattle.dnp_concentrator.specs.declared.plan.Plan.{Plan}
 use Rattle.dnp_controls.specs.Book.{Ledger}
 use Rattle.dnp_eventbuf.specs.Archive.{Archive}
 use Rattle.dnp_eventbuf.specs.Sides.{ForEach}
-use Rattle.dnp_eventbuf.specs.Stock.{Stock}
+use Rattle.dnp_eventbuf.specs.EventBuffer.{EventBuffer}
 use Rattle.dnp_world.specs.Channels.{fresh_channel, state_of}
 use Rattle.dnp_world.specs.FreshSystems.{fresh_core, fresh_substations, fresh_whole}
 use Rattle.dnp_world.specs.SystemParts.{history_of, substation_of, system_of}
@@ -49,13 +49,13 @@ pub record IsNew {Q J A B : Type 0} (plan : Plan) (queues : Q) (journals : J × 
   pub history : history_of p.history
       ≡ record { confirmed = []; overwritten = []; gone = []; dropped = record { first = []; second = [] }; issued = []; operated = [] }
 
-pub new_whole : {Q J A B : Type 0} (stock : Q → ℕ → Stock) (archive : J → Archive) (ledger : A → Ledger) (orders_in : B → Ledger) (plan : Plan)
+pub new_whole : {Q J A B : Type 0} (buffer : Q → ℕ → EventBuffer) (archive : J → Archive) (ledger : A → Ledger) (orders_in : B → Ledger) (plan : Plan)
     (queues : Q) (journals : J × J) (controls : A) (orders : B × B) (p : Inside Q J A B) → IsNew plan queues journals controls orders p
-    → system_of stock archive ledger orders_in p
-    ≡ fresh_whole plan (record { first = stock queues 0; second = stock queues 1 })
+    → system_of buffer archive ledger orders_in p
+    ≡ fresh_whole plan (record { first = buffer queues 0; second = buffer queues 1 })
     (record { first = archive journals.0; second = archive journals.1 })
     (ledger controls) (record { first = orders_in orders.0; second = orders_in orders.1 })
-new_whole stock archive ledger orders_in plan queues journals controls orders p new =
+new_whole buffer archive ledger orders_in plan queues journals controls orders p new =
     let middle = new.concentrator in
     rw (
       new.indices,
@@ -78,6 +78,6 @@ new_whole stock archive ledger orders_in plan queues journals controls orders p 
       new.first_lines,
       new.second_lines,
       new.moment,
-    ) (ap (λ (h : WholeHistory). record (fresh_whole plan (record { first = stock queues 0; second = stock queues 1 })
+    ) (ap (λ (h : WholeHistory). record (fresh_whole plan (record { first = buffer queues 0; second = buffer queues 1 })
     (record { first = archive journals.0; second = archive journals.1 }) (ledger controls)
     (record { first = orders_in orders.0; second = orders_in orders.1 })) { history = h }) new.history)

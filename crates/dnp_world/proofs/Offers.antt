@@ -7,7 +7,7 @@ use Rattle.std.proofs.lemmas.Bool.{leb-true, le-leb}
 use Rattle.std.proofs.lemmas.List.Elements.{All-nil, All-cons, All-head, All-tail, All-push, All-weaker, All-filter, All-contains, Contains-append_left, Contains-append_right, Contains-push, filter_passes}
 use Rattle.std.proofs.lemmas.List.Sorted.{IsPermutation-refl}
 use Rattle.dnp_eventbuf.specs.Buffered.{Buffered, id_limit, is_upto}
-use Rattle.dnp_world.specs.Link.{Fragment}
+use Rattle.dnp_world.specs.LawLink.{SentFragment}
 use Rattle.dnp_world.specs.Moves.{IsOffered, nothing_reported, nothing_sent, taken}
 use Rattle.dnp_world.specs.Standing.{AllIn, IsOfLanes}
 use Rattle.dnp_world.proofs.Beginning.{reported_says, sent_says}
@@ -25,13 +25,13 @@ same_permutation xs ys e = subst (IsPermutation xs) e (IsPermutation-refl xs)
 -- ---- a fragment of the lanes
 
 -- a row comes, with an id over all others
-over_all : (f : Fragment) (lanes : List Buffered) (last_id : ℕ) (x : Buffered) → last_id < x.id → ((lane : ℕ) → id_limit f.upto lane ≤ last_id) →
+over_all : (f : SentFragment) (lanes : List Buffered) (last_id : ℕ) (x : Buffered) → last_id < x.id → ((lane : ℕ) → id_limit f.upto lane ≤ last_id) →
     x.id ≤ id_limit f.upto x.lane → ⊥
 over_all f lanes last_id x newer limits h =
     let most : id_limit f.upto x.lane ≤ last_id = limits x.lane in
     omega (arith, newer, most, h)
 
-pub of_lanes_appended : (uns : Bool) (lanes stood : List Buffered) (last_id : ℕ) (f : Fragment) (x : Buffered) → last_id < x.id →
+pub of_lanes_appended : (uns : Bool) (lanes stood : List Buffered) (last_id : ℕ) (f : SentFragment) (x : Buffered) → last_id < x.id →
     IsOfLanes uns lanes stood last_id f → IsOfLanes uns (lanes ++ x ∷ []) (stood ++ x ∷ []) x.id f
 of_lanes_appended uns lanes stood last_id f x newer h =
     record {
@@ -43,7 +43,7 @@ of_lanes_appended uns lanes stood last_id f x newer h =
     }
 
 -- rows leave the lanes
-pub of_lanes_fewer : (uns : Bool) (lanes fewer stood : List Buffered) (last_id : ℕ) (f : Fragment) →
+pub of_lanes_fewer : (uns : Bool) (lanes fewer stood : List Buffered) (last_id : ℕ) (f : SentFragment) →
     ((P : Buffered → Type 0) → All P lanes → All P fewer) → IsOfLanes uns lanes stood last_id f → IsOfLanes uns fewer stood last_id f
 of_lanes_fewer uns lanes fewer stood last_id f less h =
     record { limits = h.limits; rows = h.rows; prefix = less (λ x. x.id ≤ id_limit f.upto x.lane → Contains f.rows x) h.prefix; says = h.says }
@@ -71,7 +71,7 @@ filter_keeps p (x ∷ xs) =
     (λ y h e. kept_later (p x) x (filter p xs) y (h e)) xs (filter_keeps p xs))
 
 -- a new fragment
-pub of_lanes_offered : (uns : Bool) (lanes stood : List Buffered) (last_id : ℕ) (f : Fragment) → AllIn lanes stood → IsOffered uns lanes last_id f →
+pub of_lanes_offered : (uns : Bool) (lanes stood : List Buffered) (last_id : ℕ) (f : SentFragment) → AllIn lanes stood → IsOffered uns lanes last_id f →
     IsOfLanes uns lanes stood last_id f
 of_lanes_offered uns lanes stood last_id f there o =
     record {
@@ -102,7 +102,7 @@ of_lanes_reported lanes stood last_id ids =
 
 -- ---- what a confirm releases was taken
 
-pub upto_taken : (uns : Bool) (lanes stood took : List Buffered) (last_id : ℕ) (f : Fragment) (upto : List ℕ) → upto ≡ f.upto →
+pub upto_taken : (uns : Bool) (lanes stood took : List Buffered) (last_id : ℕ) (f : SentFragment) (upto : List ℕ) → upto ≡ f.upto →
     IsOfLanes uns lanes stood last_id f → AllIn f.rows took → AllIn (filter (is_upto upto) lanes) took
 upto_taken uns lanes stood took last_id f upto e h taken =
     subst (λ (u : List ℕ). AllIn (filter (is_upto u) lanes) took) (sym e)

@@ -5,7 +5,7 @@ use Rattle.std.proofs.lemmas.List.{take_all}
 use Rattle.dnp_objects.specs.declared.row.Row.{Row}
 use Rattle.dnp_line.specs.Lines.{LineState, front_of}
 use Rattle.dnp_line.specs.Ports.{PortState, IsShown}
-use Rattle.dnp_line.specs.Ways.{Hears, HearsIfAny}
+use Rattle.dnp_line.specs.Ways.{HearsUnit, HearsIfAny}
 use Rattle.dnp_master.specs.declared.fault.MasterFault.{MasterFault}
 use Rattle.dnp_master.specs.Calls.{Taking, receive_of}
 use Rattle.dnp_master.specs.State as master
@@ -22,18 +22,18 @@ use Rattle.dnp_world.proofs.MasterMoves.{events_are_rows}
 
 -- the front unit is heard; what it completes is given
 pub heard_whole : (line : LineState) (unit : List ℕ) (old new : PortState) (whole : Bool) (fragment : List ℕ) → Some unit ≡ front_of line
-    → ((given : List (List ℕ)) (fragment : List ℕ) → IsShown new fragment → Hears unit old new given (if whole then given ++ fragment ∷ [] else given))
+    → ((given : List (List ℕ)) (fragment : List ℕ) → IsShown new fragment → HearsUnit unit old new given (if whole then given ++ fragment ∷ [] else given))
     → IsShown new fragment → whole ≡ true → HearsIfAny (front_of line) old new [] (fragment ∷ [])
 heard_whole line unit old new whole fragment front hears shown is =
     subst (λ (o : Option (List ℕ)). HearsIfAny o old new [] (fragment ∷ [])) front
-    (subst (λ (b : Bool). Hears unit old new [] (if b then fragment ∷ [] else [])) is (hears [] fragment shown))
+    (subst (λ (b : Bool). HearsUnit unit old new [] (if b then fragment ∷ [] else [])) is (hears [] fragment shown))
 
 pub heard_part : (line : LineState) (unit : List ℕ) (old new : PortState) (whole : Bool) (fragment : List ℕ) → Some unit ≡ front_of line
-    → ((given : List (List ℕ)) (fragment : List ℕ) → IsShown new fragment → Hears unit old new given (if whole then given ++ fragment ∷ [] else given))
+    → ((given : List (List ℕ)) (fragment : List ℕ) → IsShown new fragment → HearsUnit unit old new given (if whole then given ++ fragment ∷ [] else given))
     → IsShown new fragment → whole ≡ false → HearsIfAny (front_of line) old new [] []
 heard_part line unit old new whole fragment front hears shown is =
     subst (λ (o : Option (List ℕ)). HearsIfAny o old new [] []) front
-    (subst (λ (b : Bool). Hears unit old new [] (if b then fragment ∷ [] else [])) is (hears [] fragment shown))
+    (subst (λ (b : Bool). HearsUnit unit old new [] (if b then fragment ∷ [] else [])) is (hears [] fragment shown))
 
 -- ---- the master
 

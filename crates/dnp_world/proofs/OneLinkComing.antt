@@ -5,7 +5,7 @@ use Rattle.std.proofs.lemmas.Bool.{false≢true}
 use Rattle.dnp_objects.specs.declared.row.Row.{Row}
 use Rattle.dnp_objects.specs.declared.command.Command.{Command}
 use Rattle.dnp_controls.specs.Panel.{Panel}
-use Rattle.dnp_eventbuf.specs.Stock.{rows_in}
+use Rattle.dnp_eventbuf.specs.EventBuffer.{rows_in}
 use Rattle.dnp_line.specs.Ports.{PortState}
 use Rattle.dnp_outstation.specs.Calls.{connection_after}
 use Rattle.dnp_outstation.specs.State.{State, Step, Actions}

@@ -8,8 +8,8 @@ use Rattle.dnp_appfragment.specs.EventRows.{answered_events, events_in}
 use Rattle.dnp_appfragment.specs.Meaning.{response_at}
 use Rattle.dnp_appfragment.specs.declared.fault.AppFault.{AppFault}
 use Rattle.dnp_appfragment.specs.Fragments.{Answered}
-use Rattle.dnp_eventbuf.specs.Sound.{IsSound}
-use Rattle.dnp_eventbuf.specs.Stock.{Stock, LaneState, no_lane, lane_at, lane_rows, row_of, rows_in}
+use Rattle.dnp_eventbuf.specs.Sound.{IsSoundBuffer}
+use Rattle.dnp_eventbuf.specs.EventBuffer.{EventBuffer, LaneState, no_lane, lane_at, lane_rows, row_of, rows_in}
 use Rattle.dnp_world.specs.Octets.{rows_in as rows_read}
 
 -- ---- rows that wait
@@ -27,15 +27,15 @@ lane_more (lane ∷ lanes) (suc k) low =
     )
 
 -- the rows of the first lanes were counted
-pub record IsCounting {L : Type 0} (honest : L → Type 0) (contents : L → Stock) (start lanes : L) (count number : ℕ) : Type 0 where
+pub record IsCounting {L : Type 0} (honest : L → Type 0) (contents : L → EventBuffer) (start lanes : L) (count number : ℕ) : Type 0 where
   pub same : lanes ≡ start
   pub few : count ≤ number * 2 ^ 32
   pub counted : honest lanes → count ≡ length (lane_rows (take number (contents lanes).lanes))
-  pub sound : honest lanes → 0 < number → IsSound (contents lanes)
+  pub sound : honest lanes → 0 < number → IsSoundBuffer (contents lanes)
 
-pub one_counted : {L : Type 0} (honest : L → Type 0) (contents : L → Stock) (start lanes : L) (count number lane_number more : ℕ)
+pub one_counted : {L : Type 0} (honest : L → Type 0) (contents : L → EventBuffer) (start lanes : L) (count number lane_number more : ℕ)
     → IsCounting honest contents start lanes count number → number < LANES → lane_number ≡ number → more < 2 ^ 32
-    → (honest lanes → IsSound (contents lanes)) → (honest lanes → more ≡ length (lane_at (contents lanes) lane_number).rows)
+    → (honest lanes → IsSoundBuffer (contents lanes)) → (honest lanes → more ≡ length (lane_at (contents lanes) lane_number).rows)
     → IsCounting honest contents start lanes (count + more) (number + 1)
 one_counted honest contents start lanes count number lane_number more i low its few sound value =
     record {
@@ -54,7 +54,7 @@ one_counted honest contents start lanes count number lane_number more i low its 
       sound = λ h some. sound h;
     }
 
-pub all_counted : {L : Type 0} (honest : L → Type 0) (contents : L → Stock) (start lanes : L) (count number : ℕ)
+pub all_counted : {L : Type 0} (honest : L → Type 0) (contents : L → EventBuffer) (start lanes : L) (count number : ℕ)
     → IsCounting honest contents start lanes count number → LANES ≤ number → honest lanes → count ≡ length (rows_in (contents lanes))
 all_counted honest contents start lanes count number i high h =
     let long : length (contents lanes).lanes ≡ LANES = (i.sound h (omega (arith, high))).nine in

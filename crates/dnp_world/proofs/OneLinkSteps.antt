@@ -14,7 +14,7 @@ use Rattle.dnp_pointdb.specs.declared.reading.Reading.{Reading}
 use Rattle.dnp_pointdb.specs.declared.fault.ChangeFault.{ChangeFault}
 use Rattle.dnp_controls.specs.Panel.{Panel}
 use Rattle.dnp_eventbuf.specs.declared.numbered.Numbered.{Numbered}
-use Rattle.dnp_eventbuf.specs.Stock.{Stock, exhausts, with_rows, LaneState, lane_at, is_full, row_of, dropped_from, dropped_by, up_to, lanes_up_to, lane_rows, rows_in}
+use Rattle.dnp_eventbuf.specs.EventBuffer.{EventBuffer, exhausts, with_rows, LaneState, lane_at, is_full, row_of, dropped_from, dropped_by, up_to, lanes_up_to, lane_rows, rows_in}
 use Rattle.dnp_outstation.specs.declared.case.Case.{Case}
 use Rattle.dnp_outstation.specs.declared.case.Case.TheVariants.{PassedOver, Confirms, ConfirmsUnsolicited, Stray, Again, Waits, Asks}
 use Rattle.dnp_outstation.specs.declared.fault.Fault.{Fault}
@@ -130,7 +130,7 @@ dropped_length true [] = omega arith
 dropped_length true (x ∷ rows) = omega arith
 dropped_length false rows = omega arith
 
-made_length : (s : Stock) (made : Option LaneRow) → length (dropped_by s (option_to_list made)) ≤ 1
+made_length : (s : EventBuffer) (made : Option LaneRow) → length (dropped_by s (option_to_list made)) ≤ 1
 made_length s None = omega arith
 made_length s (Some x) =
     let lane : LaneState = lane_at s (lane_number x.lane) in

@@ -3,10 +3,10 @@ use Rattle.std.proofs.Common.{◌≡◌, ℕ, Bool, true, false, if◌then◌els
 use Rattle.dnp_objects.specs.declared.limits.TheConstants.{LANES}
 use Rattle.dnp_controls.specs.Selecting.{deadline}
 use Rattle.dnp_eventbuf.specs.Buffered.{buffered_in}
-use Rattle.dnp_eventbuf.specs.Sound.{IsSound}
-use Rattle.dnp_eventbuf.specs.Stock.{Stock}
+use Rattle.dnp_eventbuf.specs.Sound.{IsSoundBuffer}
+use Rattle.dnp_eventbuf.specs.EventBuffer.{EventBuffer}
 use Rattle.dnp_pointdb.specs.Sound as points
-use Rattle.dnp_outstation.specs.declared.offer.place.Place.{Place}
+use Rattle.dnp_outstation.specs.declared.offer.place.ReadPlace.{ReadPlace}
 use Rattle.dnp_outstation.specs.declared.session.Awaited.{Awaited}
 use Rattle.dnp_outstation.specs.declared.session.Unsolicited.{Unsolicited}
 use Rattle.dnp_outstation.specs.Connection.{asks_confirm, control_for, fragment_of, responds, responds_further, no_response, replied}
@@ -15,8 +15,8 @@ use Rattle.dnp_outstation.specs.Content.{Content, Executed}
 use Rattle.dnp_outstation.specs.Links.{Reports, KeepsConnection}
 use Rattle.dnp_outstation.specs.State.{State, Step, with_session}
 use Rattle.dnp_world.specs.Lanes.{HasLanes}
-use Rattle.dnp_world.specs.Link as link
-use Rattle.dnp_world.specs.Link.{Fragment, Down, Confirms, Up, Responds, seq_of, fin_of, NothingSent, FirstSent, FurtherSent, Outstation, Link}
+use Rattle.dnp_world.specs.LawLink as link
+use Rattle.dnp_world.specs.LawLink.{SentFragment, Down, Confirms, Up, Responds, seq_of, fin_of, NothingSent, FirstSent, FurtherSent, LawOutstation, LawLink}
 use Rattle.dnp_world.specs.Moves.{MayAwait, Move, Respond, Continue, responded, continued}
 use Rattle.dnp_world.specs.Octets.{after, seq_in, fin_in}
 use Rattle.dnp_world.specs.OutstationSeen.{awaited_seen, report_seen}
@@ -24,33 +24,37 @@ use Rattle.dnp_world.proofs.OutstationFragments.{made_of, reported_seq, reported
 use Rattle.dnp_world.proofs.OutstationSteps.{grown_sends, Sees, Goes, goes_still, outstation_is}
 
 -- what is shown of a state but for the last request and the wait
-pub record SeesRest (t : State) (l : Link) : Type 0 where
+pub record SeesRest (t : State) (l : LawLink) : Type 0 where
   pub is_open : t.core.is_open ≡ l.outstation.is_open
   pub report : option_map (report_seen t.core.session) t.core.session.unsolicited ≡ l.outstation.report
   pub next : t.core.session.next ≡ l.outstation.next
   pub lanes : HasLanes t.lanes l
-  pub sound : IsSound t.lanes
-  pub points : points.IsSound t.core.points
+  pub sound : IsSoundBuffer t.lanes
+  pub points : points.IsSoundDatabase t.core.points
 
-pub rest_seen : (s : State) (l : Link) → Sees s l → SeesRest s l
+pub rest_seen : (s : State) (l : LawLink) → Sees s l → SeesRest s l
 rest_seen s l sees = record {
-  is_open = ap (λ (o : Outstation). o.is_open) sees.outstation;
-  report = ap (λ (o : Outstation). o.report) sees.outstation;
-  next = ap (λ (o : Outstation). o.next) sees.outstation;
+  is_open = ap (λ (o : LawOutstation). o.is_open) sees.outstation;
+  report = ap (λ (o : LawOutstation). o.report) sees.outstation;
+  next = ap (λ (o : LawOutstation). o.next) sees.outstation;
   lanes = sees.lanes;
   sound = sees.sound;
   points = sees.points;
 }
 
 -- what leaves the connection alone shows the same
-pub kept_rest : (t x : State) (l : Link) → SeesRest t l → KeepsConnection t x → SeesRest x l
+pub kept_rest : (t x : State) (l : LawLink) → SeesRest t l → KeepsConnection t x → SeesRest x l
 kept_rest t x l rest keeps = record {
   is_open = keeps.is_open ∙ rest.is_open;
   report = same_report ∙ rest.report;
   next = keeps.next ∙ rest.next;
-  lanes = record { rows = rest.lanes.rows ∙ ap buffered_in (sym keeps.lanes); last_id = rest.lanes.last_id ∙ ap (λ (y : Stock). y.last_id) (sym keeps.lanes) };
-  sound = subst IsSound (sym keeps.lanes) rest.sound;
-  points = subst points.IsSound (sym keeps.points) rest.points;
+  lanes = record {
+    rows = rest.lanes.rows ∙ ap buffered_in (sym keeps.lanes);
+    last_id = rest.lanes.last_id ∙ ap (λ (y : EventBuffer). y.last_id)
+        (sym keeps.lanes);
+  };
+  sound = subst IsSoundBuffer (sym keeps.lanes) rest.sound;
+  points = subst points.IsSoundDatabase (sym keeps.points) rest.points;
 }
   where
     same_report : option_map (report_seen x.core.session) x.core.session.unsolicited ≡ option_map (report_seen t.core.session) t.core.session.unsolicited
@@ -61,7 +65,7 @@ kept_rest t x l rest keeps = record {
 
 -- ---- what is awaited then
 
-may_await : (b : Bool) (w : Awaited) (f : Fragment) → seq_of f ≡ w.seq → f.upto ≡ w.upto
+may_await : (b : Bool) (w : Awaited) (f : SentFragment) → seq_of f ≡ w.seq → f.upto ≡ w.upto
     → MayAwait f (option_map awaited_seen (if b then Some w else None))
 may_await true w f e k = (sym e, sym k)
 may_await false w f e k = tt
@@ -70,24 +74,24 @@ awaited_ids : (b : Bool) (w : Awaited) → length w.upto ≡ LANES → IfSome (i
 awaited_ids true w nine = nine
 awaited_ids false w nine = tt
 
-more_goes_on : (left : Option Place) → is_some left ≡ true → is_none left ≡ false
+more_goes_on : (left : Option ReadPlace) → is_some left ≡ true → is_none left ≡ false
 more_goes_on None e = absurd (cc)
 more_goes_on (Some place) e = refl
 
 -- ---- the first fragment
 
-pub goes_responds : (t : State) (now stood seq : ℕ) (c : Content) (was_more : Bool) (l : Link) → SeesRest t l
+pub goes_responds : (t : State) (now stood seq : ℕ) (c : Content) (was_more : Bool) (l : LawLink) → SeesRest t l
     → l.outstation.last ≡ Some (record { request = t.core.session.request; reply = NothingSent; more = was_more })
     → seq ≡ seq_in t.core.session.request → Reports t.lanes (fragment_of t true seq c) (control_for true seq c) c.upto
     → length c.upto ≡ LANES → Goes [] [] (responds t now stood seq c) l
 goes_responds t now stood seq c was_more l sees last_is number reports nine =
     let octets : List ℕ = fragment_of t true seq c in
-    let f : Fragment = made_of octets c.upto l in
+    let f : SentFragment = made_of octets c.upto l in
     let w : Awaited = record { seq = seq; upto = c.upto; ends = deadline now t.core.times.confirm_ms } in
     let awaited : Option link.Awaited = option_map awaited_seen (if asks_confirm c then Some w else None) in
     let q : List ℕ = t.core.session.request in
     let more : Bool = is_some c.left in
-    let new : Link = responded q f more awaited l in
+    let new : LawLink = responded q f more awaited l in
     let seq_is : seq_in octets ≡ seq = reported_seq t.lanes octets (control_for true seq c) c.upto reports in
     let fin_is : fin_in octets ≡ is_none c.left = reported_fin t.lanes octets (control_for true seq c) c.upto reports in
     let move : Move l new = Respond q f was_more more awaited last_is (seq_is ∙ number)
@@ -114,17 +118,17 @@ goes_responds t now stood seq c was_more l sees last_is number reports nine =
 
 -- ---- a further fragment
 
-pub goes_further : (t : State) (now stood seq : ℕ) (c : Content) (a : link.LastRequest) (l : Link) (rest : List Down) → SeesRest t l
+pub goes_further : (t : State) (now stood seq : ℕ) (c : Content) (a : link.LastRequest) (l : LawLink) (rest : List Down) → SeesRest t l
     → l.outstation.last ≡ Some a → a.request ≡ t.core.session.request → a.more ≡ true → l.down ≡ Confirms (seq_of l.current) ∷ rest
     → seq ≡ after (seq_of l.current) → Reports t.lanes (fragment_of t false seq c) (control_for false seq c) c.upto → length c.upto ≡ LANES
     → Goes [] [] (responds_further t now stood seq c) l
 goes_further t now stood seq c a l rest sees last_is request_is more_left down_is number reports nine =
     let octets : List ℕ = fragment_of t false seq c in
-    let f : Fragment = made_of octets c.upto l in
+    let f : SentFragment = made_of octets c.upto l in
     let w : Awaited = record { seq = seq; upto = c.upto; ends = deadline now t.core.times.confirm_ms } in
     let awaited : Option link.Awaited = option_map awaited_seen (if asks_confirm c then Some w else None) in
     let more : Bool = is_some c.left in
-    let new : Link = continued a.request f more awaited l in
+    let new : LawLink = continued a.request f more awaited l in
     let seq_is : seq_in octets ≡ seq = reported_seq t.lanes octets (control_for false seq c) c.upto reports in
     let fin_is : fin_in octets ≡ is_none c.left = reported_fin t.lanes octets (control_for false seq c) c.upto reports in
     let move : Move l new = Continue a rest f more awaited down_is last_is more_left (seq_is ∙ number)
@@ -155,17 +159,17 @@ goes_further t now stood seq c a l rest sees last_is request_is more_left down_i
 abbrev pub executed : State → Option Content → Option ℕ → Executed
 executed t content time = record { state = t; content = content; time = time }
 
-goes_timed : (time : Option ℕ) (step : Step) (l : Link) → Goes [] [] step l → Goes [] [] (record step { does = record step.does { time = time } }) l
+goes_timed : (time : Option ℕ) (step : Step) (l : LawLink) → Goes [] [] step l → Goes [] [] (record step { does = record step.does { time = time } }) l
 goes_timed time step l goes = record { link = goes.link; sent = goes.sent; grown = goes.grown; sees = goes.sees; octets = goes.octets }
 
-pub goes_answers : (t : State) (now seq : ℕ) (c : Content) (time : Option ℕ) (was_more : Bool) (l : Link) → SeesRest t l
+pub goes_answers : (t : State) (now seq : ℕ) (c : Content) (time : Option ℕ) (was_more : Bool) (l : LawLink) → SeesRest t l
     → l.outstation.last ≡ Some (record { request = t.core.session.request; reply = NothingSent; more = was_more })
     → seq ≡ seq_in t.core.session.request → Reports t.lanes (fragment_of t true seq c) (control_for true seq c) c.upto
     → length c.upto ≡ LANES → Goes [] [] (replied now seq (executed t (Some c) time)) l
 goes_answers t now seq c time was_more l sees last_is number reports nine =
     goes_timed time (responds t now (last_in t.lanes) seq c) l (goes_responds t now (last_in t.lanes) seq c was_more l sees last_is number reports nine)
 
-pub goes_replied : (t : State) (now seq : ℕ) (content : Option Content) (time : Option ℕ) (l : Link) → SeesRest t l
+pub goes_replied : (t : State) (now seq : ℕ) (content : Option Content) (time : Option ℕ) (l : LawLink) → SeesRest t l
     → l.outstation.last ≡ Some (record { request = t.core.session.request; reply = NothingSent; more = false })
     → l.outstation.awaited ≡ None → t.core.session.awaited ≡ None → seq ≡ seq_in t.core.session.request
     → ((c : Content) → content ≡ Some c → Reports t.lanes (fragment_of t true seq c) (control_for true seq c) c.upto × (length c.upto ≡ LANES))

@@ -7,14 +7,14 @@ use Rattle.dnp_objects.specs.Lanes.{lane_number}
 use Rattle.dnp_objects.specs.declared.lane.LaneRow.{LaneRow}
 use Rattle.dnp_objects.specs.declared.limits.TheConstants.{MAX_ID}
 use Rattle.dnp_objects.specs.declared.row.Row.{Row}
-use Rattle.dnp_eventbuf.specs.Carried.{IsCarried}
-use Rattle.dnp_eventbuf.specs.Sound.{IsSound}
-use Rattle.dnp_eventbuf.specs.Stock.{LaneState, Stock, no_lane, lane_at, is_full, put_in, moved_on, added_in, arriving, with_row, with_rows, dropped_by, is_past, exhausts}
+use Rattle.dnp_eventbuf.specs.FitsLane.{FitsLane}
+use Rattle.dnp_eventbuf.specs.Sound.{IsSoundBuffer}
+use Rattle.dnp_eventbuf.specs.EventBuffer.{LaneState, EventBuffer, no_lane, lane_at, is_full, put_in, moved_on, added_in, arriving, with_row, with_rows, dropped_by, is_past, exhausts}
 use Rattle.dnp_eventbuf.specs.declared.numbered.Numbered.{Numbered}
 use Rattle.dnp_outstation.specs.State.{State, nothing}
 use Rattle.dnp_outstation.specs.Tidy.{LeavesNothing}
 use Rattle.dnp_world.specs.Lanes.{HasLanes, lane_appended}
-use Rattle.dnp_world.specs.Link.{Link}
+use Rattle.dnp_world.specs.LawLink.{LawLink}
 use Rattle.dnp_world.specs.OutstationSeen.{Shows, Simulates}
 use Rattle.dnp_world.proofs.OutstationChanges.{RowLaws, appended_grows}
 use Rattle.dnp_world.proofs.OutstationSteps.{Grown, grown_none, grown_both, goes_simulates}
@@ -44,7 +44,7 @@ lost_grows lane x is = by (is_full lane)
     by true = let over : MAX_ID < lane.lost = ltb-true MAX_ID lane.lost is in lt-ltb MAX_ID (lane.lost + 1) (omega (arith, over))
     by false = is
 
-past_before : (s : Stock) (x : LaneRow) → is_past (with_row s x) ≡ false → is_past s ≡ false
+past_before : (s : EventBuffer) (x : LaneRow) → is_past (with_row s x) ≡ false → is_past s ≡ false
 past_before s x e =
     let p : LaneState → Bool = λ lane. nat_lt MAX_ID lane.lost in
     let number : ℕ = lane_number x.lane in
@@ -54,7 +54,7 @@ past_before s x e =
     or_from (nat_lt MAX_ID s.last_id) (list_any p s.lanes) (less_before MAX_ID s.last_id parts.0)
     (any_before p s.lanes number (put_in (lane_at s number) row) (lost_grows (lane_at s number) row) parts.1)
 
-rows_before : (s : Stock) (rows : List LaneRow) → is_past (with_rows s rows) ≡ false → is_past s ≡ false
+rows_before : (s : EventBuffer) (rows : List LaneRow) → is_past (with_rows s rows) ≡ false → is_past s ≡ false
 rows_before s [] e = e
 rows_before s (x ∷ rows) e = past_before s x (rows_before (with_row s x) rows e)
 
@@ -62,24 +62,24 @@ rows_before s (x ∷ rows) e = past_before s x (rows_before (with_row s x) rows 
 
 pub record AppendLaws : Type 0 where
   pub rows : RowLaws
-  pub sound : (s : Stock) (rows : List LaneRow) → IsSound s → All IsCarried rows → exhausts s rows ≡ false → IsSound (with_rows s rows)
+  pub sound : (s : EventBuffer) (rows : List LaneRow) → IsSoundBuffer s → All FitsLane rows → exhausts s rows ≡ false → IsSoundBuffer (with_rows s rows)
   pub tidy : (s : State) (rows : List LaneRow) → LeavesNothing s → LeavesNothing (record s { lanes = with_rows s.lanes rows })
 
-record Appended (s : Stock) (rows : List LaneRow) (l : Link) : Type 0 where
-  link : Link
+record Appended (s : EventBuffer) (rows : List LaneRow) (l : LawLink) : Type 0 where
+  link : LawLink
   grown : Grown l link (arriving rows) [] [] (dropped_by s rows) []
   lanes : HasLanes (with_rows s rows) link
   outstation : link.outstation ≡ l.outstation
 
-appends : AppendLaws → (s : Stock) (rows : List LaneRow) (l : Link) → IsSound s → All IsCarried rows → exhausts s rows ≡ false → HasLanes s l
+appends : AppendLaws → (s : EventBuffer) (rows : List LaneRow) (l : LawLink) → IsSoundBuffer s → All FitsLane rows → exhausts s rows ≡ false → HasLanes s l
     → Appended s rows l
 appends laws s [] l sound carried fits seen = record { link = l; grown = grown_none l; lanes = seen; outstation = refl }
 appends laws s (x ∷ rows) l sound carried fits seen =
-    let next : Link = lane_appended s x l in
-    let one : All IsCarried (x ∷ []) = All-cons IsCarried x [] (All-head IsCarried x rows carried) (All-nil IsCarried) in
-    let sound' : IsSound (with_row s x) = laws.sound s (x ∷ []) sound one (rows_before (with_row s x) rows fits) in
+    let next : LawLink = lane_appended s x l in
+    let one : All FitsLane (x ∷ []) = All-cons FitsLane x [] (All-head FitsLane x rows carried) (All-nil FitsLane) in
+    let sound' : IsSoundBuffer (with_row s x) = laws.sound s (x ∷ []) sound one (rows_before (with_row s x) rows fits) in
     let rest : Appended (with_row s x) rows next =
-    appends laws (with_row s x) rows next sound' (All-tail IsCarried x rows carried) fits (laws.rows.appended s x l sound seen).1 in
+    appends laws (with_row s x) rows next sound' (All-tail FitsLane x rows carried) fits (laws.rows.appended s x l sound seen).1 in
     let gone : dropped_by s (x ∷ []) ++ dropped_by (with_row s x) rows ≡ dropped_by s (x ∷ rows) =
     ap (λ (xs : List Row). xs ++ dropped_by (with_row s x) rows) (append-nil _) in
     record {
@@ -91,7 +91,7 @@ appends laws s (x ∷ rows) l sound carried fits seen =
       outstation = rest.outstation;
     }
 
-pub appends_simulate : AppendLaws → (s : State) (rows : List LaneRow) (l : Link) → All IsCarried rows → exhausts s.lanes rows ≡ false → Shows s l
+pub appends_simulate : AppendLaws → (s : State) (rows : List LaneRow) (l : LawLink) → All FitsLane rows → exhausts s.lanes rows ≡ false → Shows s l
     → Simulates s (arriving rows) (record {
       state = record s { lanes = with_rows s.lanes rows };
       does = record nothing { overwritten = dropped_by s.lanes rows };

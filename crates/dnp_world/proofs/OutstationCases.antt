@@ -14,11 +14,11 @@ use Rattle.dnp_outstation.specs.Calls.{with_that, answered_by, received, connect
 use Rattle.dnp_outstation.specs.Connection.{is_looked_at, control_in, function_in, on_confirm, on_again, waiting, at_end, case_of}
 use Rattle.dnp_outstation.specs.Links.{CaseSays, Performs}
 use Rattle.dnp_outstation.specs.State.{Core, State, Step, still}
-use Rattle.dnp_world.specs.Link as link
-use Rattle.dnp_world.specs.Link.{Down, Link}
+use Rattle.dnp_world.specs.LawLink as link
+use Rattle.dnp_world.specs.LawLink.{Down, LawLink}
 use Rattle.dnp_world.specs.Octets.{seq_in, commands_in}
 use Rattle.dnp_world.specs.OutstationSeen.{down_of, ShowOctets, Shows, Simulates}
-use Rattle.dnp_world.specs.Standing.{Stands}
+use Rattle.dnp_world.specs.Standing.{CarriesLaw}
 use Rattle.dnp_world.proofs.OutstationConfirms.{goes_confirm}
 use Rattle.dnp_world.proofs.OutstationFragments.{same_seq, same_uns, same_commands, down_confirms, down_confirms_report, down_asks}
 use Rattle.dnp_world.proofs.OutstationLaws.{EndLaws, AnswerLaws, ReleaseLaws, FurtherLaws, HeldLaws, CallLaws}
@@ -42,8 +42,8 @@ looked_open c octets looked = by c.is_open refl
     by true is = is
     by false is = let off : is_looked_at c octets ≡ false = rw is refl in absurd (cc)
 
-module _ (laws : Laws) (s : State) (o : Panel) (now : ℕ) (octets : List ℕ) (l : Link) (rest : List Down) (shown : ShowOctets o)
-    (small : All (λ octet. octet < 2 ^ 8) octets) (shows : Shows s l) (stands : Stands l) (down_is : l.down ≡ down_of octets ∷ rest) where
+module _ (laws : Laws) (s : State) (o : Panel) (now : ℕ) (octets : List ℕ) (l : LawLink) (rest : List Down) (shown : ShowOctets o)
+    (small : All (λ octet. octet < 2 ^ 8) octets) (shows : Shows s l) (stands : CarriesLaw l) (down_is : l.down ≡ down_of octets ∷ rest) where
   abbrev after : Step
   after = connection_after s o now octets
 

@@ -12,13 +12,13 @@ use Rattle.dnp_objects.specs.declared.lane.LaneRow.{LaneRow}
 use Rattle.dnp_objects.specs.declared.row.Kind.{Kind}
 use Rattle.dnp_objects.specs.declared.row.Row.{Row}
 use Rattle.dnp_eventbuf.specs.Buffered.{buffered_next, buffered_row}
-use Rattle.dnp_eventbuf.specs.Carried.{IsCarried}
-use Rattle.dnp_eventbuf.specs.Sound.{IsSound}
-use Rattle.dnp_eventbuf.specs.Stock.{Stock, arriving, with_rows, dropped_by, exhausts}
+use Rattle.dnp_eventbuf.specs.FitsLane.{FitsLane}
+use Rattle.dnp_eventbuf.specs.Sound.{IsSoundBuffer}
+use Rattle.dnp_eventbuf.specs.EventBuffer.{EventBuffer, arriving, with_rows, dropped_by, exhausts}
 use Rattle.dnp_pointdb.specs.declared.fault.ChangeFault.{ChangeFault}
 use Rattle.dnp_pointdb.specs.declared.point.Point.{Point}
 use Rattle.dnp_pointdb.specs.declared.reading.Reading.{Reading}
-use Rattle.dnp_pointdb.specs.declared.reading.Report.{Report}
+use Rattle.dnp_pointdb.specs.declared.reading.LastReport.{LastReport}
 use Rattle.dnp_pointdb.specs.declared.state.BlockState.{BlockState}
 use Rattle.dnp_pointdb.specs.declared.state.PointState.{PointState}
 use Rattle.dnp_pointdb.specs.Database.{Database, answer_of, blocks_of, changed_of, checked, has_index, made_from, state_in}
@@ -29,29 +29,29 @@ use Rattle.dnp_outstation.specs.Links.{IsInOrder}
 use Rattle.dnp_outstation.specs.State.{State, Step, nothing}
 use Rattle.dnp_outstation.specs.Tidy.{LeavesNothing}
 use Rattle.dnp_world.specs.Lanes.{HasLanes, dropped_for, lane_appended}
-use Rattle.dnp_world.specs.Link.{Link}
+use Rattle.dnp_world.specs.LawLink.{LawLink}
 use Rattle.dnp_world.specs.Moves.{Moves}
-use Rattle.dnp_world.specs.Standing.{Stands}
+use Rattle.dnp_world.specs.Standing.{CarriesLaw}
 use Rattle.dnp_world.specs.OutstationSeen.{Shows, Simulates}
 use Rattle.dnp_world.proofs.OutstationLaws.{EndLaws}
 use Rattle.dnp_world.proofs.OutstationSteps.{Grown, grown_none, Sees, shown_sees, Goes, goes_simulates, goes_end}
 
 -- of rows that come to the lanes
 pub record RowLaws : Type 0 where
-  pub appended : (s : Stock) (x : LaneRow) (l : Link) → IsSound s → HasLanes s l
+  pub appended : (s : EventBuffer) (x : LaneRow) (l : LawLink) → IsSoundBuffer s → HasLanes s l
       → Moves l (lane_appended s x l) × HasLanes (with_rows s (x ∷ [])) (lane_appended s x l)
-  pub dropped : (s : Stock) (x : LaneRow) → map buffered_row (dropped_for s x) ≡ dropped_by s (x ∷ [])
+  pub dropped : (s : EventBuffer) (x : LaneRow) → map buffered_row (dropped_for s x) ≡ dropped_by s (x ∷ [])
 
 -- of a change
 pub record ChangeLaws : Type 0 where
   pub ends : EndLaws
   pub rows : RowLaws
-  pub sound : (s : Stock) (rows : List LaneRow) → IsSound s → All IsCarried rows → exhausts s rows ≡ false → IsSound (with_rows s rows)
+  pub sound : (s : EventBuffer) (rows : List LaneRow) → IsSoundBuffer s → All FitsLane rows → exhausts s rows ≡ false → IsSoundBuffer (with_rows s rows)
   pub carried : (database : Database) (kind : Kind) (index : ℕ) (reading : Reading)
       → IfOk (answer_of database kind index reading) (λ made. IfSome made (λ x. (x.row.kind ≡ x.lane.kind) × IsEvent x.row))
-  pub points : (database : Database) (kind : Kind) (index : ℕ) (reading : Reading) → points.IsSound database
-      → points.IsSound (changed_of database kind index reading)
-  pub row : (kind : Kind) (index : ℕ) (point : Point) (last : Report) (reading : Reading)
+  pub points : (database : Database) (kind : Kind) (index : ℕ) (reading : Reading) → points.IsSoundDatabase database
+      → points.IsSoundDatabase (changed_of database kind index reading)
+  pub row : (kind : Kind) (index : ℕ) (point : Point) (last : LastReport) (reading : Reading)
       → IfSome (event_of kind index point last reading) (λ made. IsLane made.lane point.class kind × (made.row ≡ row_of kind index reading))
   pub performed : (s : State) (now : ℕ) (kind : Kind) (index : ℕ) (reading : Reading) (made : Option LaneRow)
       → (change_of s now kind index reading made).state.performed ≡ s.performed
@@ -69,7 +69,7 @@ written s database rows = record {
   does = record nothing { overwritten = dropped_by s.lanes rows };
 }
 
-pub appended_grows : RowLaws → (s : Stock) (x : LaneRow) (l : Link) → IsSound s → HasLanes s l
+pub appended_grows : RowLaws → (s : EventBuffer) (x : LaneRow) (l : LawLink) → IsSoundBuffer s → HasLanes s l
     → Grown l (lane_appended s x l) (arriving (x ∷ [])) [] [] (dropped_by s (x ∷ [])) []
 appended_grows laws s x l sound seen = record {
   moves = (laws.appended s x l sound seen).0;
@@ -81,8 +81,8 @@ appended_grows laws s x l sound seen = record {
   performed = sym (append-nil l.performed);
 }
 
-goes_written : RowLaws → (s : State) (database : Database) (made : Option LaneRow) (l : Link) → Sees s l → points.IsSound database
-    → IsSound (with_rows s.lanes (option_to_list made))
+goes_written : RowLaws → (s : State) (database : Database) (made : Option LaneRow) (l : LawLink) → Sees s l → points.IsSoundDatabase database
+    → IsSoundBuffer (with_rows s.lanes (option_to_list made))
     → Goes (arriving (option_to_list made)) [] (written s database (option_to_list made)) l
 goes_written laws s database None l sees sound_points sound = record {
   link = l;
@@ -134,7 +134,7 @@ low_if : (kind : Kind) (index : ℕ) (reading : Reading) (made : Option LaneRow)
 low_if kind index reading made blocks sound None there e = absurd (cc)
 low_if kind index reading made blocks sound (Some state) there e = low_in kind index state blocks sound there
 
-index_low : (database : Database) (kind : Kind) (index : ℕ) (reading : Reading) (made : Option LaneRow) → points.IsSound database
+index_low : (database : Database) (kind : Kind) (index : ℕ) (reading : Reading) (made : Option LaneRow) → points.IsSoundDatabase database
     → answer_of database kind index reading ≡ Ok made → index < 2 ^ 16
 index_low database kind index reading made sound e =
     low_if kind index reading made (blocks_of database kind) (sound kind).each (state_in (blocks_of database kind) index) refl e
@@ -165,19 +165,19 @@ small_index index None small is = tt
 small_index index (Some x) small is = subst (λ (n : ℕ). n < 2 ^ 16) (sym is) small
 
 -- the lanes stay sound
-sound_after : ChangeLaws → (lanes : Stock) (made : Option LaneRow) → IsSound lanes → IfSome made (λ row. exhausts lanes (row ∷ []) ≡ false)
+sound_after : ChangeLaws → (lanes : EventBuffer) (made : Option LaneRow) → IsSoundBuffer lanes → IfSome made (λ row. exhausts lanes (row ∷ []) ≡ false)
     → IfSome made (λ x. (x.row.kind ≡ x.lane.kind) × IsEvent x.row) → IfSome made (λ x. x.row.index < 2 ^ 16)
-    → IsSound (with_rows lanes (option_to_list made))
+    → IsSoundBuffer (with_rows lanes (option_to_list made))
 sound_after laws lanes None sound room event low = sound
 sound_after laws lanes (Some x) sound room event low =
-    let carried : IsCarried x = record { of_its_kind = event.0; fits = event.1; index = low } in
-    laws.sound lanes (x ∷ []) sound (All-cons IsCarried x [] carried (All-nil IsCarried)) room
+    let carried : FitsLane x = record { of_its_kind = event.0; fits = event.1; index = low } in
+    laws.sound lanes (x ∷ []) sound (All-cons FitsLane x [] carried (All-nil FitsLane)) room
 
 of_ok : {F : Type 0} (P : Option LaneRow → Type 0) (r : Result (Option LaneRow) F) (made : Option LaneRow) → r ≡ Ok made → IfOk r P → P made
 of_ok {F = F} P r made e h = subst (λ (r : Result (Option LaneRow) F). IfOk r P) e h
 
-pub change_simulates : ChangeLaws → (s : State) (now : ℕ) (kind : Kind) (index : ℕ) (reading : Reading) (made : Option LaneRow) (l : Link)
-    → answer_of s.core.points kind index reading ≡ Ok made → IfSome made (λ row. exhausts s.lanes (row ∷ []) ≡ false) → Shows s l → Stands l
+pub change_simulates : ChangeLaws → (s : State) (now : ℕ) (kind : Kind) (index : ℕ) (reading : Reading) (made : Option LaneRow) (l : LawLink)
+    → answer_of s.core.points kind index reading ≡ Ok made → IfSome made (λ row. exhausts s.lanes (row ∷ []) ≡ false) → Shows s l → CarriesLaw l
     → Simulates s (arriving (option_to_list made)) (change_of s now kind index reading made) l
 change_simulates laws s now kind index reading made l is room shows stands =
     let Event : LaneRow → Type 0 = λ x. (x.row.kind ≡ x.lane.kind) × IsEvent x.row in
@@ -185,7 +185,7 @@ change_simulates laws s now kind index reading made l is room shows stands =
     (laws.carried s.core.points kind index reading) in
     let low : IfSome made (λ x. x.row.index < 2 ^ 16) =
     small_index index made (index_low s.core.points kind index reading made shows.well.points is) (made_index laws s.core.points kind index reading made is) in
-    let sound : IsSound (with_rows s.lanes (option_to_list made)) = sound_after laws s.lanes made shows.well.lanes room event low in
+    let sound : IsSoundBuffer (with_rows s.lanes (option_to_list made)) = sound_after laws s.lanes made shows.well.lanes room event low in
     let database : Database = changed_of s.core.points kind index reading in
     let order : IsInOrder (change_of s now kind index reading made).state.core = laws.order s now kind index reading made shows.well.order in
     let goes : Goes (arriving (option_to_list made)) [] (written s database (option_to_list made)) l =
@@ -196,7 +196,7 @@ change_simulates laws s now kind index reading made l is room shows stands =
 
 -- ---- what anybody does to the points
 
-pub points_shown : (s : State) (database : Database) (l : Link) → points.IsSound database → Shows s l
+pub points_shown : (s : State) (database : Database) (l : LawLink) → points.IsSoundDatabase database → Shows s l
     → Shows (record s { core = record s.core { points = database } }) l
 points_shown s database l sound shows = record {
   outstation = shows.outstation;

@@ -16,14 +16,14 @@ use Rattle.dnp_appfragment.specs.Meaning.{control_of, command_in, function_at, r
 use Rattle.dnp_appfragment.specs.Reading.{◌>>=◌, headers_at}
 use Rattle.dnp_appfragment.specs.Table.{function_of, function_octet}
 use Rattle.dnp_eventbuf.specs.Buffered.{Buffered, buffered_row, id_limit, is_upto}
-use Rattle.dnp_eventbuf.specs.Stock.{Stock}
+use Rattle.dnp_eventbuf.specs.EventBuffer.{EventBuffer}
 use Rattle.dnp_outstation.specs.Connection.{function_in}
 use Rattle.dnp_outstation.specs.Connection as connection
 use Rattle.dnp_outstation.specs.Controls.{commands_of}
 use Rattle.dnp_outstation.specs.Links.{Reports, commands_asked}
 use Rattle.dnp_outstation.specs.Links as links
 use Rattle.dnp_world.specs.Lanes.{HasLanes}
-use Rattle.dnp_world.specs.Link.{Fragment, Asks, Confirms, ConfirmsReport, Link}
+use Rattle.dnp_world.specs.LawLink.{SentFragment, Asks, Confirms, ConfirmsReport, LawLink}
 use Rattle.dnp_world.specs.Moves.{IsOffered}
 use Rattle.dnp_world.specs.Octets.{control_in, seq_in, uns_in, fin_in, rows_in, commands_in, asked_commands, header_commands}
 use Rattle.dnp_world.specs.OutstationSeen.{down_of}
@@ -53,10 +53,10 @@ said_control (control ∷ code ∷ one ∷ two ∷ body) answered e = by_functio
 
 -- ---- a fragment that is sent
 
-abbrev pub made_of : List ℕ → List ℕ → Link → Fragment
+abbrev pub made_of : List ℕ → List ℕ → LawLink → SentFragment
 made_of octets upto l = record { octets = octets; upto = upto; rows = filter (is_upto upto) l.lanes }
 
-module _ (s : Stock) (octets : List ℕ) (control : ControlBits) (upto : List ℕ) (reports : Reports s octets control upto) where
+module _ (s : EventBuffer) (octets : List ℕ) (control : ControlBits) (upto : List ℕ) (reports : Reports s octets control upto) where
   reported_control : control_in octets ≡ control
   reported_control = sym (said_control octets reports.answered reports.read) ∙ reports.control_is
 
@@ -77,7 +77,7 @@ module _ (s : Stock) (octets : List ℕ) (control : ControlBits) (upto : List �
   reported_rows = ap answered_events reports.read
 
   -- it is offered by the link that has these lanes
-  pub reported_offer : (uns : Bool) (l : Link) → control.uns ≡ uns → HasLanes s l → IsOffered uns l.lanes l.last_id (made_of octets upto l)
+  pub reported_offer : (uns : Bool) (l : LawLink) → control.uns ≡ uns → HasLanes s l → IsOffered uns l.lanes l.last_id (made_of octets upto l)
   reported_offer uns l uns_is lanes = record {
     limits = λ lane. subst (λ (n : ℕ). id_limit upto lane ≤ n) (sym lanes.last_id) (reports.used lane);
     rows = refl;

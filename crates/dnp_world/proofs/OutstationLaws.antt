@@ -8,11 +8,11 @@ use Rattle.dnp_appfragment.specs.Table.{function_octet}
 use Rattle.dnp_controls.specs.Panel.{Panel}
 use Rattle.dnp_controls.specs.Selecting.{deadline}
 use Rattle.dnp_eventbuf.specs.Buffered.{buffered_row}
-use Rattle.dnp_eventbuf.specs.Sound.{IsSound}
-use Rattle.dnp_eventbuf.specs.Stock.{Stock, without, all_up_to}
+use Rattle.dnp_eventbuf.specs.Sound.{IsSoundBuffer}
+use Rattle.dnp_eventbuf.specs.EventBuffer.{EventBuffer, without, all_up_to}
 use Rattle.dnp_pointdb.specs.Sound as points
 use Rattle.dnp_outstation.specs.declared.case.Case.TheVariants as case
-use Rattle.dnp_outstation.specs.declared.offer.place.Place.{Place}
+use Rattle.dnp_outstation.specs.declared.offer.place.ReadPlace.{ReadPlace}
 use Rattle.dnp_outstation.specs.declared.session.Awaited.{Awaited}
 use Rattle.dnp_outstation.specs.declared.session.LastRequest.{LastRequest}
 use Rattle.dnp_outstation.specs.declared.session.Reply.TheVariants as reply
@@ -29,21 +29,21 @@ use Rattle.dnp_outstation.specs.Connection.{control_for, control_in, fragment_of
 use Rattle.dnp_outstation.specs.Calls.{connection_after, tick_of}
 use Rattle.dnp_outstation.specs.Tidy.{LeavesNothing}
 use Rattle.dnp_world.specs.Lanes.{HasLanes}
-use Rattle.dnp_world.specs.Link.{Link}
+use Rattle.dnp_world.specs.LawLink.{LawLink}
 use Rattle.dnp_world.specs.Moves.{released}
 
 -- of an unsolicited response, and of the end of a call
 pub record EndLaws : Type 0 where
-  pub unsolicited : (s : State) → IsSound s.lanes → length s.core.enabled ≤ 3 → s.core.session.next < 16
+  pub unsolicited : (s : State) → IsSoundBuffer s.lanes → length s.core.enabled ≤ 3 → s.core.session.next < 16
       → (let content : Content = content_from (pushed s.lanes s.core.enabled) in
       Reports s.lanes (unsolicited_of s content) (record { fir = true; fin = true; con = true; uns = true; seq = s.core.session.next }) content.upto)
   pub ends : (now : ℕ) (step : Step) → EndsAs now step
 
 -- of the answer to a request
 pub record AnswerLaws : Type 0 where
-  pub writable : (s : Source) → points.IsSound s.points → s.panel.outputs ≤ 2 ^ 16
+  pub writable : (s : Source) → points.IsSoundDatabase s.points → s.panel.outputs ≤ 2 ^ 16
       → ((index : ℕ) → index < s.panel.outputs → s.panel.status index < 2 ^ 8) → AreWritable s
-  pub answer : (s after : State) (o : Panel) (now : ℕ) (octets : List ℕ) (seq : ℕ) (content : Content) → IsSound s.lanes → AreWritable (source_of s o)
+  pub answer : (s after : State) (o : Panel) (now : ℕ) (octets : List ℕ) (seq : ℕ) (content : Content) → IsSoundBuffer s.lanes → AreWritable (source_of s o)
       → All (λ octet. octet < 2 ^ 8) octets → seq < 16 → (content_at s o now octets).content ≡ Some content
       → Reports s.lanes (fragment_of after true seq content) (control_for true seq content) content.upto
   pub keeps : (s : State) (o : Panel) (now : ℕ) (octets : List ℕ) → KeepsConnection s (content_at s o now octets).state
@@ -52,24 +52,24 @@ pub record AnswerLaws : Type 0 where
 
 -- of lanes from which a confirm releases rows
 pub record ReleaseLaws : Type 0 where
-  pub left : (s : Stock) (upto : List ℕ) (l : Link) → length upto ≡ length s.lanes → HasLanes s l → HasLanes (without s upto) (released upto l)
-  pub given : (s : Stock) (upto : List ℕ) (l : Link) → length upto ≡ length s.lanes → HasLanes s l
+  pub left : (s : EventBuffer) (upto : List ℕ) (l : LawLink) → length upto ≡ length s.lanes → HasLanes s l → HasLanes (without s upto) (released upto l)
+  pub given : (s : EventBuffer) (upto : List ℕ) (l : LawLink) → length upto ≡ length s.lanes → HasLanes s l
       → map buffered_row (released upto l).released ≡ map buffered_row l.released ++ all_up_to s upto
-  pub sound : (s : Stock) (upto : List ℕ) → IsSound s → length upto ≡ LANES → IsSound (without s upto)
+  pub sound : (s : EventBuffer) (upto : List ℕ) → IsSoundBuffer s → length upto ≡ LANES → IsSoundBuffer (without s upto)
 
 -- of a response that goes on after a confirm
 pub record FurtherLaws : Type 0 where
-  pub tidy : (s : State) (w : Awaited) (last : LastRequest) (place : Place) → IsSound s.lanes → LeavesNothing s → s.core.session.awaited ≡ Some w
+  pub tidy : (s : State) (w : Awaited) (last : LastRequest) (place : ReadPlace) → IsSoundBuffer s.lanes → LeavesNothing s → s.core.session.awaited ≡ Some w
       → s.core.session.last ≡ Some last → last.left ≡ Some place → IsTidy (without s.lanes w.upto) place.given × (length place.given ≡ LANES)
-  pub further : (s : State) (o : Panel) (stood : ℕ) (place : Place) (headers : List Head) (seq : ℕ) → IsSound s.lanes → AreWritable (source_of s o)
+  pub further : (s : State) (o : Panel) (stood : ℕ) (place : ReadPlace) (headers : List Head) (seq : ℕ) → IsSoundBuffer s.lanes → AreWritable (source_of s o)
       → IsTidy s.lanes place.given → length place.given ≡ LANES → seq < 16
       → (let content : Content = read_content s o stood place headers in
       Reports s.lanes (fragment_of s false seq content) (control_for false seq content) content.upto)
-  pub ids : (s : State) (o : Panel) (stood : ℕ) (place : Place) (headers : List Head) → length (read_content s o stood place headers).upto ≡ LANES
+  pub ids : (s : State) (o : Panel) (stood : ℕ) (place : ReadPlace) (headers : List Head) → length (read_content s o stood place headers).upto ≡ LANES
 
 -- of a READ that is held until an unsolicited response is confirmed
 pub record HeldLaws : Type 0 where
-  pub held : (s after : State) (o : Panel) (octets : List ℕ) (seq : ℕ) (content : Content) → IsSound s.lanes → AreWritable (source_of s o) → seq < 16
+  pub held : (s after : State) (o : Panel) (octets : List ℕ) (seq : ℕ) (content : Content) → IsSoundBuffer s.lanes → AreWritable (source_of s o) → seq < 16
       → (content_of s o octets).content ≡ Some content
       → Reports s.lanes (fragment_of after true seq content) (control_for true seq content) content.upto
   pub keeps : (s : State) (o : Panel) (octets : List ℕ) → KeepsConnection s (content_of s o octets).state
@@ -96,7 +96,8 @@ pub record CallLaws : Type 0 where
   pub again : (s : State) (o : Panel) (now : ℕ) (octets : List ℕ) → case_of s.core octets ≡ case.Again
       → ExecutesNothing s (connection_after s o now octets).state
   pub order : (s : State) (o : Panel) (now : ℕ) (octets : List ℕ) → IsInOrder s.core → IsInOrder (connection_after s o now octets).state.core
-  pub tidy : (s : State) (o : Panel) (now : ℕ) (octets : List ℕ) → IsSound s.lanes → LeavesNothing s → LeavesNothing (connection_after s o now octets).state
+  pub tidy : (s : State) (o : Panel) (now : ℕ) (octets : List ℕ) → IsSoundBuffer s.lanes → LeavesNothing s
+      → LeavesNothing (connection_after s o now octets).state
 
 -- of time
 pub record TimerLaws : Type 0 where

@@ -4,8 +4,8 @@ use Rattle.std.proofs.lemmas.List.{map-append}
 use Rattle.dnp_objects.specs.declared.command.Command.{Command}
 use Rattle.dnp_objects.specs.declared.row.Row.{Row}
 use Rattle.dnp_eventbuf.specs.Buffered.{buffered_as, buffered_from, buffered_in, buffered_row}
-use Rattle.dnp_eventbuf.specs.Sound.{IsSound}
-use Rattle.dnp_eventbuf.specs.Stock.{LaneState, Stock, lane_rows, rows_in, row_of, without_all}
+use Rattle.dnp_eventbuf.specs.Sound.{IsSoundBuffer}
+use Rattle.dnp_eventbuf.specs.EventBuffer.{LaneState, EventBuffer, lane_rows, rows_in, row_of, without_all}
 use Rattle.dnp_eventbuf.specs.declared.numbered.Numbered.{Numbered}
 use Rattle.dnp_pointdb.specs.Database.{Database, restarted}
 use Rattle.dnp_pointdb.specs.Sound as points
@@ -19,9 +19,9 @@ use Rattle.dnp_outstation.specs.State.{State, Step, nothing, still}
 use Rattle.dnp_outstation.specs.Station.{new_core}
 use Rattle.dnp_outstation.specs.Tidy.{LeavesNothing}
 use Rattle.dnp_world.specs.Lanes.{HasLanes, fresh_link, lanes_emptied}
-use Rattle.dnp_world.specs.Link.{Outstation, Link}
+use Rattle.dnp_world.specs.LawLink.{LawOutstation, LawLink}
 use Rattle.dnp_world.specs.Moves.{Move, Open, CloseOutstation, opened, with_outstation}
-use Rattle.dnp_world.specs.Standing.{Stands}
+use Rattle.dnp_world.specs.Standing.{CarriesLaw}
 use Rattle.dnp_world.specs.OutstationSeen.{outstation_seen, Shows, Simulates}
 use Rattle.dnp_world.proofs.Keeping.{move_stands}
 use Rattle.dnp_world.proofs.OutstationLaws.{EndLaws}
@@ -30,7 +30,7 @@ use Rattle.dnp_world.proofs.OutstationTimers.{close_goes}
 
 -- ---- a new one
 
-pub new_shown : (database : Database) (times : Times) (lanes : Stock) (performed : List Command) → points.IsSound database → IsSound lanes
+pub new_shown : (database : Database) (times : Times) (lanes : EventBuffer) (performed : List Command) → points.IsSoundDatabase database → IsSoundBuffer lanes
     → Shows (record { core = new_core database times; lanes = lanes; performed = performed }) (fresh_link lanes)
 new_shown database times lanes performed sound_points sound = record {
   outstation = refl;
@@ -51,13 +51,13 @@ pub record OpenLaws : Type 0 where
       → opened_of s now ≡ starts (still (begun s)) now (plain 0 [])
   pub opens_again : (s : State) (now : ℕ) → (s.core.times.unsolicited ≡ false) ⊎ (s.core.announced ≡ true)
       → opened_of s now ≡ at_end now (still (begun s))
-  pub first : (s : State) → IsSound s.lanes → s.core.session.next < 16
+  pub first : (s : State) → IsSoundBuffer s.lanes → s.core.session.next < 16
       → Reports s.lanes (unsolicited_of s (plain 0 [])) (record { fir = true; fin = true; con = true; uns = true; seq = s.core.session.next }) no_ids
   pub performed : (s : State) (now : ℕ) → (opened_of s now).state.performed ≡ s.performed
   pub order : (s : State) (now : ℕ) → IsInOrder s.core → IsInOrder (opened_of s now).state.core
   pub tidy : (s : State) (now : ℕ) → LeavesNothing (opened_of s now).state
 
-begun_sees : (s : State) (l : Link) → Sees s l → Sees (begun s) (opened l)
+begun_sees : (s : State) (l : LawLink) → Sees s l → Sees (begun s) (opened l)
 begun_sees s l sees = record {
   outstation = refl;
   lanes = record { rows = sees.lanes.rows; last_id = sees.lanes.last_id };
@@ -66,7 +66,7 @@ begun_sees s l sees = record {
   ids = record { awaited = tt; first = tt };
 }
 
-module _ (ends : EndLaws) (laws : OpenLaws) (s : State) (now : ℕ) (l : Link) (shows : Shows s l) (stands : Stands l) where
+module _ (ends : EndLaws) (laws : OpenLaws) (s : State) (now : ℕ) (l : LawLink) (shows : Shows s l) (stands : CarriesLaw l) where
   begins : Goes [] [] (still (begun s)) (opened l)
   begins = goes_still (begun s) (opened l) (begun_sees s l (shown_sees s l shows))
 
@@ -96,15 +96,15 @@ module _ (ends : EndLaws) (laws : OpenLaws) (s : State) (now : ℕ) (l : Link) (
 -- ---- a hang-up and a restart
 
 pub record CloseLaws : Type 0 where
-  pub lanes_emptied : (s : Stock) (l : Link) → HasLanes s l → Move l (lanes_emptied s l) × HasLanes (without_all s) (lanes_emptied s l)
-  pub emptied : (s : Stock) → IsSound s → IsSound (without_all s)
-  pub points : (database : Database) → points.IsSound database → points.IsSound (restarted database)
+  pub lanes_emptied : (s : EventBuffer) (l : LawLink) → HasLanes s l → Move l (lanes_emptied s l) × HasLanes (without_all s) (lanes_emptied s l)
+  pub emptied : (s : EventBuffer) → IsSoundBuffer s → IsSoundBuffer (without_all s)
+  pub points : (database : Database) → points.IsSoundDatabase database → points.IsSoundDatabase (restarted database)
   pub order : (s : State) → IsInOrder s.core → IsInOrder (closed s.core)
   pub tidy : (s : State) → LeavesNothing (record s { core = closed s.core })
   pub restart_order : (s : State) (keep : Bool) → IsInOrder (restart_of s keep).core
   pub restart_tidy : (s : State) (keep : Bool) → LeavesNothing (restart_of s keep)
 
-pub closing_simulates : CloseLaws → (s : State) (l : Link) → Shows s l → Simulates s [] (still (record s { core = closed s.core })) l
+pub closing_simulates : CloseLaws → (s : State) (l : LawLink) → Shows s l → Simulates s [] (still (record s { core = closed s.core })) l
 closing_simulates laws s l shows =
     goes_simulates s [] [] (still (record s { core = closed s.core })) l (sym (append-nil s.performed)) (laws.order s shows.well.order) (laws.tidy s)
     (close_goes s false l (shown_sees s l shows))
@@ -124,13 +124,13 @@ rows_from number (lane ∷ lanes) =
 abbrev restarting : State → Bool → Step
 restarting s keep = record { state = restart_of s keep; does = record nothing { overwritten = emptied_of s keep } }
 
-restarted_closes : (s : State) (l : Link) → Sees s l → Grown l (with_outstation (outstation_seen (restarted_core s.core)) l) [] [] [] [] []
+restarted_closes : (s : State) (l : LawLink) → Sees s l → Grown l (with_outstation (outstation_seen (restarted_core s.core)) l) [] [] [] [] []
 restarted_closes s l sees =
-    let o : Outstation = outstation_seen (restarted_core s.core) in
+    let o : LawOutstation = outstation_seen (restarted_core s.core) in
     grown_quiet l (with_outstation o l) (CloseOutstation o refl refl) (record { master = refl; down = refl; took = refl; asked = refl })
     refl refl refl refl refl
 
-restart_goes : CloseLaws → (s : State) (keep : Bool) (l : Link) → Sees s l → Goes [] [] (restarting s keep) l
+restart_goes : CloseLaws → (s : State) (keep : Bool) (l : LawLink) → Sees s l → Goes [] [] (restarting s keep) l
 restart_goes laws s true l sees = record {
   link = with_outstation (outstation_seen (restarted_core s.core)) l;
   sent = [];
@@ -145,8 +145,8 @@ restart_goes laws s true l sees = record {
   octets = refl;
 }
 restart_goes laws s false l sees =
-    let next : Link = with_outstation (outstation_seen (restarted_core s.core)) l in
-    let new : Link = lanes_emptied s.lanes next in
+    let next : LawLink = with_outstation (outstation_seen (restarted_core s.core)) l in
+    let new : LawLink = lanes_emptied s.lanes next in
     let seen : HasLanes s.lanes next = record { rows = sees.lanes.rows; last_id = sees.lanes.last_id } in
     let drops : Move next new × HasLanes (without_all s.lanes) new = laws.lanes_emptied s.lanes next seen in
     let second : Grown next new [] [] [] (rows_in s.lanes) [] = record {
@@ -173,7 +173,7 @@ restart_goes laws s false l sees =
       octets = refl;
     }
 
-pub restart_simulates : CloseLaws → (s : State) (keep : Bool) (l : Link) → Shows s l → Simulates s [] (restarting s keep) l
+pub restart_simulates : CloseLaws → (s : State) (keep : Bool) (l : LawLink) → Shows s l → Simulates s [] (restarting s keep) l
 restart_simulates laws s keep l shows =
     goes_simulates s [] [] (restarting s keep) l (sym (append-nil s.performed)) (laws.restart_order s keep) (laws.restart_tidy s keep)
     (restart_goes laws s keep l (shown_sees s l shows))

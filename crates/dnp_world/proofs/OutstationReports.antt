@@ -3,7 +3,7 @@ use Rattle.std.proofs.Common.{◌≡◌, ℕ, ◌≤◌, true, false, List, [], 
 use Rattle.std.proofs.lemmas.Bool.{both_ways}
 use Rattle.dnp_objects.specs.declared.limits.TheConstants.{LANES}
 use Rattle.dnp_controls.specs.Panel.{Panel}
-use Rattle.dnp_eventbuf.specs.Stock.{Stock, without, all_up_to}
+use Rattle.dnp_eventbuf.specs.EventBuffer.{EventBuffer, without, all_up_to}
 use Rattle.dnp_outstation.specs.declared.case.Case.TheVariants as case
 use Rattle.dnp_outstation.specs.declared.session.Reply.{Reply}
 use Rattle.dnp_outstation.specs.declared.session.Reply.TheVariants.{Held, Silent, First, Further}
@@ -17,12 +17,12 @@ use Rattle.dnp_outstation.specs.Said.{AreWritable}
 use Rattle.dnp_outstation.specs.State.{State, Step, still, holds_read}
 use Rattle.dnp_outstation.specs.Tidy.{LeavesNothing}
 use Rattle.dnp_world.specs.Lanes.{HasLanes}
-use Rattle.dnp_world.specs.Link.{Down, ConfirmsReport, NothingSent, Outstation, Link}
+use Rattle.dnp_world.specs.LawLink.{Down, ConfirmsReport, NothingSent, LawOutstation, LawLink}
 use Rattle.dnp_world.specs.Moves as moves
 use Rattle.dnp_world.specs.Moves.{Move, ConfirmReport, released}
 use Rattle.dnp_world.specs.OutstationSeen.{ShowOctets, last_seen, report_seen, reply_seen}
 use Rattle.dnp_world.specs.Octets.{seq_in}
-use Rattle.dnp_world.specs.Standing.{Stands}
+use Rattle.dnp_world.specs.Standing.{CarriesLaw}
 use Rattle.dnp_world.proofs.OutstationAnswers.{rest_seen, kept_rest, executed, goes_answers}
 use Rattle.dnp_world.proofs.OutstationConfirms.{GoesOn, stays_on, grown_releases, from_release}
 use Rattle.dnp_world.proofs.OutstationFragments.{same_seq, seq_below}
@@ -31,7 +31,7 @@ use Rattle.dnp_world.proofs.OutstationSteps.{Grown, Sees, Goes, goes_end}
 
 -- ---- a READ that was held
 
-held_answered : AnswerLaws → HeldLaws → (t : State) (o : Panel) (now : ℕ) (last : LastRequest) (l : Link) → ShowOctets o → Sees t l
+held_answered : AnswerLaws → HeldLaws → (t : State) (o : Panel) (now : ℕ) (last : LastRequest) (l : LawLink) → ShowOctets o → Sees t l
     → t.core.session.last ≡ Some last → last.reply ≡ Held
     → GoesOn (replied now (control_in t.core.session.request).seq (content_of t o t.core.session.request)) l
 held_answered answers laws t o now last l shown sees last_is held = by x.content refl
@@ -52,14 +52,14 @@ held_answered answers laws t o now last l shown sees last_is held = by x.content
         let keeps : KeepsConnection t y.state = laws.keeps t o t.core.session.request in
         let writable : AreWritable (source_of t o) = answers.writable (source_of t o) sees.points shown.outputs shown.status in
         let seen : l.outstation.last ≡ Some (record { request = y.state.core.session.request; reply = NothingSent; more = is_some last.left }) =
-        sym (ap (λ (o : Outstation). o.last) sees.outstation)
+        sym (ap (λ (o : LawOutstation). o.last) sees.outstation)
         ∙ ap (λ (z : Option LastRequest). option_map (last_seen t.core.session) z) last_is
         ∙ ap (λ (r : Reply). Some (record { request = t.core.session.request; reply = reply_seen t.core.session.response r; more = is_some last.left })) held
         ∙ ap (λ (r : List ℕ). Some (record { request = r; reply = NothingSent; more = is_some last.left })) (sym keeps.request) in
         record {
           goes = goes_answers y.state now seq c y.time (is_some last.left) l (kept_rest t y.state l (rest_seen t l sees) keeps) seen
               (same_seq t.core.session.request ∙ ap seq_in (sym keeps.request))
-              (subst (λ (lanes : Stock). Reports lanes (fragment_of y.state true seq c) (control_for true seq c) c.upto) (sym keeps.lanes)
+              (subst (λ (lanes : EventBuffer). Reports lanes (fragment_of y.state true seq c) (control_for true seq c) c.upto) (sym keeps.lanes)
               (laws.held t y.state o t.core.session.request seq c sees.sound writable (seq_below t.core.session.request) is))
               (laws.ids t o t.core.session.request c is);
           gone = refl;
@@ -67,16 +67,16 @@ held_answered answers laws t o now last l shown sees last_is held = by x.content
 
 -- ---- the confirm
 
-abbrev confirmed_link : State → Unsolicited → Link → Link
+abbrev confirmed_link : State → Unsolicited → LawLink → LawLink
 confirmed_link s w l = moves.report_confirmed (report_seen s.core.session w) l
 
-confirmed_sees : ReleaseLaws → (s : State) (w : Unsolicited) (l : Link) → Sees s l → length w.upto ≡ LANES
+confirmed_sees : ReleaseLaws → (s : State) (w : Unsolicited) (l : LawLink) → Sees s l → length w.upto ≡ LANES
     → Sees (unsolicited_confirmed s w) (confirmed_link s w l)
 confirmed_sees laws s w l sees nine =
     let lanes : HasLanes (without s.lanes w.upto) (released w.upto l) =
     laws.left s.lanes w.upto l (nine ∙ sym sees.sound.nine) sees.lanes in
     record {
-      outstation = ap (λ (o : Outstation). record o { report = None }) sees.outstation;
+      outstation = ap (λ (o : LawOutstation). record o { report = None }) sees.outstation;
       lanes = record { rows = lanes.rows; last_id = lanes.last_id };
       sound = laws.sound s.lanes w.upto sees.sound nine;
       points = sees.points;
@@ -88,8 +88,8 @@ holds_none : (last : LastRequest) (reply : Reply) → last.reply ≡ reply
     → holds_read (Some last) ≡ false
 holds_none last reply is none = subst (λ (r : Reply). holds_read (Some (record { reply = r; stood = last.stood; left = last.left })) ≡ false) (sym is) none
 
-pub goes_report_confirm : EndLaws → AnswerLaws → ReleaseLaws → HeldLaws → (s : State) (o : Panel) (now : ℕ) (octets : List ℕ) (w : Unsolicited) (l : Link)
-    (rest : List Down) → ShowOctets o → Sees s l → LeavesNothing s → Stands l → s.core.is_open ≡ true
+pub goes_report_confirm : EndLaws → AnswerLaws → ReleaseLaws → HeldLaws → (s : State) (o : Panel) (now : ℕ) (octets : List ℕ) (w : Unsolicited) (l : LawLink)
+    (rest : List Down) → ShowOctets o → Sees s l → LeavesNothing s → CarriesLaw l → s.core.is_open ≡ true
     → case_of s.core octets ≡ case.ConfirmsUnsolicited → s.core.session.unsolicited ≡ Some w → l.down ≡ ConfirmsReport w.seq ∷ rest
     → length (connection_after s o now octets).state.core.enabled ≤ 3 → Goes [] [] (connection_after s o now octets) l
 goes_report_confirm ends answers releases laws s o now octets w l rest shown sees tidy stands opens case_is waits down_is classes =
@@ -104,8 +104,8 @@ goes_report_confirm ends answers releases laws s o now octets w l rest shown see
     first : Grown l (confirmed_link s w l) [] [] (all_up_to s.lanes w.upto) [] []
     first =
         grown_releases releases s.lanes w.upto l (record l.outstation { report = None }) (nine ∙ sym sees.sound.nine) sees.lanes
-        (ConfirmReport (report_seen s.core.session w) rest down_is (sym (ap (λ (o : Outstation). o.is_open) sees.outstation) ∙ opens)
-        (sym (ap (λ (o : Outstation). o.report) sees.outstation)
+        (ConfirmReport (report_seen s.core.session w) rest down_is (sym (ap (λ (o : LawOutstation). o.is_open) sees.outstation) ∙ opens)
+        (sym (ap (λ (o : LawOutstation). o.report) sees.outstation)
         ∙ ap (λ (x : Option Unsolicited). option_map (report_seen s.core.session) x) waits) refl)
 
     -- the end of the call after a step that goes on

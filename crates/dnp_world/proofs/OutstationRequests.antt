@@ -13,15 +13,15 @@ use Rattle.dnp_outstation.specs.Connection.{control_in, awaits, asked, on_reques
 use Rattle.dnp_outstation.specs.Content.{Executed, source_of}
 use Rattle.dnp_outstation.specs.Controls.{content_at}
 use Rattle.dnp_outstation.specs.Links.{Reports, KeepsConnection}
-use Rattle.dnp_eventbuf.specs.Stock.{Stock}
+use Rattle.dnp_eventbuf.specs.EventBuffer.{EventBuffer}
 use Rattle.dnp_outstation.specs.Said.{AreWritable}
 use Rattle.dnp_outstation.specs.State.{State, Step, sending, still, with_session}
-use Rattle.dnp_world.specs.Link as link
-use Rattle.dnp_world.specs.Link.{Down, Asks, Up, Responds, NothingSent, FirstSent, Outstation, Link}
+use Rattle.dnp_world.specs.LawLink as link
+use Rattle.dnp_world.specs.LawLink.{Down, Asks, Up, Responds, NothingSent, FirstSent, LawOutstation, LawLink}
 use Rattle.dnp_world.specs.Moves.{IsOther, Receive, Repeat, received, repeated}
 use Rattle.dnp_world.specs.Octets.{seq_in, commands_in}
 use Rattle.dnp_world.specs.OutstationSeen.{ShowOctets, last_seen, awaited_seen, reply_seen, HasIds}
-use Rattle.dnp_world.specs.Standing.{IsReply, Stands}
+use Rattle.dnp_world.specs.Standing.{IsReply, CarriesLaw}
 use Rattle.dnp_world.proofs.Counting.{covered_nil}
 use Rattle.dnp_world.proofs.OutstationAnswers.{SeesRest, kept_rest, goes_replied}
 use Rattle.dnp_world.proofs.OutstationFragments.{same_seq, seq_below}
@@ -36,10 +36,10 @@ other_request session octets None other = tt
 other_request session octets (Some last) other = λ same. other refl (sym same)
 
 -- it was received, and then this step goes on from there
-from_received : (step : Step) (l : Link) (q : List ℕ) (rest : List Down) (those : List Command) → l.down ≡ Asks q ∷ rest → l.outstation.is_open ≡ true
+from_received : (step : Step) (l : LawLink) (q : List ℕ) (rest : List Down) (those : List Command) → l.down ≡ Asks q ∷ rest → l.outstation.is_open ≡ true
     → IsOther q l.outstation.last → IsCoveredBy those (commands_in q) → Goes [] [] step (received q those l) → Goes [] those step l
 from_received step l q rest those down_is opens other few goes =
-    let next : Link = received q those l in
+    let next : LawLink = received q those l in
     let first : Grown l next [] [] [] [] those =
     grown_sends l next [] those (Receive q rest those down_is opens other few refl) (record { master = refl; down = refl; took = refl; asked = refl })
     refl (sym (append-nil l.up)) refl refl refl in
@@ -53,17 +53,17 @@ from_received step l q rest those down_is opens other few goes =
     }
 
 -- the state that executes it shows that it was received
-asked_rest : (s : State) (octets : List ℕ) (those : List Command) (l : Link) → Sees s l → SeesRest (asked s octets) (received octets those l)
+asked_rest : (s : State) (octets : List ℕ) (those : List Command) (l : LawLink) → Sees s l → SeesRest (asked s octets) (received octets those l)
 asked_rest s octets those l sees = record {
-  is_open = ap (λ (o : Outstation). o.is_open) sees.outstation;
-  report = ap (λ (o : Outstation). o.report) sees.outstation;
-  next = ap (λ (o : Outstation). o.next) sees.outstation;
+  is_open = ap (λ (o : LawOutstation). o.is_open) sees.outstation;
+  report = ap (λ (o : LawOutstation). o.report) sees.outstation;
+  next = ap (λ (o : LawOutstation). o.next) sees.outstation;
   lanes = record { rows = sees.lanes.rows; last_id = sees.lanes.last_id };
   sound = sees.sound;
   points = sees.points;
 }
 
-pub goes_asks : AnswerLaws → (s : State) (o : Panel) (now : ℕ) (octets : List ℕ) (those : List Command) (l : Link) (rest : List Down) → ShowOctets o
+pub goes_asks : AnswerLaws → (s : State) (o : Panel) (now : ℕ) (octets : List ℕ) (those : List Command) (l : LawLink) (rest : List Down) → ShowOctets o
     → All (λ octet. octet < 2 ^ 8) octets → Sees s l → l.down ≡ Asks octets ∷ rest → s.core.is_open ≡ true
     → (IsSome s.core.session.last → octets ≢ s.core.session.request) → IsCoveredBy those (commands_in octets)
     → Goes [] those (on_request s o now octets) l
@@ -74,28 +74,28 @@ goes_asks laws s o now octets those l rest shown small sees down_is opens other 
     let keeps : KeepsConnection t x.state = laws.keeps t o now octets in
     let writable : AreWritable (source_of t o) = laws.writable (source_of t o) sees.points shown.outputs shown.status in
     let request : octets ≡ x.state.core.session.request = sym keeps.request in
-    from_received (on_request s o now octets) l octets rest those down_is (sym (ap (λ (o : Outstation). o.is_open) sees.outstation) ∙ opens)
-    (subst (λ (o : Outstation). IsOther octets o.last) sees.outstation (other_request s.core.session octets s.core.session.last other)) few
+    from_received (on_request s o now octets) l octets rest those down_is (sym (ap (λ (o : LawOutstation). o.is_open) sees.outstation) ∙ opens)
+    (subst (λ (o : LawOutstation). IsOther octets o.last) sees.outstation (other_request s.core.session octets s.core.session.last other)) few
     (goes_replied x.state now seq x.content x.time (received octets those l)
     (kept_rest t x.state (received octets those l) (asked_rest s octets those l sees) keeps)
     (ap (λ (q : List ℕ). Some (record { request = q; reply = NothingSent; more = false })) request) refl keeps.awaited
     (same_seq octets ∙ ap seq_in request)
     (λ c is. (
-      subst (λ (lanes : Stock). Reports lanes (fragment_of x.state true seq c) (control_for true seq c) c.upto) (sym keeps.lanes)
+      subst (λ (lanes : EventBuffer). Reports lanes (fragment_of x.state true seq c) (control_for true seq c) c.upto) (sym keeps.lanes)
           (laws.answer t x.state o now octets seq c sees.sound writable small (seq_below octets) is),
       laws.ids t o now octets c is,
     )))
 
 -- a READ that is held
-pub goes_waits : (s : State) (octets : List ℕ) (l : Link) (rest : List Down) → Sees s l → l.down ≡ Asks octets ∷ rest → s.core.is_open ≡ true
+pub goes_waits : (s : State) (octets : List ℕ) (l : LawLink) (rest : List Down) → Sees s l → l.down ≡ Asks octets ∷ rest → s.core.is_open ≡ true
     → (IsSome s.core.session.last → octets ≢ s.core.session.request) → Goes [] [] (still (record s { core = waiting s.core octets })) l
 goes_waits s octets l rest sees down_is opens other =
     let t : State = record s { core = waiting s.core octets } in
-    from_received (still t) l octets rest [] down_is (sym (ap (λ (o : Outstation). o.is_open) sees.outstation) ∙ opens)
-    (subst (λ (o : Outstation). IsOther octets o.last) sees.outstation (other_request s.core.session octets s.core.session.last other))
+    from_received (still t) l octets rest [] down_is (sym (ap (λ (o : LawOutstation). o.is_open) sees.outstation) ∙ opens)
+    (subst (λ (o : LawOutstation). IsOther octets o.last) sees.outstation (other_request s.core.session octets s.core.session.last other))
     (covered_nil (commands_in octets))
     (goes_still t (received octets [] l) record {
-      outstation = ap (λ (o : Outstation). record o { last = Some (record { request = octets; reply = NothingSent; more = false }); awaited = None })
+      outstation = ap (λ (o : LawOutstation). record o { last = Some (record { request = octets; reply = NothingSent; more = false }); awaited = None })
           sees.outstation;
       lanes = record { rows = sees.lanes.rows; last_id = sees.lanes.last_id };
       sound = sees.sound;
@@ -106,8 +106,8 @@ goes_waits s octets l rest sees down_is opens other =
 -- ---- the last request again
 
 -- a kept first fragment is the current one
-kept_octets : (l : Link) (q octets upto : List ℕ) (more : Bool) → l.outstation.is_open ≡ true
-    → l.outstation.last ≡ Some (record { request = q; reply = FirstSent octets upto; more = more }) → Stands l → l.current.octets ≡ octets
+kept_octets : (l : LawLink) (q octets upto : List ℕ) (more : Bool) → l.outstation.is_open ≡ true
+    → l.outstation.last ≡ Some (record { request = q; reply = FirstSent octets upto; more = more }) → CarriesLaw l → l.current.octets ≡ octets
 kept_octets l q octets upto more opens e s =
     let kept : IsReply l.phase l.current q more (FirstSent octets upto) =
     subst (λ (last : Option link.LastRequest). IfSome last (λ a. IsReply l.phase l.current a.request a.more a.reply)) e (s.solicited opens).reply in
@@ -123,24 +123,24 @@ again_awaited : (s : State) (now seq : ℕ) (upto : List ℕ) (b : Bool)
 again_awaited s now seq upto true = inr refl
 again_awaited s now seq upto false = inl refl
 
-again_sees : (s : State) (now seq : ℕ) (upto : List ℕ) (b : Bool) (l : Link) → length upto ≡ LANES → Sees s l
+again_sees : (s : State) (now seq : ℕ) (upto : List ℕ) (b : Bool) (l : LawLink) → length upto ≡ LANES → Sees s l
     → Sees (again_state s now seq upto b) (repeated (option_map awaited_seen (again_state s now seq upto b).core.session.awaited) l)
 again_sees s now seq upto true l nine sees = record {
-  outstation = ap (λ (o : Outstation). record o { awaited = Some (record { seq = seq; upto = upto }) }) sees.outstation;
+  outstation = ap (λ (o : LawOutstation). record o { awaited = Some (record { seq = seq; upto = upto }) }) sees.outstation;
   lanes = record { rows = sees.lanes.rows; last_id = sees.lanes.last_id };
   sound = sees.sound;
   points = sees.points;
   ids = record { awaited = nine; first = sees.ids.first };
 }
 again_sees s now seq upto false l nine sees = record {
-  outstation = ap (λ (o : Outstation). record o { awaited = option_map awaited_seen s.core.session.awaited }) sees.outstation;
+  outstation = ap (λ (o : LawOutstation). record o { awaited = option_map awaited_seen s.core.session.awaited }) sees.outstation;
   lanes = record { rows = sees.lanes.rows; last_id = sees.lanes.last_id };
   sound = sees.sound;
   points = sees.points;
   ids = sees.ids;
 }
 
-goes_first_again : (s : State) (now seq : ℕ) (upto : List ℕ) (more b : Bool) (l : Link) → Sees s l → Stands l → s.core.is_open ≡ true
+goes_first_again : (s : State) (now seq : ℕ) (upto : List ℕ) (more b : Bool) (l : LawLink) → Sees s l → CarriesLaw l → s.core.is_open ≡ true
     → option_map (last_seen s.core.session) s.core.session.last
     ≡ Some (record { request = s.core.session.request; reply = FirstSent s.core.session.response upto; more = more })
     → length upto ≡ LANES → seq ≡ seq_in s.core.session.request
@@ -150,15 +150,15 @@ goes_first_again s now seq upto more b l sees stands opens last_is nine number =
     let octets : List ℕ = s.core.session.response in
     let awaited : Option link.Awaited = option_map awaited_seen (again_state s now seq upto b).core.session.awaited in
     let shown : l.outstation.last ≡ Some (record { request = q; reply = FirstSent octets upto; more = more }) =
-    sym (ap (λ (o : Outstation). o.last) sees.outstation) ∙ last_is in
-    let was : option_map awaited_seen s.core.session.awaited ≡ l.outstation.awaited = ap (λ (o : Outstation). o.awaited) sees.outstation in
+    sym (ap (λ (o : LawOutstation). o.last) sees.outstation) ∙ last_is in
+    let was : option_map awaited_seen s.core.session.awaited ≡ l.outstation.awaited = ap (λ (o : LawOutstation). o.awaited) sees.outstation in
     let may : (awaited ≡ l.outstation.awaited) ⊎ (awaited ≡ Some (record { seq = seq_in q; upto = upto })) =
     elim (again_awaited s now seq upto b) [
       | inl e ↦ inl (e ∙ was)
       | inr e ↦ inr (e ∙ ap (λ (n : ℕ). Some (record { seq = n; upto = upto })) number)
     ] in
-    let opens' : l.outstation.is_open ≡ true = sym (ap (λ (o : Outstation). o.is_open) sees.outstation) ∙ opens in
-    let new : Link = repeated awaited l in
+    let opens' : l.outstation.is_open ≡ true = sym (ap (λ (o : LawOutstation). o.is_open) sees.outstation) ∙ opens in
+    let new : LawLink = repeated awaited l in
     record {
       link = new;
       sent = Responds l.current ∷ [];
@@ -168,7 +168,7 @@ goes_first_again s now seq upto more b l sees stands opens last_is nine number =
       octets = ap (λ (o : List ℕ). o ∷ []) (kept_octets l q octets upto more opens' shown stands);
     }
 
-pub goes_again : (s : State) (now : ℕ) (octets : List ℕ) (last : LastRequest) (l : Link) → Sees s l → Stands l → s.core.is_open ≡ true
+pub goes_again : (s : State) (now : ℕ) (octets : List ℕ) (last : LastRequest) (l : LawLink) → Sees s l → CarriesLaw l → s.core.is_open ≡ true
     → s.core.session.last ≡ Some last → octets ≡ s.core.session.request → Goes [] [] (on_again s now octets last) l
 goes_again s now octets last l sees stands opens last_is same = by last.reply refl
   where

@@ -7,10 +7,10 @@ use Rattle.dnp_outstation.specs.declared.session.Unsolicited.{Unsolicited}
 use Rattle.dnp_outstation.specs.Calls.{tick_of}
 use Rattle.dnp_outstation.specs.Connection.{solicited_timer, has_ended, closed, at_end}
 use Rattle.dnp_outstation.specs.State.{Core, State, Step, nothing, sending, still, holds_read}
-use Rattle.dnp_world.specs.Link as link
-use Rattle.dnp_world.specs.Link.{Reports, Outstation, Link}
+use Rattle.dnp_world.specs.LawLink as link
+use Rattle.dnp_world.specs.LawLink.{Reports, LawOutstation, LawLink}
 use Rattle.dnp_world.specs.Moves.{StopWaiting, RepeatReport, CloseOutstation, stopped_waiting, report_repeated, with_outstation}
-use Rattle.dnp_world.specs.Standing.{IsOfReport, Stands}
+use Rattle.dnp_world.specs.Standing.{IsOfReport, CarriesLaw}
 use Rattle.dnp_world.specs.OutstationSeen.{report_seen, outstation_seen, Shows, Simulates}
 use Rattle.dnp_world.proofs.Keeping.{moves_stand}
 use Rattle.dnp_world.proofs.OutstationLaws.{EndLaws, TimerLaws}
@@ -22,24 +22,24 @@ abbrev with_awaited : State → Option Awaited → State
 with_awaited s awaited = record s { core = record s.core { session = record s.core.session { awaited = awaited } } }
 
 -- moves of which the lists see nothing
-record Quiet (s : State) (l : Link) : Type 0 where
-  link : Link
+record Quiet (s : State) (l : LawLink) : Type 0 where
+  link : LawLink
   grown : Grown l link [] [] [] [] []
   sees : Sees s link
 
-quiet_still : (s : State) (l : Link) → Sees s l → Quiet s l
+quiet_still : (s : State) (l : LawLink) → Sees s l → Quiet s l
 quiet_still s l sees = record { link = l; grown = grown_none l; sees = sees }
 
-quiet_goes : (s : State) (l : Link) → Quiet s l → Goes [] [] (still s) l
+quiet_goes : (s : State) (l : LawLink) → Quiet s l → Goes [] [] (still s) l
 quiet_goes s l quiet = record { link = quiet.link; sent = []; grown = quiet.grown; sees = quiet.sees; octets = refl }
 
-stops_waiting : (s : State) (l : Link) → Sees s l → Quiet (with_awaited s None) l
+stops_waiting : (s : State) (l : LawLink) → Sees s l → Quiet (with_awaited s None) l
 stops_waiting s l sees = record {
   link = stopped_waiting l;
   grown = grown_quiet l (stopped_waiting l) (StopWaiting refl) (record { master = refl; down = refl; took = refl; asked = refl })
       refl refl refl refl refl;
   sees = record {
-    outstation = ap (λ (o : Outstation). record o { awaited = None }) sees.outstation;
+    outstation = ap (λ (o : LawOutstation). record o { awaited = None }) sees.outstation;
     lanes = record { rows = sees.lanes.rows; last_id = sees.lanes.last_id };
     sound = sees.sound;
     points = sees.points;
@@ -50,7 +50,7 @@ stops_waiting s l sees = record {
 abbrev timed : State → ℕ → State
 timed s now = record s { core = solicited_timer s.core now }
 
-timer_quiet : (s : State) (now : ℕ) (awaited : Option Awaited) (l : Link) → Sees (with_awaited s awaited) l
+timer_quiet : (s : State) (now : ℕ) (awaited : Option Awaited) (l : LawLink) → Sees (with_awaited s awaited) l
     → Quiet (timed (with_awaited s awaited) now) l
 timer_quiet s now None l sees = quiet_still (with_awaited s None) l sees
 timer_quiet s now (Some w) l sees = by (has_ended now w.ends)
@@ -77,13 +77,13 @@ timer_keeps s now (Some w) = by (has_ended now w.ends)
 
 -- ---- a report is repeated
 
-kept_report : (l : Link) (w : link.AwaitedReport) → l.outstation.is_open ≡ true → l.outstation.report ≡ Some w → Stands l → l.reported.octets ≡ w.octets
+kept_report : (l : LawLink) (w : link.AwaitedReport) → l.outstation.is_open ≡ true → l.outstation.report ≡ Some w → CarriesLaw l → l.reported.octets ≡ w.octets
 kept_report l w opens is stands =
     let wait : IsOfReport l.reported w =
     subst (λ (x : Option link.AwaitedReport). IfSome x (λ y. IsOfReport l.reported y)) is (stands.unsolicited opens).wait in
     sym wait.0
 
-repeat_goes : (t : State) (w : Unsolicited) (ends repeats : ℕ) (octets : List ℕ) (l : Link) → Sees t l → Stands l → t.core.is_open ≡ true
+repeat_goes : (t : State) (w : Unsolicited) (ends repeats : ℕ) (octets : List ℕ) (l : LawLink) → Sees t l → CarriesLaw l → t.core.is_open ≡ true
     → t.core.session.unsolicited ≡ Some w → octets ≡ t.core.session.unsolicited_response
     → Goes [] [] (record {
       state = record t {
@@ -92,10 +92,10 @@ repeat_goes : (t : State) (w : Unsolicited) (ends repeats : ℕ) (octets : List 
       does = sending octets;
     }) l
 repeat_goes t w ends repeats octets l sees stands opens is octets_are =
-    let opens' : l.outstation.is_open ≡ true = sym (ap (λ (o : Outstation). o.is_open) sees.outstation) ∙ opens in
+    let opens' : l.outstation.is_open ≡ true = sym (ap (λ (o : LawOutstation). o.is_open) sees.outstation) ∙ opens in
     let seen : option_map (report_seen t.core.session) t.core.session.unsolicited ≡ Some (report_seen t.core.session w) =
     ap (λ (x : Option Unsolicited). option_map (report_seen t.core.session) x) is in
-    let waits : l.outstation.report ≡ Some (report_seen t.core.session w) = sym (ap (λ (o : Outstation). o.report) sees.outstation) ∙ seen in
+    let waits : l.outstation.report ≡ Some (report_seen t.core.session w) = sym (ap (λ (o : LawOutstation). o.report) sees.outstation) ∙ seen in
     record {
       link = report_repeated l;
       sent = Reports l.reported ∷ [];
@@ -113,11 +113,11 @@ repeat_goes t w ends repeats octets l sees stands opens is octets_are =
 
 -- ---- it closes
 
-pub close_goes : (s : State) (close : Bool) (l : Link) → Sees s l
+pub close_goes : (s : State) (close : Bool) (l : LawLink) → Sees s l
     → Goes [] [] (record { state = record s { core = closed s.core }; does = record nothing { close = close } }) l
 close_goes s close l sees =
-    let o : Outstation = outstation_seen (closed s.core) in
-    let new : Link = with_outstation o l in
+    let o : LawOutstation = outstation_seen (closed s.core) in
+    let new : LawLink = with_outstation o l in
     record {
       link = new;
       sent = [];
@@ -134,7 +134,7 @@ close_goes s close l sees =
 
 -- ---- time
 
-module _ (ends : EndLaws) (laws : TimerLaws) (s : State) (now : ℕ) (l : Link) (shows : Shows s l) (stands : Stands l) where
+module _ (ends : EndLaws) (laws : TimerLaws) (s : State) (now : ℕ) (l : LawLink) (shows : Shows s l) (stands : CarriesLaw l) where
   sees : Sees s l
   sees = shown_sees s l shows
 

@@ -6,7 +6,7 @@ use Rattle.std.proofs.lemmas.Bool.{cases_order}
 use Rattle.std.proofs.lemmas.List.{set-get_or}
 use Rattle.dnp_concentrator.specs.declared.plan.Plan.{Plan}
 use Rattle.dnp_concentrator.specs.declared.plan.SubPlan.{SubPlan}
-use Rattle.dnp_eventbuf.specs.Stock.{dropped_by, with_rows}
+use Rattle.dnp_eventbuf.specs.EventBuffer.{dropped_by, with_rows}
 use Rattle.dnp_objects.specs.Lanes.{kind_number}
 use Rattle.dnp_objects.specs.declared.row.Kind.{Kind}
 use Rattle.dnp_objects.specs.declared.row.Kind.TheVariants.{Binary, Counter, Analog}

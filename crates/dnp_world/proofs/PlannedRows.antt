@@ -8,7 +8,7 @@ use Rattle.std.proofs.lemmas.List.Elements.{All-cons, All-head, All-nil, All-tai
 use Rattle.dnp_concentrator.specs.Plan.{KeepsSubLimits}
 use Rattle.dnp_concentrator.specs.PointsAbove.{analog_points, point_of, points_at, points_below}
 use Rattle.dnp_concentrator.specs.declared.plan.SubPlan.{SubPlan}
-use Rattle.dnp_eventbuf.specs.Stock.{arriving}
+use Rattle.dnp_eventbuf.specs.EventBuffer.{arriving}
 use Rattle.dnp_master.specs.Rows.{is_reported}
 use Rattle.dnp_objects.specs.declared.lane.Lane.{Lane}
 use Rattle.dnp_objects.specs.declared.lane.LaneRow.{LaneRow}

@@ -9,8 +9,8 @@ use Rattle.dnp_appfragment.specs.Fragments.{Answered}
 use Rattle.dnp_appfragment.specs.Meaning.{response_at}
 use Rattle.dnp_appfragment.specs.declared.function.Function.{Function}
 use Rattle.dnp_appfragment.specs.declared.function.Function.TheVariants as function
-use Rattle.dnp_eventbuf.specs.Sound.{IsSound}
-use Rattle.dnp_eventbuf.specs.Stock.{Stock}
+use Rattle.dnp_eventbuf.specs.Sound.{IsSoundBuffer}
+use Rattle.dnp_eventbuf.specs.EventBuffer.{EventBuffer}
 use Rattle.dnp_master.specs.Calls.{Taking, ask_answer, asked, asked_by, asking, ended, going_on, heard, receive_of, unheeded}
 use Rattle.dnp_master.specs.Rows.{is_from_plan, is_reported}
 use Rattle.dnp_master.specs.State.{State, deadline, is_idle}
@@ -32,7 +32,7 @@ use Rattle.dnp_world.proofs.MasterAsks.{not_busy}
 
 -- what the crate of outstations promises of a fragment of some classes
 abbrev pub SaidLaw : Type 0
-SaidLaw = (s : Stock) (enabled : List Bool) → IsSound s → length enabled ≤ 3
+SaidLaw = (s : EventBuffer) (enabled : List Bool) → IsSoundBuffer s → length enabled ≤ 3
     → events_in (headers_of (held_laid may_each (lane_items s (enabled_lanes 0 enabled)))) ≡ (reported s enabled).rows
 
 -- ---- asking
@@ -49,7 +49,7 @@ polled_by m now idle = ap (asked_by m now events_polled) (asks_polled m idle)
 
 -- ---- the rows of the fragment
 
-rows_are : SaidLaw → (s : Stock) → IsSound s → events_in (headers_of (polled_held s)) ≡ polled_rows s
+rows_are : SaidLaw → (s : EventBuffer) → IsSoundBuffer s → events_in (headers_of (polled_held s)) ≡ polled_rows s
 rows_are law s sound = law s (true ∷ true ∷ true ∷ []) sound (omega arith)
 
 pub from_plan : (plan : Plan) (answered : Answered) (rows : List Row) → events_in answered.headers ≡ rows
@@ -117,7 +117,7 @@ module _ (m : State) (before now : ℕ) (opens : m.is_open ≡ true) (fragment :
       confirm_by true = refl
       confirm_by false = refl
 
-pub takes_polled : SaidLaw → (m : State) (before now : ℕ) (s : outstation.State) (step : outstation.Step) → is_idle m ≡ true → IsSound s.lanes
+pub takes_polled : SaidLaw → (m : State) (before now : ℕ) (s : outstation.State) (step : outstation.Step) → is_idle m ≡ true → IsSoundBuffer s.lanes
     → (offer : Offers m.seq s step) → All (λ row. is_reported m.plan row ≡ true) (polled_rows s.lanes)
     → Takes m.seq (polled_rows s.lanes) offer.con (receive_of (asked m before events_polled) now offer.fragment)
 takes_polled law m before now s step idle sound offer planned =

@@ -13,7 +13,7 @@ use Rattle.dnp_world.specs.Channels.{ChannelState}
 use Rattle.dnp_world.specs.ControlsInStep.{InStep}
 use Rattle.dnp_world.specs.Joined.{Follows}
 use Rattle.dnp_world.specs.Kept.{command_of, order_of, used_commands}
-use Rattle.dnp_world.specs.Link.{Link}
+use Rattle.dnp_world.specs.LawLink.{LawLink}
 use Rattle.dnp_world.specs.SystemEvents.{RelaysOn, Refuses, Steps}
 use Rattle.dnp_world.specs.SystemStanding.{lists_of, seen_below, IsJoinedBelow, IsStanding, Keeps}
 use Rattle.dnp_world.specs.Systems.{SubstationState, System, has_substation, link_at, middle_of, station_of}
@@ -54,7 +54,7 @@ relays_below laws old new {el = el} substation has h i (Steps pending sends) =
     let next : Relaying = relaying_after r old.now step in
     let was : SubstationState = sends.was in
     let lines : ChannelState = sends.is.channel in
-    let l : Link = h.links.below substation in
+    let l : LawLink = h.links.below substation in
     let is : SubstationState = record was { channel = lines } in
     let middle : Middle = with_link_to old substation next in
     let inside : IsInStep r book substation = below_in_step laws.commands old substation h i in
@@ -86,7 +86,7 @@ relays_above laws centre old new {el = el} substation h i (Steps pending sends) 
     let book : Ledger = old.centre.orders in
     let step : Step = step_of r book.entries 0 in
     let next : Relaying = relaying_after r old.now step in
-    let l : Link = h.links.above in
+    let l : LawLink = h.links.above in
     let inside : IsInStep r book 0 = above_in_step old i in
     let orders : Ledger = ledger_after book step in
     let a : Above = with_ends old (middle_of old.concentrator) next new.above in

@@ -21,7 +21,7 @@ use Rattle.dnp_world.specs.Channels.{ChannelState, GoDown}
 use Rattle.dnp_world.specs.CommandWidths.{HasWidths}
 use Rattle.dnp_world.specs.ControlsInStep.{GoesWith, IsOfEntry}
 use Rattle.dnp_world.specs.Joined.{Follows, Joined}
-use Rattle.dnp_world.specs.Link.{Link}
+use Rattle.dnp_world.specs.LawLink.{LawLink}
 use Rattle.dnp_world.specs.Octets.{commands_in}
 use Rattle.dnp_world.specs.OneLinkEvents.{IsAsked, LinkState}
 use Rattle.dnp_world.specs.SystemEvents.{IsGranted, requests_of}
@@ -42,7 +42,7 @@ pub record RequestLaws : Type 0 where
   pub selected : (seq : ℕ) (command : Command) → seq < 16 → commands_in (request_octets (request_for seq (task.Select command))) ≡ []
   pub operated : (seq : ℕ) (command : Command) → seq < 16 → HasWidths command
       → commands_in (request_octets (request_for seq (task.Operate command))) ≡ command ∷ []
-  pub goes : (s new : LinkState ⊤) (t : Task) (octets : List ℕ) (l : Link) → AreOctets (request_octets (request_for s.master.seq t)) → Joined [] s l
+  pub goes : (s new : LinkState ⊤) (t : Task) (octets : List ℕ) (l : LawLink) → AreOctets (request_octets (request_for s.master.seq t)) → Joined [] s l
       → ask_answer s.master t ≡ Ok octets → IsAsked t octets s new → Follows [] [] (commands_in octets) s.outstation.performed l new
 
 -- the commands that the step asks for
@@ -98,7 +98,7 @@ book_used pick of same r book target (Finishes id status) is picks goes pending 
 abbrev at_lines : State → RowLists → ℕ → master.State → ChannelState → LinkState ⊤
 at_lines o lists now m lines = seen o m lines now lists
 
-request_goes : RequestLaws → (o : State) (lists : RowLists) (now : ℕ) (m : master.State) (was is : ChannelState) (l : Link) (t : Task)
+request_goes : RequestLaws → (o : State) (lists : RowLists) (now : ℕ) (m : master.State) (was is : ChannelState) (l : LawLink) (t : Task)
     → (let octets : List ℕ = request_octets (request_for m.seq t) in AreOctets octets → ask_answer m t ≡ Ok octets
     → Joined [] (at_lines o lists now m was) l → GoDown (octets ∷ []) was is
     → Follows [] [] (commands_in octets) o.performed l (at_lines o lists now (asked m now t) is))
@@ -108,7 +108,7 @@ request_goes laws o lists now m was is l t low answer j down =
 
 -- the link moves by what the step asks for
 pub step_goes : RequestLaws → (o : State) (lists : RowLists) (now : ℕ) (r : Relaying) (entries : List Entry) (target : ℕ)
-    → (was is : ChannelState) (l : Link) (step : Step)
+    → (was is : ChannelState) (l : LawLink) (step : Step)
     → step_of r entries target ≡ step → IfSends step HasWidths → Joined [] (seen o r.master was now lists) l
     → GoDown (requests_of step r.master.seq) was is
     → Follows [] [] (asked_in step) o.performed l (seen o (relaying_after r now step).master is now lists)

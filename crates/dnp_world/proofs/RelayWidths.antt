@@ -19,8 +19,8 @@ use Rattle.dnp_concentrator.specs.declared.span.Spans.{Spans}
 use Rattle.dnp_world.specs.Behind.{Elsewhere}
 use Rattle.dnp_world.specs.CommandWidths.{HasWidths}
 use Rattle.dnp_world.specs.Kept.{command_of, commands_below, commands_in, is_used, order_of, orders_in}
-use Rattle.dnp_world.specs.Link.{Link}
-use Rattle.dnp_world.specs.Standing.{Stands}
+use Rattle.dnp_world.specs.LawLink.{LawLink}
+use Rattle.dnp_world.specs.Standing.{CarriesLaw}
 use Rattle.dnp_world.specs.SystemStanding.{IsStanding}
 use Rattle.dnp_world.specs.Systems.{System}
 use Rattle.dnp_world.proofs.Counting.{one_if, count_by-cons}
@@ -30,7 +30,7 @@ use Rattle.dnp_world.proofs.SystemCounts.{given, given_first, picked}
 pub record CommandLaws : Type 0 where
   pub commands : IsEqualityTest command_eq
   pub orders : IsEqualityTest (pair_eq nat_eq command_eq)
-  pub performed : (l : Link) → Stands l → IsCoveredBy l.performed l.asked
+  pub performed : (l : LawLink) → CarriesLaw l → IsCoveredBy l.performed l.asked
 
 -- ---- what holds of all of a list holds of all that it covers
 
@@ -123,7 +123,7 @@ of_orders (e ∷ entries) all =
 pub performed_fit : CommandLaws → (s : System) {el : Elsewhere} (h : IsStanding el s) → All FitsEntry s.centre.orders.entries
     → All HasWidths h.links.above.performed
 performed_fit laws s h all =
-    let l : Link = h.links.above in
+    let l : LawLink = h.links.above in
     let orders : List Entry = s.centre.orders.entries in
     let asked : All HasWidths l.asked =
     all_counted command_eq laws.commands HasWidths l.asked (commands_in orders)
@@ -134,7 +134,7 @@ performed_fit laws s h all =
 pub controls_fit : CommandLaws → (s : System) {el : Elsewhere} → IsStanding el s → All FitsEntry s.centre.orders.entries
     → All FitsEntry s.concentrator.controls.entries
 controls_fit laws s {el = el} h all =
-    let l : Link = h.links.above in
+    let l : LawLink = h.links.above in
     let controls : List Entry = s.concentrator.controls.entries in
     let performed : All HasWidths l.performed = performed_fit laws s h all in
     of_orders controls

@@ -9,7 +9,7 @@ use Rattle.dnp_concentrator.specs.Relaying.{Relaying, hung_up}
 use Rattle.dnp_concentrator.specs.declared.span.Spans.{Spans}
 use Rattle.dnp_controls.specs.Book.{Ledger}
 use Rattle.dnp_controls.specs.Panel.{Panel}
-use Rattle.dnp_eventbuf.specs.Stock.{Stock}
+use Rattle.dnp_eventbuf.specs.EventBuffer.{EventBuffer}
 use Rattle.dnp_line.specs.Lines.{LineState, delivered_on, repeated_on}
 use Rattle.dnp_master.specs.Calls.{Taking, receive_of}
 use Rattle.dnp_master.specs.declared.fault.MasterFault.{MasterFault}
@@ -147,7 +147,7 @@ module _ (f : Forgets) where
   on_link (Above centre) old r same = with_centre_one old r same
 
   -- the outstation above takes a step, in which it changes its queue or performs commands
-  middle_one : (c : ConcentratorState) (core : Core) (queue : Stock) (controls : Ledger) → restarted_core core ≡ restarted_core c.core
+  middle_one : (c : ConcentratorState) (core : Core) (queue : EventBuffer) (controls : Ledger) → restarted_core core ≡ restarted_core c.core
       → (queue ≡ c.queue) ⊎ (controls ≡ c.controls) → WritesOne c (record c { core = core; queue = queue; controls = controls })
   middle_one c core queue controls same one = record { above = same; below = refl; indices = refl; points = refl; one = one }
 

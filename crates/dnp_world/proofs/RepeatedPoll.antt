@@ -11,8 +11,8 @@ use Rattle.dnp_appfragment.specs.Table.{function_octet, is_response}
 use Rattle.dnp_appfragment.specs.declared.function.Function.TheVariants as function
 use Rattle.dnp_controls.specs.Panel.{Panel}
 use Rattle.dnp_controls.specs.Selecting.{deadline}
-use Rattle.dnp_eventbuf.specs.Sound.{IsSound}
-use Rattle.dnp_eventbuf.specs.Stock.{Stock, all_up_to, without}
+use Rattle.dnp_eventbuf.specs.Sound.{IsSoundBuffer}
+use Rattle.dnp_eventbuf.specs.EventBuffer.{EventBuffer, all_up_to, without}
 use Rattle.dnp_master.specs.Calls.{Taking, asked, asking, heard, receive_of, report_taken, unheeded}
 use Rattle.dnp_master.specs.Rows.{is_reported}
 use Rattle.dnp_master.specs.State as master
@@ -50,8 +50,8 @@ pub record ReportLaws : Type 0 where
   pub released : ReleaseLaw
   pub confirmed : (c : Core) (seq : ℕ) (w : Unsolicited) → seq < 16 → c.is_open ≡ true → c.session.unsolicited ≡ Some w → w.seq ≡ seq
       → case_of c (report_confirm seq) ≡ ConfirmsUnsolicited
-  pub read : (answered : Answered) (s : Stock) (enabled : List Bool) → answered.headers ≡ (pushed s enabled).headers → IsControl answered.control
-      → is_response answered.function ≡ true → IsSound s → length enabled ≤ 3 → response_at (response_octets answered) ≡ Ok answered
+  pub read : (answered : Answered) (s : EventBuffer) (enabled : List Bool) → answered.headers ≡ (pushed s enabled).headers → IsControl answered.control
+      → is_response answered.function ≡ true → IsSoundBuffer s → length enabled ≤ 3 → response_at (response_octets answered) ≡ Ok answered
   pub releases : (s : State) (o : Panel) (now : ℕ) (octets : List ℕ) (w : Unsolicited) → case_of s.core octets ≡ ConfirmsUnsolicited
       → s.core.session.unsolicited ≡ Some w → links.Releases s w.upto (connection_after s o now octets)
   pub only : (s : State) (o : Panel) (now : ℕ) (octets : List ℕ) → function_in octets ≢ function_octet function.Operate
@@ -80,11 +80,11 @@ abbrev report_control : ℕ → ControlBits
 report_control seq = record { fir = true; fin = true; con = true; uns = true; seq = seq }
 
 -- what an unsolicited response of these classes is made of
-pushed_headers : (s : Stock) (enabled : List Bool) → (pushed s enabled).headers ≡ headers_of (held_laid may_each (lane_items s (enabled_lanes 0 enabled)))
+pushed_headers : (s : EventBuffer) (enabled : List Bool) → (pushed s enabled).headers ≡ headers_of (held_laid may_each (lane_items s (enabled_lanes 0 enabled)))
 unfolding offered_of
 pushed_headers s enabled = refl
 
-pushed_ids : (s : Stock) (enabled : List Bool) → (pushed s enabled).upto ≡ (reported s enabled).ids
+pushed_ids : (s : EventBuffer) (enabled : List Bool) → (pushed s enabled).upto ≡ (reported s enabled).ids
 unfolding offered_of
 pushed_ids s enabled = refl
 

@@ -5,7 +5,7 @@ use Rattle.std.proofs.lemmas.List.{map-append}
 use Rattle.dnp_eventbuf.specs.Buffered.{Buffered}
 use Rattle.dnp_world.specs.Lists.{Each, IsEnd, Turns}
 use Rattle.dnp_world.specs.Octets.{after}
-use Rattle.dnp_world.specs.Link.{AwaitedReport, Fragment, seq_of}
+use Rattle.dnp_world.specs.LawLink.{AwaitedReport, SentFragment, seq_of}
 use Rattle.dnp_world.specs.Standing.{AllIn, IsInOrder, IsOfReport, Reporting, Unsolicited}
 use Rattle.dnp_world.proofs.Lists.{each_both, each_end, each_left, each_map, each_right, each_weaker, end_map, end_more, turns_behind, turns_end, turns_head, turns_more, turns_over, turns_twice}
 use Rattle.dnp_world.proofs.Exchanges.{after_moves, more_taken, now_taken}
@@ -32,7 +32,7 @@ loses_down v down k s =
       up = s.up;
     }
 
-pub loses_up : (v : Reporting) (up : List Fragment) → IsEnd up v.up → Unsolicited v → Unsolicited (record v { up = up })
+pub loses_up : (v : Reporting) (up : List SentFragment) → IsEnd up v.up → Unsolicited v → Unsolicited (record v { up = up })
 loses_up v up k s =
     record {
       wait = s.wait;
@@ -64,27 +64,27 @@ order_twice None t xs n ys h =
 order_twice (Some w) t xs n ys h = turns_twice (λ m. after m ≡ t) (λ m. m ≡ t) xs n ys h
 
 -- a report is taken and confirmed
-pub confirms : (v : Reporting) (f : Fragment) (rest : List Fragment) → v.up ≡ f ∷ rest → Unsolicited v →
+pub confirms : (v : Reporting) (f : SentFragment) (rest : List SentFragment) → v.up ≡ f ∷ rest → Unsolicited v →
     Unsolicited (record v { down = v.down ++ (seq_of f) ∷ []; took = v.took ++ f.rows })
 confirms v f rest up_is s =
-    let r : Fragment = v.reported in
+    let r : SentFragment = v.reported in
     let first : Each (λ g. seq_of g ≡ seq_of r →
-    g ≡ r) (f ∷ rest) = subst (λ (u : List Fragment). Each (λ g. seq_of g ≡ seq_of r → g ≡ r) u) up_is s.up in
+    g ≡ r) (f ∷ rest) = subst (λ (u : List SentFragment). Each (λ g. seq_of g ≡ seq_of r → g ≡ r) u) up_is s.up in
     let more : Unsolicited (record v { took = v.took ++ f.rows }) = takes_more v f.rows s in
     record {
       wait = s.wait;
       number = s.number;
-      order = subst (λ (u : List Fragment). IsInOrder v.report (seq_of r) ((v.down ++ (seq_of f) ∷ []) ++ map seq_of u)) (sym up_is)
+      order = subst (λ (u : List SentFragment). IsInOrder v.report (seq_of r) ((v.down ++ (seq_of f) ∷ []) ++ map seq_of u)) (sym up_is)
           (order_twice v.report (seq_of r) v.down (seq_of f) (map seq_of rest)
-          (subst (λ (u : List Fragment). IsInOrder v.report (seq_of r) (v.down ++ map seq_of u)) up_is s.order));
+          (subst (λ (u : List SentFragment). IsInOrder v.report (seq_of r) (v.down ++ map seq_of u)) up_is s.order));
       taken = each_both (λ n. n ≡ seq_of r → AllIn r.rows (v.took ++ f.rows)) v.down ((seq_of f) ∷ []) more.taken
-          (λ e. subst (λ (g : Fragment). AllIn g.rows (v.took ++ f.rows)) (first.0 e) (now_taken v.took f.rows), tt);
+          (λ e. subst (λ (g : SentFragment). AllIn g.rows (v.took ++ f.rows)) (first.0 e) (now_taken v.took f.rows), tt);
       up = s.up;
     }
 
 -- ---- its confirm comes
 
-old_head : (w : AwaitedReport) (r : Fragment) → w.seq ≡ seq_of r → after w.seq ≡ seq_of r → ⊥
+old_head : (w : AwaitedReport) (r : SentFragment) → w.seq ≡ seq_of r → after w.seq ≡ seq_of r → ⊥
 old_head w r same e = after_moves w.seq (e ∙ sym same)
 
 pub report_taken_before : (v : Reporting) (w : AwaitedReport) (rest : List ℕ) → v.down ≡ w.seq ∷ rest → v.report ≡ Some w → Unsolicited v →
@@ -97,7 +97,7 @@ report_taken_before v w rest at waits s =
 pub waits_no_longer : (v : Reporting) (w : AwaitedReport) (rest : List ℕ) → v.down ≡ w.seq ∷ rest → v.report ≡ Some w → Unsolicited v →
     Unsolicited (record v { report = None })
 waits_no_longer v w rest at waits s =
-    let r : Fragment = v.reported in
+    let r : SentFragment = v.reported in
     let wait : IsOfReport r w =
     subst (λ (o : Option AwaitedReport). IfSome o (λ x. IsOfReport r x)) waits s.wait in
     let order : Turns (λ n. after n ≡ seq_of r) (λ n. n ≡ seq_of r) (w.seq ∷ (rest ++ map seq_of v.up)) =
@@ -114,7 +114,7 @@ waits_no_longer v w rest at waits s =
 
 -- ---- the outstation reports
 
-pub starts : (v : Reporting) (f : Fragment) → v.report ≡ None → seq_of f ≡ v.next → Unsolicited v →
+pub starts : (v : Reporting) (f : SentFragment) → v.report ≡ None → seq_of f ≡ v.next → Unsolicited v →
     Unsolicited (record v {
       report = Some
           (record { octets = f.octets; seq = seq_of f; upto = f.upto });
@@ -146,7 +146,7 @@ starts v f none number s =
 
 pub reports_again : (v : Reporting) (w : AwaitedReport) → v.report ≡ Some w → Unsolicited v → Unsolicited (record v { up = v.up ++ v.reported ∷ [] })
 reports_again v w waits s =
-    let r : Fragment = v.reported in
+    let r : SentFragment = v.reported in
     let order : Turns (λ n. after n ≡ seq_of r) (λ n. n ≡ seq_of r) (v.down ++ map seq_of v.up) =
     subst (λ (o : Option AwaitedReport). IsInOrder o (seq_of r) (v.down ++ map seq_of v.up)) waits s.order in
     let numbers : (v.down ++ map seq_of v.up) ++ (seq_of r) ∷ [] ≡ v.down ++ map seq_of (v.up ++ r ∷ []) =

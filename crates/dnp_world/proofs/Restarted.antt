@@ -6,7 +6,7 @@ use Rattle.dnp_concentrator.specs.declared.plan.Plan.{Plan}
 use Rattle.dnp_concentrator.specs.declared.two.Two.{Two}
 use Rattle.dnp_controls.specs.Book.{Ledger}
 use Rattle.dnp_eventbuf.specs.Archive.{Archive}
-use Rattle.dnp_eventbuf.specs.Stock.{Stock}
+use Rattle.dnp_eventbuf.specs.EventBuffer.{EventBuffer}
 use Rattle.dnp_eventbuf.specs.declared.pair.TheConstants.{CENTRES}
 use Rattle.dnp_outstation.specs.Calls.{restarted_core}
 use Rattle.dnp_world.specs.Centres.{HappensToAll, SeesElsewhere, centre_at}
@@ -111,7 +111,7 @@ middle_restarted w = record w {
 middle_restarts : (w : Whole) → HappensToAll w (event.Restart place.Concentrator) (middle_restarted w)
 middle_restarts w = for_both _ refl refl
 
-middle_as_new : (plan : Plan) (w : Whole) (queues : Two Stock) (controls : Ledger) → AllRestartAsNew plan w → queues ≡ w.concentrator.queues
+middle_as_new : (plan : Plan) (w : Whole) (queues : Two EventBuffer) (controls : Ledger) → AllRestartAsNew plan w → queues ≡ w.concentrator.queues
     → controls ≡ w.concentrator.controls → (middle_restarted w).concentrator ≡ new_concentrator plan queues controls
 middle_as_new plan w queues controls h queued ordered =
     let first : RestartAsNew plan (seen_by 0 w) = h 0 (omega arith) in
@@ -134,7 +134,7 @@ stands_at at Stands restarted restarts old before after events last ran happens 
       (after, happens, (restarted after, restarts after, refl)));
 }
 
-pub middle_stands : Steps → (plan : Plan) (old before after : Whole) (events : List Event) (last : Event) (queues : Two Stock) (controls : Ledger)
+pub middle_stands : Steps → (plan : Plan) (old before after : Whole) (events : List Event) (last : Event) (queues : Two EventBuffer) (controls : Ledger)
     → AllRestartAsNew plan old → RunsTo HappensToAll old events before → HappensToAll before last after
     → HoldsEither before.concentrator.queues after.concentrator.queues queues → HoldsEither before.concentrator.controls after.concentrator.controls controls
     → StandsRestarted place.Concentrator (λ w. w.concentrator ≡ new_concentrator plan queues controls) old events last

@@ -8,7 +8,7 @@ use Rattle.dnp_concentrator.specs.Relaying as relaying
 use Rattle.dnp_concentrator.specs.Relaying.{Relaying}
 use Rattle.dnp_concentrator.specs.declared.span.Spans.{Spans}
 use Rattle.dnp_eventbuf.specs.Buffered.{buffered_row}
-use Rattle.dnp_eventbuf.specs.Stock.{rows_in}
+use Rattle.dnp_eventbuf.specs.EventBuffer.{rows_in}
 use Rattle.dnp_objects.specs.Counts.{IsCoveredBy}
 use Rattle.dnp_objects.specs.declared.command.Command.{Command}
 use Rattle.dnp_objects.specs.declared.row.Row.{Row}
@@ -19,11 +19,11 @@ use Rattle.dnp_world.specs.declared.link_event.LinkEvent.TheVariants as event
 use Rattle.dnp_world.specs.Behind.{Elsewhere, Links, IsBehind, made_at, rows_of}
 use Rattle.dnp_world.specs.Channels.{hung_up_at}
 use Rattle.dnp_world.specs.Joined.{Follows, Joined}
-use Rattle.dnp_world.specs.Kept.{Kept, commands_below, kept_in, lane_rows_of, orders_in, report_of, rows_below, shown_of, used_commands, used_orders}
-use Rattle.dnp_world.specs.Link.{Link}
+use Rattle.dnp_world.specs.Kept.{KeptLists, commands_below, kept_in, lane_rows_of, orders_in, report_of, rows_below, shown_of, used_commands, used_orders}
+use Rattle.dnp_world.specs.LawLink.{LawLink}
 use Rattle.dnp_world.specs.OneLinkEvents.{LinkState}
 use Rattle.dnp_world.specs.Reports.{IsFate, happened}
-use Rattle.dnp_world.specs.Standing.{Stands}
+use Rattle.dnp_world.specs.Standing.{CarriesLaw}
 use Rattle.dnp_world.specs.Stations.{listed_from, of_substation, HasSameCounts}
 use Rattle.dnp_world.specs.SystemEvents.{concentrator_restarted, master_gone}
 use Rattle.dnp_world.specs.SystemStanding.{lists_of, points_asked, seen_above, seen_below, IsJoinedBelow, IsStanding, Keeps}
@@ -35,14 +35,14 @@ use Rattle.dnp_world.proofs.SystemPlans.{still_of_plan}
 
 -- what the crates below promise of a restart
 pub record RestartLaws : Type 0 where
-  pub restarts : (s new : LinkState ⊤) (l : Link) → Joined [] s l
+  pub restarts : (s new : LinkState ⊤) (l : LawLink) → Joined [] s l
       → new ≡ record s { outstation = restart_of s.outstation true; channel = hung_up_at end.Outstation s.channel }
       → Follows [] [] [] s.outstation.performed l new
 
 -- ---- links on which nothing came, was taken, released or performed
 
-pub record IsStill (l new : Link) : Type 0 where
-  pub stands : Stands new
+pub record IsStill (l new : LawLink) : Type 0 where
+  pub stands : CarriesLaw new
   pub lanes : HasSameCounts (rows_of new.lanes) (rows_of l.lanes)
   pub stood : HasSameCounts (rows_of new.stood) (rows_of l.stood)
   pub released : HasSameCounts (rows_of new.released) (rows_of l.released)
@@ -51,7 +51,7 @@ pub record IsStill (l new : Link) : Type 0 where
   pub asked : new.asked ≡ l.asked
   pub performed : new.performed ≡ l.performed
 
-same_still : (l : Link) → Stands l → IsStill l l
+same_still : (l : LawLink) → CarriesLaw l → IsStill l l
 same_still l stands = record {
   stands = stands;
   lanes = same_refl (rows_of l.lanes);
@@ -63,7 +63,7 @@ same_still l stands = record {
   performed = refl;
 }
 
-still_mapped : (indices : List Spans) (l new : Link) → IsStill l new → length (rows_below indices (rows_of l.stood)) ≡ length l.stood
+still_mapped : (indices : List Spans) (l new : LawLink) → IsStill l new → length (rows_below indices (rows_of l.stood)) ≡ length l.stood
     → length (rows_below indices (rows_of new.stood)) ≡ length new.stood
 still_mapped indices l new still mapped =
     omega (
@@ -76,7 +76,7 @@ still_mapped indices l new still mapped =
       length-map l.stood buffered_row,
     )
 
-still_behind : (indices : List Spans) {el : Elsewhere} (links new : Links) (k : Kept) → ((i : ℕ) → IsStill (links.below i) (new.below i))
+still_behind : (indices : List Spans) {el : Elsewhere} (links new : Links) (k : KeptLists) → ((i : ℕ) → IsStill (links.below i) (new.below i))
     → IsStill links.above new.above → IsBehind indices el links k → IsBehind indices el new k
 still_behind indices {el = el} links new k below above b = record {
   below_stands = λ i. (below i).stands;
@@ -108,11 +108,11 @@ still_behind indices {el = el} links new k below above b = record {
 }
 
 -- what follows of a link, where its lists and what its outputs performed stayed
-still_of : (l : Link) (s new : LinkState ⊤) → Stands l → Joined [] s l → (f : Follows [] [] [] s.outstation.performed l new)
+still_of : (l : LawLink) (s new : LinkState ⊤) → CarriesLaw l → Joined [] s l → (f : Follows [] [] [] s.outstation.performed l new)
     → new.outstation.performed ≡ s.outstation.performed → new.outstation.lanes ≡ s.outstation.lanes
     → new.taken ≡ rows_of l.took → new.released ≡ rows_of l.released → new.left ≡ rows_of l.left → IsStill l f.link
 still_of l s new stands joined f same lanes takes releases leaves =
-    let link : Link = f.link in
+    let link : LawLink = f.link in
     let j : Joined [] new link = f.joined in
     let none : f.commands ≡ [] =
     sym (drop-append_seam s.outstation.performed f.commands)
@@ -158,12 +158,12 @@ listed_gone n [] = refl
 listed_gone n (x ∷ xs) = ap (λ (rows : List (ℕ × Row)). at_substation n (lane_rows_of x) ++ rows) (listed_gone (n + 1) xs)
 
 -- what becomes of a link below
-record Closes (now : ℕ) (r : Relaying) (l : Link) (o : Option SubstationState) : Type 0 where
-  link : Link
+record Closes (now : ℕ) (r : Relaying) (l : LawLink) (o : Option SubstationState) : Type 0 where
+  link : LawLink
   still : IsStill l link
   joined : IfSome (gone o) (IsJoinedBelow now (relaying.hung_up r) link)
 
-closes : Grounds → (now : ℕ) (r : Relaying) (l : Link) (o : Option SubstationState) → Stands l → IfSome o (IsJoinedBelow now r l) → Closes now r l o
+closes : Grounds → (now : ℕ) (r : Relaying) (l : LawLink) (o : Option SubstationState) → CarriesLaw l → IfSome o (IsJoinedBelow now r l) → Closes now r l o
 closes grounds now r l None stands j = record { link = l; still = same_still l stands; joined = tt }
 closes grounds now r l (Some was) stands j =
     let s : LinkState ⊤ = seen_below now r was (lists_of l) in
@@ -185,7 +185,7 @@ concentrator_restarts grounds laws old new {el = el} substation h after =
     let relays : List Relaying = old.concentrator.links in
     let each : (i : ℕ) → Closes old.now (link_in relays i) (h.links.below i) (slice_get old.substations i) = λ i.
     closes grounds old.now (link_in relays i) (h.links.below i) (slice_get old.substations i) (h.behind.below_stands i) (h.below i) in
-    let l : Link = h.links.above in
+    let l : LawLink = h.links.above in
     let s : LinkState ⊤ = seen_above old (lists_of l) in
     let s' : LinkState ⊤ = seen_above next (lists_of l) in
     let f : Follows [] [] [] s.outstation.performed l s' = laws.restarts s s' l h.above refl in
@@ -203,10 +203,10 @@ concentrator_restarts grounds laws old new {el = el} substation h after =
             subst (λ (o : Option SubstationState). joined_as i (link_in (map relaying.hung_up relays) i) o) (sym (gone_at old.substations i))
             (subst (λ (r : Relaying). joined_as i r (gone (slice_get old.substations i))) (sym (link_of_map relays i)) (each i).joined);
         above = relisted s' f.link old.now f.joined;
-        behind = subst (λ (k : Kept). IsBehind old.indices el links k) (sym same)
+        behind = subst (λ (k : KeptLists). IsBehind old.indices el links k) (sym same)
             (still_behind old.indices h.links links (kept_in old) (λ i. (each i).still)
             (still_of l s s' h.behind.above_stands h.above f refl refl refl refl refl) h.behind);
       };
-      fate = subst (λ (k : Kept). IsFate (made_at substation []) (report_of old) (shown_of old.indices k)) (sym same)
+      fate = subst (λ (k : KeptLists). IsFate (made_at substation []) (report_of old) (shown_of old.indices k)) (sym same)
           (λ i. none_more (of_substation i (happened (report_of old))));
     })

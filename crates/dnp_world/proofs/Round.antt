@@ -11,7 +11,7 @@ use Rattle.dnp_appfragment.specs.Reading.{headers_at, headers_in, header_at, ran
 use Rattle.dnp_appfragment.specs.Meaning.{response_at, request_at}
 use Rattle.dnp_eventbuf.specs.Buffered.{buffered_row, id_limit}
 use Rattle.dnp_world.specs.Octets.{seq_in, uns_in, con_in, fin_in, rows_in, commands_in}
-use Rattle.dnp_world.specs.Link.{Link, Confirms, Idle, Awaited}
+use Rattle.dnp_world.specs.LawLink.{LawLink, Confirms, Idle, Awaited}
 use Rattle.dnp_world.specs.Moves.{Says, IsOffered, appended, opened, asking, received, responded, taken, lost_down, confirmed, nothing_sent, nothing_reported, Append, Open, Ask, Receive, Respond, Take, LoseDown, Confirm, Moves, Done, Then}
 use Rattle.dnp_world.specs.Standing.{IsFresh}
 use Rattle.dnp_world.specs.Round.{one_event, one_read, one_response, one_command, one_operate, Round}
@@ -44,7 +44,7 @@ another_request e =
 
 -- ---- the links
 
-before : Link
+before : LawLink
 before = record {
   outstation = record { is_open = false; last = None; awaited = None; report = None; next = 0 };
   master = record { is_open = false; is_busy = false; seq = 0 };
@@ -67,25 +67,25 @@ before = record {
 abbrev one_wait : Awaited
 one_wait = record { seq = 0; upto = 1 ∷ [] }
 
-abbrev ready : Link
+abbrev ready : LawLink
 ready = opened (appended one_event before)
 
-abbrev polled : Link
+abbrev polled : LawLink
 polled = received one_read [] (asking one_read ready)
 
-abbrev sent : Link
+abbrev sent : LawLink
 sent = responded one_read one_response false (Some one_wait) polled
 
-abbrev confirming : Link
+abbrev confirming : LawLink
 confirming = lost_down 1 (taken one_response sent)
 
-abbrev reported : Link
+abbrev reported : LawLink
 reported = confirmed one_wait confirming
 
-abbrev operating : Link
+abbrev operating : LawLink
 operating = lost_down 1 (asking one_operate reported)
 
-abbrev operated : Link
+abbrev operated : LawLink
 operated = received one_operate (one_command ∷ []) operating
 
 -- ---- the moves

@@ -5,7 +5,7 @@ use Rattle.std.proofs.lemmas.Bool.{and_parts, ltb-true}
 use Rattle.std.proofs.lemmas.List.{length-set}
 use Rattle.dnp_concentrator.specs.Relaying as relaying
 use Rattle.dnp_concentrator.specs.Relaying.{Relaying}
-use Rattle.dnp_eventbuf.specs.Stock.{Stock, dropped_by, with_rows}
+use Rattle.dnp_eventbuf.specs.EventBuffer.{EventBuffer, dropped_by, with_rows}
 use Rattle.dnp_master.specs.Calls.{Taking, receive_of}
 use Rattle.dnp_master.specs.State as master
 use Rattle.dnp_master.specs.declared.fault.MasterFault.{MasterFault}
@@ -235,7 +235,7 @@ module _ (laws : StationLaws) (lines : LineLaws) (substation : ℕ) (old new : S
     pub moves : MovesBelow substation portion_in old new
     pub master_is : (relaying_at new on).master ≡ after
 
-  abbrev queued : List Row → Stock
+  abbrev queued : List Row → EventBuffer
   queued rows = with_rows old.concentrator.queue (rows_queued old.concentrator substation rows)
 
   abbrev lost : List Row → List Row

@@ -3,8 +3,8 @@ use Rattle.std.proofs.Common.{◌≡◌, ℕ, ◌<◌, ◌≤◌, ◌^◌, Bool,
 use Rattle.std.specs.List.{All}
 use Rattle.std.proofs.lemmas.Option.{none-some, same_Some}
 use Rattle.dnp_controls.specs.Panel.{Panel}
-use Rattle.dnp_eventbuf.specs.Sound.{IsSound}
-use Rattle.dnp_eventbuf.specs.Stock.{Stock, all_up_to, without}
+use Rattle.dnp_eventbuf.specs.Sound.{IsSoundBuffer}
+use Rattle.dnp_eventbuf.specs.EventBuffer.{EventBuffer, all_up_to, without}
 use Rattle.dnp_master.specs.Calls.{Taking, ask_answer, asked, receive_of}
 use Rattle.dnp_master.specs.Rows.{is_reported}
 use Rattle.dnp_master.specs.State as master
@@ -14,7 +14,7 @@ use Rattle.dnp_outstation.specs.Connection.{case_of, is_last_request}
 use Rattle.dnp_outstation.specs.Content.{source_of}
 use Rattle.dnp_outstation.specs.Controls.{is_control}
 use Rattle.dnp_outstation.specs.Items.{Source}
-use Rattle.dnp_outstation.specs.Polled.{Awaits, Offers, Portion, Releases, confirm_octets, no_rows, poll_octets, polled, polled_ids, polled_rows, reported}
+use Rattle.dnp_outstation.specs.Polled.{Awaits, Offers, Portion, ReleasesPolled, confirm_octets, no_rows, poll_octets, polled, polled_ids, polled_rows, reported}
 use Rattle.dnp_outstation.specs.Said.{AreWritable}
 use Rattle.dnp_outstation.specs.State.{Core, State, Step, is_quiet, still}
 use Rattle.dnp_outstation.specs.declared.case.Case.TheVariants.{Again}
@@ -24,7 +24,7 @@ use Rattle.dnp_world.specs.Rounds.{events_polled}
 
 -- a release of a fragment's ids takes its rows, in their order
 abbrev pub ReleaseLaw : Type 0
-ReleaseLaw = (s : Stock) (enabled : List Bool) → IsSound s → length enabled ≤ 3 → all_up_to s (reported s enabled).ids ≡ (reported s enabled).rows
+ReleaseLaw = (s : EventBuffer) (enabled : List Bool) → IsSoundBuffer s → length enabled ≤ 3 → all_up_to s (reported s enabled).ids ≡ (reported s enabled).rows
 
 -- the READ of an open outstation's last request is recognized
 abbrev pub AgainLaw : Type 0
@@ -33,17 +33,17 @@ AgainLaw = (c : Core) (seq : ℕ) → seq < 16 → c.is_open ≡ true → is_las
 
 -- what is promised of the two stations
 pub record StationLaws : Type 0 where
-  pub offered : (s : State) (o : Panel) (now seq : ℕ) → IsSound s.lanes → AreWritable (source_of s o) → is_quiet s.core ≡ true → seq < 16
+  pub offered : (s : State) (o : Panel) (now seq : ℕ) → IsSoundBuffer s.lanes → AreWritable (source_of s o) → is_quiet s.core ≡ true → seq < 16
       → is_last_request s.core.session (poll_octets seq) ≡ false → Offers seq s (connection_after s o now (poll_octets seq))
-  pub confirmed : (s : State) (o : Panel) (now seq : ℕ) → seq < 16 → IsSound s.lanes → s.core.is_open ≡ true
-      → Awaits seq (polled_ids s.lanes) s → Releases s (connection_after s o now (confirm_octets seq))
+  pub confirmed : (s : State) (o : Panel) (now seq : ℕ) → seq < 16 → IsSoundBuffer s.lanes → s.core.is_open ≡ true
+      → Awaits seq (polled_ids s.lanes) s → ReleasesPolled s (connection_after s o now (confirm_octets seq))
   pub again : AgainLaw
   pub released : ReleaseLaw
   pub asks : (m : master.State) → master.is_idle m ≡ true → ask_answer m events_polled ≡ Ok (poll_octets m.seq)
-  pub takes : (m : master.State) (before now : ℕ) (s : State) (step : Step) → master.is_idle m ≡ true → IsSound s.lanes
+  pub takes : (m : master.State) (before now : ℕ) (s : State) (step : Step) → master.is_idle m ≡ true → IsSoundBuffer s.lanes
       → (offer : Offers m.seq s step) → All (λ row. is_reported m.plan row ≡ true) (polled_rows s.lanes)
       → Takes m.seq (polled_rows s.lanes) offer.con (receive_of (asked m before events_polled) now offer.fragment)
-  pub writable : (s : Source) → points.IsSound s.points → s.panel.outputs ≤ 2 ^ 16
+  pub writable : (s : Source) → points.IsSoundDatabase s.points → s.panel.outputs ≤ 2 ^ 16
       → ((index : ℕ) → index < s.panel.outputs → s.panel.status index < 2 ^ 8) → AreWritable s
 
 -- ---- the answer to a poll
@@ -52,7 +52,7 @@ abbrev pub polled_step : State → Panel → ℕ → ℕ → Step
 polled_step s o now seq = connection_after s o now (poll_octets seq)
 
 -- the portion leaves these lanes, and nothing is performed
-pub record Frees (portion : Portion) (old : Stock) (performed : List Command) (step : Step) : Type 0 where
+pub record Frees (portion : Portion) (old : EventBuffer) (performed : List Command) (step : Step) : Type 0 where
   pub lanes : step.state.lanes ≡ without old portion.ids
   pub discarded : step.does.discarded ≡ portion.rows
   pub performed_is : step.state.performed ≡ performed
@@ -95,7 +95,7 @@ master_after m now s o portion (Passes still none) = asked m now events_polled
 pub record AreFit (m : master.State) (s : State) (o : Panel) : Type 0 where
   pub idle : master.is_idle m ≡ true
   pub quiet : is_quiet s.core ≡ true
-  pub sound : IsSound s.lanes
+  pub sound : IsSoundBuffer s.lanes
   pub writable : AreWritable (source_of s o)
   pub seq : m.seq < 16
 
@@ -148,12 +148,12 @@ polled_exchange laws m now s o fit asked_for other = record {
         let both = a_confirm offer.con octets e in
         let was : Awaits m.seq (polled_ids s.lanes) step.state = offer.awaits both.0 in
         let awaits : Awaits m.seq (polled_ids s.lanes) after = record { wait = was.wait; is = was.is; seq_is = was.seq_is; upto_is = was.upto_is } in
-        let r : Releases after (connection_after after p now (confirm_octets m.seq)) =
-        laws.confirmed after p now m.seq fit.seq (subst IsSound (sym offer.lanes) fit.sound) offer.is_open
-        (subst (λ (lanes : Stock). Awaits m.seq (polled_ids lanes) after) (sym offer.lanes) awaits) in
+        let r : ReleasesPolled after (connection_after after p now (confirm_octets m.seq)) =
+        laws.confirmed after p now m.seq fit.seq (subst IsSoundBuffer (sym offer.lanes) fit.sound) offer.is_open
+        (subst (λ (lanes : EventBuffer). Awaits m.seq (polled_ids lanes) after) (sym offer.lanes) awaits) in
         subst (λ (x : List ℕ). Frees (polled s.lanes) s.lanes performed (connection_after after p now x)) both.1
         (record {
-          lanes = r.lanes ∙ ap (λ (lanes : Stock). without lanes (polled_ids lanes)) offer.lanes;
+          lanes = r.lanes ∙ ap (λ (lanes : EventBuffer). without lanes (polled_ids lanes)) offer.lanes;
           discarded = r.discarded ∙ ap polled_rows offer.lanes;
           performed_is = r.performed;
         })

@@ -5,8 +5,8 @@ use Rattle.std.specs.List.{All, filter}
 use Rattle.std.proofs.lemmas.Bool.{and_parts}
 use Rattle.std.proofs.lemmas.List.{drop_at}
 use Rattle.std.proofs.lemmas.List.Elements.{All-append, All-cons, All-drop, All-filter, All-head, All-map, All-nil, All-tail}
-use Rattle.dnp_eventbuf.specs.Sound.{IsSound}
-use Rattle.dnp_eventbuf.specs.Stock.{LaneState, Stock, lane_rows, lanes_up_to, row_of, rows_in, up_to}
+use Rattle.dnp_eventbuf.specs.Sound.{IsSoundBuffer}
+use Rattle.dnp_eventbuf.specs.EventBuffer.{LaneState, EventBuffer, lane_rows, lanes_up_to, row_of, rows_in, up_to}
 use Rattle.dnp_eventbuf.specs.declared.numbered.Numbered.{Numbered}
 use Rattle.dnp_master.specs.Rows.{is_reported}
 use Rattle.dnp_master.specs.State as master
@@ -68,12 +68,12 @@ first_of_lanes P (lane ∷ lanes) (id ∷ ids) all =
     All-append P (up_to id lane) (lanes_up_to lanes ids) (first_of_lane P id lane (all_left P (map row_of lane.rows) (lane_rows lanes) all))
     (first_of_lanes P lanes ids (all_behind P (map row_of lane.rows) (lane_rows lanes) all))
 
-all_reported : ReleaseLaw → (P : Row → Type 0) (s : Stock) (enabled : List Bool) → IsSound s → length enabled ≤ 3 → All P (rows_in s)
+all_reported : ReleaseLaw → (P : Row → Type 0) (s : EventBuffer) (enabled : List Bool) → IsSoundBuffer s → length enabled ≤ 3 → All P (rows_in s)
     → All P (reported s enabled).rows
 all_reported law P s enabled sound few all =
     subst (All P) (law s enabled sound few) (first_of_lanes P s.lanes (reported s enabled).ids all)
 
-all_polled : ReleaseLaw → (P : Row → Type 0) (s : Stock) → IsSound s → All P (rows_in s) → All P (polled_rows s)
+all_polled : ReleaseLaw → (P : Row → Type 0) (s : EventBuffer) → IsSoundBuffer s → All P (rows_in s) → All P (polled_rows s)
 all_polled law P s sound all = all_reported law P s (true ∷ true ∷ true ∷ []) sound (omega arith) all
 
 -- ---- the link to a substation

@@ -9,7 +9,7 @@ use Rattle.dnp_concentrator.specs.Relaying as relaying
 use Rattle.dnp_concentrator.specs.Relaying.{Relaying}
 use Rattle.dnp_controls.specs.Latches.{PlainState, plain_panel}
 use Rattle.dnp_controls.specs.Panel.{Panel}
-use Rattle.dnp_eventbuf.specs.Stock.{Stock}
+use Rattle.dnp_eventbuf.specs.EventBuffer.{EventBuffer}
 use Rattle.dnp_master.specs.Calls.{Taking, ask_answer}
 use Rattle.dnp_master.specs.declared.fault.AskFault.{AskFault}
 use Rattle.dnp_objects.specs.declared.command.Command.{Command}
@@ -53,7 +53,7 @@ asks_so on old asked there octets is same h =
 
 pub record Parts : Type 0 where
   pub core : Core
-  pub lanes : Stock
+  pub lanes : EventBuffer
   pub outputs : PlainState
 
 abbrev pub parts_of : SubstationState → Parts

@@ -3,7 +3,7 @@ use Rattle.std.proofs.Common.{◌≡◌, ℕ, zero, suc, Bool, true, false, not,
 use Rattle.std.specs.Prelude.{option_to_list, slice_get}
 use Rattle.dnp_concentrator.specs.declared.plan.SubPlan.{SubPlan}
 use Rattle.dnp_controls.specs.Panel.{Panel}
-use Rattle.dnp_eventbuf.specs.Stock.{dropped_by, with_rows}
+use Rattle.dnp_eventbuf.specs.EventBuffer.{dropped_by, with_rows}
 use Rattle.dnp_outstation.specs.Calls.{answered_by, opened_of, received, tick_of}
 use Rattle.dnp_outstation.specs.Connection.{at_end, case_of, has_enabled_rows, solicited_timer, starts, unsolicited_timer}
 use Rattle.dnp_outstation.specs.Content.{Content, content_from, plain}

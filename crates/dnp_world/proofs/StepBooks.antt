@@ -7,7 +7,7 @@ use Rattle.std.proofs.lemmas.Bool.Decides.{Decides-eqb, nat_tests}
 use Rattle.std.proofs.lemmas.List.Elements.{All-nil, All-cons, All-head, All-tail, All-map}
 use Rattle.std.proofs.lemmas.List.Folds.{find-append}
 use Rattle.dnp_objects.specs.declared.command.Command.{Command}
-use Rattle.dnp_controls.specs.Book.{Ledger, IsSound, added, entry_of, in_state, is_pending, next_of}
+use Rattle.dnp_controls.specs.Book.{Ledger, IsSoundLedger, added, entry_of, in_state, is_pending, next_of}
 use Rattle.dnp_controls.specs.Moves.{Move, Add, Spend, Finish, after}
 use Rattle.dnp_controls.specs.declared.book.Entry.{Entry}
 use Rattle.dnp_controls.specs.declared.book.State.{State}
@@ -28,14 +28,14 @@ use Rattle.dnp_world.proofs.RelayWidths.{FitsEntry}
 
 -- what the crate of controls promises of a book
 abbrev pub SoundLaw : Type 0
-SoundLaw = (book : Ledger) (moves : List Move) → IsSound book → IsSound (after book moves)
+SoundLaw = (book : Ledger) (moves : List Move) → IsSoundLedger book → IsSoundLedger (after book moves)
 
 -- What goes with the one book goes with the other.
 pub record Carries (old new : Ledger) : Type 0 where
   pub given : old.last_id ≤ new.last_id
   pub entry : (target : ℕ) (p : Progress) → p.id ≤ old.last_id → IfSome (entry_of old.entries p.id) (IsOfEntry target p)
       → IfSome (entry_of new.entries p.id) (IsOfEntry target p)
-  pub sound : IsSound old → IsSound new
+  pub sound : IsSoundLedger old → IsSoundLedger new
 
 pub carried : (old new : Ledger) (target : ℕ) (o : Option Progress) → Carries old new → IfSome o (GoesWith old target)
     → IfSome o (GoesWith new target)

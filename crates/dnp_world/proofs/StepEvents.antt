@@ -3,7 +3,7 @@ use Rattle.std.proofs.Common.{◌≡◌, ℕ, zero, suc, ◌==◌, Bool, true, f
 use Rattle.std.specs.Prelude.{if◌then◌else◌, slice_set}
 use Rattle.std.specs.List.{All}
 use Rattle.std.proofs.lemmas.Bool.{eqb-false}
-use Rattle.dnp_controls.specs.Book.{Ledger, IsSound, entry_of}
+use Rattle.dnp_controls.specs.Book.{Ledger, IsSoundLedger, entry_of}
 use Rattle.dnp_controls.specs.declared.book.Entry.{Entry}
 use Rattle.dnp_concentrator.specs.Below.{link_in}
 use Rattle.dnp_concentrator.specs.Relaying.{Relaying, heard, progress_heard, status_of}
@@ -23,8 +23,8 @@ use Rattle.dnp_world.proofs.Touches.{Ends, Use, LinkOpens, LinkHangsUp, LinkAsks
 pub record AreInStep (e : Ends) : Type 0 where
   pub below : (substation : ℕ) → IfSome (link_in e.links substation).progress (GoesWith e.controls substation)
   pub above : IfSome e.centre.progress (GoesWith e.orders 0)
-  pub controls : IsSound e.controls
-  pub orders : IsSound e.orders
+  pub controls : IsSoundLedger e.controls
+  pub orders : IsSoundLedger e.orders
   pub widths : All FitsEntry e.orders.entries
 
 pub ends_in_step : (s : System) → InStep s → AreInStep (ends_of s)
@@ -54,7 +54,7 @@ link_changes e substation r book carries here h = record {
 }
 
 -- the one above, and the centre's book
-pub centre_changes : (e : Ends) (r : Relaying) (book : Ledger) → IfSome r.progress (GoesWith book 0) → IsSound book → All FitsEntry book.entries
+pub centre_changes : (e : Ends) (r : Relaying) (book : Ledger) → IfSome r.progress (GoesWith book 0) → IsSoundLedger book → All FitsEntry book.entries
     → AreInStep e → AreInStep (record e { centre = r; orders = book })
 centre_changes e r book above sound widths h =
     record { below = h.below; above = above; controls = h.controls; orders = sound; widths = widths }

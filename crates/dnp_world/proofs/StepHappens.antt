@@ -7,7 +7,7 @@ use Rattle.std.proofs.lemmas.List.Elements.{All-nil, All-push}
 use Rattle.dnp_objects.specs.Commands.{index_of}
 use Rattle.dnp_objects.specs.declared.command.Command.{Command}
 use Rattle.dnp_objects.specs.declared.command.Command.TheVariants.{Block, Set16, Set32}
-use Rattle.dnp_controls.specs.Book.{Ledger, IsSound, added}
+use Rattle.dnp_controls.specs.Book.{Ledger, IsSoundLedger, added}
 use Rattle.dnp_controls.specs.declared.book.Entry.{Entry}
 use Rattle.dnp_controls.specs.declared.book.State.TheVariants.{Pending}
 use Rattle.dnp_concentrator.specs.Below.{link_in, new_link}
@@ -21,7 +21,7 @@ use Rattle.dnp_concentrator.specs.declared.index_kind.IndexKind.{IndexKind}
 use Rattle.dnp_concentrator.specs.declared.plan.Plan.{Plan}
 use Rattle.dnp_concentrator.specs.declared.span.Spans.{Spans}
 use Rattle.dnp_eventbuf.specs.Archive.{Archive}
-use Rattle.dnp_eventbuf.specs.Stock.{Stock}
+use Rattle.dnp_eventbuf.specs.EventBuffer.{EventBuffer}
 use Rattle.dnp_pointdb.specs.declared.limits.TheConstants.{INDICES}
 use Rattle.dnp_world.specs.Behind.{Elsewhere}
 use Rattle.dnp_world.specs.CommandWidths.{HasWidths}
@@ -132,14 +132,15 @@ stays_in_step laws old new s h touched =
 
 -- ---- before the first event
 
-empty_sound : (book : Ledger) → book.entries ≡ [] → IsSound book
+empty_sound : (book : Ledger) → book.entries ≡ [] → IsSoundLedger book
 empty_sound book none = record {
   rising = subst (AllPairs (λ (x y : Entry). x.id < y.id)) (sym none) (λ i j d low inside. absurd (omega (arith, inside)));
   from_1 = subst (All (λ (x : Entry). 1 ≤ x.id)) (sym none) (All-nil (λ (x : Entry). 1 ≤ x.id));
   up_to_last = subst (All (λ (x : Entry). x.id ≤ book.last_id)) (sym none) (All-nil (λ (x : Entry). x.id ≤ book.last_id));
 }
 
-pub fresh_in_step : (plan : Plan) (centre : ℕ) (queue : Stock) (journal : Archive) (controls orders : Ledger) → controls.entries ≡ [] → orders.entries ≡ []
+pub fresh_in_step : (plan : Plan) (centre : ℕ) (queue : EventBuffer) (journal : Archive) (controls orders : Ledger) → controls.entries ≡ []
+    → orders.entries ≡ []
     → InStep (fresh_system plan centre queue journal controls orders)
 fresh_in_step plan centre queue journal controls orders none nothing = record {
   below = λ i. none_in_progress (new_link plan.times) (λ x. refl) controls plan.substations i i;

@@ -8,8 +8,8 @@ use Rattle.dnp_concentrator.specs.declared.span.Spans.{Spans}
 use Rattle.dnp_world.specs.Behind.{alone, Links, IsBehind, IsUntouched, rows_of}
 use Rattle.dnp_world.specs.CommandWidths.{HasWidths}
 use Rattle.dnp_world.specs.Kept.{nothing_kept, rows_below, commands_below}
-use Rattle.dnp_world.specs.Link.{Link}
-use Rattle.dnp_world.specs.Standing.{Stands, IsFresh}
+use Rattle.dnp_world.specs.LawLink.{LawLink}
+use Rattle.dnp_world.specs.Standing.{CarriesLaw, IsFresh}
 use Rattle.dnp_world.specs.Stations.{of_substation, HasSameCounts}
 use Rattle.dnp_world.proofs.Counting.{covered_nil}
 use Rattle.dnp_world.proofs.SystemCounts.{same_refl, same_is}
@@ -18,7 +18,7 @@ no_rows : (events : List Buffered) → events ≡ [] → HasSameCounts (rows_of 
 no_rows events e = same_is (rows_of events) [] (ap rows_of e)
 
 -- over empty stores, behind empty lists, there are links on which nothing has happened
-pub fresh_behind : (starts : (l : Link) → IsFresh l → Stands l) → (indices : List Spans) (links : Links) → ((i : ℕ) → IsUntouched (links.below i))
+pub fresh_behind : (starts : (l : LawLink) → IsFresh l → CarriesLaw l) → (indices : List Spans) (links : Links) → ((i : ℕ) → IsUntouched (links.below i))
     → IsUntouched links.above → IsBehind indices alone links nothing_kept
 fresh_behind starts indices links below above =
     let stood : links.above.stood ≡ [] = above.fresh.stood ∙ above.lanes in

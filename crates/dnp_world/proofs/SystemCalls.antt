@@ -14,7 +14,7 @@ use Rattle.dnp_concentrator.specs.declared.two.Two.{Two}
 use Rattle.dnp_controls.specs.Book.{Ledger}
 use Rattle.dnp_eventbuf.specs.Archive.{Archive}
 use Rattle.dnp_eventbuf.specs.Sides.{other_than}
-use Rattle.dnp_eventbuf.specs.Stock.{Stock}
+use Rattle.dnp_eventbuf.specs.EventBuffer.{EventBuffer}
 use Rattle.dnp_eventbuf.specs.declared.pair.TheConstants.{CENTRES}
 use Rattle.dnp_master.specs.State as master
 use Rattle.dnp_outstation.specs.Calls.{opened_of, restarted_core, tick_of}
@@ -60,73 +60,73 @@ hangs_up_at_centre archive orders n low rest centres above was k before lines th
 
 -- ---- of the concentrator, where it serves a centre
 
-pub hangs_up_at_middle : {Q A : Type 0} (stock : Q → ℕ → Stock) (ledger : A → Ledger) (n : ℕ) → n < CENTRES → (rest : Whole) (c d : Concentrator Q A)
+pub hangs_up_at_middle : {Q A : Type 0} (buffer : Q → ℕ → EventBuffer) (ledger : A → Ledger) (n : ℕ) → n < CENTRES → (rest : Whole) (c d : Concentrator Q A)
     (above : Two Channel) (before lines : Channel) → before ≡ at n above → core_of n d ≡ closed (core_of n c)
     → core_of (other_than n) d ≡ core_of (other_than n) c → queue_of d ≡ queue_of c → outputs_of d ≡ outputs_of c → links_of d ≡ links_of c
     → plan_above d ≡ plan_above c → state_of lines ≡ hung_up_at Outstation (state_of before)
-    → ChangesAll (Some n) (HangsUpOn (Above n) Outstation) (record rest { concentrator = concentrator_of stock ledger c; above = of_both state_of above })
-    (record rest { concentrator = concentrator_of stock ledger d; above = of_both state_of (with_at n above lines) })
-hangs_up_at_middle {Q} {A} stock ledger n low rest c d above before lines there core other queue outputs links plan hung =
-    let is : ConcentratorState = middle_view stock ledger n d in
-    let was : ConcentratorState = record (middle_view stock ledger n c) { core = closed (core_of n c) } in
+    → ChangesAll (Some n) (HangsUpOn (Above n) Outstation) (record rest { concentrator = concentrator_of buffer ledger c; above = of_both state_of above })
+    (record rest { concentrator = concentrator_of buffer ledger d; above = of_both state_of (with_at n above lines) })
+hangs_up_at_middle {Q} {A} buffer ledger n low rest c d above before lines there core other queue outputs links plan hung =
+    let is : ConcentratorState = middle_view buffer ledger n d in
+    let was : ConcentratorState = record (middle_view buffer ledger n c) { core = closed (core_of n c) } in
     let closes : is ≡ was = cc in
-    let stays : StaysApart stock ledger n [] c d = record {
+    let stays : StaysApart buffer ledger n [] c d = record {
       core = other;
-      queue = ap (λ (q : Q). stock q (other_than n)) queue;
+      queue = ap (λ (q : Q). buffer q (other_than n)) queue;
       indices = ap (λ (o : BookOutputs A). map_in o) outputs;
       points = plan;
       controls = ap (λ (o : BookOutputs A). ledger (book_in o)) outputs;
       links = links;
     } in
-    middle_there stock ledger n low (HangsUpOn (Above n) Outstation) rest c d [] stays above before lines there
+    middle_there buffer ledger n low (HangsUpOn (Above n) Outstation) rest c d [] stays above before lines there
     (cc closes)
 
-pub ticks_at_middle : {Q A : Type 0} (honest : Q → Type 0) (stock : Q → ℕ → Stock) (ledger : A → Ledger) (n : ℕ) → n < CENTRES → (rest : Whole)
-    (c d : Concentrator Q A) → honest (queue_of d) → Follows honest stock ledger n c d [] → (does : Actions)
-    → tick_of (above_of stock ledger n c) rest.now ≡ record { state = above_of stock ledger n d; does = does } → (above : Two Channel)
+pub ticks_at_middle : {Q A : Type 0} (honest : Q → Type 0) (buffer : Q → ℕ → EventBuffer) (ledger : A → Ledger) (n : ℕ) → n < CENTRES → (rest : Whole)
+    (c d : Concentrator Q A) → honest (queue_of d) → Follows honest buffer ledger n c d [] → (does : Actions)
+    → tick_of (above_of buffer ledger n c) rest.now ≡ record { state = above_of buffer ledger n d; does = does } → (above : Two Channel)
     (before lines : Channel) → before ≡ at n above → GoUp does.send (state_of before) (state_of lines)
-    → ChangesAll (Some n) (OutstationTicks (Above n)) (record rest { concentrator = concentrator_of stock ledger c; above = of_both state_of above })
-    (record rest { concentrator = concentrator_of stock ledger d; above = of_both state_of (with_at n above lines) })
-ticks_at_middle honest stock ledger n low rest c d is follows does step_is above before lines there up =
-    middle_there stock ledger n low (OutstationTicks (Above n)) rest c d [] (stays_apart honest stock ledger n c d [] is follows) above before lines there
-    (subst (λ (step : Step). MiddleSteps step [] (state_of before) (middle_seen stock ledger n rest c before) (middle_seen stock ledger n rest d lines))
+    → ChangesAll (Some n) (OutstationTicks (Above n)) (record rest { concentrator = concentrator_of buffer ledger c; above = of_both state_of above })
+    (record rest { concentrator = concentrator_of buffer ledger d; above = of_both state_of (with_at n above lines) })
+ticks_at_middle honest buffer ledger n low rest c d is follows does step_is above before lines there up =
+    middle_there buffer ledger n low (OutstationTicks (Above n)) rest c d [] (stays_apart honest buffer ledger n c d [] is follows) above before lines there
+    (subst (λ (step : Step). MiddleSteps step [] (state_of before) (middle_seen buffer ledger n rest c before) (middle_seen buffer ledger n rest d lines))
     (sym step_is)
     (record {
       sent = up;
       after = ap (λ (k : ConcentratorState). record (seen_by n rest) { concentrator = k; above = state_of lines })
-          (stepped stock ledger n c d (above_of stock ledger n d) [] refl follows.0 follows.1.core follows.1.links follows.1.plan);
+          (stepped buffer ledger n c d (above_of buffer ledger n d) [] refl follows.0 follows.1.core follows.1.links follows.1.plan);
     }))
 
-pub opens_above : {Q J A B : Type 0} (honest : Q → Type 0) (stock : Q → ℕ → Stock) (archive : J → Archive) (ledger : A → Ledger) (orders : B → Ledger)
-    (n : ℕ) → n < CENTRES → (rest : Whole) (c d : Concentrator Q A) → honest (queue_of d) → Follows honest stock ledger n c d [] → (does : Actions)
-    → opened_of (above_of stock ledger n c) rest.now ≡ record { state = above_of stock ledger n d; does = does } → (centres : Two (Centre J B))
+pub opens_above : {Q J A B : Type 0} (honest : Q → Type 0) (buffer : Q → ℕ → EventBuffer) (archive : J → Archive) (ledger : A → Ledger) (orders : B → Ledger)
+    (n : ℕ) → n < CENTRES → (rest : Whole) (c d : Concentrator Q A) → honest (queue_of d) → Follows honest buffer ledger n c d [] → (does : Actions)
+    → opened_of (above_of buffer ledger n c) rest.now ≡ record { state = above_of buffer ledger n d; does = does } → (centres : Two (Centre J B))
     (above : Two Channel) (was k : Centre J B) (before lines : Channel) → was ≡ at n centres → before ≡ at n above
     → GoUp does.send (cleared (state_of before)) (state_of lines) → Relinked archive orders was (relaying.opened (centre.link_of was)) k
     → ChangesAll (Some n) (OpensOn (Above n))
     (record rest {
-      concentrator = concentrator_of stock ledger c;
+      concentrator = concentrator_of buffer ledger c;
       centres = of_both (centre_of archive orders) centres;
       above = of_both state_of above;
     })
     (record rest {
-      concentrator = concentrator_of stock ledger d;
+      concentrator = concentrator_of buffer ledger d;
       centres = of_both (centre_of archive orders) (with_at n centres k);
       above = of_both state_of (with_at n above lines);
     })
-opens_above honest stock archive ledger orders n low rest c d is follows does step_is centres above was k before lines there lines_there up opened =
-    let first : System = with_centre_link (both_seen stock archive ledger orders n rest c was before) (relaying.opened (centre.link_of was)) in
-    let new : System = both_seen stock archive ledger orders n rest d k lines in
-    link_there stock archive ledger orders n low (OpensOn (Above n)) rest c d [] (stays_apart honest stock ledger n c d [] is follows) centres above was k
+opens_above honest buffer archive ledger orders n low rest c d is follows does step_is centres above was k before lines there lines_there up opened =
+    let first : System = with_centre_link (both_seen buffer archive ledger orders n rest c was before) (relaying.opened (centre.link_of was)) in
+    let new : System = both_seen buffer archive ledger orders n rest d k lines in
+    link_there buffer archive ledger orders n low (OpensOn (Above n)) rest c d [] (stays_apart honest buffer ledger n c d [] is follows) centres above was k
     before lines there lines_there
     (subst (λ (step : Step). MiddleSteps step [] (cleared (state_of before)) first new) (sym step_is)
     (record {
       sent = up;
       after = ap (λ (m : ConcentratorState). record new { concentrator = m })
-          (stepped stock ledger n c d (above_of stock ledger n d) [] refl follows.0 follows.1.core follows.1.links follows.1.plan)
+          (stepped buffer ledger n c d (above_of buffer ledger n d) [] refl follows.0 follows.1.core follows.1.links follows.1.plan)
           ∙ ap (λ (m : CentreState). record new {
-            concentrator = record (middle_view stock ledger n c) {
-              core = (above_of stock ledger n d).core;
-              queue = (above_of stock ledger n d).lanes;
+            concentrator = record (middle_view buffer ledger n c) {
+              core = (above_of buffer ledger n d).core;
+              queue = (above_of buffer ledger n d).lanes;
             };
             centre = m;
           }) opened;
@@ -134,20 +134,20 @@ opens_above honest stock archive ledger orders n low rest c d is follows does st
 
 -- ---- of the concentrator, for all
 
-pub restarts_all : {Q A : Type 0} (stock : Q → ℕ → Stock) (ledger : A → Ledger) (rest : Whole) (c d : Concentrator Q A)
+pub restarts_all : {Q A : Type 0} (buffer : Q → ℕ → EventBuffer) (ledger : A → Ledger) (rest : Whole) (c d : Concentrator Q A)
     (substations : List SubstationState) (above : Two Channel) (first second : Channel) → core_of 0 d ≡ restarted_core (core_of 0 c)
     → core_of 1 d ≡ restarted_core (core_of 1 c) → queue_of d ≡ queue_of c → outputs_of d ≡ outputs_of c → links_of d ≡ map relaying.hung_up (links_of c)
     → plan_above d ≡ plan_above c → substations ≡ map master_gone rest.substations → state_of first ≡ hung_up_at Outstation (state_of above.first)
     → state_of second ≡ hung_up_at Outstation (state_of above.second)
-    → ChangesAll None (λ s t. t ≡ concentrator_restarted s) (record rest { concentrator = concentrator_of stock ledger c; above = of_both state_of above })
+    → ChangesAll None (λ s t. t ≡ concentrator_restarted s) (record rest { concentrator = concentrator_of buffer ledger c; above = of_both state_of above })
     (record rest {
       substations = substations;
-      concentrator = concentrator_of stock ledger d;
+      concentrator = concentrator_of buffer ledger d;
       above = record { first = state_of first; second = state_of second };
     })
-restarts_all {Q} {A} stock ledger rest c d substations above first second first_core second_core queue outputs links plan gone first_hung second_hung =
-    let was : WholeConcentrator = concentrator_of stock ledger c in
-    let is : WholeConcentrator = concentrator_of stock ledger d in
+restarts_all {Q} {A} buffer ledger rest c d substations above first second first_core second_core queue outputs links plan gone first_hung second_hung =
+    let was : WholeConcentrator = concentrator_of buffer ledger c in
+    let is : WholeConcentrator = concentrator_of buffer ledger d in
     let cores : Two Core = of_both restarted_core was.cores in
     let to : WholeConcentrator = record was { cores = cores; links = map relaying.hung_up was.links } in
     let same : is ≡ to = cc in

@@ -3,7 +3,7 @@ use Rattle.std.proofs.Common.{◌≡◌, ℕ, zero, suc, ◌<◌, Bool, List, []
 use Rattle.dnp_objects.specs.declared.command.Command.{Command}
 use Rattle.dnp_controls.specs.Book.{Ledger}
 use Rattle.dnp_eventbuf.specs.Sides.{other_than}
-use Rattle.dnp_eventbuf.specs.Stock.{Stock}
+use Rattle.dnp_eventbuf.specs.EventBuffer.{EventBuffer}
 use Rattle.dnp_eventbuf.specs.declared.pair.TheConstants.{CENTRES}
 use Rattle.dnp_outstation.specs.State.{State, Step, Actions}
 use Rattle.dnp_outstation.specs.Calls.{performed_in}
@@ -40,31 +40,31 @@ all_in {A} ledger [] old new h =
 all_in ledger (command ∷ commands) old new h = let done = h.performed (λ none. absurd (cc)) in (done.0, done.1)
 
 -- the concentrator after a step of its outstation, as the centre sees it
-pub stepped : {Q A : Type 0} (stock : Q → ℕ → Stock) (ledger : A → Ledger) (n : ℕ) (old new : Concentrator Q A) (state : State) (commands : List Command)
-    → state ≡ above_of stock ledger n new → HavePerformed (Performs ledger) commands (outputs_of old) (outputs_of new)
+pub stepped : {Q A : Type 0} (buffer : Q → ℕ → EventBuffer) (ledger : A → Ledger) (n : ℕ) (old new : Concentrator Q A) (state : State) (commands : List Command)
+    → state ≡ above_of buffer ledger n new → HavePerformed (Performs ledger) commands (outputs_of old) (outputs_of new)
     → core_of (other_than n) new ≡ core_of (other_than n) old → links_of new ≡ links_of old → plan_above new ≡ plan_above old
-    → middle_view stock ledger n new ≡ record (middle_view stock ledger n old) {
+    → middle_view buffer ledger n new ≡ record (middle_view buffer ledger n old) {
       core = state.core;
       queue = state.lanes;
       controls = all_added (map_in (outputs_of old)) (ledger (book_in (outputs_of old))) commands;
     }
-stepped stock ledger n old new state commands is performs other links plan =
+stepped buffer ledger n old new state commands is performs other links plan =
     let both = all_in ledger commands (outputs_of old) (outputs_of new) performs in
     rw is (cc (both.0, both.1))
 
 -- the system with this concentrator
-abbrev with_concentrator : {Q A : Type 0} → (Q → ℕ → Stock) → (A → Ledger) → ℕ → System → Concentrator Q A → System
-with_concentrator stock ledger n rest c = record rest { concentrator = middle_view stock ledger n c }
+abbrev with_concentrator : {Q A : Type 0} → (Q → ℕ → EventBuffer) → (A → Ledger) → ℕ → System → Concentrator Q A → System
+with_concentrator buffer ledger n rest c = record rest { concentrator = middle_view buffer ledger n c }
 
 -- what follows of the concentrator's outputs, and of what it has for the other centre, where these commands were performed
-abbrev pub Follows : {Q A : Type 0} → (Q → Type 0) → (Q → ℕ → Stock) → (A → Ledger) → ℕ → Concentrator Q A → Concentrator Q A → List Command → Type 0
-Follows honest stock ledger n c d commands =
-    HavePerformed (Performs ledger) commands (outputs_of c) (outputs_of d) × KeepsOtherCentre honest stock n c d
+abbrev pub Follows : {Q A : Type 0} → (Q → Type 0) → (Q → ℕ → EventBuffer) → (A → Ledger) → ℕ → Concentrator Q A → Concentrator Q A → List Command → Type 0
+Follows honest buffer ledger n c d commands =
+    HavePerformed (Performs ledger) commands (outputs_of c) (outputs_of d) × KeepsOtherCentre honest buffer n c d
 
 -- the other centre sees no more than the commands
-pub stays_apart : {Q A : Type 0} (honest : Q → Type 0) (stock : Q → ℕ → Stock) (ledger : A → Ledger) (n : ℕ) (c d : Concentrator Q A)
-    (commands : List Command) → honest (queue_of d) → Follows honest stock ledger n c d commands → StaysApart stock ledger n commands c d
-stays_apart honest stock ledger n c d commands is (performs, keeps) =
+pub stays_apart : {Q A : Type 0} (honest : Q → Type 0) (buffer : Q → ℕ → EventBuffer) (ledger : A → Ledger) (n : ℕ) (c d : Concentrator Q A)
+    (commands : List Command) → honest (queue_of d) → Follows honest buffer ledger n c d commands → StaysApart buffer ledger n commands c d
+stays_apart honest buffer ledger n c d commands is (performs, keeps) =
     let both = all_in ledger commands (outputs_of c) (outputs_of d) performs in
     record {
       core = keeps.core;
@@ -75,103 +75,103 @@ stays_apart honest stock ledger n c d commands is (performs, keeps) =
       links = keeps.links;
     }
 
-answers : {Q A : Type 0} (honest : Q → Type 0) (stock : Q → ℕ → Stock) (ledger : A → Ledger) (n : ℕ) (c d : Concentrator Q A) (rest : System)
+answers : {Q A : Type 0} (honest : Q → Type 0) (buffer : Q → ℕ → EventBuffer) (ledger : A → Ledger) (n : ℕ) (c d : Concentrator Q A) (rest : System)
     (port : PortState) (does : Actions) (answered repeats : Bool) (lines : ChannelState) (given : List (List ℕ))
-    → AnswersTo given (Follows honest stock ledger n c d) (panel_above ledger n rest.now c) rest.now (above_of stock ledger n c)
-    (above_of stock ledger n d) does answered (record rest.above { outstation_port = port }) lines
+    → AnswersTo given (Follows honest buffer ledger n c d) (panel_above ledger n rest.now c) rest.now (above_of buffer ledger n c)
+    (above_of buffer ledger n d) does answered (record rest.above { outstation_port = port }) lines
     → MiddleAnswers given
-    (record (with_concentrator stock ledger n rest c) {
+    (record (with_concentrator buffer ledger n rest c) {
       above = record rest.above { down = left_by repeats rest.above.down; outstation_port = port };
     })
-    (record (with_concentrator stock ledger n rest d) { above = record lines { down = left_by repeats lines.down } })
-answers honest stock ledger n c d rest port does answered repeats lines [] (none, same, kept, follows) =
+    (record (with_concentrator buffer ledger n rest d) { above = record lines { down = left_by repeats lines.down } })
+answers honest buffer ledger n c d rest port does answered repeats lines [] (none, same, kept, follows) =
     ap (λ (k : ConcentratorState). record rest { concentrator = k; above = record lines { down = left_by repeats lines.down } })
-    (stepped stock ledger n c d (above_of stock ledger n c) [] (sym same) follows.0 follows.1.core follows.1.links follows.1.plan)
-    ∙ ap (λ (l : ChannelState). record (with_concentrator stock ledger n rest c) { above = record l { down = left_by repeats l.down } }) kept
-answers honest stock ledger n c d rest port does answered repeats lines (fragment ∷ others) (one, step_is, up, follows) =
+    (stepped buffer ledger n c d (above_of buffer ledger n c) [] (sym same) follows.0 follows.1.core follows.1.links follows.1.plan)
+    ∙ ap (λ (l : ChannelState). record (with_concentrator buffer ledger n rest c) { above = record l { down = left_by repeats l.down } }) kept
+answers honest buffer ledger n c d rest port does answered repeats lines (fragment ∷ others) (one, step_is, up, follows) =
     let down : lines.down ≡ rest.above.down = ap (λ (l : ChannelState). l.down) up.after in
     let last : ChannelState = record lines { down = left_by repeats lines.down } in
     let first : ChannelState = record rest.above { down = left_by repeats rest.above.down; outstation_port = port } in
     let commands : List Command = performed_in (core_of n c) (panel_above ledger n rest.now c) rest.now fragment in
-    subst (λ (step : Step). MiddleSteps step commands first (record (with_concentrator stock ledger n rest c) { above = first })
-    (record (with_concentrator stock ledger n rest d) { above = last })) (sym step_is)
+    subst (λ (step : Step). MiddleSteps step commands first (record (with_concentrator buffer ledger n rest c) { above = first })
+    (record (with_concentrator buffer ledger n rest d) { above = last })) (sym step_is)
     (record {
       sent = subst (λ (l : LineState). GoUp does.send (record rest.above { down = left_by repeats l; outstation_port = port }) last) down
           (relined does.send (record rest.above { outstation_port = port }) lines (left_by repeats lines.down) up);
       after = ap (λ (k : ConcentratorState). record rest { concentrator = k; above = last })
-          (stepped stock ledger n c d (above_of stock ledger n d) commands refl follows.0 follows.1.core follows.1.links follows.1.plan);
+          (stepped buffer ledger n c d (above_of buffer ledger n d) commands refl follows.0 follows.1.core follows.1.links follows.1.plan);
     })
 
 -- what comes to the outstation's end of the lines above is what comes to the concentrator
-pub comes_above : {Q A : Type 0} (honest : Q → Type 0) (stock : Q → ℕ → Stock) (ledger : A → Ledger) (n : ℕ) (c d : Concentrator Q A) (rest : System)
+pub comes_above : {Q A : Type 0} (honest : Q → Type 0) (buffer : Q → ℕ → EventBuffer) (ledger : A → Ledger) (n : ℕ) (c d : Concentrator Q A) (rest : System)
     (does : Actions) (answered repeats : Bool) (lines : ChannelState)
-    → ComesToOutstation (Follows honest stock ledger n c d) (panel_above ledger n rest.now c) rest.now (above_of stock ledger n c)
-    (above_of stock ledger n d) does answered rest.above lines
-    → ComesDownAbove (left_by repeats) (with_concentrator stock ledger n rest c)
-    (record (with_concentrator stock ledger n rest d) { above = record lines { down = left_by repeats lines.down } })
-comes_above honest stock ledger n c d rest does answered repeats lines came = record {
+    → ComesToOutstation (Follows honest buffer ledger n c d) (panel_above ledger n rest.now c) rest.now (above_of buffer ledger n c)
+    (above_of buffer ledger n d) does answered rest.above lines
+    → ComesDownAbove (left_by repeats) (with_concentrator buffer ledger n rest c)
+    (record (with_concentrator buffer ledger n rest d) { above = record lines { down = left_by repeats lines.down } })
+comes_above honest buffer ledger n c d rest does answered repeats lines came = record {
   port = came.port;
   given = came.given;
   heard = came.heard;
-  came = answers honest stock ledger n c d rest came.port does answered repeats lines came.given came.came;
+  came = answers honest buffer ledger n c d rest came.port does answered repeats lines came.given came.came;
 }
 
 -- the commands that were performed for what came
-commands_come : {Q A : Type 0} (honest : Q → Type 0) (stock : Q → ℕ → Stock) (ledger : A → Ledger) (n now : ℕ) (c d : Concentrator Q A)
+commands_come : {Q A : Type 0} (honest : Q → Type 0) (buffer : Q → ℕ → EventBuffer) (ledger : A → Ledger) (n now : ℕ) (c d : Concentrator Q A)
     (does : Actions) (answered : Bool) (old new : ChannelState) (given : List (List ℕ))
-    → AnswersTo given (Follows honest stock ledger n c d) (panel_above ledger n now c) now (above_of stock ledger n c) (above_of stock ledger n d) does
-    answered old new → (commands : List Command) × Follows honest stock ledger n c d commands
-commands_come honest stock ledger n now c d does answered old new [] (none, same, kept, follows) = ([], follows)
-commands_come honest stock ledger n now c d does answered old new (fragment ∷ others) (one, step_is, up, follows) =
+    → AnswersTo given (Follows honest buffer ledger n c d) (panel_above ledger n now c) now (above_of buffer ledger n c) (above_of buffer ledger n d) does
+    answered old new → (commands : List Command) × Follows honest buffer ledger n c d commands
+commands_come honest buffer ledger n now c d does answered old new [] (none, same, kept, follows) = ([], follows)
+commands_come honest buffer ledger n now c d does answered old new (fragment ∷ others) (one, step_is, up, follows) =
     (performed_in (core_of n c) (panel_above ledger n now c) now fragment, follows)
 
 -- what comes to the concentrator from a centre, as all see it
-pub comes_from : {Q A : Type 0} (honest : Q → Type 0) (stock : Q → ℕ → Stock) (ledger : A → Ledger) (n : ℕ) → n < CENTRES → (rest : Whole)
+pub comes_from : {Q A : Type 0} (honest : Q → Type 0) (buffer : Q → ℕ → EventBuffer) (ledger : A → Ledger) (n : ℕ) → n < CENTRES → (rest : Whole)
     (c d : Concentrator Q A) → honest (queue_of d) → (does : Actions) (answered repeats : Bool) (above : Two Channel)
     (before lines last : Channel) → before ≡ at n above → (state_of last ≡ (let l = state_of lines in record l { down = left_by repeats l.down }))
-    → ComesToOutstation (Follows honest stock ledger n c d) (panel_above ledger n rest.now c) rest.now (above_of stock ledger n c)
-    (above_of stock ledger n d) does answered (state_of before) (state_of lines)
-    → ChangesAll (Some n) (ComesDownAbove (left_by repeats)) (record rest { concentrator = concentrator_of stock ledger c; above = of_both state_of above })
-    (record rest { concentrator = concentrator_of stock ledger d; above = of_both state_of (with_at n above last) })
-comes_from honest stock ledger n low rest c d is does answered repeats above before lines last there settled came =
+    → ComesToOutstation (Follows honest buffer ledger n c d) (panel_above ledger n rest.now c) rest.now (above_of buffer ledger n c)
+    (above_of buffer ledger n d) does answered (state_of before) (state_of lines)
+    → ChangesAll (Some n) (ComesDownAbove (left_by repeats)) (record rest { concentrator = concentrator_of buffer ledger c; above = of_both state_of above })
+    (record rest { concentrator = concentrator_of buffer ledger d; above = of_both state_of (with_at n above last) })
+comes_from honest buffer ledger n low rest c d is does answered repeats above before lines last there settled came =
     let base : System = record (seen_by n rest) { above = state_of before } in
-    let some = commands_come honest stock ledger n rest.now c d does answered _ (state_of lines) came.given came.came in
-    middle_there stock ledger n low (ComesDownAbove (left_by repeats)) rest c d some.0 (stays_apart honest stock ledger n c d some.0 is some.1) above before
+    let some = commands_come honest buffer ledger n rest.now c d does answered _ (state_of lines) came.given came.came in
+    middle_there buffer ledger n low (ComesDownAbove (left_by repeats)) rest c d some.0 (stays_apart honest buffer ledger n c d some.0 is some.1) above before
     last there
-    (subst (λ (l : ChannelState). ComesDownAbove (left_by repeats) (with_concentrator stock ledger n base c)
-    (record (with_concentrator stock ledger n base d) { above = l })) (sym settled)
-    (comes_above honest stock ledger n c d base does answered repeats (state_of lines) came))
+    (subst (λ (l : ChannelState). ComesDownAbove (left_by repeats) (with_concentrator buffer ledger n base c)
+    (record (with_concentrator buffer ledger n base d) { above = l })) (sym settled)
+    (comes_above honest buffer ledger n c d base does answered repeats (state_of lines) came))
 
 -- ---- where nothing came of it
 
 -- the concentrator stays, where what the centre and the other one see of it does
-concentrator_stays : {Q A : Type 0} (honest : Q → Type 0) (stock : Q → ℕ → Stock) (ledger : A → Ledger) (n : ℕ) → n < CENTRES → (c d : Concentrator Q A)
+concentrator_stays : {Q A : Type 0} (honest : Q → Type 0) (buffer : Q → ℕ → EventBuffer) (ledger : A → Ledger) (n : ℕ) → n < CENTRES → (c d : Concentrator Q A)
     → honest (queue_of d) → map_in (outputs_of d) ≡ map_in (outputs_of c) → ledger (book_in (outputs_of d)) ≡ ledger (book_in (outputs_of c))
-    → KeepsOtherCentre honest stock n c d → above_of stock ledger n d ≡ above_of stock ledger n c
-    → concentrator_of stock ledger d ≡ concentrator_of stock ledger c
-concentrator_stays honest stock ledger zero low c d is indices controls keeps same =
+    → KeepsOtherCentre honest buffer n c d → above_of buffer ledger n d ≡ above_of buffer ledger n c
+    → concentrator_of buffer ledger d ≡ concentrator_of buffer ledger c
+concentrator_stays honest buffer ledger zero low c d is indices controls keeps same =
     cc (ap (λ (s : State). s.core) same, keeps.core, ap (λ (s : State). s.lanes) same, keeps.side is, keeps.plan, keeps.links)
-concentrator_stays honest stock ledger (suc zero) low c d is indices controls keeps same =
+concentrator_stays honest buffer ledger (suc zero) low c d is indices controls keeps same =
     cc (keeps.core, ap (λ (s : State). s.core) same, keeps.side is, ap (λ (s : State). s.lanes) same, keeps.plan, keeps.links)
-concentrator_stays honest stock ledger (suc (suc n)) low c d is indices controls keeps same = absurd (omega (arith, low))
+concentrator_stays honest buffer ledger (suc (suc n)) low c d is indices controls keeps same = absurd (omega (arith, low))
 
 -- so the whole stays
-pub all_stays : {Q A : Type 0} (honest : Q → Type 0) (stock : Q → ℕ → Stock) (ledger : A → Ledger) (n : ℕ) → n < CENTRES → (rest : Whole)
+pub all_stays : {Q A : Type 0} (honest : Q → Type 0) (buffer : Q → ℕ → EventBuffer) (ledger : A → Ledger) (n : ℕ) → n < CENTRES → (rest : Whole)
     (c d : Concentrator Q A) → honest (queue_of d) → map_in (outputs_of d) ≡ map_in (outputs_of c)
-    → ledger (book_in (outputs_of d)) ≡ ledger (book_in (outputs_of c)) → KeepsOtherCentre honest stock n c d
-    → above_of stock ledger n d ≡ above_of stock ledger n c → (above : Two Channel) (before lines : Channel) → before ≡ at n above
+    → ledger (book_in (outputs_of d)) ≡ ledger (book_in (outputs_of c)) → KeepsOtherCentre honest buffer n c d
+    → above_of buffer ledger n d ≡ above_of buffer ledger n c → (above : Two Channel) (before lines : Channel) → before ≡ at n above
     → state_of lines ≡ state_of before
-    → record rest { concentrator = concentrator_of stock ledger d; above = of_both state_of (with_at n above lines) }
-    ≡ record rest { concentrator = concentrator_of stock ledger c; above = of_both state_of above }
-all_stays honest stock ledger n low rest c d is indices controls keeps same above before lines there lines_same =
-    cc (concentrator_stays honest stock ledger n low c d is indices controls keeps same, same_there state_of n above before lines there lines_same)
+    → record rest { concentrator = concentrator_of buffer ledger d; above = of_both state_of (with_at n above lines) }
+    ≡ record rest { concentrator = concentrator_of buffer ledger c; above = of_both state_of above }
+all_stays honest buffer ledger n low rest c d is indices controls keeps same above before lines there lines_same =
+    cc (concentrator_stays honest buffer ledger n low c d is indices controls keeps same, same_there state_of n above before lines there lines_same)
 
 -- also where nothing was performed
-pub all_stays_idle : {Q A : Type 0} (honest : Q → Type 0) (stock : Q → ℕ → Stock) (ledger : A → Ledger) (n : ℕ) → n < CENTRES → (rest : Whole)
-    (c d : Concentrator Q A) → honest (queue_of d) → Follows honest stock ledger n c d [] → above_of stock ledger n d ≡ above_of stock ledger n c
+pub all_stays_idle : {Q A : Type 0} (honest : Q → Type 0) (buffer : Q → ℕ → EventBuffer) (ledger : A → Ledger) (n : ℕ) → n < CENTRES → (rest : Whole)
+    (c d : Concentrator Q A) → honest (queue_of d) → Follows honest buffer ledger n c d [] → above_of buffer ledger n d ≡ above_of buffer ledger n c
     → (above : Two Channel) (before lines : Channel) → before ≡ at n above → state_of lines ≡ state_of before
-    → record rest { concentrator = concentrator_of stock ledger d; above = of_both state_of (with_at n above lines) }
-    ≡ record rest { concentrator = concentrator_of stock ledger c; above = of_both state_of above }
-all_stays_idle honest stock ledger n low rest c d is (performs, keeps) same =
+    → record rest { concentrator = concentrator_of buffer ledger d; above = of_both state_of (with_at n above lines) }
+    ≡ record rest { concentrator = concentrator_of buffer ledger c; above = of_both state_of above }
+all_stays_idle honest buffer ledger n low rest c d is (performs, keeps) same =
     let both = all_in ledger [] (outputs_of c) (outputs_of d) performs in
-    all_stays honest stock ledger n low rest c d is both.0 both.1 keeps same
+    all_stays honest buffer ledger n low rest c d is both.0 both.1 keeps same

@@ -2,7 +2,7 @@
 use Rattle.std.proofs.Common.{◌≡◌, ℕ, Bool, true, false, ◌&&◌, ap, [], ◌∷◌, Option, Some, None, Result, Ok, Err, inl, inr, refl, subst}
 use Rattle.std.proofs.lemmas.Bool.{and_parts}
 use Rattle.std.specs.Prelude.{◌⊎◌, IfErr, IfSome, OnOk, ⊤}
-use Rattle.dnp_world.specs.steps.ControlSteps.{EndsBy}
+use Rattle.dnp_world.specs.steps.ControlSteps.{EndsControlBy}
 use Rattle.dnp_world.specs.Controls.{CanGo, ControlEnds, First, IsAccepted, IsControlFor, IsRefusedFor, IsRefusedOn, IsTold, Passes, PassesBack, StopsBack, StopsFor, StopsOn, StopsRelaying, Second, Third, are_quiet_for, next_below, substation_in}
 use Rattle.dnp_world.specs.Centres.{HappensToAll, may_stop}
 use Rattle.dnp_world.specs.Rounds.{Flushes, StopsFlushingAll, StopsInTurn, is_quiet_above, is_quiet_below}
@@ -96,7 +96,7 @@ stops_for see centre (Some substation) id old new s =
 
 -- what ends a part of the way ends the whole
 pub ends_of : {Refusal All : ℕ → Type 0} {Stop Stopped : Type 0} (fault : ControlFault) → ((status : ℕ) → Refusal status → All status)
-    → (Stop → Stopped) → EndsBy Refusal Stop fault → EndsBy All Stopped fault
+    → (Stop → Stopped) → EndsControlBy Refusal Stop fault → EndsControlBy All Stopped fault
 ends_of NotQuiet refusal stop ends = ends
 ends_of NotNext refusal stop ends = ends
 ends_of (Refused status) refusal stop ends = refusal status ends
@@ -106,7 +106,7 @@ ends_of (Fault cause) refusal stop ends = stop ends
 pub control_of : (see : Whole → System) (centre : ℕ) (id : ℕ) (substation : Option ℕ) (old new : Whole) (result : Result ⊤ ControlFault) → CanGo id (see old)
     → substation ≡ substation_in (see old) id
     → OnOk result (IsControlFor HappensToAll see centre substation id old new)
-    → IfErr result (EndsBy (λ (status : ℕ). IsRefusedFor HappensToAll see centre substation id status old new)
+    → IfErr result (EndsControlBy (λ (status : ℕ). IsRefusedFor HappensToAll see centre substation id status old new)
     (StopsFor HappensToAll see may_stop centre substation id old new)) → ControlEnds HappensToAll see may_stop centre id old result new
 control_of see centre id substation old new (Ok done) can is whole ended =
     (can, subst (λ (x : Option ℕ). IsControlFor HappensToAll see centre x id old new) is whole)

@@ -10,7 +10,7 @@ use Rattle.dnp_objects.specs.declared.command.Command.{Command}
 use Rattle.dnp_controls.specs.Book.{Ledger, added}
 use Rattle.dnp_controls.specs.declared.book.Entry.{Entry}
 use Rattle.dnp_controls.specs.declared.book.State.TheVariants.{Pending}
-use Rattle.dnp_eventbuf.specs.Stock.{arriving}
+use Rattle.dnp_eventbuf.specs.EventBuffer.{arriving}
 use Rattle.dnp_pointdb.specs.Plan as points
 use Rattle.dnp_concentrator.specs.declared.span.Spans.{Spans}
 use Rattle.dnp_concentrator.specs.IndexMap.{IsMap}

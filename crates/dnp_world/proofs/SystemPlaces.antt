@@ -7,7 +7,7 @@ use Rattle.std.proofs.lemmas.List.{map-set, length-map, set-get_or, get_or-map}
 use Rattle.std.proofs.lemmas.Option.{slice_get-get_or, slice_get-map}
 use Rattle.std.specs.Option.{option_map}
 use Rattle.dnp_controls.specs.Book.{Ledger}
-use Rattle.dnp_eventbuf.specs.Stock.{Stock}
+use Rattle.dnp_eventbuf.specs.EventBuffer.{EventBuffer}
 use Rattle.dnp_outstation.specs.State.{Core}
 use Rattle.dnp_concentrator.specs.Concentrator.{core_of, links_of, KeepsStores}
 use Rattle.dnp_concentrator.specs.Below.{link_in}
@@ -65,10 +65,11 @@ is_there s xs substation list has =
 -- ---- the concentrator
 
 -- its readings above and its links become others
-pub concentrator_with : {Q A : Type 0} (stock : Q → ℕ → Stock) (ledger : A → Ledger) (old new : Concentrator Q A) (cores : Two Core) (links : List Relaying)
+pub concentrator_with : {Q A : Type 0} (buffer : Q → ℕ → EventBuffer) (ledger : A → Ledger) (old new : Concentrator Q A) (cores : Two Core)
+    (links : List Relaying)
     → core_of 0 new ≡ cores.first → core_of 1 new ≡ cores.second → links_of new ≡ links → KeepsStores old new
-    → concentrator_of stock ledger new ≡ record (concentrator_of stock ledger old) { cores = cores; links = links }
-concentrator_with stock ledger old new cores links first_is second_is links_is stores =
+    → concentrator_of buffer ledger new ≡ record (concentrator_of buffer ledger old) { cores = cores; links = links }
+concentrator_with buffer ledger old new cores links first_is second_is links_is stores =
     rw (first_is, second_is) (cc (stores.queue, stores.outputs, stores.plan))
 
 -- ---- lines

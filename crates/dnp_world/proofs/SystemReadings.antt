@@ -10,7 +10,7 @@ use Rattle.dnp_outstation.specs.State.{State, Step, Actions}
 use Rattle.dnp_outstation.specs.Station.{change_fault_of}
 use Rattle.dnp_outstation.specs.Calls.{change_of}
 use Rattle.std.specs.Prelude.{IfSome}
-use Rattle.dnp_eventbuf.specs.Stock.{exhausts}
+use Rattle.dnp_eventbuf.specs.EventBuffer.{exhausts}
 use Rattle.dnp_world.specs.Centres.{has_link}
 use Rattle.dnp_world.specs.SystemEvents.{ReadsBy, SubstationSteps}
 use Rattle.dnp_world.specs.SystemParts.{substation_of}

@@ -17,7 +17,7 @@ use Rattle.dnp_controls.specs.declared.book.BookFault.{BookFault}
 use Rattle.dnp_controls.specs.declared.book.BookFault.TheVariants.{NoControl, NotPending}
 use Rattle.dnp_controls.specs.declared.book.Entry.{Entry}
 use Rattle.dnp_eventbuf.specs.Archive.{Archive}
-use Rattle.dnp_eventbuf.specs.Stock.{Stock}
+use Rattle.dnp_eventbuf.specs.EventBuffer.{EventBuffer}
 use Rattle.dnp_concentrator.specs.Centre as centre
 use Rattle.dnp_concentrator.specs.Concentrator.{SetsLink, book_of, core_of, indices_of, link_at, links_of, plan_above, queue_of}
 use Rattle.dnp_concentrator.specs.Relaying.{Relaying, ledger_after, relaying_after, step_by, step_of, step_of_progress}
@@ -150,53 +150,53 @@ pub centre_with : {J B : Type 0} (archive : J → Archive) (ledger : B → Ledge
 centre_with archive ledger old new link orders link_is orders_is journal indices = cc
 
 -- the concentrator's links and its book become others
-pub concentrator_told : {Q A : Type 0} (stock : Q → ℕ → Stock) (ledger : A → Ledger) (old new : Concentrator Q A) (links : List Relaying)
+pub concentrator_told : {Q A : Type 0} (buffer : Q → ℕ → EventBuffer) (ledger : A → Ledger) (old new : Concentrator Q A) (links : List Relaying)
     (controls : Ledger) → links_of new ≡ links → ledger (book_of new) ≡ controls → ForEach (λ centre. core_of centre new ≡ core_of centre old)
     → queue_of new ≡ queue_of old → indices_of new ≡ indices_of old → plan_above new ≡ plan_above old
-    → concentrator_of stock ledger new ≡ record (concentrator_of stock ledger old) { links = links; controls = controls }
-concentrator_told stock ledger old new links controls links_is controls_is cores queue indices plan = cc (cores 0 (omega arith), cores 1 (omega arith))
+    → concentrator_of buffer ledger new ≡ record (concentrator_of buffer ledger old) { links = links; controls = controls }
+concentrator_told buffer ledger old new links controls links_is controls_is cores queue indices plan = cc (cores 0 (omega arith), cores 1 (omega arith))
 
 -- the system with this concentrator and these substations
-abbrev pub below : {Q A : Type 0} → (Q → ℕ → Stock) → (A → Ledger) → Whole → Concentrator Q A → List Substation → Whole
-below stock ledger rest k xs = record rest { concentrator = concentrator_of stock ledger k; substations = map substation_of xs }
+abbrev pub below : {Q A : Type 0} → (Q → ℕ → EventBuffer) → (A → Ledger) → Whole → Concentrator Q A → List Substation → Whole
+below buffer ledger rest k xs = record rest { concentrator = concentrator_of buffer ledger k; substations = map substation_of xs }
 
 -- what a step of relaying to a substation makes of the system, by what went down, as a centre sees it
-pub sends_below : {Q A R : Type 0} (stock : Q → ℕ → Stock) (ledger : A → Ledger) (rest : Whole) (k d : Concentrator Q A) (substation i : ℕ)
+pub sends_below : {Q A R : Type 0} (buffer : Q → ℕ → EventBuffer) (ledger : A → Ledger) (rest : Whole) (k d : Concentrator Q A) (substation i : ℕ)
     (xs : List Substation) (was : Substation) (lines : Channel) (answer : Result R BookFault) (number : ℕ) → i ≡ substation
-    → has_link (below stock ledger rest k xs) (Below substation) ≡ true → was ≡ get_or xs i was
+    → has_link (below buffer ledger rest k xs) (Below substation) ≡ true → was ≡ get_or xs i was
     → OnOk answer (SetsLink k substation (relaying_after (link_at k substation) rest.now
     (step_of (link_at k substation) (ledger (book_of k)).entries substation)) d)
     → OnOk answer (ledger (book_of d) ≡ ledger_after (ledger (book_of k)) (step_of (link_at k substation) (ledger (book_of k)).entries substation))
     → ForEach (λ centre. core_of centre d ≡ core_of centre k) → queue_of d ≡ queue_of k → indices_of d ≡ indices_of k → plan_above d ≡ plan_above k
     → OnOk answer (GoDown (requests_of (step_of (link_at k substation) (ledger (book_of k)).entries substation) (link_at k substation).master.seq)
     (state_of was.channel) (state_of lines))
-    → OnOk answer (Sends (Below substation) (seen_by number (below stock ledger rest k xs))
-    (seen_by number (below stock ledger rest d (slice_set xs i (record was { channel = lines })))))
-sends_below stock ledger rest k d substation i xs was lines (Err fault) number same has at link book cores queue indices plan down = tt
-sends_below stock ledger rest k d substation i xs was lines (Ok answer) number same has at link book cores queue indices plan down =
-    let old : System = seen_by number (below stock ledger rest k xs) in
+    → OnOk answer (Sends (Below substation) (seen_by number (below buffer ledger rest k xs))
+    (seen_by number (below buffer ledger rest d (slice_set xs i (record was { channel = lines })))))
+sends_below buffer ledger rest k d substation i xs was lines (Err fault) number same has at link book cores queue indices plan down = tt
+sends_below buffer ledger rest k d substation i xs was lines (Ok answer) number same has at link book cores queue indices plan down =
+    let old : System = seen_by number (below buffer ledger rest k xs) in
     let step : Step = step_on old (Below substation) in
     let first : System = with_relaying (told old (Below substation) step) (Below substation)
     (relaying_after (relaying_at old (Below substation)) old.now step) in
-    sends_at substation i (requests_of step (relaying_at old (Below substation)).master.seq) first (seen_by number (below stock ledger rest d xs)).concentrator
+    sends_at substation i (requests_of step (relaying_at old (Below substation)).master.seq) first (seen_by number (below buffer ledger rest d xs)).concentrator
     xs was lines refl
     (ap (λ (m : WholeConcentrator). (seen_by number (record rest { concentrator = m })).concentrator)
-    (concentrator_told stock ledger k d first.concentrator.links first.concentrator.controls link book cores queue indices plan)) same
+    (concentrator_told buffer ledger k d first.concentrator.links first.concentrator.controls link book cores queue indices plan)) same
     (rw same (is_there old xs substation refl has)) at down
 
 -- nothing was relayed, and nothing went down
-pub unmoved_below : {Q A R : Type 0} (stock : Q → ℕ → Stock) (ledger : A → Ledger) (rest : Whole) (k d : Concentrator Q A) (substation i : ℕ)
+pub unmoved_below : {Q A R : Type 0} (buffer : Q → ℕ → EventBuffer) (ledger : A → Ledger) (rest : Whole) (k d : Concentrator Q A) (substation i : ℕ)
     (xs : List Substation) (was : Substation) (lines : Channel) (answer : Result R BookFault) → i ≡ substation
-    → has_link (below stock ledger rest k xs) (Below substation) ≡ true → was ≡ get_or xs i was → OnErr answer (links_of d ≡ links_of k)
+    → has_link (below buffer ledger rest k xs) (Below substation) ≡ true → was ≡ get_or xs i was → OnErr answer (links_of d ≡ links_of k)
     → OnErr answer (ledger (book_of d) ≡ ledger (book_of k)) → ForEach (λ centre. core_of centre d ≡ core_of centre k) → queue_of d ≡ queue_of k
     → indices_of d ≡ indices_of k → plan_above d ≡ plan_above k → OnErr answer (state_of lines ≡ state_of was.channel)
-    → OnErr answer (below stock ledger rest d (slice_set xs i (record was { channel = lines })) ≡ below stock ledger rest k xs)
-unmoved_below stock ledger rest k d substation i xs was lines (Ok answer) same has at links book cores queue indices plan lines_same = tt
-unmoved_below stock ledger rest k d substation i xs was lines (Err fault) same has at links book cores queue indices plan lines_same =
+    → OnErr answer (below buffer ledger rest d (slice_set xs i (record was { channel = lines })) ≡ below buffer ledger rest k xs)
+unmoved_below buffer ledger rest k d substation i xs was lines (Ok answer) same has at links book cores queue indices plan lines_same = tt
+unmoved_below buffer ledger rest k d substation i xs was lines (Err fault) same has at links book cores queue indices plan lines_same =
     let is : Substation = record was { channel = lines } in
     ap (λ (m : WholeConcentrator). record rest { concentrator = m; substations = map substation_of (slice_set xs i is) })
-    (concentrator_told stock ledger k d (links_of k) (ledger (book_of k)) links book cores queue indices plan)
-    ∙ unchanged_at (below stock ledger rest k xs) xs substation i was is refl same has at
+    (concentrator_told buffer ledger k d (links_of k) (ledger (book_of k)) links book cores queue indices plan)
+    ∙ unchanged_at (below buffer ledger rest k xs) xs substation i was is refl same has at
     (ap (λ (c : ChannelState). record (substation_of was) { channel = c }) lines_same)
 
 -- a step of relaying to a substation, as all see it, by what was answered

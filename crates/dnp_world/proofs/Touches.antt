@@ -11,7 +11,7 @@ use Rattle.dnp_concentrator.specs.Relaying.{Relaying}
 use Rattle.dnp_concentrator.specs.declared.span.Spans.{Spans}
 use Rattle.dnp_controls.specs.Book.{Ledger, added}
 use Rattle.dnp_controls.specs.Panel.{Panel}
-use Rattle.dnp_eventbuf.specs.Stock.{without_all}
+use Rattle.dnp_eventbuf.specs.EventBuffer.{without_all}
 use Rattle.dnp_master.specs.Calls.{Taking, receive_of}
 use Rattle.dnp_master.specs.declared.task.Task.{Task}
 use Rattle.dnp_objects.specs.declared.command.Command.{Command}

@@ -11,12 +11,12 @@ use Rattle.dnp_objects.specs.Counts.{IsCoveredBy}
 use Rattle.dnp_eventbuf.specs.Buffered.{buffered_row}
 use Rattle.dnp_concentrator.specs.declared.span.Spans.{Spans}
 use Rattle.dnp_concentrator.specs.Mapped.{row_below, command_below}
-use Rattle.dnp_world.specs.Behind.{Elsewhere, Links, with_links, IsBehind, Turn, made_at, rows_of}
-use Rattle.dnp_world.specs.Kept.{Kept, shown_of, rows_below, commands_below, orders_in, used_orders, commands_in, used_commands}
-use Rattle.dnp_world.specs.Link.{Link}
+use Rattle.dnp_world.specs.Behind.{Elsewhere, Links, with_links, IsBehind, OneEvent, made_at, rows_of}
+use Rattle.dnp_world.specs.Kept.{KeptLists, shown_of, rows_below, commands_below, orders_in, used_orders, commands_in, used_commands}
+use Rattle.dnp_world.specs.LawLink.{LawLink}
 use Rattle.dnp_world.specs.Moves.{Moves}
 use Rattle.dnp_world.specs.Reports.{Report, Holds, happened, IsFate}
-use Rattle.dnp_world.specs.Standing.{Stands}
+use Rattle.dnp_world.specs.Standing.{CarriesLaw}
 use Rattle.dnp_world.specs.Stations.{of_substation, HasSameCounts}
 use Rattle.dnp_world.specs.Systems.{at_substation}
 use Rattle.dnp_world.proofs.Counting.{count_by-append}
@@ -24,7 +24,7 @@ use Rattle.dnp_world.proofs.Headline.{LinkLaws, happened_stood}
 use Rattle.dnp_world.proofs.SystemCounts.{same_permutation, same_refl, same_sym, same_trans, same_more, same_length, same_filter_map, covered_of_substation, of_substation-append, more_here, none_there}
 
 -- what holds of the link that moved, and of each other, holds of all
-pub by_substation : (P : ℕ → Link → Type 0) (links : Links) (substation : ℕ) (below above : Link) → P substation below
+pub by_substation : (P : ℕ → LawLink → Type 0) (links : Links) (substation : ℕ) (below above : LawLink) → P substation below
     → ((i : ℕ) → i ≢ substation → P i (links.below i)) → (i : ℕ) → P i ((with_links links substation below above).below i)
 by_substation P links substation below above here there i = by (i == substation) refl
   where
@@ -36,7 +36,7 @@ by_substation P links substation below above here there i = by (i == substation)
         differs f t = cc
 
 -- A list of each link, and one of things of all substations that shows it: both get the same for one substation.
-list_kept : {A : Type 0} (of : Link → List A) (links : Links) (substation : ℕ) (below above : Link) (old new : List (ℕ × A)) (more : List A)
+list_kept : {A : Type 0} (of : LawLink → List A) (links : Links) (substation : ℕ) (below above : LawLink) (old new : List (ℕ × A)) (more : List A)
     → ((i : ℕ) → HasSameCounts (of (links.below i)) (of_substation i old))
     → HasSameCounts (of below) (of (links.below substation) ++ more) → HasSameCounts new (old ++ at_substation substation more)
     → (i : ℕ) → HasSameCounts (of ((with_links links substation below above).below i)) (of_substation i new)
@@ -47,7 +47,7 @@ list_kept of links substation below above old new more before grows shown =
     (λ i other. same_trans (of (links.below i)) (of_substation i old) (of_substation i new) (before i) (none_there i substation other new old more shown))
 
 -- what stood in the queue, at its substations
-came_more : (indices : List Spans) (substation : ℕ) (links : Links) (old new : Kept) (t : Turn indices substation links old new)
+came_more : (indices : List Spans) (substation : ℕ) (links : Links) (old new : KeptLists) (t : OneEvent indices substation links old new)
     → HasSameCounts (rows_below indices (rows_of t.above.stood)) (rows_below indices (rows_of links.above.stood) ++ at_substation substation t.here.taken)
 came_more indices substation links old new t =
     subst (λ (xs : List (ℕ × Row)). HasSameCounts (rows_below indices (rows_of t.above.stood)) xs)
@@ -55,8 +55,8 @@ came_more indices substation links old new t =
     ∙ ap (λ (xs : List (ℕ × Row)). rows_below indices (rows_of links.above.stood) ++ xs) t.joined)
     (same_filter_map (row_below indices) (rows_of t.above.stood) (rows_of links.above.stood ++ t.there.made) t.above_grows.stood)
 
-mapped_kept : (indices : List Spans) {el : Elsewhere} (substation : ℕ) (links : Links) (old new : Kept) → IsBehind indices el links old
-    → (t : Turn indices substation links old new) → length (rows_below indices (rows_of t.above.stood)) ≡ length t.above.stood
+mapped_kept : (indices : List Spans) {el : Elsewhere} (substation : ℕ) (links : Links) (old new : KeptLists) → IsBehind indices el links old
+    → (t : OneEvent indices substation links old new) → length (rows_below indices (rows_of t.above.stood)) ≡ length t.above.stood
 mapped_kept indices substation links old new b t =
     let was : List (ℕ × Row) = rows_below indices (rows_of links.above.stood) in
     let grown : length (rows_below indices (rows_of t.above.stood)) ≡ length (was ++ at_substation substation t.here.taken) =
@@ -75,8 +75,8 @@ mapped_kept indices substation links old new b t =
     )
 
 -- what is asked for of a substation is used of the concentrator's book
-asked_kept : (indices : List Spans) {el : Elsewhere} (substation : ℕ) (links : Links) (old new : Kept) → IsBehind indices el links old
-    → (t : Turn indices substation links old new)
+asked_kept : (indices : List Spans) {el : Elsewhere} (substation : ℕ) (links : Links) (old new : KeptLists) → IsBehind indices el links old
+    → (t : OneEvent indices substation links old new)
     → (i : ℕ) → IsCoveredBy ((with_links links substation t.below t.above).below i).asked (of_substation i (used_orders new.controls))
 asked_kept indices substation links old new b t =
     let before : List (ℕ × Command) = used_orders old.controls in
@@ -105,8 +105,8 @@ asked_kept indices substation links old new b t =
     })
 
 -- what was performed above is in the concentrator's book
-relayed_kept : (indices : List Spans) {el : Elsewhere} (substation : ℕ) (links : Links) (old new : Kept) → IsBehind indices el links old
-    → (t : Turn indices substation links old new)
+relayed_kept : (indices : List Spans) {el : Elsewhere} (substation : ℕ) (links : Links) (old new : KeptLists) → IsBehind indices el links old
+    → (t : OneEvent indices substation links old new)
     → HasSameCounts (commands_below indices t.above.performed ++ commands_below indices el.performed) (orders_in new.controls)
 relayed_kept indices {el = el} substation links old new b t =
     let grown : HasSameCounts (commands_below indices t.above.performed)
@@ -128,11 +128,11 @@ relayed_kept indices {el = el} substation links old new b t =
           );
     }
 
-pub turned : (goes_on : (l l' : Link) → Moves l l' → Stands l → Stands l')
-    → (indices : List Spans) {el : Elsewhere} (substation : ℕ) (links : Links) (old new : Kept)
-    → IsBehind indices el links old → (t : Turn indices substation links old new) → IsBehind indices el (with_links links substation t.below t.above) new
+pub turned : (goes_on : (l l' : LawLink) → Moves l l' → CarriesLaw l → CarriesLaw l')
+    → (indices : List Spans) {el : Elsewhere} (substation : ℕ) (links : Links) (old new : KeptLists)
+    → IsBehind indices el links old → (t : OneEvent indices substation links old new) → IsBehind indices el (with_links links substation t.below t.above) new
 turned goes_on indices {el = el} substation links old new b t = record {
-  below_stands = by_substation (λ i l. Stands l) links substation t.below t.above
+  below_stands = by_substation (λ i l. CarriesLaw l) links substation t.below t.above
       (goes_on (links.below substation) t.below t.below_grows.moves (b.below_stands substation)) (λ i other. b.below_stands i);
   above_stands = goes_on links.above t.above t.above_grows.moves b.above_stands;
   buffered = by_substation (λ i l. HasSameCounts (rows_of l.lanes) (of_substation i new.buffered)) links substation t.below t.above t.buffered
@@ -184,9 +184,9 @@ turned goes_on indices {el = el} substation links old new b t = record {
 -- ---- what happened
 
 -- after an event what happened is what had happened and the rows that it made
-pub fated : LinkLaws → (goes_on : (l l' : Link) → Moves l l' → Stands l → Stands l')
-    → (indices : List Spans) {el : Elsewhere} (substation : ℕ) (links : Links) (old new : Kept)
-    → IsBehind indices el links old → (t : Turn indices substation links old new)
+pub fated : LinkLaws → (goes_on : (l l' : LawLink) → Moves l l' → CarriesLaw l → CarriesLaw l')
+    → (indices : List Spans) {el : Elsewhere} (substation : ℕ) (links : Links) (old new : KeptLists)
+    → IsBehind indices el links old → (t : OneEvent indices substation links old new)
     → IsFate (made_at substation t.here.made) (shown_of indices old) (shown_of indices new)
 fated laws goes_on indices substation links old new b t i =
     let is : List (ℕ × Row) = happened (shown_of indices new) in

@@ -8,10 +8,10 @@ use Rattle.dnp_eventbuf.specs.Buffered.{Buffered, buffered_row}
 use Rattle.dnp_concentrator.specs.declared.span.Spans.{Spans}
 use Rattle.dnp_controls.specs.declared.book.Entry.{Entry}
 use Rattle.dnp_world.specs.CommandWidths.{HasWidths}
-use Rattle.dnp_world.specs.Kept.{Kept, rows_below, commands_below, orders_in, used_orders, commands_in, used_commands}
-use Rattle.dnp_world.specs.Link.{Link}
+use Rattle.dnp_world.specs.Kept.{KeptLists, rows_below, commands_below, orders_in, used_orders, commands_in, used_commands}
+use Rattle.dnp_world.specs.LawLink.{LawLink}
 use Rattle.dnp_world.specs.Moves.{Moves}
-use Rattle.dnp_world.specs.Standing.{Stands, IsFresh}
+use Rattle.dnp_world.specs.Standing.{CarriesLaw, IsFresh}
 use Rattle.dnp_world.specs.Stations.{of_substation, HasSameCounts}
 use Rattle.dnp_world.specs.Systems.{at_substation}
 
@@ -22,11 +22,11 @@ rows_of events = map buffered_row events
 
 -- a number that the plan has no substation for has a link on which nothing ever happened
 pub record Links : Type 0 where
-  pub below : ℕ → Link
-  pub above : Link
+  pub below : ℕ → LawLink
+  pub above : LawLink
 
 -- the link to this substation, and the one above, have become these
-abbrev pub with_links : Links → ℕ → Link → Link → Links
+abbrev pub with_links : Links → ℕ → LawLink → LawLink → Links
 with_links links substation below above = record { below = λ i. if i == substation then below else links.below i; above = above }
 
 -- ---- what comes from elsewhere
@@ -49,10 +49,10 @@ pub record IsFrom (indices : List Spans) (el : Elsewhere) : Type 0 where
 -- ---- what the links have
 
 -- the links have the lists that the system keeps
-pub record IsBehind (indices : List Spans) (el : Elsewhere) (links : Links) (k : Kept) : Type 0 where
+pub record IsBehind (indices : List Spans) (el : Elsewhere) (links : Links) (k : KeptLists) : Type 0 where
   -- the law goes on from each of them
-  pub below_stands : (i : ℕ) → Stands (links.below i)
-  pub above_stands : Stands links.above
+  pub below_stands : (i : ℕ) → CarriesLaw (links.below i)
+  pub above_stands : CarriesLaw links.above
   -- the rows of each substation
   pub buffered : (i : ℕ) → HasSameCounts (rows_of (links.below i).lanes) (of_substation i k.buffered)
   pub confirmed : (i : ℕ) → HasSameCounts (rows_of (links.below i).released) (of_substation i k.confirmed)
@@ -76,7 +76,7 @@ pub record IsBehind (indices : List Spans) (el : Elsewhere) (links : Links) (k :
   pub theirs : IsFrom indices el
 
 -- a link on which nothing has happened, with empty lanes
-pub record IsUntouched (l : Link) : Type 0 where
+pub record IsUntouched (l : LawLink) : Type 0 where
   pub fresh : IsFresh l
   pub lanes : l.lanes ≡ []
   pub asked : l.asked ≡ []
@@ -85,7 +85,7 @@ pub record IsUntouched (l : Link) : Type 0 where
 
 -- the rows that came into its lanes, those that a confirm released, those that left otherwise, those that the sink took, the
 -- commands that were asked for, and those that were performed
-pub record Does : Type 0 where
+pub record LinkDoes : Type 0 where
   pub made : List Row
   pub discarded : List Row
   pub left : List Row
@@ -93,11 +93,11 @@ pub record Does : Type 0 where
   pub asked : List Command
   pub performed : List Command
 
-abbrev pub does_nothing : Does
+abbrev pub does_nothing : LinkDoes
 does_nothing = record { made = []; discarded = []; left = []; taken = []; asked = []; performed = [] }
 
 -- the link moved, and did this
-pub record Grows (old new : Link) (d : Does) : Type 0 where
+pub record Grows (old new : LawLink) (d : LinkDoes) : Type 0 where
   pub moves : Moves old new
   pub stood : HasSameCounts (rows_of new.stood) (rows_of old.stood ++ d.made)
   pub released : HasSameCounts (rows_of new.released) (rows_of old.released ++ d.discarded)
@@ -107,11 +107,11 @@ pub record Grows (old new : Link) (d : Does) : Type 0 where
   pub performed : HasSameCounts new.performed (old.performed ++ d.performed)
 
 -- One event: at most the link to this substation moves, and the link above, and each list gets what they did.
-pub record Turn (indices : List Spans) (substation : ℕ) (links : Links) (old new : Kept) : Type 0 where
-  pub below : Link
-  pub above : Link
-  pub here : Does
-  pub there : Does
+pub record OneEvent (indices : List Spans) (substation : ℕ) (links : Links) (old new : KeptLists) : Type 0 where
+  pub below : LawLink
+  pub above : LawLink
+  pub here : LinkDoes
+  pub there : LinkDoes
   pub below_grows : Grows (links.below substation) below here
   pub above_grows : Grows links.above above there
   -- what was taken below came into the queue

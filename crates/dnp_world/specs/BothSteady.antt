@@ -7,7 +7,7 @@ use Rattle.dnp_objects.specs.declared.command.Command.{Command}
 use Rattle.dnp_objects.specs.declared.row.Row.{Row}
 use Rattle.dnp_world.specs.Behind.{Elsewhere, Links}
 use Rattle.dnp_world.specs.Centres.{centre_at, is_there, seen_at}
-use Rattle.dnp_world.specs.Kept.{Kept, commands_below, commands_in, kept_in, orders_in, report_of}
+use Rattle.dnp_world.specs.Kept.{KeptLists, commands_below, commands_in, kept_in, orders_in, report_of}
 use Rattle.dnp_world.specs.ReportShown.{ListsAll}
 use Rattle.dnp_world.specs.Reports.{Holds, IsFate}
 use Rattle.dnp_world.specs.Steady as one
@@ -18,7 +18,7 @@ use Rattle.dnp_world.specs.Wholes.{Whole, seen_by}
 use Rattle.dnp_world.specs.declared.event.Event.{Event}
 
 -- what stands at a centre, for the other one: what its link performed, and its book
-abbrev pub side_of : Links → Kept → Elsewhere
+abbrev pub side_of : Links → KeptLists → Elsewhere
 side_of links k = record { performed = links.above.performed; orders = k.orders }
 
 -- each centre's links stand behind what it sees, beside the other's

@@ -41,38 +41,38 @@ AnswersAll now IsOutputs (fragment ∷ fragments) old new sent commands =
     × AnswersAll now IsOutputs fragments next new later more
 
 -- what a master makes of a fragment, and what it confirms; what it refuses for itself is lost
-abbrev pub Hears : Result Taking MasterFault → Relaying → Relaying → List (List ℕ) → Type 0
-Hears (Ok t) old new confirms = (new ≡ relaying.received old t) × (confirms ≡ option_to_list t.confirm)
-Hears (Err fault) old new confirms = (new ≡ old) × (confirms ≡ [])
+abbrev pub HearsAnswer : Result Taking MasterFault → Relaying → Relaying → List (List ℕ) → Type 0
+HearsAnswer (Ok t) old new confirms = (new ≡ relaying.received old t) × (confirms ≡ option_to_list t.confirm)
+HearsAnswer (Err fault) old new confirms = (new ≡ old) × (confirms ≡ [])
 
 -- fragments come to a master one after the other
-abbrev pub HearsAll : ℕ → List (List ℕ) → Relaying → Relaying → List (List ℕ) → Type 0
-HearsAll now [] old new confirms = (new ≡ old) × (confirms ≡ [])
-HearsAll now (fragment ∷ fragments) old new confirms =
-    (next : Relaying) × (first : List (List ℕ)) × (later : List (List ℕ)) × Hears (receive_of old.master now fragment) old next first
-    × (confirms ≡ first ++ later) × HearsAll now fragments next new later
+abbrev pub HearsAnswers : ℕ → List (List ℕ) → Relaying → Relaying → List (List ℕ) → Type 0
+HearsAnswers now [] old new confirms = (new ≡ old) × (confirms ≡ [])
+HearsAnswers now (fragment ∷ fragments) old new confirms =
+    (next : Relaying) × (first : List (List ℕ)) × (later : List (List ℕ)) × HearsAnswer (receive_of old.master now fragment) old next first
+    × (confirms ≡ first ++ later) × HearsAnswers now fragments next new later
 
 -- the two ends of a link: the master with its control in progress and its book, the outstation, and the confirms that are on their way to it
-pub record Ends : Type 0 where
+pub record ExchangeEnds : Type 0 where
   pub link : Relaying
   pub book : Ledger
   pub station : State
   pub going : List (List ℕ)
 
 -- the step of relaying over the link, by the book's controls for this target
-abbrev pub next_step : ℕ → Ends → Step
+abbrev pub next_step : ℕ → ExchangeEnds → Step
 next_step target ends = relaying.step_of ends.link ends.book.entries target
 
 -- the book once the step was told to it
-abbrev pub told_to : ℕ → Ends → Ledger
+abbrev pub told_to : ℕ → ExchangeEnds → Ledger
 told_to target ends = relaying.ledger_after ends.book (next_step target ends)
 
 -- A step of relaying, and all that comes of it: its request comes to the outstation after what was on its way there, and what the
 -- outstation sends comes to the master. These commands were performed.
-pub record GoesOver (target now : ℕ) (IsOutputs : Panel → Type 0) (commands : List Command) (old new : Ends) : Type 0 where
+pub record GoesOver (target now : ℕ) (IsOutputs : Panel → Type 0) (commands : List Command) (old new : ExchangeEnds) : Type 0 where
   pub sent : List (List ℕ)
   pub answered : AnswersAll now IsOutputs (old.going ++ requests_of (next_step target old) old.link.master.seq) old.station new.station sent commands
-  pub heard : HearsAll now sent (relaying.relaying_after old.link now (next_step target old)) new.link new.going
+  pub heard : HearsAnswers now sent (relaying.relaying_after old.link now (next_step target old)) new.link new.going
   pub told : new.book ≡ told_to target old
 
 -- the status with which the book says that the control of this id finished
@@ -81,7 +81,7 @@ status_at book id = option_and_then (λ entry. status_in entry.state) (found_in 
 
 -- An idle master whose next step is the SELECT of this control, which the book has; and an open outstation that was not asked this very
 -- SELECT last. Nothing is on its way.
-pub record CanBegin (target : ℕ) (entry : Entry) (ends : Ends) : Type 0 where
+pub record CanBegin (target : ℕ) (entry : Entry) (ends : ExchangeEnds) : Type 0 where
   pub idle : is_idle ends.link.master ≡ true
   pub number : ends.link.master.seq < 16
   pub selects : next_step target ends ≡ relaying.Selects entry.id entry.command
@@ -94,7 +94,7 @@ pub record CanBegin (target : ℕ) (entry : Entry) (ends : Ends) : Type 0 where
 
 -- Its SELECT was answered SUCCESS: it is in progress at an idle master, at which its command stands selected, and the book has it; the
 -- outstation was not asked this very OPERATE last. At most confirms of unsolicited responses are on their way.
-pub record HasSelected (entry : Entry) (ends : Ends) : Type 0 where
+pub record HasSelected (entry : Entry) (ends : ExchangeEnds) : Type 0 where
   pub idle : is_idle ends.link.master ≡ true
   pub number : ends.link.master.seq < 16
   pub progress : ends.link.progress ≡ Some (record { id = entry.id; command = entry.command; stage = stage.Selected })
@@ -106,7 +106,7 @@ pub record HasSelected (entry : Entry) (ends : Ends) : Type 0 where
 
 -- What a SELECT comes to, where the outputs have this status for its command: it stands selected where that is SUCCESS, with the
 -- outstation asked it last, and else the book is told the status next.
-pub data SelectComesTo (target check : ℕ) (entry : Entry) (ends : Ends) : Type 0 where
+pub data SelectComesTo (target check : ℕ) (entry : Entry) (ends : ExchangeEnds) : Type 0 where
   Stands : check ≡ success → (seq : ℕ) → WasAsked (request_octets (request_for seq (task.Select entry.command))) ends.station.core
       → HasSelected entry ends → SelectComesTo target check entry ends
   Refused : check ≢ success → next_step target ends ≡ relaying.Finishes entry.id check
@@ -115,7 +115,7 @@ pub data SelectComesTo (target check : ℕ) (entry : Entry) (ends : Ends) : Type
 -- What an OPERATE comes to: it was answered with this status, which the book is told next, and performed its command where that is
 -- SUCCESS, as the outputs have it for the command then. The outstation was asked it last, and at most confirms of unsolicited responses
 -- are on their way.
-pub record OperateComesTo (target check : ℕ) (entry : Entry) (commands : List Command) (ends : Ends) : Type 0 where
+pub record OperateComesTo (target check : ℕ) (entry : Entry) (commands : List Command) (ends : ExchangeEnds) : Type 0 where
   pub status : ℕ
   pub performs : commands ≡ operated_by status entry.command
   pub checks : status ≡ success → check ≡ success

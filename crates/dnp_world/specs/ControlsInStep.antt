@@ -4,7 +4,7 @@ use Rattle.std.specs.Prelude.{◌≡◌, ◌≢◌, ℕ, ◌≤◌, true, All, I
 use Rattle.dnp_concentrator.specs.declared.progress.Progress.{Progress}
 use Rattle.dnp_concentrator.specs.declared.progress.Stage.{Stage}
 use Rattle.dnp_concentrator.specs.declared.progress.Stage.TheVariants.{Selecting, Selected, Operating, Known}
-use Rattle.dnp_controls.specs.Book.{Ledger, IsSound, entry_of, is_pending}
+use Rattle.dnp_controls.specs.Book.{Ledger, IsSoundLedger, entry_of, is_pending}
 use Rattle.dnp_controls.specs.declared.book.Entry.{Entry}
 use Rattle.dnp_objects.specs.Status.{success}
 use Rattle.dnp_world.specs.CommandWidths.{HasWidths}
@@ -33,6 +33,6 @@ pub record GoesWith (book : Ledger) (target : ℕ) (p : Progress) : Type 0 where
 pub record InStep (s : System) : Type 0 where
   pub below : (substation : ℕ) → IfSome (link_at s.concentrator substation).progress (GoesWith s.concentrator.controls substation)
   pub above : IfSome s.centre.link.progress (GoesWith s.centre.orders 0)
-  pub controls : IsSound s.concentrator.controls
-  pub orders : IsSound s.centre.orders
+  pub controls : IsSoundLedger s.concentrator.controls
+  pub orders : IsSoundLedger s.centre.orders
   pub widths : All (λ entry. HasWidths entry.command) s.centre.orders.entries

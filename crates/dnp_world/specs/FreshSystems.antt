@@ -12,7 +12,7 @@ use Rattle.dnp_concentrator.specs.declared.plan.SubPlan.{SubPlan}
 use Rattle.dnp_concentrator.specs.declared.two.Two.{Two}
 use Rattle.dnp_controls.specs.Book.{Ledger}
 use Rattle.dnp_eventbuf.specs.Archive.{Archive}
-use Rattle.dnp_eventbuf.specs.Stock.{Stock, empty_stock}
+use Rattle.dnp_eventbuf.specs.EventBuffer.{EventBuffer, empty_buffer}
 use Rattle.dnp_outstation.specs.State.{Core}
 use Rattle.dnp_outstation.specs.Station.{new_core}
 use Rattle.dnp_pointdb.specs.Database.{new_database}
@@ -27,7 +27,7 @@ use Rattle.dnp_world.specs.Wholes.{Whole}
 abbrev pub fresh_substation : Times → ℕ → SubPlan → SubstationState
 fresh_substation times number plan = record {
   core = new_core (new_database (points_at plan)) times;
-  lanes = empty_stock plan.lanes;
+  lanes = empty_buffer plan.lanes;
   outputs = record { outputs = plan.outputs; setpoints = plan.setpoints; performed = [] };
   channel = fresh_channel (outstation_address number) MASTER_BELOW;
 }
@@ -56,7 +56,7 @@ fresh_centre plan journal orders = record {
 
 -- As the centre of this number sees it, all stations are closed, as after a restart, over this queue, this journal, and these books of
 -- concentrator and centre.
-abbrev pub fresh_system : Plan → ℕ → Stock → Archive → Ledger → Ledger → System
+abbrev pub fresh_system : Plan → ℕ → EventBuffer → Archive → Ledger → Ledger → System
 fresh_system plan centre queue journal controls orders = record {
   indices = map_of plan;
   substations = fresh_substations plan.times 0 plan.substations;
@@ -76,7 +76,7 @@ fresh_system plan centre queue journal controls orders = record {
 }
 
 -- the whole, over these queues, these journals, and these books of concentrator and centres
-abbrev pub fresh_whole : Plan → Two Stock → Two Archive → Ledger → Two Ledger → Whole
+abbrev pub fresh_whole : Plan → Two EventBuffer → Two Archive → Ledger → Two Ledger → Whole
 fresh_whole plan queues journals controls orders = record {
   indices = map_of plan;
   substations = fresh_substations plan.times 0 plan.substations;

@@ -8,7 +8,7 @@ use Rattle.dnp_objects.specs.declared.command.Command.{Command}
 use Rattle.dnp_objects.specs.declared.lane.LaneRow.{LaneRow}
 use Rattle.dnp_objects.specs.declared.row.Row.{Row}
 use Rattle.dnp_eventbuf.specs.Buffered.{buffered_row}
-use Rattle.dnp_eventbuf.specs.Stock.{Stock, arriving, rows_in, with_rows}
+use Rattle.dnp_eventbuf.specs.EventBuffer.{EventBuffer, arriving, rows_in, with_rows}
 use Rattle.dnp_line.specs.Flows.{Flows}
 use Rattle.dnp_line.specs.Lines.{LineState}
 use Rattle.dnp_line.specs.Ports.{PortState}
@@ -22,12 +22,12 @@ use Rattle.dnp_world.specs.declared.link_event.End.TheVariants as end
 use Rattle.dnp_world.specs.declared.link_event.LinkEvent.{LinkEvent}
 use Rattle.dnp_world.specs.declared.link_event.LinkEvent.TheVariants as event
 use Rattle.dnp_world.specs.Channels.{fresh_channel}
-use Rattle.dnp_world.specs.Link.{Link}
+use Rattle.dnp_world.specs.LawLink.{LawLink}
 use Rattle.dnp_world.specs.MasterSeen.{master_of}
 use Rattle.dnp_world.specs.Moves.{Moves}
 use Rattle.dnp_world.specs.OneLinkEvents.{LinkState}
 use Rattle.dnp_world.specs.OutstationSeen.{down_of, octets_of, Shows}
-use Rattle.dnp_world.specs.Standing.{Stands}
+use Rattle.dnp_world.specs.Standing.{CarriesLaw}
 
 -- ---- joined
 
@@ -42,7 +42,7 @@ pub record Carries (line : LineState) (sender receiver : PortState) (is_open : B
 
 -- The link of the law has these stations, what may still come on these lines, and these lists. `others` left the lanes
 -- where somebody else appended rows and a full lane dropped its oldest.
-pub record Joined {Sink : Type 0} (others : List Row) (s : LinkState Sink) (l : Link) : Type 0 where
+pub record Joined {Sink : Type 0} (others : List Row) (s : LinkState Sink) (l : LawLink) : Type 0 where
   pub outstation : Shows s.outstation l
   pub master : l.master ≡ master_of s.master
   pub number : s.master.seq < 16
@@ -60,8 +60,8 @@ pub record Joined {Sink : Type 0} (others : List Row) (s : LinkState Sink) (l : 
 
 -- Moves make of the link one that is joined to the new state. Meanwhile these rows came to the lanes, the master asked for these
 -- commands, and the outputs, which had performed those before, performed some.
-pub record Follows {Sink : Type 0} (others came : List Row) (asked before : List Command) (l : Link) (new : LinkState Sink) : Type 0 where
-  pub link : Link
+pub record Follows {Sink : Type 0} (others came : List Row) (asked before : List Command) (l : LawLink) (new : LinkState Sink) : Type 0 where
+  pub link : LawLink
   pub moves : Moves l link
   pub joined : Joined others new link
   pub stood : map buffered_row link.stood ≡ map buffered_row l.stood ++ came
@@ -72,14 +72,14 @@ pub record Follows {Sink : Type 0} (others came : List Row) (asked before : List
 
 -- there is a link of the law behind it, of which the law's invariant holds
 pub record IsJoined {Sink : Type 0} (others : List Row) (s : LinkState Sink) : Type 0 where
-  pub link : Link
-  pub stands : Stands link
+  pub link : LawLink
+  pub stands : CarriesLaw link
   pub joined : Joined others s link
 
 -- ---- a new link
 
 -- both ends are closed, nothing is on the lines, and nothing has happened
-abbrev pub new_link_of : {Sink : Type 0} → Plan → Times → Stock → List Command → ℕ → ℕ → Sink → LinkState Sink
+abbrev pub new_link_of : {Sink : Type 0} → Plan → Times → EventBuffer → List Command → ℕ → ℕ → Sink → LinkState Sink
 new_link_of plan times lanes performed master_address outstation_address sink = record {
   outstation = record { core = new_core (new_database plan) times; lanes = lanes; performed = performed };
   master = new_state plan times;

@@ -7,7 +7,7 @@ use Rattle.dnp_controls.specs.declared.book.Entry.{Entry}
 use Rattle.dnp_controls.specs.Book.{is_pending}
 use Rattle.dnp_concentrator.specs.declared.span.Spans.{Spans}
 use Rattle.dnp_concentrator.specs.Mapped.{row_below, command_below}
-use Rattle.dnp_eventbuf.specs.Stock.{rows_in, lost_in, row_of}
+use Rattle.dnp_eventbuf.specs.EventBuffer.{rows_in, lost_in, row_of}
 use Rattle.dnp_world.specs.Reports.{Report}
 use Rattle.dnp_world.specs.Stations.{listed_from}
 use Rattle.dnp_world.specs.Systems.{SubstationState, System}
@@ -24,7 +24,7 @@ commands_below indices commands = filter_map (command_below indices) commands
 
 -- ---- the lists
 
-pub record Kept : Type 0 where
+pub record KeptLists : Type 0 where
   pub confirmed : List (ℕ × Row)
   pub buffered : List (ℕ × Row)
   pub overwritten : List (ℕ × Row)
@@ -41,7 +41,7 @@ pub record Kept : Type 0 where
   pub operated : List (ℕ × Command)
 
 -- nothing stands in any list
-abbrev pub nothing_kept : Kept
+abbrev pub nothing_kept : KeptLists
 nothing_kept = record {
   confirmed = [];
   buffered = [];
@@ -59,7 +59,7 @@ nothing_kept = record {
 
 -- ---- what is shown of them
 
-abbrev pub shown_of : List Spans → Kept → Report
+abbrev pub shown_of : List Spans → KeptLists → Report
 shown_of indices k = record {
   journal = rows_below indices k.journal;
   queue = rows_below indices k.queue;
@@ -74,7 +74,7 @@ shown_of indices k = record {
 }
 
 -- the index map leaves none of the rows above out
-pub record AreMapped (indices : List Spans) (k : Kept) : Type 0 where
+pub record AreMapped (indices : List Spans) (k : KeptLists) : Type 0 where
   pub queue : length (rows_below indices k.queue) ≡ length k.queue
   pub dropped : length (rows_below indices k.dropped) ≡ length k.dropped
   pub journal : length (rows_below indices k.journal) ≡ length k.journal
@@ -110,7 +110,7 @@ used_commands entries = map command_of (filter is_used entries)
 abbrev pub lane_rows_of : SubstationState → List Row
 lane_rows_of substation = rows_in substation.lanes
 
-abbrev pub kept_in : System → Kept
+abbrev pub kept_in : System → KeptLists
 kept_in s = record {
   confirmed = s.history.confirmed;
   buffered = listed_from lane_rows_of 0 s.substations;

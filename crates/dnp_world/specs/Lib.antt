@@ -1,6 +1,6 @@
 pub mod Lists
 pub mod Octets
-pub mod Link
+pub mod LawLink
 pub mod Moves
 pub mod Standing
 pub mod Lanes

@@ -8,11 +8,11 @@ use Rattle.dnp_eventbuf.specs.Buffered.{buffered_row}
 use Rattle.dnp_master.specs.Calls.{Taking}
 use Rattle.dnp_master.specs.State.{State, closed}
 use Rattle.dnp_world.specs.Octets.{seq_in, uns_in}
-use Rattle.dnp_world.specs.Link.{Down, Asks, Confirms, ConfirmsReport, Up, fragment_of, Master, Link}
+use Rattle.dnp_world.specs.LawLink.{Down, Asks, Confirms, ConfirmsReport, Up, fragment_of, LawMaster, LawLink}
 use Rattle.dnp_world.specs.Moves.{Moves}
 
 -- the law sees whether it is open, whether a request is open, and its number
-abbrev pub master_of : State → Master
+abbrev pub master_of : State → LawMaster
 master_of s = record { is_open = s.is_open; is_busy = is_some s.request; seq = s.seq }
 
 -- what octets that go down are: a CONFIRM, of a report where UNS is set, or else a request
@@ -27,13 +27,13 @@ abbrev pub octets_of : Up → List ℕ
 octets_of up = (fragment_of up).octets
 
 -- the link with this master, and nothing else changed
-abbrev pub with_master_of : State → Link → Link
+abbrev pub with_master_of : State → LawLink → LawLink
 with_master_of s l = record l { master = master_of s }
 
 -- a fragment made this of the link, by moves: the sink took the rows, but for order, and the confirm, if one is sent,
 -- goes after what may still come down; all else that is no matter of the connection alone is as before
-pub record MasterTakes (t : Taking) (l : Link) : Type 0 where
-  pub link : Link
+pub record MasterTakes (t : Taking) (l : LawLink) : Type 0 where
+  pub link : LawLink
   pub moves : Moves l link
   pub master : link.master ≡ master_of t.state
   pub down : link.down ≡ l.down ++ map down_of (option_to_list t.confirm)
@@ -41,5 +41,5 @@ pub record MasterTakes (t : Taking) (l : Link) : Type 0 where
   pub same : link ≡ record l { master = link.master; down = link.down; took = link.took; phase = link.phase }
 
 -- the master is closed, and of what may come up nothing comes any more
-abbrev pub master_hung_up : State → Link → Link
+abbrev pub master_hung_up : State → LawLink → LawLink
 master_hung_up s l = record l { master = master_of (closed s); up = [] }

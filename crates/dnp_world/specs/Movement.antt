@@ -3,7 +3,7 @@
 use Rattle.std.specs.Prelude.{◌≡◌, ◌≢◌, ℕ, Bool, true, false, if◌then◌else◌, List, [], ◌++◌, length, is_some, slice_get, Option, Some, None}
 use Rattle.dnp_concentrator.specs.Mapped.{queued_rows}
 use Rattle.dnp_eventbuf.specs.Archive.{with_events}
-use Rattle.dnp_eventbuf.specs.Stock.{Stock, all_up_to, dropped_by, with_rows, without}
+use Rattle.dnp_eventbuf.specs.EventBuffer.{EventBuffer, all_up_to, dropped_by, with_rows, without}
 use Rattle.dnp_objects.specs.declared.lane.LaneRow.{LaneRow}
 use Rattle.dnp_objects.specs.declared.row.Row.{Row}
 use Rattle.dnp_outstation.specs.Connection.{is_last_request}
@@ -18,7 +18,7 @@ use Rattle.dnp_world.specs.declared.event.Link.TheVariants.{Below, Above}
 -- ---- what leaves the lanes
 
 -- just these rows left: a release of their ids takes them and nothing else. Where there are none the lanes are as they were.
-pub data Leave (portion : Portion) (old new : Stock) : Type 0 where
+pub data Leave (portion : Portion) (old new : EventBuffer) : Type 0 where
   Released : all_up_to old portion.ids ≡ portion.rows → new ≡ without old portion.ids → Leave portion old new
   Rested : portion.rows ≡ [] → new ≡ old → Leave portion old new
 

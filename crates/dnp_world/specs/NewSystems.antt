@@ -7,8 +7,8 @@ use Rattle.dnp_concentrator.specs.declared.plan.Plan.{Plan}
 use Rattle.dnp_concentrator.specs.declared.plan.SubPlan.{SubPlan}
 use Rattle.dnp_controls.specs.Book.{Ledger}
 use Rattle.dnp_eventbuf.specs.Archive.{Archive}
-use Rattle.dnp_eventbuf.specs.Sound.{IsSound}
-use Rattle.dnp_eventbuf.specs.Stock.{Stock, rows_in, lost_in}
+use Rattle.dnp_eventbuf.specs.Sound.{IsSoundBuffer}
+use Rattle.dnp_eventbuf.specs.EventBuffer.{EventBuffer, rows_in, lost_in}
 use Rattle.dnp_objects.specs.declared.limits.TheConstants.{LANES}
 use Rattle.dnp_world.specs.Reports.{Report}
 
@@ -24,8 +24,8 @@ pub record CanBegin (plan : Plan) : Type 0 where
   pub apart : Overlaps (map_of plan) → ⊥
 
 -- the queue, the journal, and the books of concentrator and centre
-pub record AreEmpty (queue : Stock) (journal : Archive) (controls orders : Ledger) : Type 0 where
-  pub sound : IsSound queue
+pub record AreEmpty (queue : EventBuffer) (journal : Archive) (controls orders : Ledger) : Type 0 where
+  pub sound : IsSoundBuffer queue
   pub no_rows : rows_in queue ≡ []
   pub none_lost : lost_in queue ≡ 0
   pub no_events : journal.rows ≡ []

@@ -9,7 +9,7 @@ use Rattle.dnp_pointdb.specs.declared.fault.ChangeFault.{ChangeFault}
 use Rattle.dnp_pointdb.specs.Database.{answer_of}
 use Rattle.dnp_controls.specs.Latches.{no_panel}
 use Rattle.dnp_controls.specs.Panel.{Panel}
-use Rattle.dnp_eventbuf.specs.Stock.{exhausts}
+use Rattle.dnp_eventbuf.specs.EventBuffer.{exhausts}
 use Rattle.dnp_line.specs.Lines.{LineState, front_of, delivered_on, repeated_on}
 use Rattle.dnp_line.specs.Ports.{PortState}
 use Rattle.dnp_line.specs.Ways.{HearsIfAny}

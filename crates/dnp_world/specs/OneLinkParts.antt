@@ -1,7 +1,7 @@
 -- Definition: the parts of a link by itself, and a new one.
 use Rattle.std.specs.Prelude.{◌≡◌, List, [], ◌++◌}
 use Rattle.dnp_controls.specs.Latches.{no_panel}
-use Rattle.dnp_eventbuf.specs.Stock.{Stock}
+use Rattle.dnp_eventbuf.specs.EventBuffer.{EventBuffer}
 use Rattle.dnp_master.specs.Calls.{Taking}
 use Rattle.dnp_master.specs.State.{new_state}
 use Rattle.dnp_objects.specs.declared.row.Row.{Row}
@@ -18,7 +18,7 @@ use Rattle.dnp_world.specs.Channels.{fresh_channel}
 use Rattle.dnp_world.specs.OneLinkEvents.{LinkState, TakesRows}
 
 -- what it is, by what its lanes say of themselves
-abbrev pub link_of : {L S : Type 0} → (L → Stock) → OneLink L S → LinkState S
+abbrev pub link_of : {L S : Type 0} → (L → EventBuffer) → OneLink L S → LinkState S
 link_of contents x = record {
   outstation = outstation.whole_of contents (λ _. no_panel) x.outstation;
   master = x.receiver.master;
@@ -63,7 +63,7 @@ pub record KeepsBeside {Sink : Type 0} (keeps : Sink → Sink → Type 0) (old n
 -- ---- a new one
 
 -- both ends closed, nothing on the lines, and nothing has happened
-abbrev pub new_link : {S : Type 0} → Plan → Times → Stock → S → LinkState S
+abbrev pub new_link : {S : Type 0} → Plan → Times → EventBuffer → S → LinkState S
 new_link plan times lanes sink = record {
   outstation = state_of (new_core (new_database plan) times) lanes no_panel;
   master = new_state plan times;

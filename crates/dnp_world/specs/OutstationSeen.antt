@@ -8,7 +8,7 @@ use Rattle.dnp_appfragment.specs.declared.function.Function.TheVariants as funct
 use Rattle.dnp_appfragment.specs.Table.{function_octet}
 use Rattle.dnp_controls.specs.Panel.{Panel}
 use Rattle.dnp_eventbuf.specs.Buffered.{buffered_row}
-use Rattle.dnp_eventbuf.specs.Sound.{IsSound}
+use Rattle.dnp_eventbuf.specs.Sound.{IsSoundBuffer}
 use Rattle.dnp_pointdb.specs.Sound as points
 use Rattle.dnp_outstation.specs.declared.session.Reply.{Reply}
 use Rattle.dnp_outstation.specs.declared.session.Reply.TheVariants.{Held, Silent, First, Further}
@@ -20,8 +20,8 @@ use Rattle.dnp_outstation.specs.Connection.{function_in}
 use Rattle.dnp_outstation.specs.Links.{IsInOrder}
 use Rattle.dnp_outstation.specs.State.{Core, State, Step}
 use Rattle.dnp_outstation.specs.Tidy.{LeavesNothing}
-use Rattle.dnp_world.specs.Link as link
-use Rattle.dnp_world.specs.Link.{Down, Asks, Confirms, ConfirmsReport, Up, fragment_of, NothingSent, FirstSent, FurtherSent, Link}
+use Rattle.dnp_world.specs.LawLink as link
+use Rattle.dnp_world.specs.LawLink.{Down, Asks, Confirms, ConfirmsReport, Up, fragment_of, NothingSent, FirstSent, FurtherSent, LawLink}
 use Rattle.dnp_world.specs.Lanes.{HasLanes}
 use Rattle.dnp_world.specs.Moves.{Moves}
 use Rattle.dnp_world.specs.Octets.{seq_in, uns_in}
@@ -62,7 +62,7 @@ awaited_seen w = record { seq = w.seq; upto = w.upto }
 abbrev pub report_seen : Session → Unsolicited → link.AwaitedReport
 report_seen session w = record { octets = session.unsolicited_response; seq = w.seq; upto = w.upto }
 
-abbrev pub outstation_seen : Core → link.Outstation
+abbrev pub outstation_seen : Core → link.LawOutstation
 outstation_seen c = record {
   is_open = c.is_open;
   last = option_map (last_seen c.session) c.session.last;
@@ -87,14 +87,14 @@ pub record HaveIds (session : Session) : Type 0 where
 
 -- its lanes and points are sound, it is in order, and of what it gave nothing is left but what may still be confirmed
 pub record IsWell (s : State) : Type 0 where
-  pub lanes : IsSound s.lanes
-  pub points : points.IsSound s.core.points
+  pub lanes : IsSoundBuffer s.lanes
+  pub points : points.IsSoundDatabase s.core.points
   pub order : IsInOrder s.core
   pub tidy : LeavesNothing s
   pub ids : HaveIds s.core.session
 
 -- the link's outstation and lanes are these
-pub record Shows (s : State) (l : Link) : Type 0 where
+pub record Shows (s : State) (l : LawLink) : Type 0 where
   pub outstation : outstation_seen s.core ≡ l.outstation
   pub lanes : HasLanes s.lanes l
   pub well : IsWell s
@@ -102,15 +102,15 @@ pub record Shows (s : State) (l : Link) : Type 0 where
 -- ---- a step of it
 
 -- the master, what may come down, and what was asked for and taken are as they were
-pub record LeavesMaster (old new : Link) : Type 0 where
+pub record LeavesMaster (old new : LawLink) : Type 0 where
   pub master : new.master ≡ old.master
   pub down : new.down ≡ old.down
   pub took : new.took ≡ old.took
   pub asked : new.asked ≡ old.asked
 
 -- a step of an outstation is some moves of the link that shows it, where these rows came to the lanes with it
-pub record Simulates (old : State) (came : List Row) (step : Step) (l : Link) : Type 0 where
-  pub link : Link
+pub record Simulates (old : State) (came : List Row) (step : Step) (l : LawLink) : Type 0 where
+  pub link : LawLink
   pub moves : Moves l link
   pub shows : Shows step.state link
   pub master : LeavesMaster l link

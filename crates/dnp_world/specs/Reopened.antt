@@ -11,7 +11,7 @@ use Rattle.dnp_concentrator.specs.declared.two.Two.{Two}
 use Rattle.dnp_controls.specs.Book.{Ledger}
 use Rattle.dnp_eventbuf.specs.Archive.{Archive}
 use Rattle.dnp_eventbuf.specs.Sides.{ForEach}
-use Rattle.dnp_eventbuf.specs.Stock.{Stock}
+use Rattle.dnp_eventbuf.specs.EventBuffer.{EventBuffer}
 use Rattle.dnp_outstation.specs.Calls.{restarted_core}
 use Rattle.dnp_world.specs.Centres.{HappensToAll}
 use Rattle.dnp_world.specs.FreshSystems.{fresh_centre, fresh_core}
@@ -24,7 +24,7 @@ use Rattle.dnp_world.specs.declared.event.Place.{Place}
 
 -- ---- what is made of a plan over stores
 
-abbrev pub new_concentrator : Plan → Two Stock → Ledger → WholeConcentrator
+abbrev pub new_concentrator : Plan → Two EventBuffer → Ledger → WholeConcentrator
 new_concentrator plan queues controls = record {
   cores = record { first = fresh_core plan; second = fresh_core plan };
   queues = queues;

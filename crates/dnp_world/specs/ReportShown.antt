@@ -6,7 +6,7 @@ use Rattle.std.specs.List.Sorted.{IsPermutation, IsNonDecreasingBy}
 use Rattle.dnp_eventbuf.specs.Sides.{at}
 use Rattle.dnp_eventbuf.specs.declared.numbered.Numbered.{Numbered}
 use Rattle.dnp_objects.specs.declared.row.Row.{Row}
-use Rattle.dnp_eventbuf.specs.Stock.{Stock, lost_in, row_of, rows_in}
+use Rattle.dnp_eventbuf.specs.EventBuffer.{EventBuffer, lost_in, row_of, rows_in}
 use Rattle.dnp_world.specs.Kept.{lane_rows_of, rows_below}
 use Rattle.dnp_world.specs.Reports.{Report}
 use Rattle.dnp_world.specs.Stations.{listed_from}
@@ -15,7 +15,7 @@ use Rattle.dnp_world.specs.declared.report.Report as told
 use Rattle.dnp_world.specs.declared.parts.report.TheConstants.{NUMBERS}
 
 -- the rows of all lanes, lane by lane
-abbrev pub all_in : Stock → List Numbered
+abbrev pub all_in : EventBuffer → List Numbered
 all_in s = flat_map (λ lane. lane.rows) s.lanes
 
 -- the same rows by their ids

@@ -5,7 +5,7 @@ use Rattle.dnp_objects.specs.declared.command.Command.{Command}
 use Rattle.dnp_objects.specs.declared.command.Command.TheVariants.{Block}
 use Rattle.dnp_objects.specs.declared.row.Kind.TheVariants.{Binary}
 use Rattle.dnp_eventbuf.specs.Buffered.{Buffered}
-use Rattle.dnp_world.specs.Link.{Fragment, Link}
+use Rattle.dnp_world.specs.LawLink.{SentFragment, LawLink}
 use Rattle.dnp_world.specs.Moves.{Moves}
 use Rattle.dnp_world.specs.Standing.{IsFresh}
 
@@ -18,7 +18,7 @@ abbrev pub one_read : List ℕ
 one_read = 0xC0 ∷ 0x01 ∷ 60 ∷ 2 ∷ 0x06 ∷ []
 
 -- RESPONSE with FIR, FIN and CON, number 0, that holds the event as 2.1 with its index in an octet before it
-abbrev pub one_response : Fragment
+abbrev pub one_response : SentFragment
 one_response = record {
   octets = 0xE0 ∷ 0x81 ∷ 0 ∷ 0 ∷ 2 ∷ 1 ∷ 0x17 ∷ 1 ∷ 5 ∷ 0x81 ∷ [];
   upto = 1 ∷ [];
@@ -35,8 +35,8 @@ one_operate = 0xC1 ∷ 0x05 ∷ 12 ∷ 1 ∷ 0x17 ∷ 1 ∷ 7 ∷ 3 ∷ 1 ∷ 0 
 -- a run from a fresh link: the event comes, is asked for, taken, confirmed and released, and then the command is asked
 -- for and performed
 pub record Round : Type 0 where
-  pub old : Link
-  pub new : Link
+  pub old : LawLink
+  pub new : LawLink
   pub fresh : IsFresh old
   pub moves : Moves old new
   pub took : new.took ≡ one_event ∷ []

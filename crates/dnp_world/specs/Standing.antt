@@ -10,7 +10,7 @@ use Rattle.dnp_objects.specs.Counts.{IsCoveredBy}
 use Rattle.dnp_eventbuf.specs.Buffered.{Buffered, is_named, id_limit}
 use Rattle.dnp_world.specs.Lists.{IsEnd, Each, Turns, picked}
 use Rattle.dnp_world.specs.Octets.{after, seq_in, commands_in}
-use Rattle.dnp_world.specs.Link.{Fragment, seq_of, fin_of, Down, Asks, Confirms, ConfirmsReport, Up, Responds, Reports, solicited_down, report_down, solicited_up, report_up, Phase, Idle, Requested, Received, Responding, Continuing, Reply, NothingSent, FirstSent, FurtherSent, LastRequest, Awaited, AwaitedReport, Master, Link}
+use Rattle.dnp_world.specs.LawLink.{SentFragment, seq_of, fin_of, Down, Asks, Confirms, ConfirmsReport, Up, Responds, Reports, solicited_down, report_down, solicited_up, report_up, Phase, Idle, Requested, Received, Responding, Continuing, Reply, NothingSent, FirstSent, FurtherSent, LastRequest, Awaited, AwaitedReport, LawMaster, LawLink}
 use Rattle.dnp_world.specs.Moves.{confirm_of, MayAwait, nothing_sent, nothing_reported, Says}
 
 -- each of these events is one of those
@@ -25,12 +25,12 @@ pub record Conversation : Type 0 where
   pub awaited : Option Awaited
   pub phase : Phase
   pub trigger : Down
-  pub current : Fragment
+  pub current : SentFragment
   pub down : List Down
-  pub up : List Fragment
+  pub up : List SentFragment
   pub took : List Buffered
 
-abbrev pub conversation : Link → Conversation
+abbrev pub conversation : LawLink → Conversation
 conversation l = record {
   last = l.outstation.last;
   awaited = l.outstation.awaited;
@@ -43,7 +43,7 @@ conversation l = record {
 }
 
 -- what was sent for the last request is the current fragment, or a fragment before it
-abbrev pub IsReply : Phase → Fragment → List ℕ → Bool → Reply → Type 0
+abbrev pub IsReply : Phase → SentFragment → List ℕ → Bool → Reply → Type 0
 IsReply phase c q more NothingSent = phase ≡ Received q
 IsReply phase c q more (FirstSent octets upto) =
     (octets ≡ c.octets) × (upto ≡ c.upto) × (seq_of c ≡ seq_in q) × (more ≡ true → fin_of c ≡ false)
@@ -54,13 +54,13 @@ IsLast q None = ⊥
 IsLast q (Some a) = a.request ≡ q
 
 -- the current fragment was sent for the last request, or for the confirm of the fragment before
-abbrev pub IsTrigger : Down → Option LastRequest → Fragment → Type 0
+abbrev pub IsTrigger : Down → Option LastRequest → SentFragment → Type 0
 IsTrigger (Asks q) last c = IsLast q last
 IsTrigger (Confirms seq) last c = after seq ≡ seq_of c
 IsTrigger (ConfirmsReport seq) last c = ⊥
 
 -- what a phase says of the trigger, of FIN and of the numbers
-abbrev pub FitsPhase : Phase → Down → Option LastRequest → Fragment → Type 0
+abbrev pub FitsPhase : Phase → Down → Option LastRequest → SentFragment → Type 0
 FitsPhase Idle trigger last c = (fin_of c ≡ true) × IsTrigger trigger last c
 FitsPhase (Requested q) trigger last c = (fin_of c ≡ true) × IsTrigger trigger last c × (seq_in q ≡ after (seq_of c))
 FitsPhase (Received q) trigger last c = IsLast q last × (seq_in q ≡ after (seq_of c))
@@ -68,7 +68,7 @@ FitsPhase Responding trigger last c = IsTrigger trigger last c
 FitsPhase Continuing trigger last c = IsTrigger trigger last c
 
 -- the requests and confirms that the master has sent since the trigger, with that one in front
-abbrev pub expected : Phase → Down → Fragment → List Down
+abbrev pub expected : Phase → Down → SentFragment → List Down
 expected Idle trigger c = trigger ∷ confirm_of c (Confirms (seq_of c))
 expected (Requested q) trigger c = trigger ∷ (confirm_of c (Confirms (seq_of c)) ++ Asks q ∷ [])
 expected (Received q) trigger c = Asks q ∷ []
@@ -76,7 +76,7 @@ expected Responding trigger c = trigger ∷ []
 expected Continuing trigger c = trigger ∷ confirm_of c (Confirms (seq_of c))
 
 -- the sink took the current fragment, unless the master has not taken it so far
-abbrev pub IsTaken : Phase → Fragment → List Buffered → Type 0
+abbrev pub IsTaken : Phase → SentFragment → List Buffered → Type 0
 IsTaken Idle c took = AllIn c.rows took
 IsTaken (Requested q) c took = AllIn c.rows took
 IsTaken (Received q) c took = AllIn c.rows took
@@ -85,7 +85,7 @@ IsTaken Continuing c took = AllIn c.rows took
 
 -- only copies of the current fragment may come, and, where the master has not taken it so far, fragments with the
 -- number before in front of them
-abbrev pub IsOnItsWay : Phase → Fragment → List Fragment → Type 0
+abbrev pub IsOnItsWay : Phase → SentFragment → List SentFragment → Type 0
 IsOnItsWay Idle c up = Each (λ f. f ≡ c) up
 IsOnItsWay (Requested q) c up = Each (λ f. f ≡ c) up
 IsOnItsWay (Received q) c up = Each (λ f. f ≡ c) up
@@ -110,7 +110,7 @@ pub record Solicited (v : Conversation) : Type 0 where
 
 -- Where both ends are open: the master is busy and awaits the number that will come. Else it could take an old
 -- response, or ask with the number of the last one.
-abbrev pub Agrees : Phase → Fragment → Master → Type 0
+abbrev pub Agrees : Phase → SentFragment → LawMaster → Type 0
 Agrees Idle c m = (m.is_busy ≡ false) × (m.seq ≡ after (seq_of c))
 Agrees (Requested q) c m = (m.is_busy ≡ true) × (m.seq ≡ seq_in q)
 Agrees (Received q) c m = (m.is_busy ≡ true) × (m.seq ≡ seq_in q)
@@ -123,12 +123,12 @@ Agrees Continuing c m = (m.is_busy ≡ true) × (m.seq ≡ after (seq_of c))
 pub record Reporting : Type 0 where
   pub report : Option AwaitedReport
   pub next : ℕ
-  pub reported : Fragment
+  pub reported : SentFragment
   pub down : List ℕ
-  pub up : List Fragment
+  pub up : List SentFragment
   pub took : List Buffered
 
-abbrev pub reporting_of : Link → Reporting
+abbrev pub reporting_of : LawLink → Reporting
 reporting_of l = record {
   report = l.outstation.report;
   next = l.outstation.next;
@@ -145,7 +145,7 @@ IsInOrder None seq numbers = Each (λ n. n ≡ seq) numbers
 IsInOrder (Some w) seq numbers = Turns (λ n. after n ≡ seq) (λ n. n ≡ seq) numbers
 
 -- what is kept of a report is that report
-abbrev pub IsOfReport : Fragment → AwaitedReport → Type 0
+abbrev pub IsOfReport : SentFragment → AwaitedReport → Type 0
 IsOfReport f w = (w.octets ≡ f.octets) × (w.seq ≡ seq_of f) × (w.upto ≡ f.upto)
 
 pub record Unsolicited (v : Reporting) : Type 0 where
@@ -163,7 +163,7 @@ pub record Unsolicited (v : Reporting) : Type 0 where
 -- ---- events
 
 -- a fragment's events stood in the lanes, and those still there that its ids reach are its events
-pub record IsOfLanes (uns : Bool) (lanes stood : List Buffered) (last_id : ℕ) (f : Fragment) : Type 0 where
+pub record IsOfLanes (uns : Bool) (lanes stood : List Buffered) (last_id : ℕ) (f : SentFragment) : Type 0 where
   -- Else an event that comes later would be under the fragment's ids, and be released unseen.
   pub limits : (lane : ℕ) → id_limit f.upto lane ≤ last_id
   -- Else the sink would take an event that never stood in the lanes.
@@ -187,10 +187,10 @@ pub record Inventory : Type 0 where
   pub released : List Buffered
   pub left : List Buffered
   pub up : List Up
-  pub current : Fragment
-  pub reported : Fragment
+  pub current : SentFragment
+  pub reported : SentFragment
 
-abbrev pub inventory : Link → Inventory
+abbrev pub inventory : LawLink → Inventory
 inventory l = record {
   lanes = l.lanes;
   last_id = l.last_id;
@@ -233,7 +233,7 @@ pub record Commands (is_open : Bool) (phase : Phase) (asked performed : List Com
 -- ---- all of it
 
 -- the law goes on from any link of which this holds
-pub record Stands (l : Link) : Type 0 where
+pub record CarriesLaw (l : LawLink) : Type 0 where
   pub rows : Events (inventory l)
   pub commands : Commands l.outstation.is_open l.phase l.asked l.performed
   pub solicited : l.outstation.is_open ≡ true → Solicited (conversation l)
@@ -241,7 +241,7 @@ pub record Stands (l : Link) : Type 0 where
   pub unsolicited : l.outstation.is_open ≡ true → Unsolicited (reporting_of l)
 
 -- a link before its first opening: any lanes, nothing on the way, nothing taken
-pub record IsFresh (l : Link) : Type 0 where
+pub record IsFresh (l : LawLink) : Type 0 where
   pub closed : l.outstation.is_open ≡ false
   pub stood : l.stood ≡ l.lanes
   pub once : (id lane : ℕ) → count_by (is_named id lane) l.lanes ≤ 1

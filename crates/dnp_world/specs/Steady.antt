@@ -3,7 +3,7 @@
 use Rattle.std.specs.Prelude.{◌≡◌, ℕ, ◌==◌, ◌&&◌, if◌then◌else◌, List, [], ◌∷◌, ◌++◌, slice_get, option_map, is_some, Option, Some, None}
 use Rattle.std.specs.List.{flat_map}
 use Rattle.dnp_concentrator.specs.Mapped.{command_above}
-use Rattle.dnp_eventbuf.specs.Stock.{arriving}
+use Rattle.dnp_eventbuf.specs.EventBuffer.{arriving}
 use Rattle.dnp_objects.specs.declared.command.Command.{Command}
 use Rattle.dnp_objects.specs.declared.row.Row.{Row}
 use Rattle.dnp_pointdb.specs.Database.{Database}

@@ -13,7 +13,7 @@ use Rattle.dnp_pointdb.specs.Database.{answer_of}
 use Rattle.dnp_controls.specs.Book.{added, entry_of, Has, is_finished, is_pending}
 use Rattle.dnp_controls.specs.declared.book.Entry.{Entry}
 use Rattle.dnp_eventbuf.specs.Archive.{with_events}
-use Rattle.dnp_eventbuf.specs.Stock.{exhausts, with_rows, dropped_by, without_all, rows_in}
+use Rattle.dnp_eventbuf.specs.EventBuffer.{exhausts, with_rows, dropped_by, without_all, rows_in}
 use Rattle.dnp_line.specs.Lines.{LineState, front_of}
 use Rattle.dnp_line.specs.Ports.{PortState}
 use Rattle.dnp_line.specs.Ways.{HearsIfAny}

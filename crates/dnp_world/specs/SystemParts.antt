@@ -1,7 +1,7 @@
 -- Definition: what a whole system is, by what its stores say of themselves, and its stores.
 use Rattle.std.specs.Prelude.{ℕ, map}
 use Rattle.dnp_eventbuf.specs.Archive.{Archive}
-use Rattle.dnp_eventbuf.specs.Stock.{Stock}
+use Rattle.dnp_eventbuf.specs.EventBuffer.{EventBuffer}
 use Rattle.dnp_controls.specs.Book.{Ledger}
 use Rattle.dnp_concentrator.specs.Centre as centre
 use Rattle.dnp_concentrator.specs.Concentrator as concentrator
@@ -25,10 +25,10 @@ substation_of s = record {
   channel = state_of s.channel;
 }
 
-abbrev pub concentrator_of : {Q A : Type 0} → (Q → ℕ → Stock) → (A → Ledger) → Concentrator Q A → WholeConcentrator
-concentrator_of stock ledger c = record {
+abbrev pub concentrator_of : {Q A : Type 0} → (Q → ℕ → EventBuffer) → (A → Ledger) → Concentrator Q A → WholeConcentrator
+concentrator_of buffer ledger c = record {
   cores = record { first = concentrator.core_of 0 c; second = concentrator.core_of 1 c };
-  queues = record { first = stock (concentrator.queue_of c) 0; second = stock (concentrator.queue_of c) 1 };
+  queues = record { first = buffer (concentrator.queue_of c) 0; second = buffer (concentrator.queue_of c) 1 };
   indices = concentrator.indices_of c;
   points = concentrator.plan_above c;
   controls = ledger (concentrator.book_of c);
@@ -53,11 +53,11 @@ history_of h = record {
   operated = h.operated.items;
 }
 
-abbrev pub system_of : {Q J A B : Type 0} → (Q → ℕ → Stock) → (J → Archive) → (A → Ledger) → (B → Ledger) → Inside Q J A B → Whole
-system_of stock archive controls orders p = record {
+abbrev pub system_of : {Q J A B : Type 0} → (Q → ℕ → EventBuffer) → (J → Archive) → (A → Ledger) → (B → Ledger) → Inside Q J A B → Whole
+system_of buffer archive controls orders p = record {
   indices = p.map;
   substations = map substation_of p.substations.items;
-  concentrator = concentrator_of stock controls p.concentrator;
+  concentrator = concentrator_of buffer controls p.concentrator;
   centres = of_both (centre_of archive orders) p.centres;
   above = of_both state_of p.above;
   now = p.moment;
@@ -76,5 +76,5 @@ stores_of p = record {
 
 -- ---- what contracts see
 
-abbrev pub shown_by : {Q J A B : Type 0} → (Q → ℕ → Stock) → (J → Archive) → (A → Ledger) → (B → Ledger) → Inside Q J A B → Shown Q J A B
-shown_by stock archive controls orders p = record { system = system_of stock archive controls orders p; stores = stores_of p }
+abbrev pub shown_by : {Q J A B : Type 0} → (Q → ℕ → EventBuffer) → (J → Archive) → (A → Ledger) → (B → Ledger) → Inside Q J A B → Shown Q J A B
+shown_by buffer archive controls orders p = record { system = system_of buffer archive controls orders p; stores = stores_of p }

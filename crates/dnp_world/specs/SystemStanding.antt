@@ -14,7 +14,7 @@ use Rattle.dnp_world.specs.Behind.{Elsewhere, Links, IsBehind, made_at, rows_of}
 use Rattle.dnp_world.specs.Channels.{ChannelState}
 use Rattle.dnp_world.specs.Joined.{Joined}
 use Rattle.dnp_world.specs.Kept.{kept_in, report_of}
-use Rattle.dnp_world.specs.Link.{Link}
+use Rattle.dnp_world.specs.LawLink.{LawLink}
 use Rattle.dnp_world.specs.OneLinkEvents.{LinkState}
 use Rattle.dnp_world.specs.OutstationSeen.{ShowOctets}
 use Rattle.dnp_world.specs.Reports.{IsFate}
@@ -28,7 +28,7 @@ pub record RowLists : Type 0 where
   pub released : List Row
   pub left : List Row
 
-abbrev pub lists_of : Link → RowLists
+abbrev pub lists_of : LawLink → RowLists
 lists_of l = record { taken = rows_of l.took; released = rows_of l.released; left = rows_of l.left }
 
 -- these stations over these lines; the master's rows go to no sink of the link's own
@@ -57,7 +57,7 @@ seen_above s lists = seen (middle_of s.concentrator) s.centre.link.master s.abov
 -- ---- what stands behind
 
 -- a substation's link is joined to a link of the law, and its outputs show octets
-pub record IsJoinedBelow (now : ℕ) (relaying : Relaying) (l : Link) (substation : SubstationState) : Type 0 where
+pub record IsJoinedBelow (now : ℕ) (relaying : Relaying) (l : LawLink) (substation : SubstationState) : Type 0 where
   pub joined : Joined [] (seen_below now relaying substation (lists_of l)) l
   pub shown : ShowOctets (panel_of substation)
 

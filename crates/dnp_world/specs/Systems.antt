@@ -4,7 +4,7 @@ use Rattle.std.specs.Prelude.{ℕ, Bool, true, ◌&&◌, nat_lt, if◌then◌els
 use Rattle.dnp_objects.specs.declared.row.Row.{Row}
 use Rattle.dnp_objects.specs.declared.command.Command.{Command}
 use Rattle.dnp_eventbuf.specs.Archive.{Archive}
-use Rattle.dnp_eventbuf.specs.Stock.{Stock}
+use Rattle.dnp_eventbuf.specs.EventBuffer.{EventBuffer}
 use Rattle.dnp_controls.specs.Book.{Ledger}
 use Rattle.dnp_controls.specs.Latches.{PlainState, plain_panel}
 use Rattle.dnp_controls.specs.Panel.{Panel}
@@ -26,7 +26,7 @@ use Rattle.dnp_world.specs.declared.link_event.Way.{Way}
 -- a substation's outstation, and its lines to the concentrator
 pub record SubstationState : Type 0 where
   pub core : Core
-  pub lanes : Stock
+  pub lanes : EventBuffer
   pub outputs : PlainState
   pub channel : ChannelState
 
@@ -45,7 +45,7 @@ in_state s state =
 -- the outstation towards the centre with its queue, the book of controls, and the links to the substations, by their numbers
 pub record ConcentratorState : Type 0 where
   pub core : Core
-  pub queue : Stock
+  pub queue : EventBuffer
   pub indices : List Spans
   -- the plan of the points above
   pub points : points.Plan

@@ -10,7 +10,7 @@ use Rattle.dnp_concentrator.specs.declared.span.Spans.{Spans}
 use Rattle.dnp_concentrator.specs.declared.two.Two.{Two}
 use Rattle.dnp_controls.specs.Book.{Ledger}
 use Rattle.dnp_eventbuf.specs.Sides.{other_than}
-use Rattle.dnp_eventbuf.specs.Stock.{Stock}
+use Rattle.dnp_eventbuf.specs.EventBuffer.{EventBuffer}
 use Rattle.dnp_outstation.specs.State.{Core}
 use Rattle.dnp_pointdb.specs.Plan as points
 use Rattle.dnp_world.specs.Channels.{ChannelState}
@@ -21,7 +21,7 @@ use Rattle.dnp_world.specs.Systems.{CentreState, SubstationState, System}
 -- an outstation and a queue for each centre; the book of controls and the links below are shared
 pub record WholeConcentrator : Type 0 where
   pub cores : Two Core
-  pub queues : Two Stock
+  pub queues : Two EventBuffer
   pub indices : List Spans
   pub points : points.Plan
   pub controls : Ledger

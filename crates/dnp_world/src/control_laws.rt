@@ -25,7 +25,7 @@ ghost use Rattle.dnp_world.specs.ControlsInStep.{InStep};
 ghost use Rattle.dnp_world.specs.ControlMoves.{ControlMoves};
 ghost use Rattle.dnp_world.specs.SystemRuns.{Happens};
 ghost use Rattle.dnp_world.specs.SystemStanding.{IsStanding};
-ghost use Rattle.dnp_world.specs.ControlExchanges.{CanBegin, ChecksAs, Ends, GoesOver, HasSelected, OperateComesTo, SelectComesTo};
+ghost use Rattle.dnp_world.specs.ControlExchanges.{CanBegin, ChecksAs, ExchangeEnds, GoesOver, HasSelected, OperateComesTo, SelectComesTo};
 ghost use Rattle.dnp_world.specs.Octets.{uns_in};
 ghost use Rattle.dnp_world.specs.Systems.{System, itself};
 ghost use Rattle.dnp_world.specs.Wholes.{Whole, seen_by};
@@ -109,10 +109,10 @@ pub fn a_master_hears_its_control()
 /// stands selected, or the book is told the status that the outputs have for it. Its OPERATE is answered with a status that the book
 /// is told, and performs the command, once, exactly where that is SUCCESS.
 pub fn an_accepted_control_operates()
-    ensures selects { (target now check : ℕ) (entry : EntryValue) (old selected : Ends) (commands : List CommandValue) → check < 128
+    ensures selects { (target now check : ℕ) (entry : EntryValue) (old selected : ExchangeEnds) (commands : List CommandValue) → check < 128
         → CanBegin target entry old → GoesOver target now (ChecksAs entry.command check) commands old selected
         → (commands ≡ []) × SelectComesTo target check entry selected }
-    ensures operates { (target now check : ℕ) (entry : EntryValue) (selected operated : Ends) (commands : List CommandValue) → check < 128
+    ensures operates { (target now check : ℕ) (entry : EntryValue) (selected operated : ExchangeEnds) (commands : List CommandValue) → check < 128
         → HasSelected entry selected → GoesOver target now (ChecksAs entry.command check) commands selected operated
         → OperateComesTo target check entry commands operated }
 {

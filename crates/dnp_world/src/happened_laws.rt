@@ -4,7 +4,7 @@ ghost use Rattle.std.specs.Prelude.{ℕ, List, [], All};
 ghost use Rattle.dnp_concentrator.specs.declared.plan.Plan.{Plan};
 ghost use Rattle.dnp_controls.specs.Book.{Ledger};
 ghost use Rattle.dnp_eventbuf.specs.Archive.{Archive};
-ghost use Rattle.dnp_eventbuf.specs.Stock.{Stock};
+ghost use Rattle.dnp_eventbuf.specs.EventBuffer.{EventBuffer};
 ghost use Rattle.dnp_objects.specs.Events.{IsEvent};
 ghost use Rattle.dnp_objects.specs.declared.row.Row.{Row as RowValue};
 ghost use Rattle.dnp_pointdb.specs.Database.{Database};
@@ -39,7 +39,7 @@ pub fn what_happened_is_what_stood()
 /// What happened can be reported: in a new system nothing has happened, changes of points make rows that can be written as
 /// events, whatever points they are of, and an event that adds such rows, or none, to what happened keeps it so.
 pub fn what_happened_can_be_reported()
-    ensures at_first { (plan : Plan) (centre : ℕ) (queue : Stock) (journal : Archive) (controls orders : Ledger)
+    ensures at_first { (plan : Plan) (centre : ℕ) (queue : EventBuffer) (journal : Archive) (controls orders : Ledger)
         → HappenedAsEvents (fresh_system plan centre queue journal controls orders) }
     ensures made { (points : Database) (events : List LinkEvent) → All IsEvent (rows_made_by points events) }
     ensures goes_on { (old new : System) (came : ℕ → List RowValue) → HappenedAsEvents old → ((substation : ℕ) → All IsEvent (came substation))

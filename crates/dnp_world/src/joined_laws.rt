@@ -11,9 +11,9 @@ ghost use Rattle.dnp_objects.specs.declared.command.Command.{Command};
 ghost use Rattle.dnp_objects.specs.declared.lane.LaneRow.{LaneRow};
 ghost use Rattle.dnp_objects.specs.declared.row.Row.{Row};
 ghost use Rattle.dnp_controls.specs.Panel.{Panel};
-ghost use Rattle.dnp_eventbuf.specs.Carried.{IsCarried};
-ghost use Rattle.dnp_eventbuf.specs.Sound.{IsSound};
-ghost use Rattle.dnp_eventbuf.specs.Stock.{Stock, arriving, dropped_by, exhausts};
+ghost use Rattle.dnp_eventbuf.specs.FitsLane.{FitsLane};
+ghost use Rattle.dnp_eventbuf.specs.Sound.{IsSoundBuffer};
+ghost use Rattle.dnp_eventbuf.specs.EventBuffer.{EventBuffer, arriving, dropped_by, exhausts};
 ghost use Rattle.dnp_outstation.specs.Calls.{restart_of};
 ghost use Rattle.dnp_pointdb.specs.Database.{new_database};
 ghost use Rattle.dnp_pointdb.specs.Plan.{Plan};
@@ -24,10 +24,10 @@ ghost use Rattle.dnp_world.specs.declared.link_event.End.TheVariants as end;
 ghost use Rattle.dnp_world.specs.declared.link_event.LinkEvent.{LinkEvent};
 ghost use Rattle.dnp_world.specs.Joined.{Joined, Follows, IsJoined, KeepsLaw, StoodGrows, new_link_of};
 ghost use Rattle.dnp_world.specs.Joined.{with_others_rows, rows_made_by, stood_in};
-ghost use Rattle.dnp_world.specs.Link.{Link};
+ghost use Rattle.dnp_world.specs.LawLink.{LawLink};
 ghost use Rattle.dnp_world.specs.OneLinkEvents.{LinkState, HappensOn, RunsTo, StopsAt, StopsAfter};
 ghost use Rattle.dnp_world.specs.OutstationSeen.{ShowOctets};
-ghost use Rattle.dnp_world.specs.Standing.{Stands};
+ghost use Rattle.dnp_world.specs.Standing.{CarriesLaw};
 ghost use Rattle.dnp_world.specs.SystemStanding.{no_sink};
 ghost use Rattle.dnp_world.specs.steps.MoveLaws.{MoveLaws};
 
@@ -73,16 +73,16 @@ fn moves_are_promised()
 /// that come to the lanes meanwhile are those that the changes of the list make of the points, no command is asked for, and
 /// what the link performs its outputs perform.
 pub fn events_are_moves<S: Sink>()
-    ensures event { (panel : Panel) (others : List Row) (s new : LinkState S) (event : LinkEvent) (l : Link) → ShowOctets panel
-        → Stands l → Joined others s l → HappensOn S.takes panel s event new
+    ensures event { (panel : Panel) (others : List Row) (s new : LinkState S) (event : LinkEvent) (l : LawLink) → ShowOctets panel
+        → CarriesLaw l → Joined others s l → HappensOn S.takes panel s event new
         → Follows others (rows_made_by s.outstation.core.points (event ∷ [])) [] s.outstation.performed l new }
-    ensures stopped { (others : List Row) (s new : LinkState S) (event : LinkEvent) (l : Link) → Stands l
+    ensures stopped { (others : List Row) (s new : LinkState S) (event : LinkEvent) (l : LawLink) → CarriesLaw l
         → Joined others s l → StopsAt S.takes S.keeps s event new → Follows others [] [] s.outstation.performed l new }
-    ensures runs { (others : List Row) (s new : LinkState S) (events : List LinkEvent) (l : Link) → Stands l
+    ensures runs { (others : List Row) (s new : LinkState S) (events : List LinkEvent) (l : LawLink) → CarriesLaw l
         → Joined others s l → RunsTo S.takes s events new
         → Follows others (rows_made_by s.outstation.core.points events) [] s.outstation.performed l new }
-    ensures stops { (others : List Row) (s new : LinkState S) (events : List LinkEvent) (done : ℕ) (l : Link)
-        → Stands l → Joined others s l → StopsAfter S.takes S.keeps s events done new
+    ensures stops { (others : List Row) (s new : LinkState S) (events : List LinkEvent) (done : ℕ) (l : LawLink)
+        → CarriesLaw l → Joined others s l → StopsAfter S.takes S.keeps s events done new
         → Follows others (rows_made_by s.outstation.core.points (take done events)) [] s.outstation.performed l new }
 {
     moves_are_promised();
@@ -91,10 +91,10 @@ pub fn events_are_moves<S: Sink>()
 /// The same of an event of a link whose master gives its rows to no sink of the link's own, and of a restart of its outstation that
 /// keeps the lanes.
 pub fn events_without_a_sink_are_moves()
-    ensures event { (panel : Panel) (s new : LinkState ⊤) (event : LinkEvent) (l : Link) → ShowOctets panel → Stands l
+    ensures event { (panel : Panel) (s new : LinkState ⊤) (event : LinkEvent) (l : LawLink) → ShowOctets panel → CarriesLaw l
         → Joined [] s l → HappensOn no_sink panel s event new
         → Follows [] (rows_made_by s.outstation.core.points (event ∷ [])) [] s.outstation.performed l new }
-    ensures restarted { (s new : LinkState ⊤) (l : Link) → Joined [] s l
+    ensures restarted { (s new : LinkState ⊤) (l : LawLink) → Joined [] s l
         → new ≡ record s { outstation = restart_of s.outstation true; channel = hung_up_at end.Outstation s.channel }
         → Follows [] [] [] s.outstation.performed l new }
 {
@@ -104,12 +104,12 @@ pub fn events_without_a_sink_are_moves()
 /// Rows that others append to the lanes are moves too, and what full lanes drop for them has left unconfirmed. It may
 /// be listed with the rest that left. What others append to the sink changes nothing.
 pub fn appends_by_others_are_moves<T>()
-    ensures appended { (others : List Row) (s : LinkState T) (rows : List LaneRow) (l : Link) → All IsCarried rows
+    ensures appended { (others : List Row) (s : LinkState T) (rows : List LaneRow) (l : LawLink) → All FitsLane rows
         → exhausts s.outstation.lanes rows ≡ false → Joined others s l
         → Follows (others ++ dropped_by s.outstation.lanes rows) (arriving rows) [] s.outstation.performed l (with_others_rows rows s) }
-    ensures listed { (others dropped : List Row) (s : LinkState T) (l : Link) → Joined (others ++ dropped) s l
+    ensures listed { (others dropped : List Row) (s : LinkState T) (l : LawLink) → Joined (others ++ dropped) s l
         → Joined others (record s { left = s.left ++ dropped }) l }
-    ensures sink { (others : List Row) (s : LinkState T) (sink : T) (l : Link) → Joined others s l
+    ensures sink { (others : List Row) (s : LinkState T) (sink : T) (l : LawLink) → Joined others s l
         → Joined others (record s { sink = sink }) l }
 {
     outstation::an_append_is_moves();
@@ -117,9 +117,9 @@ pub fn appends_by_others_are_moves<T>()
 
 /// A new link of sound points and sound lanes, whatever they hold, is joined to a link before its first opening.
 pub fn a_new_link_is_joined<T>()
-    ensures { (plan : Plan) (times : Times) (lanes : Stock) (performed : List Command)
+    ensures { (plan : Plan) (times : Times) (lanes : EventBuffer) (performed : List Command)
         (master_address outstation_address : ℕ) (sink : T)
-        → points.IsSound (new_database plan) → IsSound lanes
+        → points.IsSoundDatabase (new_database plan) → IsSoundBuffer lanes
         → IsJoined [] (new_link_of plan times lanes performed master_address outstation_address sink) }
 {
     outstation::a_new_outstation_is_shown();
@@ -139,7 +139,7 @@ pub fn the_law_of_one_link<S: Sink>()
     ensures stops { (others : List Row) (s new : LinkState S) (events : List LinkEvent) (done : ℕ) → IsJoined others s
         → StopsAfter S.takes S.keeps s events done new
         → IsJoined others new × StoodGrows others (rows_made_by s.outstation.core.points (take done events)) s new }
-    ensures appended { (others : List Row) (s : LinkState S) (rows : List LaneRow) → All IsCarried rows
+    ensures appended { (others : List Row) (s : LinkState S) (rows : List LaneRow) → All FitsLane rows
         → exhausts s.outstation.lanes rows ≡ false → IsJoined others s
         → (let left = others ++ dropped_by s.outstation.lanes rows in IsJoined left (with_others_rows rows s)
         × IsPermutation (stood_in left (with_others_rows rows s)) (stood_in others s ++ arriving rows)) }

@@ -7,13 +7,13 @@ ghost use Rattle.std.specs.List.Sorted.{IsPermutation};
 ghost use Rattle.dnp_objects.specs.Counts.{IsCoveredBy};
 ghost use Rattle.dnp_objects.specs.declared.lane.LaneRow.{LaneRow};
 ghost use Rattle.dnp_eventbuf.specs.Buffered.{buffered_row};
-ghost use Rattle.dnp_eventbuf.specs.Sound.{IsSound};
-ghost use Rattle.dnp_eventbuf.specs.Stock.{Stock, with_rows, without, without_all, all_up_to};
+ghost use Rattle.dnp_eventbuf.specs.Sound.{IsSoundBuffer};
+ghost use Rattle.dnp_eventbuf.specs.EventBuffer.{EventBuffer, with_rows, without, without_all, all_up_to};
 ghost use Rattle.dnp_world.specs.Lanes.{HasLanes, fresh_link, lane_appended, lanes_emptied};
-ghost use Rattle.dnp_world.specs.Link.{Link};
+ghost use Rattle.dnp_world.specs.LawLink.{LawLink};
 ghost use Rattle.dnp_world.specs.Moves.{Move, Moves, released};
 ghost use Rattle.dnp_world.specs.Round.{Round};
-ghost use Rattle.dnp_world.specs.Standing.{Stands, IsFresh};
+ghost use Rattle.dnp_world.specs.Standing.{CarriesLaw, IsFresh};
 ghost use Rattle.dnp_transport.specs.Cuts.{cut_count};
 ghost use Rattle.dnp_transport.specs.declared.limits.TheConstants.{MAX_FRAGMENT};
 ghost use Rattle.dnp_world.specs.declared.parts.report.TheConstants as report;
@@ -26,18 +26,18 @@ use dnp_objects::laws::{covered_is_kept_by_map, members_are_covered};
 /// The law of a link, over all its connections: the events that confirms released are covered by those that the
 /// master's sink took, each of these stood in the lanes, and no command was performed more often than it was asked for.
 ///
-/// What carries it, `Stands`, holds before the first opening, with any lanes, and each move keeps it; so the law goes
+/// What carries it, `CarriesLaw`, holds before the first opening, with any lanes, and each move keeps it; so the law goes
 /// on from any moment, also where the moves of several links are mixed.
 pub fn link_law()
-    ensures start { (l : Link) → IsFresh l → Stands l }
-    ensures kept { (old new : Link) → Move old new → Stands old → Stands new }
-    ensures goes_on { (old new : Link) → Moves old new → Stands old → Stands new }
-    ensures covered { (l : Link) → Stands l → IsCoveredBy (map buffered_row l.released) (map buffered_row l.took) }
-    ensures stood { (l : Link) → Stands l →
+    ensures start { (l : LawLink) → IsFresh l → CarriesLaw l }
+    ensures kept { (old new : LawLink) → Move old new → CarriesLaw old → CarriesLaw new }
+    ensures goes_on { (old new : LawLink) → Moves old new → CarriesLaw old → CarriesLaw new }
+    ensures covered { (l : LawLink) → CarriesLaw l → IsCoveredBy (map buffered_row l.released) (map buffered_row l.took) }
+    ensures stood { (l : LawLink) → CarriesLaw l →
         All (Contains (map buffered_row (l.lanes ++ (l.released ++ l.left)))) (map buffered_row l.took) }
-    ensures whole { (l : Link) → Stands l → IsPermutation l.stood (l.lanes ++ (l.released ++ l.left)) }
-    ensures performed { (l : Link) → Stands l → IsCoveredBy l.performed l.asked }
-    ensures runs { (old new : Link) → IsFresh old → Moves old new →
+    ensures whole { (l : LawLink) → CarriesLaw l → IsPermutation l.stood (l.lanes ++ (l.released ++ l.left)) }
+    ensures performed { (l : LawLink) → CarriesLaw l → IsCoveredBy l.performed l.asked }
+    ensures runs { (old new : LawLink) → IsFresh old → Moves old new →
         IsCoveredBy (map buffered_row new.released) (map buffered_row new.took) }
 {
     members_are_covered::<(u64, u64, Row)>();
@@ -47,14 +47,14 @@ pub fn link_law()
 /// What the calls of lanes are to a link: an append of a row and an emptying are moves, a release is what a confirm
 /// does, and sound lanes are those of a fresh link.
 pub fn lanes_are_moved()
-    ensures fresh { (s : Stock) → IsSound s → IsFresh (fresh_link s) × HasLanes s (fresh_link s) }
-    ensures appended { (s : Stock) (x : LaneRow) (l : Link) → IsSound s → HasLanes s l →
+    ensures fresh { (s : EventBuffer) → IsSoundBuffer s → IsFresh (fresh_link s) × HasLanes s (fresh_link s) }
+    ensures appended { (s : EventBuffer) (x : LaneRow) (l : LawLink) → IsSoundBuffer s → HasLanes s l →
         Moves l (lane_appended s x l) × HasLanes (with_rows s (x ∷ [])) (lane_appended s x l) }
-    ensures emptied { (s : Stock) (l : Link) → HasLanes s l →
+    ensures emptied { (s : EventBuffer) (l : LawLink) → HasLanes s l →
         Move l (lanes_emptied s l) × HasLanes (without_all s) (lanes_emptied s l) }
-    ensures released { (s : Stock) (upto : List ℕ) (l : Link) → length upto ≡ length s.lanes → HasLanes s l →
+    ensures released { (s : EventBuffer) (upto : List ℕ) (l : LawLink) → length upto ≡ length s.lanes → HasLanes s l →
         HasLanes (without s upto) (released upto l) }
-    ensures given { (s : Stock) (upto : List ℕ) (l : Link) → length upto ≡ length s.lanes → HasLanes s l →
+    ensures given { (s : EventBuffer) (upto : List ℕ) (l : LawLink) → length upto ≡ length s.lanes → HasLanes s l →
         map buffered_row (released upto l).released ≡ map buffered_row l.released ++ all_up_to s upto }
 {
     a_release_is_by_ids();

@@ -1,7 +1,7 @@
 //! How many rows wait, and how many may leave.
 
 ghost use Rattle.std.specs.Prelude.{◌≡◌, ◌≤◌, ℕ, length};
-ghost use Rattle.dnp_eventbuf.specs.Stock.{rows_in};
+ghost use Rattle.dnp_eventbuf.specs.EventBuffer.{rows_in};
 ghost use Rattle.dnp_master.specs.Calls.{Taking};
 ghost use Rattle.dnp_world.specs.MasterEnds.{AreFew};
 ghost use Rattle.dnp_world.specs.Octets as read;

@@ -6,10 +6,10 @@ ghost use Rattle.dnp_master.specs.declared.task.Task.{Task as TaskValue};
 ghost use Rattle.dnp_master.specs.Calls.{ask_answer, asked, receive_of, unheeded};
 ghost use Rattle.dnp_master.specs.State as state;
 ghost use Rattle.dnp_master.specs.State.{State, ticked};
-ghost use Rattle.dnp_world.specs.Link.{Link, Up, Asks};
+ghost use Rattle.dnp_world.specs.LawLink.{LawLink, Up, Asks};
 ghost use Rattle.dnp_world.specs.Moves.{Move, Moves, asking, lost_up, opened};
 ghost use Rattle.dnp_world.specs.MasterSeen.{master_of, down_of, octets_of, with_master_of, MasterTakes, master_hung_up};
-ghost use Rattle.dnp_world.specs.Standing.{Stands};
+ghost use Rattle.dnp_world.specs.Standing.{CarriesLaw};
 
 use dnp_master::laws::{an_idle_master_asks, what_comes_is_taken_or_passed_over};
 
@@ -18,19 +18,19 @@ use dnp_master::laws::{an_idle_master_asks, what_comes_is_taken_or_passed_over};
 /// what may come, those before it are lost. What the master refuses, or its sink, is no move, as what it
 /// passes over is none.
 pub fn a_master_takes_by_moves()
-    ensures first { (s : State) (now : ℕ) (l : Link) (up : Up) (rest : List Up) → Stands l → l.master ≡ master_of s
+    ensures first { (s : State) (now : ℕ) (l : LawLink) (up : Up) (rest : List Up) → CarriesLaw l → l.master ≡ master_of s
         → l.up ≡ up ∷ rest → IfOk (receive_of s now (octets_of up)) (λ t. MasterTakes t l) }
-    ensures came { (s : State) (now : ℕ) (l : Link) (n : ℕ) (octets : List ℕ) → Stands l → l.master ≡ master_of s
+    ensures came { (s : State) (now : ℕ) (l : LawLink) (n : ℕ) (octets : List ℕ) → CarriesLaw l → l.master ≡ master_of s
         → slice_get (map octets_of l.up) n ≡ Some octets
         → Move l (lost_up n l) × IfOk (receive_of s now octets) (λ t. MasterTakes t (lost_up n l)) }
-    ensures refused { (s : State) (l : Link) → l.master ≡ master_of s → MasterTakes (unheeded s) l }
+    ensures refused { (s : State) (l : LawLink) → l.master ≡ master_of s → MasterTakes (unheeded s) l }
 {
     what_comes_is_taken_or_passed_over();
 }
 
 /// A task that is asked is one move: its octets are a request, with the master's number.
 pub fn a_master_asks_by_a_move()
-    ensures { (s : State) (now : ℕ) (task : TaskValue) (octets : List ℕ) (l : Link) → s.seq < 16
+    ensures { (s : State) (now : ℕ) (task : TaskValue) (octets : List ℕ) (l : LawLink) → s.seq < 16
         → l.master ≡ master_of s → ask_answer s task ≡ Ok octets
         → Move l (asking octets l) × ((asking octets l).master ≡ master_of (asked s now task)) × (down_of octets ≡ Asks octets) }
 {
@@ -40,7 +40,7 @@ pub fn a_master_asks_by_a_move()
 /// An opening of a master is part of the link's. A hang-up closes it, and what may come up is lost. A tick
 /// closes it or does nothing.
 pub fn a_master_opens_and_closes_by_moves()
-    ensures opened { (s : State) (l : Link) → Move l (opened l) × ((opened l).master ≡ master_of (state.opened s)) }
-    ensures hung_up { (s : State) (l : Link) → Moves l (master_hung_up s l) }
-    ensures ticked { (s : State) (now : ℕ) (l : Link) → l.master ≡ master_of s → Moves l (with_master_of (ticked s now) l) }
+    ensures opened { (s : State) (l : LawLink) → Move l (opened l) × ((opened l).master ≡ master_of (state.opened s)) }
+    ensures hung_up { (s : State) (l : LawLink) → Moves l (master_hung_up s l) }
+    ensures ticked { (s : State) (now : ℕ) (l : LawLink) → l.master ≡ master_of s → Moves l (with_master_of (ticked s now) l) }
 {}

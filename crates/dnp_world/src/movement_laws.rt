@@ -1,7 +1,7 @@
 //! Laws of what a clean round moves. Each function does nothing, and its contract is a law.
 
 ghost use Rattle.std.specs.Prelude.{◌≡◌, ℕ, All, Ok, true};
-ghost use Rattle.dnp_eventbuf.specs.Sound.{IsSound};
+ghost use Rattle.dnp_eventbuf.specs.Sound.{IsSoundBuffer};
 ghost use Rattle.dnp_master.specs.Calls.{ask_answer, asked, receive_of};
 ghost use Rattle.dnp_master.specs.Rows.{is_reported};
 ghost use Rattle.dnp_master.specs.State as master;
@@ -37,7 +37,7 @@ use dnp_outstation::poll_laws::{
 pub fn a_master_takes_what_it_polled()
     ensures asks { (m : master.State) → master.is_idle m ≡ true → ask_answer m events_polled ≡ Ok (poll_octets m.seq) }
     ensures takes { (m : master.State) (before now : ℕ) (s : State) (step : Step) → master.is_idle m ≡ true
-        → IsSound s.lanes → (offer : Offers m.seq s step)
+        → IsSoundBuffer s.lanes → (offer : Offers m.seq s step)
         → All (λ row. is_reported m.plan row ≡ true) (polled_rows s.lanes)
         → Takes m.seq (polled_rows s.lanes) offer.con (receive_of (asked m before events_polled) now offer.fragment) }
 {

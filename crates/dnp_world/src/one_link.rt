@@ -5,7 +5,7 @@ ghost use Rattle.std.specs.Borrow.{Lends, sem};
 ghost use Rattle.dnp_objects.specs.Counts.{IsCoveredBy};
 ghost use Rattle.dnp_objects.specs.declared.row.Row.{Row as RowValue};
 ghost use Rattle.dnp_controls.specs.Latches.{no_panel};
-ghost use Rattle.dnp_eventbuf.specs.Sound.{IsSound};
+ghost use Rattle.dnp_eventbuf.specs.Sound.{IsSoundBuffer};
 ghost use Rattle.dnp_world.specs.Joined.{IsJoined, StoodGrows, rows_made_by, stood_in};
 ghost use Rattle.dnp_world.specs.contracts.one_link.OneLink.{the_row};
 ghost use Rattle.dnp_world.specs.OneLinkEvents.{HappensOn, RunsTo, StopsAt, StopsAfter, may_stop};
@@ -74,7 +74,7 @@ impl<L: Lanes + Drop, S: Sink + Drop> OneLink<L, S> {
     ) -> Result<Self, AllocError>
         ensures link { IfOk result (λ link. link_of L.contents link ≡ new_link plan times (L.contents lanes) sink) }
         ensures lanes { IfOk result (λ link. lanes_of link ≡ lanes) }
-        ensures joined { IsSound (L.contents lanes) → IfOk result (λ link. IsJoined [] (link_of L.contents link)) }
+        ensures joined { IsSoundBuffer (L.contents lanes) → IfOk result (λ link. IsJoined [] (link_of L.contents link)) }
     {
         a_new_link_is_joined::<S>();
         let points = PointDb::new(alloc, plan.try_clone(alloc)?)?;

@@ -8,9 +8,9 @@ ghost use Rattle.dnp_objects.specs.declared.command.Command.{Command};
 ghost use Rattle.dnp_objects.specs.declared.lane.LaneRow.{LaneRow};
 ghost use Rattle.dnp_objects.specs.declared.row.Kind.{Kind};
 ghost use Rattle.dnp_controls.specs.Panel.{Panel};
-ghost use Rattle.dnp_eventbuf.specs.Carried.{IsCarried};
-ghost use Rattle.dnp_eventbuf.specs.Sound.{IsSound};
-ghost use Rattle.dnp_eventbuf.specs.Stock.{Stock, arriving, with_rows, dropped_by, exhausts};
+ghost use Rattle.dnp_eventbuf.specs.FitsLane.{FitsLane};
+ghost use Rattle.dnp_eventbuf.specs.Sound.{IsSoundBuffer};
+ghost use Rattle.dnp_eventbuf.specs.EventBuffer.{EventBuffer, arriving, with_rows, dropped_by, exhausts};
 ghost use Rattle.dnp_pointdb.specs.Database.{Database, answer_of};
 ghost use Rattle.dnp_pointdb.specs.Sound as points;
 ghost use Rattle.dnp_pointdb.specs.declared.reading.Reading.{Reading};
@@ -20,10 +20,10 @@ ghost use Rattle.dnp_outstation.specs.Connection.{closed};
 ghost use Rattle.dnp_outstation.specs.State.{State, nothing, still};
 ghost use Rattle.dnp_outstation.specs.Station.{new_core};
 ghost use Rattle.dnp_world.specs.Lanes.{fresh_link};
-ghost use Rattle.dnp_world.specs.Link.{Link, Down};
+ghost use Rattle.dnp_world.specs.LawLink.{LawLink, Down};
 ghost use Rattle.dnp_world.specs.Moves.{opened};
 ghost use Rattle.dnp_world.specs.OutstationSeen.{down_of, ShowOctets, Shows, Simulates};
-ghost use Rattle.dnp_world.specs.Standing.{Stands};
+ghost use Rattle.dnp_world.specs.Standing.{CarriesLaw};
 
 use crate::laws::lanes_are_moved;
 use dnp_eventbuf::laws::lanes_stay_sound;
@@ -44,14 +44,14 @@ use dnp_pointdb::laws::{
 
 /// A new outstation, over sound points and lanes, is shown by a link before its first opening.
 pub fn a_new_outstation_is_shown()
-    ensures { (database : Database) (times : Times) (lanes : Stock) (performed : List Command) → points.IsSound database
-        → IsSound lanes
+    ensures { (database : Database) (times : Times) (lanes : EventBuffer) (performed : List Command) → points.IsSoundDatabase database
+        → IsSoundBuffer lanes
         → Shows (record { core = new_core database times; lanes = lanes; performed = performed }) (fresh_link lanes) }
 {}
 
 /// An opening of both ends is one move, and what the outstation then sends is another.
 pub fn an_opening_is_moves()
-    ensures { (s : State) (now : ℕ) (l : Link) → Shows s l → Stands l → Simulates s [] (opened_of s now) (opened l) }
+    ensures { (s : State) (now : ℕ) (l : LawLink) → Shows s l → CarriesLaw l → Simulates s [] (opened_of s now) (opened l) }
 {
     calls_leave_nothing_else_given();
     an_unsolicited_response_starts_where_none_is_awaited();
@@ -62,8 +62,8 @@ pub fn an_opening_is_moves()
 
 /// What comes from the master is the first of what may still come down, and stays there, for it may come again.
 pub fn what_comes_is_moves()
-    ensures { (s : State) (o : Panel) (now : ℕ) (octets : List ℕ) (l : Link) (rest : List Down) → ShowOctets o
-        → All (λ octet. octet < 2 ^ 8) octets → Shows s l → Stands l → l.down ≡ down_of octets ∷ rest
+    ensures { (s : State) (o : Panel) (now : ℕ) (octets : List ℕ) (l : LawLink) (rest : List Down) → ShowOctets o
+        → All (λ octet. octet < 2 ^ 8) octets → Shows s l → CarriesLaw l → l.down ≡ down_of octets ∷ rest
         → Simulates s [] (connection_after s o now octets) l }
 {
     lanes_are_moved();
@@ -83,7 +83,7 @@ pub fn what_comes_is_moves()
 
 /// Time that passes gives up a wait, repeats a report or closes, and then may start a report.
 pub fn time_is_moves()
-    ensures { (s : State) (now : ℕ) (l : Link) → Shows s l → Stands l → Simulates s [] (tick_of s now) l }
+    ensures { (s : State) (now : ℕ) (l : LawLink) → Shows s l → CarriesLaw l → Simulates s [] (tick_of s now) l }
 {
     calls_leave_nothing_else_given();
     a_closed_outstation_is_silent();
@@ -98,10 +98,10 @@ pub fn time_is_moves()
 /// are no move.
 pub fn a_change_is_moves()
     ensures changed { (s : State) (now : ℕ) (kind : Kind) (index : ℕ) (reading : Reading) (made : Option LaneRow)
-        (l : Link) → answer_of s.core.points kind index reading ≡ Ok made
-        → IfSome made (λ row. exhausts s.lanes (row ∷ []) ≡ false) → Shows s l → Stands l
+        (l : LawLink) → answer_of s.core.points kind index reading ≡ Ok made
+        → IfSome made (λ row. exhausts s.lanes (row ∷ []) ≡ false) → Shows s l → CarriesLaw l
         → Simulates s (arriving (option_to_list made)) (change_of s now kind index reading made) l }
-    ensures written { (s : State) (database : Database) (l : Link) → points.IsSound database → Shows s l
+    ensures written { (s : State) (database : Database) (l : LawLink) → points.IsSoundDatabase database → Shows s l
         → Shows (record s { core = record s.core { points = database } }) l }
 {
     lanes_are_moved();
@@ -120,7 +120,7 @@ pub fn a_change_is_moves()
 /// Rows that anybody appends to the lanes are two moves each: a row comes, and its lane, if it was full, drops its
 /// oldest.
 pub fn an_append_is_moves()
-    ensures { (s : State) (rows : List LaneRow) (l : Link) → All IsCarried rows → exhausts s.lanes rows ≡ false → Shows s l
+    ensures { (s : State) (rows : List LaneRow) (l : LawLink) → All FitsLane rows → exhausts s.lanes rows ≡ false → Shows s l
         → Simulates s (arriving rows) (record {
           state = record s { lanes = with_rows s.lanes rows };
           does = record nothing { overwritten = dropped_by s.lanes rows };
@@ -135,8 +135,8 @@ pub fn an_append_is_moves()
 /// A hang-up closes the outstation, and so does a restart, at which the rows of lanes that aren't kept leave
 /// unconfirmed.
 pub fn a_closing_is_moves()
-    ensures closed { (s : State) (l : Link) → Shows s l → Simulates s [] (still (record s { core = closed s.core })) l }
-    ensures restarted { (s : State) (keep : Bool) (l : Link) → Shows s l
+    ensures closed { (s : State) (l : LawLink) → Shows s l → Simulates s [] (still (record s { core = closed s.core })) l }
+    ensures restarted { (s : State) (keep : Bool) (l : LawLink) → Shows s l
         → Simulates s [] (record {
           state = restart_of s keep;
           does = record nothing { overwritten = emptied_of s keep };

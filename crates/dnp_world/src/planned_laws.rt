@@ -5,7 +5,7 @@ ghost use Rattle.dnp_concentrator.specs.Plan.{KeepsLimits};
 ghost use Rattle.dnp_concentrator.specs.declared.plan.Plan.{Plan};
 ghost use Rattle.dnp_controls.specs.Book.{Ledger};
 ghost use Rattle.dnp_eventbuf.specs.Archive.{Archive};
-ghost use Rattle.dnp_eventbuf.specs.Stock.{Stock, rows_in};
+ghost use Rattle.dnp_eventbuf.specs.EventBuffer.{EventBuffer, rows_in};
 ghost use Rattle.dnp_master.specs.Rows.{is_reported};
 ghost use Rattle.dnp_objects.specs.declared.row.Kind.{Kind};
 ghost use Rattle.dnp_pointdb.specs.declared.reading.Reading.{Reading};
@@ -44,7 +44,7 @@ pub fn substations_keep_their_points()
 /// What happens at the substations is of the plan: at first nothing has happened, and the points are those of the plan; a reading
 /// makes a row of a point that the plan has with a class, and all else that happens makes none.
 pub fn what_happens_is_of_the_plan()
-    ensures at_first { (plan : Plan) (centre : ℕ) (queue : Stock) (journal : Archive) (controls orders : Ledger) → KeepsLimits plan
+    ensures at_first { (plan : Plan) (centre : ℕ) (queue : EventBuffer) (journal : Archive) (controls orders : Ledger) → KeepsLimits plan
         → HappenedAsPlanned plan (fresh_system plan centre queue journal controls orders) }
     ensures kept { (plan : Plan) (old new : System) (el : Elsewhere) (substation : ℕ) (event : Event) → HappenedAsPlanned plan old → Happens old event new
         → Keeps el substation [] old new → HappenedAsPlanned plan new }
@@ -65,7 +65,7 @@ pub fn what_happens_is_of_the_plan()
 /// Systems stay of their plan: a new one is of the plan that it is made of, and whatever happens, masters keep their points and the
 /// system its index map.
 pub fn systems_stay_as_planned()
-    ensures at_first { (plan : Plan) (centre : ℕ) (queue : Stock) (journal : Archive) (controls orders : Ledger) → KeepsLimits plan
+    ensures at_first { (plan : Plan) (centre : ℕ) (queue : EventBuffer) (journal : Archive) (controls orders : Ledger) → KeepsLimits plan
         → IsAsPlanned (fresh_system plan centre queue journal controls orders) }
     ensures kept { (old new : System) (el : Elsewhere) (substation : ℕ) (event : Event) → IsAsPlanned old → Happens old event new
         → Keeps el substation [] old new → IsAsPlanned new }

@@ -3,8 +3,8 @@
 ghost use Rattle.std.specs.Prelude.{◌≡◌, ◌≢◌, ◌<◌, Err, ◌++◌, ◌^◌, ◌-◌, IfOk, OnOk, map as all_of, min, option_to_list};
 ghost use Rattle.dnp_concentrator.specs.Mapped as mapped;
 ghost use Rattle.dnp_eventbuf.specs.Sides.{AreSame, centre_in, lent_pair, pair_in};
-ghost use Rattle.dnp_eventbuf.specs.Sound.{IsSound};
-ghost use Rattle.dnp_eventbuf.specs.Stock.{lane_at, lost_in, row_of};
+ghost use Rattle.dnp_eventbuf.specs.Sound.{IsSoundBuffer};
+ghost use Rattle.dnp_eventbuf.specs.EventBuffer.{lane_at, lost_in, row_of};
 ghost use Rattle.dnp_objects.specs.Lanes.{lane_number};
 ghost use Rattle.dnp_world.specs.Causes.{TellsDevice};
 ghost use Rattle.dnp_world.specs.Kept as kept;
@@ -22,7 +22,7 @@ fn lane_rows<L: Lanes>(alloc: Global, lanes: &mut L, lane: Lane) -> Result<Vec<N
     ensures held { L.honest lanes.new → L.honest lanes.old }
     ensures beside { L.honest lanes.new → L.beside lanes.new ≡ L.beside lanes.old }
     ensures same { L.honest lanes.new → L.contents lanes.new ≡ L.contents lanes.old }
-    ensures sound { L.honest lanes.new → IsSound (L.contents lanes.new) }
+    ensures sound { L.honest lanes.new → IsSoundBuffer (L.contents lanes.new) }
     ensures rows { L.honest lanes.new → IfOk result (λ rows. rows.items ≡ (lane_at (L.contents lanes.new) (lane_number lane)).rows) }
     ensures device { TellsDevice (L.is_stopped lanes.old) (L.is_stopped lanes.new) (result ≡ Err Cause.Device) }
     ensures named { result ≢ Err Cause.Exhausted }
@@ -43,7 +43,7 @@ fn put_lane_rows<L: Lanes>(
     ensures held { L.honest lanes.new → L.honest lanes.old }
     ensures beside { L.honest lanes.new → L.beside lanes.new ≡ L.beside lanes.old }
     ensures same { L.honest lanes.new → L.contents lanes.new ≡ L.contents lanes.old }
-    ensures sound { L.honest lanes.new → IsSound (L.contents lanes.new) }
+    ensures sound { L.honest lanes.new → IsSoundBuffer (L.contents lanes.new) }
     ensures rows { L.honest lanes.new → OnOk result (list.new.items ≡ list.old.items ++ (lane_at (L.contents lanes.new) (lane_number lane)).rows) }
     ensures device { TellsDevice (L.is_stopped lanes.old) (L.is_stopped lanes.new) (result ≡ Err Cause.Device) }
     ensures named { result ≢ Err Cause.Exhausted }

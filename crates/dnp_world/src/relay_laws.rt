@@ -8,7 +8,7 @@ ghost use Rattle.dnp_concentrator.specs.Relaying.{Step};
 ghost use Rattle.dnp_controls.specs.Book.{Ledger};
 ghost use Rattle.dnp_controls.specs.declared.book.Entry.{Entry as EntryValue};
 ghost use Rattle.dnp_eventbuf.specs.Archive.{Archive};
-ghost use Rattle.dnp_eventbuf.specs.Stock.{Stock};
+ghost use Rattle.dnp_eventbuf.specs.EventBuffer.{EventBuffer};
 ghost use Rattle.dnp_master.specs.Calls.{ask_answer};
 ghost use Rattle.dnp_master.specs.Requests.{request_for};
 ghost use Rattle.dnp_master.specs.declared.task.Task.{Task as TaskValue};
@@ -21,7 +21,7 @@ ghost use Rattle.dnp_world.specs.declared.event.Event.{Event as EventValue};
 ghost use Rattle.dnp_world.specs.declared.event.Link.TheVariants as link;
 ghost use Rattle.dnp_world.specs.FreshSystems.{fresh_system};
 ghost use Rattle.dnp_world.specs.Joined.{Follows, Joined};
-ghost use Rattle.dnp_world.specs.Link.{Link};
+ghost use Rattle.dnp_world.specs.LawLink.{LawLink};
 ghost use Rattle.dnp_world.specs.Octets.{commands_in};
 ghost use Rattle.dnp_world.specs.OneLinkEvents.{IsAsked, LinkState};
 ghost use Rattle.dnp_world.specs.SystemEvents.{IsGranted, IsRefused, RelaysOn};
@@ -72,7 +72,7 @@ pub fn a_command_is_asked_for_as_it_is()
 
 /// A request that a master sends, of a command too, is a move of its link: it asks for the commands that are read of its octets.
 pub fn a_request_goes_by_a_move()
-    ensures { (s new : LinkState ⊤) (task : TaskValue) (octets : List ℕ) (l : Link)
+    ensures { (s new : LinkState ⊤) (task : TaskValue) (octets : List ℕ) (l : LawLink)
         → All (λ octet. octet < 2 ^ 8) (request_octets (request_for s.master.seq task)) → Joined [] s l
         → ask_answer s.master task ≡ Ok octets → IsAsked task octets s new
         → Follows [] [] (commands_in octets) s.outstation.performed l new }
@@ -106,7 +106,7 @@ pub fn relaying_keeps_what_stands()
 /// in step before the first event over empty books.
 pub fn controls_stay_in_step()
     ensures event { (old new : System) (el : Elsewhere) (event : EventValue) → Happens old event new → IsStanding el old → InStep old → InStep new }
-    ensures at_first { (plan : PlanValue) (centre : ℕ) (queue : Stock) (journal : Archive) (controls orders : Ledger)
+    ensures at_first { (plan : PlanValue) (centre : ℕ) (queue : EventBuffer) (journal : Archive) (controls orders : Ledger)
         → controls.entries ≡ [] → orders.entries ≡ [] → InStep (fresh_system plan centre queue journal controls orders) }
 {
     ids_go_on();

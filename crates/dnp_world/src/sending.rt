@@ -3,7 +3,7 @@
 ghost use Rattle.std.specs.Prelude.{◌≡◌, ℕ, ◌*◌, ◌+◌, ◌<◌, ◌≤◌, if◌then◌else◌, All, IfErr, List, OnOk, [], ◌∷◌, ◌++◌, length, option_to_list};
 ghost use Rattle.dnp_line.specs.Lines.{room_of};
 ghost use Rattle.dnp_line.specs.Ports.{IsShown};
-ghost use Rattle.dnp_line.specs.Ways.{Hears};
+ghost use Rattle.dnp_line.specs.Ways.{HearsUnit};
 ghost use Rattle.dnp_outstation.specs.Station.{sent_of};
 ghost use Rattle.dnp_world.specs.Channels.{IsSent, AreSent, GoDown, state_of};
 
@@ -44,7 +44,7 @@ pub(crate) fn send_all(line: &mut Line, port: &mut Port, fragments: &[Option<Fra
 /// Brings a unit to a port. Whether that completes a fragment.
 pub(crate) fn hear(port: &mut Port, unit: &[u8]) -> bool
     ensures { (given : List (List ℕ)) (fragment : List ℕ) → IsShown port.new fragment →
-        Hears unit.now port.old port.new given (if result then given ++ fragment ∷ [] else given) }
+        HearsUnit unit.now port.old port.new given (if result then given ++ fragment ∷ [] else given) }
 {
     match read_frame(unit) {
         Ok(frame) => port.take(&frame).whole,

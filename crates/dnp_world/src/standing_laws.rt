@@ -5,7 +5,7 @@ ghost use Rattle.std.specs.Prelude.{◌≡◌, ℕ, [], All, length};
 ghost use Rattle.dnp_concentrator.specs.declared.plan.Plan.{Plan};
 ghost use Rattle.dnp_controls.specs.Book.{Ledger};
 ghost use Rattle.dnp_eventbuf.specs.Archive.{Archive};
-ghost use Rattle.dnp_eventbuf.specs.Stock.{Stock};
+ghost use Rattle.dnp_eventbuf.specs.EventBuffer.{EventBuffer};
 ghost use Rattle.dnp_line.specs.Lines.{delivered_on, repeated_on};
 ghost use Rattle.dnp_objects.specs.declared.limits.TheConstants.{LANES};
 ghost use Rattle.dnp_world.specs.Behind.{Elsewhere, alone};
@@ -53,10 +53,10 @@ pub fn what_comes_to_the_concentrator_keeps_what_stands()
 /// Something stands behind a new system over empty stores: links of the law on which nothing has happened, so that the one above has
 /// performed nothing. Its report shows nothing.
 pub fn a_new_system_stands()
-    ensures stands { (plan : Plan) (centre : ℕ) (queue : Stock) (journal : Archive) (controls orders : Ledger) → CanBegin plan
+    ensures stands { (plan : Plan) (centre : ℕ) (queue : EventBuffer) (journal : Archive) (controls orders : Ledger) → CanBegin plan
         → AreEmpty queue journal controls orders
         → (standing : IsStanding alone (fresh_system plan centre queue journal controls orders)) × (standing.links.above.performed ≡ []) }
-    ensures shows { (plan : Plan) (centre : ℕ) (queue : Stock) (journal : Archive) (controls orders : Ledger)
+    ensures shows { (plan : Plan) (centre : ℕ) (queue : EventBuffer) (journal : Archive) (controls orders : Ledger)
         → AreEmpty queue journal controls orders → report_of (fresh_system plan centre queue journal controls orders) ≡ nothing_shown }
 {
     lists_are_of_links();

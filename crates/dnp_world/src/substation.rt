@@ -1,7 +1,7 @@
 //! A substation and its link.
 
 ghost use Rattle.std.specs.Prelude.{◌≡◌, ◌≢◌, ◌⊎◌, ◌≤◌, ◌*◌, ◌&&◌, ◌++◌, ◌∷◌, [], false, Err, List, IfErr, IfOk, IsTrue, IfSome, OnErr, OnOk, drop, is_ok, length, map, option_to_list, true};
-ghost use Rattle.dnp_eventbuf.specs.Stock.{dropped_by, exhausts, rows_in, without_all};
+ghost use Rattle.dnp_eventbuf.specs.EventBuffer.{dropped_by, exhausts, rows_in, without_all};
 ghost use Rattle.dnp_objects.specs.declared.row.Row.{Row as RowValue};
 ghost use Rattle.dnp_pointdb.specs.Database.{answer_of};
 ghost use Rattle.dnp_outstation.specs.Calls.{change_of, opened_of, restarted_core, tick_of};

@@ -11,7 +11,7 @@ ghost use Rattle.dnp_concentrator.specs.Mapped.{command_above, queued_rows};
 ghost use Rattle.dnp_concentrator.specs.declared.span.Spans.{Spans};
 ghost use Rattle.dnp_controls.specs.Book.{Ledger, entry_of, finished, is_pending, spent};
 ghost use Rattle.dnp_controls.specs.declared.book.Entry.{Entry};
-ghost use Rattle.dnp_eventbuf.specs.Stock.{arriving, lost_in};
+ghost use Rattle.dnp_eventbuf.specs.EventBuffer.{arriving, lost_in};
 ghost use Rattle.dnp_objects.specs.Counts.{IsCoveredBy};
 ghost use Rattle.dnp_objects.specs.declared.row.Row.{Row as RowValue};
 ghost use Rattle.dnp_master.specs.declared.task.Task.{Task};
@@ -25,10 +25,10 @@ ghost use Rattle.dnp_world.specs.declared.link_event.End.TheVariants as end;
 ghost use Rattle.dnp_world.specs.declared.link_event.LinkEvent.TheVariants as event;
 ghost use Rattle.dnp_world.specs.declared.link_event.Way.{Way};
 ghost use Rattle.dnp_world.specs.declared.parts.report.TheConstants.{NUMBERS};
-ghost use Rattle.dnp_world.specs.Behind.{Elsewhere, alone, IsBehind, IsUntouched, Links, Turn, made_at, with_links};
+ghost use Rattle.dnp_world.specs.Behind.{Elsewhere, alone, IsBehind, IsUntouched, Links, OneEvent, made_at, with_links};
 ghost use Rattle.dnp_world.specs.Channels.{DamagesAt};
 ghost use Rattle.dnp_world.specs.Joined.{rows_made_by};
-ghost use Rattle.dnp_world.specs.Kept.{AreMapped, Kept, commands_below, nothing_kept, order_of, orders_in, report_of, rows_below, shown_of, used_orders};
+ghost use Rattle.dnp_world.specs.Kept.{AreMapped, KeptLists, commands_below, nothing_kept, order_of, orders_in, report_of, rows_below, shown_of, used_orders};
 ghost use Rattle.dnp_world.specs.ReportShown.{ListsAll, Shows};
 ghost use Rattle.dnp_world.specs.OneLinkEvents.{is_own};
 ghost use Rattle.dnp_world.specs.Reports.{Holds, IsFate, Report as ReportValue};
@@ -52,14 +52,14 @@ use dnp_pointdb::laws::points_stay_sound;
 /// counted, and no command is performed more often than it was issued. What happened by several lists of events is what
 /// happened by one after the other, and in which order the queue is shown is no matter.
 pub fn lists_are_of_links()
-    ensures holds { (indices : List Spans) (el : Elsewhere) (links : Links) (k : Kept) → IsBehind indices el links k → Holds (shown_of indices k) }
-    ensures mapped { (indices : List Spans) (el : Elsewhere) (links : Links) (k : Kept) → IsBehind indices el links k → AreMapped indices k }
+    ensures holds { (indices : List Spans) (el : Elsewhere) (links : Links) (k : KeptLists) → IsBehind indices el links k → Holds (shown_of indices k) }
+    ensures mapped { (indices : List Spans) (el : Elsewhere) (links : Links) (k : KeptLists) → IsBehind indices el links k → AreMapped indices k }
     ensures at_first { (indices : List Spans) (links : Links) → ((i : ℕ) → IsUntouched (links.below i))
         → IsUntouched links.above → IsBehind indices alone links nothing_kept }
-    ensures kept { (indices : List Spans) (el : Elsewhere) (substation : ℕ) (links : Links) (old new : Kept) → IsBehind indices el links old
-        → (turn : Turn indices substation links old new) → IsBehind indices el (with_links links substation turn.below turn.above) new }
-    ensures fate { (indices : List Spans) (el : Elsewhere) (substation : ℕ) (links : Links) (old new : Kept) → IsBehind indices el links old
-        → (turn : Turn indices substation links old new)
+    ensures kept { (indices : List Spans) (el : Elsewhere) (substation : ℕ) (links : Links) (old new : KeptLists) → IsBehind indices el links old
+        → (turn : OneEvent indices substation links old new) → IsBehind indices el (with_links links substation turn.below turn.above) new }
+    ensures fate { (indices : List Spans) (el : Elsewhere) (substation : ℕ) (links : Links) (old new : KeptLists) → IsBehind indices el links old
+        → (turn : OneEvent indices substation links old new)
         → IsFate (made_at substation turn.here.made) (shown_of indices old) (shown_of indices new) }
     ensures joined { (first second : ℕ → List RowValue) (a b c : ReportValue) → IsFate first a b → IsFate second b c
         → IsFate (λ i. first i ++ second i) a c }

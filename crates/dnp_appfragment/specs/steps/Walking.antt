@@ -9,23 +9,23 @@ use Rattle.dnp_objects.specs.Relative.{relative_row}
 use Rattle.dnp_objects.specs.declared.row.Row.{Row}
 use Rattle.dnp_objects.specs.declared.table.Shape.{Shape}
 use Rattle.dnp_appfragment.specs.declared.header.Range.{Range}
-use Rattle.dnp_appfragment.specs.declared.row_walk.Carried.{Carried}
-use Rattle.dnp_appfragment.specs.declared.row_walk.Carried.TheVariants as carried
+use Rattle.dnp_appfragment.specs.declared.row_walk.RowForm.{RowForm}
+use Rattle.dnp_appfragment.specs.declared.row_walk.RowForm.TheVariants as carried
 use Rattle.dnp_appfragment.specs.Headers.{Head, head_of, count_of, is_relative}
 use Rattle.dnp_appfragment.specs.Reading.{index_at}
 use Rattle.dnp_appfragment.specs.Meaning.{bit_in, common_in}
 
 -- what a header of this object carries, whose times stand whole
-abbrev pub carried_by : ℕ → ℕ → Carried
+abbrev pub carried_by : ℕ → ℕ → RowForm
 carried_by group variation =
     if (group == 1) && (variation == 1) then carried.Bits
     else option_map_or (λ shape. carried.Rows shape) (shape_read group variation) carried.Nothing
 
 -- and one whose times are given after its common time
-abbrev pub relative_by : Head → Carried
+abbrev pub relative_by : Head → RowForm
 relative_by h = option_map_or (λ common. carried.Relative common) (common_in h) carried.Nothing
 
-abbrev pub carried_in : Head → Carried
+abbrev pub carried_in : Head → RowForm
 carried_in h = if is_relative h.group h.variation then relative_by h else carried_by h.group h.variation
 
 -- an object at the front: its index, its octets, and those after it
@@ -67,19 +67,19 @@ unfoldable pub bits_left : Range → List ℕ → ℕ → ℕ → List Row
 bits_left range octets zero k = []
 bits_left range octets (suc n) k = option_map_or (λ row. row ∷ bits_left range octets n (k + 1)) (bit_in (head_of 1 1 range octets) k) []
 
-abbrev pub rows_left : Carried → Range → List ℕ → ℕ → ℕ → List Row
+abbrev pub rows_left : RowForm → Range → List ℕ → ℕ → ℕ → List Row
 rows_left carried.Bits range octets k left = bits_left range octets left k
 rows_left (carried.Rows shape) range octets k left = shaped_left shape range left k octets
 rows_left (carried.Relative common) range octets k left = relative_left common range left k octets
 rows_left carried.Nothing range octets k left = []
 
 -- what is so of each walk
-abbrev pub IsCarried : Carried → Type 0
-IsCarried carried.Bits = ⊤
-IsCarried (carried.Rows shape) = IsShape shape
-IsCarried (carried.Relative common) = common < 2 ^ 62
-IsCarried carried.Nothing = ⊤
+abbrev pub IsRowForm : RowForm → Type 0
+IsRowForm carried.Bits = ⊤
+IsRowForm (carried.Rows shape) = IsShape shape
+IsRowForm (carried.Relative common) = common < 2 ^ 62
+IsRowForm carried.Nothing = ⊤
 
-pub record IsWalk (carried : Carried) (range : Range) (k left : ℕ) : Type 0 where
-  pub sound : IsCarried carried
+pub record IsWalk (carried : RowForm) (range : Range) (k left : ℕ) : Type 0 where
+  pub sound : IsRowForm carried
   pub within : k + left ≤ count_of range

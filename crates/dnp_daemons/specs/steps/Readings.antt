@@ -5,7 +5,7 @@ use Rattle.dnp_daemons.specs.declared.script.checking.ScriptText.{ScriptText}
 use Rattle.dnp_daemons.specs.declared.run.ScriptStop.{ScriptStop}
 use Rattle.dnp_daemons.specs.declared.run.ScriptStop.TheVariants as stop
 use Rattle.dnp_daemons.specs.Scripted.{Law}
-use Rattle.dnp_daemons.specs.ScriptRuns.{EndsBy, IsUnread}
+use Rattle.dnp_daemons.specs.ScriptRuns.{ScriptEndsBy, IsUnread}
 use Rattle.dnp_daemons.specs.steps.Judging.{reading_by}
 use Rattle.dnp_daemons.specs.Words.{lines_of}
 
@@ -15,7 +15,7 @@ Says script lines = map (reading_by script.carried script.substations) (lines_of
 
 -- how a script ends that is read as it runs, and what was written
 abbrev pub TextEndsBy : {State : Type 0} → Law State → State → List ScriptLine → Result ⊤ ScriptStop → State → Option (List ℕ) → Option (List ℕ) → Type 0
-TextEndsBy law old script (Ok done) new held held' = EndsBy law old script (Ok done) new held held'
-TextEndsBy law old script (Err (stop.Stopped done)) new held held' = EndsBy law old script (Err (stop.Stopped done)) new held held'
-TextEndsBy law old script (Err stop.WriteFailed) new held held' = EndsBy law old script (Err stop.WriteFailed) new held held'
+TextEndsBy law old script (Ok done) new held held' = ScriptEndsBy law old script (Ok done) new held held'
+TextEndsBy law old script (Err (stop.Stopped done)) new held held' = ScriptEndsBy law old script (Err (stop.Stopped done)) new held held'
+TextEndsBy law old script (Err stop.WriteFailed) new held held' = ScriptEndsBy law old script (Err stop.WriteFailed) new held held'
 TextEndsBy law old script (Err (stop.Fault cause)) new held held' = IsUnread law old script cause new held held'

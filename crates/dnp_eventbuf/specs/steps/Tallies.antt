@@ -5,7 +5,7 @@ use Rattle.dnp_objects.specs.declared.limits.TheConstants.{MAX_ID}
 use Rattle.dnp_objects.specs.Lanes.{lane_number}
 use Rattle.dnp_objects.specs.declared.lane.LaneRow.{LaneRow}
 use Rattle.dnp_eventbuf.specs.declared.tally.Tally.{Tally}
-use Rattle.dnp_eventbuf.specs.Stock.{LaneState}
+use Rattle.dnp_eventbuf.specs.EventBuffer.{LaneState}
 
 abbrev pub tally_of : LaneState → Tally
 tally_of lane = record { free = lane.capacity - length lane.rows; lost = lane.lost }

@@ -5,7 +5,7 @@ use Rattle.dnp_linkframe.specs.declared.frame.Frame.{Frame}
 use Rattle.dnp_linkstation.specs.Control.{primary_function}
 use Rattle.dnp_linkstation.specs.Station.{Ends, opposite, is_for, sent}
 use Rattle.dnp_linkstation.specs.declared.function.PrimaryFunction.TheVariants.{UnconfirmedUserData}
-use Rattle.dnp_transport.specs.Assembly.{Idle, Stands}
+use Rattle.dnp_transport.specs.Assembly.{Idle, ArePushed}
 use Rattle.dnp_transport.specs.Cuts.{cut_count, begun_cuts}
 use Rattle.dnp_transport.specs.Laws.{CutsGiveWhole, SaysItsPlace, OpenBy, WholeBy}
 use Rattle.dnp_transport.specs.Series.{joined, IsOpen, IsWhole}
@@ -21,4 +21,4 @@ pub record Lower : Type 0 where
   pub opens : (before series : List (List ℕ)) (segment : List ℕ) → IsOpen (segment ∷ before) series → OpenBy before segment series
   pub completes : (before : List (List ℕ)) (segment fragment : List ℕ) → IsWhole (segment ∷ before) fragment → WholeBy before segment fragment
   pub none_open : (series : List (List ℕ)) → IsOpen [] series → ⊥
-  pub idle : Stands [] Idle
+  pub idle : ArePushed [] Idle

@@ -12,16 +12,16 @@ use Rattle.dnp_outstation.specs.Controls.{Outcome, alike, headers_with, number_i
 use Rattle.dnp_outstation.specs.declared.controls.decision.Decision.{Decision}
 use Rattle.dnp_outstation.specs.declared.controls.decision.Standing.{Standing}
 use Rattle.dnp_outstation.specs.declared.controls.decision.Standing.TheVariants.{Stays, Ends, Begins}
-use Rattle.dnp_outstation.specs.declared.controls.told.Told.{Told}
-use Rattle.dnp_outstation.specs.declared.controls.told.Told.TheVariants.{Alike, Checked}
+use Rattle.dnp_outstation.specs.declared.controls.told.Statuses.{Statuses}
+use Rattle.dnp_outstation.specs.declared.controls.told.Statuses.TheVariants.{Alike, Checked}
 
 -- the status of each command
-abbrev pub code_by : Panel → Told → Command → ℕ
+abbrev pub code_by : Panel → Statuses → Command → ℕ
 code_by o (Alike code) = alike code
 code_by o Checked = o.check
 
 -- what commands are told, of which the outputs carry out so many
-abbrev pub told_of : ℕ → List Command → Told
+abbrev pub told_of : ℕ → List Command → Statuses
 told_of most commands = if nat_lt most (length commands) then Alike status.too_many_objs else Checked
 
 abbrev pub few_of : ℕ → List Command → List Command

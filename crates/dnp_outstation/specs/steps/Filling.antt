@@ -12,9 +12,9 @@ use Rattle.dnp_appfragment.specs.Headers.{head_after, last_time, number}
 use Rattle.dnp_appfragment.specs.declared.header.Range.TheVariants as range
 use Rattle.dnp_appfragment.specs.Items.{Item as Object}
 use Rattle.dnp_appfragment.specs.Written as written
-use Rattle.dnp_eventbuf.specs.Stock.{Stock, lane_at, without}
+use Rattle.dnp_eventbuf.specs.EventBuffer.{EventBuffer, lane_at, without}
 use Rattle.dnp_objects.specs.declared.limits.TheConstants.{MAX_FRAGMENT}
-use Rattle.dnp_outstation.specs.declared.offer.place.Place.{Place}
+use Rattle.dnp_outstation.specs.declared.offer.place.ReadPlace.{ReadPlace}
 use Rattle.dnp_outstation.specs.declared.offer.place.RowPart.{RowPart}
 use Rattle.dnp_outstation.specs.declared.offer.place.Wanted.{Wanted}
 use Rattle.dnp_outstation.specs.declared.offer.place.Wanted.TheVariants.{Rows, EachGroup, OneGroup}
@@ -42,12 +42,12 @@ part_by s EachGroup = StaticsOf (each_static s)
 part_by s (OneGroup group asked r) = StaticsOf (in_range r (statics_of s asked group))
 
 -- the lanes as they are after a release, if there is one
-abbrev pub after_release : Stock → Option (List ℕ) → Stock
+abbrev pub after_release : EventBuffer → Option (List ℕ) → EventBuffer
 after_release s None = s
 after_release s (Some upto) = without s upto
 
 -- one of these lanes holds rows
-abbrev pub has_rows_in : Stock → List ℕ → Bool
+abbrev pub has_rows_in : EventBuffer → List ℕ → Bool
 has_rows_in s lanes = list_any (λ lane. nat_lt 0 (length (lane_at s lane).rows)) lanes
 
 -- up to which id the rows of a lane are released
@@ -78,10 +78,10 @@ abbrev pub no_headers : Built
 no_headers = no_headers_of function.Response
 
 -- an empty fragment of this function, for what has come to a place
-abbrev pub empty_for : Function → Place → Writer
+abbrev pub empty_for : Function → ReadPlace → Writer
 empty_for f place = record { builder = no_headers_of f; run = NoRun; place = place; upto = no_ids; waiting = waiting.Nothing }
 
-abbrev pub empty_from : Place → Writer
+abbrev pub empty_from : ReadPlace → Writer
 empty_from place = empty_for function.Response place
 
 -- the common time that the times of a run are told after, if there is one

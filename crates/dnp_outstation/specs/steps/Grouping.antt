@@ -4,7 +4,7 @@ use Rattle.std.specs.Prelude.{ℕ, Bool, if◌then◌else◌, List, [], ◌∷�
 use Rattle.dnp_outstation.specs.declared.offer.grouping.Coming.{Coming}
 use Rattle.dnp_outstation.specs.declared.offer.grouping.Waiting.{Waiting}
 use Rattle.dnp_outstation.specs.declared.offer.grouping.Waiting.TheVariants as waiting
-use Rattle.dnp_outstation.specs.declared.offer.grouping.Told.{Told}
+use Rattle.dnp_outstation.specs.declared.offer.grouping.Timed.{Timed}
 use Rattle.dnp_outstation.specs.declared.offer.grouping.Given.{Given}
 use Rattle.dnp_outstation.specs.declared.offer.grouping.Given.TheVariants as given
 use Rattle.dnp_outstation.specs.Forms.{reaches_by, time_of, told_after, told_by}
@@ -73,7 +73,7 @@ waiting_items (waiting.One x) = item_in x ∷ []
 waiting_items (waiting.Two pair) = item_in pair.first ∷ item_in pair.second ∷ []
 waiting_items (waiting.Within first) = []
 
-abbrev pub told_in : Told → Laid
+abbrev pub told_in : Timed → Laid
 told_in x = told_by x.common (item_in x.row)
 
 abbrev pub given_in : Given → List Laid

@@ -6,8 +6,8 @@ use Rattle.dnp_objects.specs.Lanes.{lane_number}
 use Rattle.dnp_objects.specs.declared.limits.TheConstants.{MAX_FRAGMENT}
 use Rattle.dnp_objects.specs.declared.row.Kind.{Kind}
 use Rattle.dnp_eventbuf.specs.declared.numbered.Numbered.{Numbered}
-use Rattle.dnp_eventbuf.specs.Sound.{IsSound}
-use Rattle.dnp_eventbuf.specs.Stock.{Stock, lane_at, is_full}
+use Rattle.dnp_eventbuf.specs.Sound.{IsSoundBuffer}
+use Rattle.dnp_eventbuf.specs.EventBuffer.{EventBuffer, lane_at, is_full}
 use Rattle.dnp_outstation.specs.declared.held.HeldClass.{HeldClass}
 use Rattle.dnp_outstation.specs.declared.held.HeldRows.{HeldRows}
 use Rattle.dnp_outstation.specs.declared.held.NewRow.{NewRow}
@@ -25,17 +25,17 @@ pub record AreFirst (all rows : List Numbered) : Type 0 where
   pub is : rows ≡ take most all
 
 -- those of a lane are held
-abbrev pub IsLaneHeld : Stock → ℕ → List Numbered → Type 0
+abbrev pub IsLaneHeld : EventBuffer → ℕ → List Numbered → Type 0
 IsLaneHeld s lane rows = AreFirst (lane_at s lane).rows rows
 
-pub record IsClassHeld (s : Stock) (class : ℕ) (held : HeldClass) : Type 0 where
+pub record IsClassHeld (s : EventBuffer) (class : ℕ) (held : HeldClass) : Type 0 where
   pub binary : IsLaneHeld s (3 * class) held.binary.items
   pub counter : IsLaneHeld s (3 * class + 1) held.counter.items
   pub analog : IsLaneHeld s (3 * class + 2) held.analog.items
 
 -- so they are of the classes that are enabled
-pub record IsHeld (s : Stock) (enabled : List Bool) (held : HeldRows) : Type 0 where
-  pub sound : IsSound s
+pub record IsHeld (s : EventBuffer) (enabled : List Bool) (held : HeldRows) : Type 0 where
+  pub sound : IsSoundBuffer s
   pub first : slice_index_or enabled 0 false ≡ true → IsClassHeld s 0 held.first
   pub second : slice_index_or enabled 1 false ≡ true → IsClassHeld s 1 held.second
   pub third : slice_index_or enabled 2 false ≡ true → IsClassHeld s 2 held.third
@@ -53,7 +53,7 @@ pub record AreEvents (held : HeldRows) : Type 0 where
 -- ---- the row that is appended
 
 -- the row as its lane has it then, and whether that lane dropped its oldest row for it
-abbrev pub new_of : Stock → Option LaneRow → Option NewRow
+abbrev pub new_of : EventBuffer → Option LaneRow → Option NewRow
 new_of s None = None
 new_of s (Some x) = Some (record {
   lane = lane_number x.lane;

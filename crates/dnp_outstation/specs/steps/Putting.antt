@@ -7,7 +7,7 @@ use Rattle.dnp_objects.specs.declared.row.Kind.TheVariants.{Binary, Counter, Ana
 use Rattle.dnp_pointdb.specs.declared.state.PointState.{PointState}
 use Rattle.dnp_pointdb.specs.Events.{row_of}
 use Rattle.dnp_pointdb.specs.Sound.{static_object}
-use Rattle.dnp_outstation.specs.declared.offer.place.Place.{Place}
+use Rattle.dnp_outstation.specs.declared.offer.place.ReadPlace.{ReadPlace}
 use Rattle.dnp_outstation.specs.declared.offer.writer.Writer.{Writer}
 use Rattle.dnp_appfragment.specs.Built.{size}
 use Rattle.dnp_outstation.specs.declared.offer.grouping.Given.{Given}
@@ -100,7 +100,7 @@ rows_from kind index [] = []
 rows_from kind index (p ∷ ps) = row_of kind index p.reading ∷ rows_from kind (index + 1) ps
 
 -- where a READ has come to once so many present values of a header were given
-abbrev pub passed_by : Place → ℕ → ℕ → Place
+abbrev pub passed_by : ReadPlace → ℕ → ℕ → ReadPlace
 passed_by place header count = record {
   header = header;
   count = min ((if place.header == header then place.count else 0) + count) (2 ^ 32 - 1);

@@ -5,7 +5,7 @@ ghost use Rattle.dnp_appfragment.specs.Seen.{head};
 ghost use Rattle.dnp_outstation.specs.Controls.{commands_in, commands_of};
 ghost use Rattle.dnp_outstation.specs.steps.Deciding.{told_of, few_of};
 
-use crate::controls::told::Told;
+use crate::controls::told::Statuses;
 use dnp_appfragment::{Header, Headers};
 use dnp_controls::MAX_COMMANDS;
 use dnp_objects::{Command, Status};
@@ -95,7 +95,7 @@ impl Commands {
 
     /// Takes the commands of these headers in place of those that were there, or none where they are more
     /// than `most`; answers what they are told.
-    pub(crate) fn gather(&mut self, most: usize, headers: Headers<'_>) -> Told
+    pub(crate) fn gather(&mut self, most: usize, headers: Headers<'_>) -> Statuses
         requires { most ≤ MAX_COMMANDS }
         ensures told { result ≡ told_of most (commands_in headers.entry.headers) }
         ensures commands { self.new ≡ few_of most (commands_in headers.entry.headers) }
@@ -104,9 +104,9 @@ impl Commands {
         for header in headers {
             if !self.append(most, &header) {
                 self.clear();
-                return Told::Alike(Status::TOO_MANY_OBJS);
+                return Statuses::Alike(Status::TOO_MANY_OBJS);
             }
         }
-        Told::Checked
+        Statuses::Checked
     }
 }

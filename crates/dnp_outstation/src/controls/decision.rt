@@ -13,7 +13,7 @@ ghost use Rattle.dnp_outstation.specs.Controls.{checked, commands_in, selects, o
 ghost use Rattle.dnp_outstation.specs.steps.Deciding.{outcome_by, told_of, few_of};
 
 use crate::controls::commands::Commands;
-use crate::controls::told::Told;
+use crate::controls::told::Statuses;
 use dnp_appfragment::{Control, Function, Headers};
 use dnp_controls::{Outputs, Selects};
 use dnp_objects::{Command, Status};
@@ -31,7 +31,7 @@ pub(crate) enum Standing {
 #[derive(Clone, Copy)]
 pub(crate) struct Decision {
     pub standing: Standing,
-    pub told: Told,
+    pub told: Statuses,
 }
 
 /// Whether the check of each command is SUCCESS.
@@ -47,13 +47,13 @@ fn are_accepted<O: Outputs>(outputs: &O, commands: &[Command]) -> bool
 }
 
 /// Whether a SELECT of these commands, which are told this, stands.
-fn stands<O: Outputs>(outputs: &O, told: &Told, commands: &[Command]) -> bool
+fn stands<O: Outputs>(outputs: &O, told: &Statuses, commands: &[Command]) -> bool
     ensures { (all : List CommandValue) → told.now ≡ told_of (O.panel outputs.now).most all → commands.now ≡ few_of (O.panel outputs.now).most all
         → result ≡ list_all (λ command. checked (O.panel outputs.now) all command == status.success) all }
 {
     match *told {
-        Told::Checked => are_accepted(outputs, commands),
-        Told::Alike(_) => false,
+        Statuses::Checked => are_accepted(outputs, commands),
+        Statuses::Alike(_) => false,
     }
 }
 
@@ -105,12 +105,12 @@ fn operate<O: Outputs>(
 {
     let standing = Standing::Ends;
     let told = commands.gather(outputs.most(), headers);
-    if let Told::Checked = told {
+    if let Statuses::Checked = told {
         let seq = Control::read(octets[0]).seq;
         let status = selects.answer(now, seq, &octets[2..], select_ms);
         if status != Status::SUCCESS {
             commands.clear();
-            let told = Told::Alike(status);
+            let told = Statuses::Alike(status);
             return Decision { standing, told };
         }
     }

@@ -23,21 +23,21 @@ const FEW: usize = 64;
 
 /// What the commands of a request are answered.
 #[derive(Clone, Copy)]
-pub(crate) enum Told {
+pub(crate) enum Statuses {
     /// All the same.
     Alike(Status),
     /// Each its check.
     Checked,
 }
 
-impl Told {
+impl Statuses {
     /// The number of the status that a command is answered.
     fn code<O: Outputs>(&self, outputs: &O, command: &Command) -> u8
         ensures { result ≡ code_by (O.panel outputs.now) self.now command.now }
     {
         match *self {
-            Told::Alike(status) => status.code(),
-            Told::Checked => outputs.check(command).code(),
+            Statuses::Alike(status) => status.code(),
+            Statuses::Checked => outputs.check(command).code(),
         }
     }
 
@@ -73,7 +73,7 @@ fn push_object<const N: usize>(octets: &mut ArrayVec<u8, N>, object: &[u8], code
 fn fill<const N: usize, O: Outputs>(
     octets: &mut ArrayVec<u8, N>,
     outputs: &O,
-    told: &Told,
+    told: &Statuses,
     header: &Header<'_>,
 )
     requires empty { octets.old.items ≡ [] }
@@ -100,7 +100,7 @@ impl Writer {
         &mut self,
         octets: &mut ArrayVec<u8, N>,
         outputs: &O,
-        told: &Told,
+        told: &Statuses,
         header: &Header<'_>,
     )
         requires empty { octets.old.items ≡ [] }
@@ -124,7 +124,7 @@ impl Writer {
     /// The same where the objects may have as many octets as a fragment. It stands apart, since room for so many is
     /// cleared first.
     #[inline(never)]
-    fn put_many<O: Outputs>(&mut self, outputs: &O, told: &Told, header: &Header<'_>)
+    fn put_many<O: Outputs>(&mut self, outputs: &O, told: &Statuses, header: &Header<'_>)
         requires whole { IsHeader form.Command (head header.now) }
         requires alone { (head header.now).common ≡ None }
         requires response { self.old.builder.function ≡ function.Response }
@@ -138,7 +138,7 @@ impl Writer {
     }
 
     /// Puts a header of commands, each with its status.
-    fn put_answered<O: Outputs>(&mut self, outputs: &O, told: &Told, header: &Header<'_>)
+    fn put_answered<O: Outputs>(&mut self, outputs: &O, told: &Statuses, header: &Header<'_>)
         requires whole { IsHeader form.Command (head header.now) }
         requires alone { (head header.now).common ≡ None }
         requires response { self.old.builder.function ≡ function.Response }
@@ -156,7 +156,12 @@ impl Writer {
     }
 
     /// Puts the headers of a request, each command with its status.
-    pub(crate) fn put_answers<O: Outputs>(&mut self, outputs: &O, told: &Told, headers: Headers<'_>)
+    pub(crate) fn put_answers<O: Outputs>(
+        &mut self,
+        outputs: &O,
+        told: &Statuses,
+        headers: Headers<'_>,
+    )
         requires whole { AreHeaders form.Command begin headers.headers }
         requires response { self.old.builder.function ≡ function.Response }
         requires room { size self.old.builder + length (spelled headers.headers) ≤ MAX_FRAGMENT }

@@ -3,8 +3,8 @@
 ghost use Rattle.std.specs.Prelude.{if◌then◌else◌, ◌≡◌, ◌≢◌, ◌<◌, ◌≤◌, ◌-◌, false, true, IsTrue, IfOk, IfErr, IfSome, Err, [], length};
 ghost use Rattle.dnp_appfragment.specs.declared.function.Function.TheVariants as function;
 ghost use Rattle.dnp_appfragment.specs.Table.{is_response};
-ghost use Rattle.dnp_eventbuf.specs.Sound.{IsSound};
-ghost use Rattle.dnp_eventbuf.specs.Stock.{rows_in};
+ghost use Rattle.dnp_eventbuf.specs.Sound.{IsSoundBuffer};
+ghost use Rattle.dnp_eventbuf.specs.EventBuffer.{rows_in};
 ghost use Rattle.dnp_outstation.specs.Items.{class_lanes, lane_items, enabled_lanes, first_place};
 ghost use Rattle.dnp_outstation.specs.steps.Filling.{after_release, empty_for, ended};
 ghost use Rattle.dnp_outstation.specs.steps.Grouping.{mark};
@@ -45,7 +45,7 @@ impl Writer {
     ) -> Result<bool, StoreFault>
         requires response { IsTrue (is_response self.old.builder.function) }
         requires class { class < 3 }
-        requires sound { L.honest lanes.old → IsSound (L.contents lanes.old) }
+        requires sound { L.honest lanes.old → IsSoundBuffer (L.contents lanes.old) }
         ensures written { L.honest lanes.new → IfOk result (λ fit. Puts self.old
             (mark true (lane_items (after_release (L.contents lanes.old) released.now) (if is_enabled then class_lanes class else []))) fit self.new) }
         ensures response { self.new.builder.function ≡ self.old.builder.function }
@@ -80,7 +80,7 @@ impl Writer {
         released: &Option<Upto>,
     ) -> Result<bool, StoreFault>
         requires response { IsTrue (is_response self.old.builder.function) }
-        requires sound { L.honest lanes.old → IsSound (L.contents lanes.old) }
+        requires sound { L.honest lanes.old → IsSoundBuffer (L.contents lanes.old) }
         ensures written { L.honest lanes.new → IfOk result (λ fit. Puts self.old
             (mark true (lane_items (after_release (L.contents lanes.old) released.now) (enabled_lanes 0 enabled))) fit self.new) }
         ensures response { self.new.builder.function ≡ self.old.builder.function }
@@ -115,10 +115,8 @@ pub(crate) fn put_enabled<L: Lanes>(
 {
     // Whatever the lanes say without a refusal says that ids rise from 1 on.
     let _raised = lanes.raised();
-    let mut rows = fetched.take(alloc);
-    let fit = writer.put_classes(alloc, lanes, &mut rows, enabled, released)?;
-    fetched.keep(rows);
-    if !fit {
+    let rows = fetched.rows(alloc);
+    if !writer.put_classes(alloc, lanes, rows, enabled, released)? {
         return Ok(false);
     }
     Ok(writer.settle())

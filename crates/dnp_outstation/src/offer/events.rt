@@ -16,7 +16,7 @@ ghost use Rattle.dnp_outstation.specs.steps.Filling.{built_for, continues, put, 
 ghost use Rattle.dnp_outstation.specs.steps.Grouping.{marked, item_in, marked_in, told_in, given_in, open_in, laid_from};
 ghost use Rattle.dnp_outstation.specs.steps.Putting.{Puts, PutsLaid, least_octets, least_given, weight};
 
-use crate::offer::grouping::{Coming, Given, Known, Told, Waiting, reaches};
+use crate::offer::grouping::{Coming, Given, Known, Timed, Waiting, reaches};
 use crate::offer::writer::{Run, Writer};
 use dnp_appfragment::laws::a_common_time_stays;
 use dnp_eventbuf::{Numbered, Upto};
@@ -154,7 +154,7 @@ impl Writer {
 
     /// Puts a row as it is to be told, if it fits; answers whether it does.
     #[inline]
-    fn put_told(&mut self, x: &Told) -> bool
+    fn put_told(&mut self, x: &Timed) -> bool
         requires response { IsTrue (is_response self.old.builder.function) }
         ensures fits { IsTrue result → self.new ≡ put_laid self.old (told_in x.now) }
         ensures room { result ≡ fits (put_laid self.old (told_in x.now)) }
@@ -171,7 +171,7 @@ impl Writer {
     }
 
     /// Puts a row that is given, if it fits; answers whether it does.
-    fn put_one(&mut self, a: &Told) -> bool
+    fn put_one(&mut self, a: &Timed) -> bool
         requires response { IsTrue (is_response self.old.builder.function) }
         ensures written { PutsLaid self.old (told_in a.now ∷ []) result self.new }
         ensures given { IsTrue result → self.new.place.given ≡ fold given_after self.old.place.given (map item_of (told_in a.now ∷ [])) }
@@ -184,7 +184,7 @@ impl Writer {
     }
 
     /// Puts two, one after the other, as far as they fit; answers whether both do.
-    fn put_two(&mut self, a: &Told, b: &Told) -> bool
+    fn put_two(&mut self, a: &Timed, b: &Timed) -> bool
         requires response { IsTrue (is_response self.old.builder.function) }
         ensures written { PutsLaid self.old (told_in a.now ∷ told_in b.now ∷ []) result self.new }
         ensures given { IsTrue result → self.new.place.given ≡ fold given_after self.old.place.given (map item_of (told_in a.now ∷ told_in b.now ∷ [])) }
@@ -200,7 +200,7 @@ impl Writer {
     }
 
     /// Puts three, one after the other, as far as they fit; answers whether all do.
-    fn put_three(&mut self, a: &Told, b: &Told, c: &Told) -> bool
+    fn put_three(&mut self, a: &Timed, b: &Timed, c: &Timed) -> bool
         requires response { IsTrue (is_response self.old.builder.function) }
         ensures written { PutsLaid self.old (told_in a.now ∷ told_in b.now ∷ told_in c.now ∷ []) result self.new }
         ensures given { IsTrue result → self.new.place.given ≡ fold given_after self.old.place.given (map item_of (told_in a.now ∷ told_in b.now ∷ told_in c.now ∷ [])) }

@@ -17,16 +17,8 @@ impl Fetched {
         Fetched { rows: None }
     }
 
-    /// The rows, to be fetched into, and to be given back by `keep`. Where a call is refused they may go instead.
-    pub(crate) fn take(&mut self, alloc: Global) -> Vec<Numbered> {
-        match self.rows.take() {
-            Some(rows) => rows,
-            None => Vec::new(alloc),
-        }
-    }
-
-    /// Keeps the rows for the next fragment.
-    pub(crate) fn keep(&mut self, rows: Vec<Numbered>) {
-        self.rows = Some(rows);
+    /// The rows, to be fetched into, in place of what stands there.
+    pub(crate) fn rows(&mut self, alloc: Global) -> &mut Vec<Numbered> {
+        self.rows.get_or_insert_with(|| Vec::new(alloc))
     }
 }

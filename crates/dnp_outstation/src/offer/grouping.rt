@@ -44,7 +44,7 @@ pub enum Waiting {
 
 /// A row, and the common time that it is told after, if there is one.
 #[derive(Clone, Copy, Debug)]
-pub struct Told {
+pub struct Timed {
     pub row: Coming,
     pub common: Option<u64>,
     ghost tells: { IfSome common (λ common. FitsRelative common row.row.row) } by { Prim.hlevel props },
@@ -65,9 +65,9 @@ pub enum Known {
 #[derive(Clone, Copy, Debug)]
 pub enum Given {
     Nothing,
-    First(Told),
-    Second(Told, Told),
-    Third(Told, Told, Told),
+    First(Timed),
+    Second(Timed, Timed),
+    Third(Timed, Timed, Timed),
 }
 
 /// Whether the second time is the first one, or so little after it that two octets tell by how much.
@@ -109,25 +109,25 @@ impl Coming {
     }
 }
 
-impl Told {
+impl Timed {
     ghost use Rattle.dnp_outstation.specs.Layout.{lay};
     ghost use Rattle.dnp_outstation.specs.steps.Grouping.{item_in, told_in};
 
     /// The row as its own object.
-    fn own(row: Coming) -> Told
+    fn own(row: Coming) -> Timed
         ensures { told_in result ≡ lay (item_in row) }
     {
-        Told { row, common: None }
+        Timed { row, common: None }
     }
 
     /// The row after the time of the first of its group.
     #[tactic(auto, using(crate::proofs::Grouped::tells_after))]
-    fn after(first: Coming, row: Coming) -> Told
+    fn after(first: Coming, row: Coming) -> Timed
         requires near { forms.reaches_by first.is_open row.is_open (Event first.lane first.row) (Event row.lane row.row) ≡ true }
         ensures { told_in result ≡ forms.told_after (forms.time_of (item_in first)) (item_in row) }
     {
         let common = first.row.row.time.unwrap_or(0);
-        Told {
+        Timed {
             row,
             common: Some(common),
         }
@@ -135,11 +135,11 @@ impl Told {
 
     /// The first of two after its own time.
     #[tactic(auto, using(crate::proofs::Grouped::tells_begun))]
-    fn begun(pair: Pair) -> Told
+    fn begun(pair: Pair) -> Timed
         ensures { told_in result ≡ forms.told_after (forms.time_of (item_in pair.first)) (item_in pair.first) }
     {
         let common = pair.first.row.row.time.unwrap_or(0);
-        Told {
+        Timed {
             row: pair.first,
             common: Some(common),
         }
@@ -149,7 +149,7 @@ impl Told {
 impl Waiting {
     ghost use Rattle.std.specs.Prelude.{◌==◌, ◌≤◌, ◌+◌, ◌∷◌, ◌++◌, [], ℕ, Bool, false, List, length, map};
     ghost use Rattle.dnp_outstation.specs.declared.offer.grouping.Known.TheVariants as Known;
-    ghost use Rattle.dnp_outstation.specs.declared.offer.place.Place.{Place as PlaceValue};
+    ghost use Rattle.dnp_outstation.specs.declared.offer.place.ReadPlace.{ReadPlace as PlaceValue};
     ghost use Rattle.dnp_outstation.specs.Items.{Item};
     ghost use Rattle.dnp_outstation.specs.Layout.{Laid as LaidItem, item_of, lay, fits_fragment};
     ghost use Rattle.dnp_outstation.specs.Offer.{filled_with, longest};
@@ -229,17 +229,17 @@ impl Waiting {
         };
         match waiting {
             Waiting::Nothing | Waiting::Within(_) if begins => Given::Nothing,
-            Waiting::Nothing | Waiting::Within(_) => Given::First(Told::own(z)),
-            Waiting::One(x) if begins => Given::First(Told::own(x)),
-            Waiting::One(x) => Given::Second(Told::own(x), Told::own(z)),
+            Waiting::Nothing | Waiting::Within(_) => Given::First(Timed::own(z)),
+            Waiting::One(x) if begins => Given::First(Timed::own(x)),
+            Waiting::One(x) => Given::Second(Timed::own(x), Timed::own(z)),
             Waiting::Two(pair) if begins => Given::Second(
-                Told::own(pair.first),
-                Told::own(pair.second),
+                Timed::own(pair.first),
+                Timed::own(pair.second),
             ),
             Waiting::Two(pair) => Given::Third(
-                Told::own(pair.first),
-                Told::own(pair.second),
-                Told::own(z),
+                Timed::own(pair.first),
+                Timed::own(pair.second),
+                Timed::own(z),
             ),
         }
     }
@@ -262,9 +262,9 @@ impl Waiting {
             Waiting::Two(pair) if reaches(&pair.first, &z) => {
                 let (x, y) = (pair.first, pair.second);
                 *self = Waiting::Within(x);
-                Given::Third(Told::begun(pair), Told::after(x, y), Told::after(x, z))
+                Given::Third(Timed::begun(pair), Timed::after(x, y), Timed::after(x, z))
             }
-            Waiting::Within(first) if reaches(&first, &z) => Given::First(Told::after(first, z)),
+            Waiting::Within(first) if reaches(&first, &z) => Given::First(Timed::after(first, z)),
             _ => self.pass(z),
         }
     }
@@ -280,8 +280,8 @@ impl Waiting {
         *self = Waiting::Nothing;
         match waiting {
             Waiting::Nothing | Waiting::Within(_) => Given::Nothing,
-            Waiting::One(x) => Given::First(Told::own(x)),
-            Waiting::Two(pair) => Given::Second(Told::own(pair.first), Told::own(pair.second)),
+            Waiting::One(x) => Given::First(Timed::own(x)),
+            Waiting::Two(pair) => Given::Second(Timed::own(pair.first), Timed::own(pair.second)),
         }
     }
 }

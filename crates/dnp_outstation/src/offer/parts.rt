@@ -3,9 +3,9 @@
 ghost use Rattle.std.specs.Prelude.{◌≡◌, ◌≢◌, ◌<◌, ◌+◌, ◌^◌, false, fold, map, length, IsTrue, IfOk, IfErr, Err, [], ℕ, Bool};
 ghost use Rattle.dnp_appfragment.specs.Seen.{head};
 ghost use Rattle.dnp_appfragment.specs.Table.{is_response};
-ghost use Rattle.dnp_eventbuf.specs.Stock.{rows_in};
+ghost use Rattle.dnp_eventbuf.specs.EventBuffer.{rows_in};
 ghost use Rattle.dnp_outstation.specs.Items.{Source, part_of, part_after, part_items, parts_left, items_of, given_after};
-ghost use Rattle.dnp_outstation.specs.declared.offer.place.Place.{Place as PlaceValue};
+ghost use Rattle.dnp_outstation.specs.declared.offer.place.ReadPlace.{ReadPlace as PlaceValue};
 ghost use Rattle.dnp_outstation.specs.Forms.{leaves_open};
 ghost use Rattle.dnp_outstation.specs.steps.Filling.{after_release, empty_from, ended, reached};
 ghost use Rattle.dnp_outstation.specs.steps.Grouping.{mark, opened};
@@ -147,10 +147,8 @@ pub(crate) fn put_parts<L: Lanes, O: Outputs>(
     let first = writer.place.header;
     let given = writer.place.count;
     let left = headers.after(first);
-    let mut rows = fetched.take(alloc);
-    let fit = writer.put_headers(alloc, lanes, &mut rows, &from, first, given, left)?;
-    fetched.keep(rows);
-    if !fit {
+    let rows = fetched.rows(alloc);
+    if !writer.put_headers(alloc, lanes, rows, &from, first, given, left)? {
         return Ok(false);
     }
     Ok(writer.settle())

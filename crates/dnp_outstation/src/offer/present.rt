@@ -5,12 +5,12 @@ ghost use Rattle.std.specs.List.{flat_map};
 ghost use Rattle.dnp_appfragment.specs.Table.{is_response};
 ghost use Rattle.dnp_appfragment.specs.Written.{FitsPoint};
 ghost use Rattle.dnp_pointdb.specs.Events.{row_of};
-ghost use Rattle.dnp_pointdb.specs.Sound.{IsSoundPoint, IsSoundBlock, AreSound};
+ghost use Rattle.dnp_pointdb.specs.Sound.{IsSoundPoint, IsSoundBlock, AreSoundBlocks};
 ghost use Rattle.dnp_outstation.specs.Items.{present_of, static_at, is_within, in_range, statics_from, statics_in, output_row, outputs_from, statics_of, each_static, Source, Static, given_after};
 ghost use Rattle.dnp_outstation.specs.steps.Filling.{built_for, reached};
 ghost use Rattle.dnp_outstation.specs.steps.Putting.{Puts, shown, presents, rows_from, passed_by};
 
-use crate::offer::place::Place;
+use crate::offer::place::ReadPlace;
 use crate::offer::writer::{Run, Writer};
 use dnp_appfragment::{Range, RowSource};
 use dnp_controls::Outputs;
@@ -98,7 +98,7 @@ fn output_row(index: u16, status: u8) -> Row
     }
 }
 
-impl Place {
+impl ReadPlace {
     /// So many present values of this header were given.
     fn pass_by(&mut self, header: usize, count: u32)
         ensures { self.new ≡ passed_by self.old header count }
@@ -192,7 +192,7 @@ impl Writer {
     /// they fit; answers whether all do. What is still to be skipped is left in `skip`.
     fn put_blocks(&mut self, ask: Ask, kind: Kind, blocks: &[BlockState], skip: &mut usize) -> bool
         requires response { IsTrue (is_response self.old.builder.function) }
-        requires sound { AreSound kind blocks.now }
+        requires sound { AreSoundBlocks kind blocks.now }
         ensures written { Puts self.old (presents ask.header skip.old (in_range ask.range (statics_in ask.variation kind 0 blocks.now))) result self.new }
         ensures skipped { IsTrue result → skip.new ≡ skip.old - length (in_range ask.range (statics_in ask.variation kind 0 blocks.now)) }
         ensures response { self.new.builder.function ≡ self.old.builder.function }

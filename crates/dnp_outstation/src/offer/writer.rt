@@ -8,7 +8,7 @@ ghost use Rattle.dnp_appfragment.specs.declared.function.Function.TheVariants as
 ghost use Rattle.dnp_outstation.specs.steps.Filling.{put, fits, ended, empty_from, empty_for, is_same_run};
 
 use crate::offer::grouping::Waiting;
-use crate::offer::place::Place;
+use crate::offer::place::ReadPlace;
 use dnp_appfragment::{Builder, Function};
 use dnp_eventbuf::Numbered;
 use dnp_objects::{LANES, Row};
@@ -53,12 +53,12 @@ impl Run {
 pub struct Writer {
     pub builder: Builder,
     pub run: Run,
-    pub place: Place,
+    pub place: ReadPlace,
     pub upto: [u64; LANES],
     pub waiting: Waiting,
 }
 
-impl Place {
+impl ReadPlace {
     /// One item more of this header was given.
     fn pass(&mut self, header: usize)
         ensures { self.new ≡ passed self.old header }
@@ -86,7 +86,7 @@ impl Writer {
         Writer {
             builder: Builder::new(Function::Response, true),
             run: Run::NoRun,
-            place: Place {
+            place: ReadPlace {
                 header: 0,
                 count: 0,
                 given: [0; LANES],
@@ -97,7 +97,7 @@ impl Writer {
     }
 
     /// Starts over, with an empty fragment of this function for what has come to this place.
-    fn begin(&mut self, function: Function, place: Place)
+    fn begin(&mut self, function: Function, place: ReadPlace)
         requires { is_response function ≡ true }
         ensures { self.new ≡ empty_for function place }
     {
@@ -110,7 +110,7 @@ impl Writer {
 
     /// Starts over, with an empty fragment for a READ that has come to this place: so that one writer
     /// serves for many fragments.
-    pub(crate) fn restart(&mut self, place: Place)
+    pub(crate) fn restart(&mut self, place: ReadPlace)
         ensures { self.new ≡ empty_from place }
     {
         self.begin(Function::Response, place);
@@ -120,7 +120,7 @@ impl Writer {
     pub(crate) fn restart_unsolicited(&mut self)
         ensures { self.new ≡ empty_for function.UnsolicitedResponse first_place }
     {
-        let place = Place {
+        let place = ReadPlace {
             header: 0,
             count: 0,
             given: [0; LANES],

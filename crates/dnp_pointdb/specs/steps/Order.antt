@@ -7,8 +7,8 @@ use Rattle.std.specs.List.Sorted.{IsNonDecreasingBy}
 use Rattle.dnp_objects.specs.declared.row.Kind.{Kind}
 use Rattle.dnp_objects.specs.Lanes.{kind_number}
 use Rattle.dnp_pointdb.specs.declared.point.Block.{Block}
-use Rattle.dnp_pointdb.specs.declared.order.Orders.{Orders}
-use Rattle.dnp_pointdb.specs.declared.order.Place.{Place}
+use Rattle.dnp_pointdb.specs.declared.order.SortedBlocks.{SortedBlocks}
+use Rattle.dnp_pointdb.specs.declared.order.BlockPlace.{BlockPlace}
 use Rattle.dnp_pointdb.specs.declared.state.BlockState.{BlockState}
 use Rattle.dnp_pointdb.specs.Plan.{Plan, blocks_of}
 
@@ -36,7 +36,7 @@ place_in (e ∷ es) index =
     (if covers e index then Some (0, index - e.first) else option_map (λ p. (suc p.0, p.1)) (place_in es index))
 
 -- the place is that of its block
-abbrev pub IsPlaceOf : List Extent → Place → Type 0
+abbrev pub IsPlaceOf : List Extent → BlockPlace → Type 0
 IsPlaceOf es place =
     (0 < place.count)
     × (place.block < length es)
@@ -49,16 +49,16 @@ AreApart es =
     → covers (slice_index_or es i d) index ≡ true → covers (slice_index_or es j d') index ≡ true → ⊥
 
 -- the places of the blocks that have points, by rising base
-pub record IsOrder (es : List Extent) (order : List Place) : Type 0 where
+pub record IsOrder (es : List Extent) (order : List BlockPlace) : Type 0 where
   pub rising : IsNonDecreasingBy (λ place. place.first) order
   pub listed : All (IsPlaceOf es) order
   pub complete : (j : ℕ) → j < length es → HoldsAt (λ e. 0 < e.count → Any (λ place. place.block ≡ j) order) es j
   pub apart : AreApart es
 
 -- the order of a kind
-abbrev pub order_in : Orders → Kind → List Place
+abbrev pub order_in : SortedBlocks → Kind → List BlockPlace
 order_in orders kind = slice_index_or (map (λ order. order.items) orders.of_kinds) (kind_number kind) []
 
 -- each kind's is one of its blocks
-abbrev pub AreOrders : Plan → Orders → Type 0
+abbrev pub AreOrders : Plan → SortedBlocks → Type 0
 AreOrders plan orders = (kind : Kind) → IsOrder (map extent_of (blocks_of plan kind)) (order_in orders kind)

@@ -7,15 +7,15 @@ use Rattle.sqlite.specs.State.{State, HasCleanDisk, Survives}
 use Rattle.sqlite.specs.Term.{Term}
 use Rattle.sqlite.specs.Tree.{Trees}
 use Rattle.sqlite.specs.declared.error.Error.{Error}
-use Rattle.dnp_eventbuf.specs.Sound.{IsSound}
-use Rattle.dnp_eventbuf.specs.Stock.{Stock, empty_stock}
+use Rattle.dnp_eventbuf.specs.Sound.{IsSoundBuffer}
+use Rattle.dnp_eventbuf.specs.EventBuffer.{EventBuffer, empty_buffer}
 use Rattle.dnp_store.specs.declared.fault.Unread.{Unread}
 use Rattle.dnp_store.specs.declared.open.OpenFault.{OpenFault}
 use Rattle.dnp_store.specs.declared.open.OpenFault.TheVariants.{Device, OldForm, WrongForm}
 use Rattle.dnp_store.specs.declared.store_kind.StoreKind.{StoreKind}
 use Rattle.dnp_store.specs.declared.store_kind.StoreKind.TheVariants.{Queue}
 use Rattle.dnp_store.specs.Faults.{RefusesNothing, is_memory, is_taken}
-use Rattle.dnp_store.specs.Kept.{AreSound, Stands}
+use Rattle.dnp_store.specs.QueueKept.{AreSound, QueueStands}
 use Rattle.dnp_store.specs.PairTables.{HoldsMigrated, HoldsPair, IsPair, Sides, migrated}
 use Rattle.dnp_store.specs.QueueTables.{IsQueue, queue_schema}
 use Rattle.dnp_store.specs.Refusals.{IsLost, IsTaken}
@@ -82,21 +82,21 @@ pub record IsMade {S A : Type 0} (g : Ghosts S) (kind : StoreKind) (Fresh : Tree
 -- ---- the lanes of a queue that begins, for the first centre and for the second, and whether the database is its own
 
 abbrev pub Found : Type 0
-Found = Stock × Stock × Bool
+Found = EventBuffer × EventBuffer × Bool
 
 abbrev pub sides_in : Found → Sides
 sides_in found = record { first = found.0; second = found.1 }
 
 abbrev pub empty_sides : List ℕ → List ℕ → Sides
-empty_sides first second = record { first = empty_stock first; second = empty_stock second }
+empty_sides first second = record { first = empty_buffer first; second = empty_buffer second }
 
 -- they were found
 pub record AreFound {S : Type 0} (g : Ghosts S) (old new : Held S) (result : Result Found OpenFault) : Type 0 where
   pub begins : Begins g (λ _. ⊥) old new result
   pub found : HasCleanDisk (state g new) → IfOk result (λ found. IsTrue found.2 → IsPair (state g old).committed (sides_in found))
-  pub stands : HasCleanDisk (state g new) → IfOk result (λ found. IsTrue found.2 → Stands (state g new) (sides_in found))
+  pub stands : HasCleanDisk (state g new) → IfOk result (λ found. IsTrue found.2 → QueueStands (state g new) (sides_in found))
   pub old_form : HasCleanDisk (state g new) → result ≡ Err OldForm → (f q l : List Term) → (state g old).committed.schema ≡ queue_schema f q l
-      → (stock : Stock) × IsQueue (state g old).committed stock
+      → (buffer : EventBuffer) × IsQueue (state g old).committed buffer
   pub not_old : HasCleanDisk (state g new) → result ≡ Err OldForm → (sides : Sides) → IsPair (state g old).committed sides → ⊥
 
 -- they were found, or made of those for one centre
@@ -104,14 +104,16 @@ pub record AreMigrated {S : Type 0} (g : Ghosts S) (capacities : List ℕ) (old 
   pub begins : Begins g (HoldsMigrated (state g old).committed capacities) old new result
   pub unwritten : (sides : Sides) → IsPair (state g old).committed sides → Survives (state g old) (state g new) (λ _. ⊥)
   pub current : IfErr result (λ fault. fault ≢ OldForm)
-  pub stands : HasCleanDisk (state g new) → IfOk result (λ found. IsTrue found.2 → Stands (state g new) (sides_in found))
-  pub made : HasCleanDisk (state g new) → IfOk result (λ found. IsTrue found.2 → (stock : Stock) → IsSound stock → IsQueue (state g old).committed stock
-      → sides_in found ≡ migrated stock capacities)
+  pub stands : HasCleanDisk (state g new) → IfOk result (λ found. IsTrue found.2 → QueueStands (state g new) (sides_in found))
+  pub made : HasCleanDisk (state g new) → IfOk result (λ found. IsTrue found.2 → (buffer : EventBuffer) → IsSoundBuffer buffer → IsQueue
+      (state g old).committed buffer
+      → sides_in found ≡ migrated buffer capacities)
   pub same : HasCleanDisk (state g new) → IfOk result (λ found. IsTrue found.2 → (sides : Sides) → AreSound sides → IsPair (state g old).committed sides
       → sides_in found ≡ sides)
 
 -- they were made
 pub record AreMade {S : Type 0} (g : Ghosts S) (first second : List ℕ) (old new : Held S) (result : Result Found OpenFault) : Type 0 where
-  pub is : IsMade g Queue (λ db. HoldsPair db (empty_sides first second)) (λ s. Stands s (empty_sides first second) × (s.committed.schema ≡ made_pair)) (λ found. found.2)
+  pub is : IsMade g Queue (λ db. HoldsPair db (empty_sides first second)) (λ s. QueueStands s (empty_sides first second) × (s.committed.schema ≡ made_pair))
+      (λ found. found.2)
       old new result
   pub empty : IfOk result (λ found. sides_in found ≡ empty_sides first second)

@@ -12,7 +12,7 @@ use Rattle.dnp_objects.specs.Commands.{index_of}
 use Rattle.dnp_controls.specs.declared.book.Entry.{Entry}
 use Rattle.dnp_controls.specs.declared.book.State.{State as Control}
 use Rattle.dnp_controls.specs.declared.book.State.TheVariants.{Pending}
-use Rattle.dnp_store.specs.BookKept.{Stands}
+use Rattle.dnp_store.specs.BookKept.{BookStands}
 use Rattle.dnp_store.specs.BookTables.{IsBook, entry_row, kind_of, code_of, count_of, on_of, off_of, value_of, state_of, status_of}
 
 -- a row that a query shows of `control`: its command
@@ -60,4 +60,4 @@ FindsBook db entries last = IsBook db (record { entries = entries; last_id = las
 -- what an open hands on: a database held these entries, and they stand in this one, which serves
 pub record IsBookFound (old : Database) (new : State) (entries : List Entry) (last : ℕ) : Type 0 where
   pub found : IsBook old (record { entries = entries; last_id = last })
-  pub stands : Stands new (record { entries = entries; last_id = last })
+  pub stands : BookStands new (record { entries = entries; last_id = last })

@@ -13,7 +13,7 @@ use Rattle.dnp_objects.specs.declared.limits.TheConstants.{MAX_ID, MAX_TIME}
 use Rattle.dnp_eventbuf.specs.declared.numbered.Numbered.{Numbered}
 use Rattle.dnp_eventbuf.specs.Archive.{Archive, rows_over}
 use Rattle.dnp_store.specs.Tables.{or_null}
-use Rattle.dnp_store.specs.JournalKept.{Stands}
+use Rattle.dnp_store.specs.JournalKept.{JournalStands}
 use Rattle.dnp_store.specs.JournalTables.{IsJournal, IsLogged, archive_in}
 use Rattle.dnp_store.specs.QueueTables.{Queued, queued_row, event_of}
 
@@ -92,5 +92,5 @@ pub record LogsMany (db : Trees) (count last : ℕ) : Type 0 where
 -- what an open hands on: a database held the rows that stand in this one, which serves, and so many
 pub record IsJournalFound (old : Database) (new : State) (last count : ℕ) : Type 0 where
   pub found : IsJournal old (archive_in new.committed.trees last)
-  pub stands : Stands new (archive_in new.committed.trees last)
+  pub stands : JournalStands new (archive_in new.committed.trees last)
   pub many : count ≡ length (archive_in new.committed.trees last).rows

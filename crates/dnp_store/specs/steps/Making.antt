@@ -1,11 +1,19 @@
--- Words of private steps: a queue's database while its lanes are made.
-use Rattle.std.specs.Prelude.{◌≡◌, ℕ, false, List}
+-- Words of private steps: a database while its tables are made, and a queue's while its lanes are.
+use Rattle.std.specs.Prelude.{◌≡◌, ℕ, false, List, [], ◌∷◌, Ok}
+use Rattle.sqlite_trees.specs.declared.store.Store.{Ghosts}
+use Rattle.sqlite.specs.Held.{Held, state}
+use Rattle.sqlite.specs.State.{Executes}
 use Rattle.sqlite.specs.Term.{Term}
 use Rattle.sqlite.specs.Effect.{Database}
 use Rattle.dnp_store.specs.QueueTables.{queue_schema, Figures, figures_rows}
 use Rattle.dnp_store.specs.declared.store_kind.StoreKind.TheVariants.{Queue}
 use Rattle.dnp_store.specs.Schemas.{checks_of_form, checks_of_lanes, checks_of_rows}
 use Rattle.dnp_store.specs.steps.Stores.{IsFresh}
+
+-- the texts ran, one after the other
+abbrev pub ExecuteAll : {S : Type 0} → Ghosts S → List (List ℕ) → Held S → Held S → Type 0
+ExecuteAll g [] old new = old ≡ new
+ExecuteAll {S} g (sql ∷ more) old new = (mid : Held S) × (count : ℕ) × Executes sql [] (state g old) (state g mid) (Ok count) × ExecuteAll g more mid new
 
 abbrev pub fresh : ℕ → Figures
 fresh capacity = record { capacity = capacity; lost = 0; raised = false }

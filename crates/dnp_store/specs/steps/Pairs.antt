@@ -7,7 +7,7 @@ use Rattle.sqlite.specs.Order.{Row as SqlRow}
 use Rattle.sqlite.specs.Tree.{Trees}
 use Rattle.sqlite.specs.Effect.{Database, IsDatabase}
 use Rattle.sqlite.specs.State.{State}
-use Rattle.dnp_eventbuf.specs.Stock.{Stock}
+use Rattle.dnp_eventbuf.specs.EventBuffer.{EventBuffer}
 use Rattle.dnp_store.specs.declared.queue_side.QueueSide.{QueueSide}
 use Rattle.dnp_store.specs.declared.queue_side.QueueSide.TheVariants.{First, Second}
 use Rattle.dnp_store.specs.Tables.{HaveOwnIds, IsCounted, checks_at, counts_of}
@@ -15,7 +15,7 @@ use Rattle.dnp_store.specs.QueueTables.{Figures, HoldsLanes, is_raised, queue_sc
 use Rattle.dnp_store.specs.PairTables.{Checks, HoldsOn, HoldsSide, IsForm2, Sides, beside, lanes_tree, pair_schema, rows_name, rows_tree}
 
 -- it holds these lanes on this side, with these figures, and others on the other side
-pub record HoldsFor (side : QueueSide) (others : Stock) (db : Database) (s : Stock) (figures : List Figures) : Type 0 where
+pub record HoldsFor (side : QueueSide) (others : EventBuffer) (db : Database) (s : EventBuffer) (figures : List Figures) : Type 0 where
   pub checks : Checks
   pub schema : db.schema ≡ pair_schema checks
   pub form : IsForm2 (db.trees 0)
@@ -24,13 +24,13 @@ pub record HoldsFor (side : QueueSide) (others : Stock) (db : Database) (s : Sto
   pub rest : HoldsSide (beside side) db.trees others
 
 -- with figures that say whether the overflow stands
-pub record IsFor (side : QueueSide) (others : Stock) (db : Database) (s : Stock) : Type 0 where
+pub record IsFor (side : QueueSide) (others : EventBuffer) (db : Database) (s : EventBuffer) : Type 0 where
   pub figures : List Figures
   pub holds : HoldsFor side others db s figures
   pub overflow : s.overflow ≡ is_raised figures
 
 -- the lanes on this side, and others on the other
-abbrev pub sides_of : QueueSide → Stock → Stock → Sides
+abbrev pub sides_of : QueueSide → EventBuffer → EventBuffer → Sides
 sides_of First s others = record { first = s; second = others }
 sides_of Second s others = record { first = others; second = s }
 
@@ -64,7 +64,7 @@ abbrev pub ReadsSide : QueueSide → State → State → (Trees → Type 0) → 
 ReadsSide side old new P = IsDatabase old.now → HasSide side old.now.schema → (new.now ≡ old.now) × P old.now.trees
 
 -- they hold these lanes, whose last id used stands among these counts; their overflow stands where one of them has raised it
-pub record HoldsAmong (side : QueueSide) (db : Trees) (counts : List SqlRow) (s : Stock) : Type 0 where
+pub record HoldsAmong (side : QueueSide) (db : Trees) (counts : List SqlRow) (s : EventBuffer) : Type 0 where
   pub figures : List Figures
   pub lanes : HoldsLanes (rows_name side) (db (rows_tree side)) counts (db (lanes_tree side)) s figures
   pub overflow : s.overflow ≡ is_raised figures

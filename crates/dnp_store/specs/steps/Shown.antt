@@ -9,9 +9,9 @@ use Rattle.dnp_objects.specs.declared.limits.TheConstants.{LANES, MAX_ID}
 use Rattle.dnp_objects.specs.declared.lane.LaneRow.{LaneRow}
 use Rattle.dnp_objects.specs.Lanes.{lane_number}
 use Rattle.dnp_eventbuf.specs.declared.plain.TheConstants.{MAX_CAPACITY}
-use Rattle.dnp_eventbuf.specs.Carried.{IsCarried}
+use Rattle.dnp_eventbuf.specs.FitsLane.{FitsLane}
 use Rattle.dnp_eventbuf.specs.Restored.{with_old_row, fits_behind}
-use Rattle.dnp_eventbuf.specs.Stock.{Stock, lane_at}
+use Rattle.dnp_eventbuf.specs.EventBuffer.{EventBuffer, lane_at}
 use Rattle.dnp_store.specs.Tables.{or_null}
 use Rattle.dnp_store.specs.QueueTables.{Queued, queued_row, Figures, no_figures, in_lane, is_raised}
 
@@ -59,7 +59,7 @@ LackNine rows =
     (length rows ≢ LANES) ⊎ ((k : ℕ) × (k < LANES) × ((f : Figures) → ShowsFigures (slice_index_or rows k []) k f → AreInRange f → ⊥))
 
 -- lanes without rows
-pub record IsBegun (s : Stock) (figures : List Figures) (last : ℕ) : Type 0 where
+pub record IsBegun (s : EventBuffer) (figures : List Figures) (last : ℕ) : Type 0 where
   pub nine : length s.lanes ≡ LANES
   pub lanes : (k : ℕ) → k < LANES
       → lane_at s k ≡ record { capacity = (slice_index_or figures k no_figures).capacity; rows = []; lost = (slice_index_or figures k no_figures).lost }
@@ -104,13 +104,13 @@ pub record ShowsQueued (row : SqlRow) (id : ℕ) (x : LaneRow) : Type 0 where
   pub time : column row 5 ≡ or_null x.row.time
 
 -- rows under ids that rise from the last one on are put back into lanes
-abbrev pub Restores : ℕ → List SqlRow → Stock → Stock → Type 0
+abbrev pub Restores : ℕ → List SqlRow → EventBuffer → EventBuffer → Type 0
 Restores last [] a b = b ≡ a
 Restores last (r ∷ rs) a b =
-    (id : ℕ) × (x : LaneRow) × ShowsQueued r id x × IsCarried x × (last < id) × (fits_behind a id x ≡ true) × Restores id rs (with_old_row a id x) b
+    (id : ℕ) × (x : LaneRow) × ShowsQueued r id x × FitsLane x × (last < id) × (fits_behind a id x ≡ true) × Restores id rs (with_old_row a id x) b
 
 -- the rows of `queue` stand behind those of the lanes
-pub record PutBack (rows : List SqlRow) (a b : Stock) : Type 0 where
+pub record PutBack (rows : List SqlRow) (a b : EventBuffer) : Type 0 where
   pub queued : List Queued
   pub queue_is : IsPermutation (map queued_row queued) rows
   pub rise : IsAscending (λ x y. x.id < y.id) queued
@@ -121,9 +121,9 @@ pub record PutBack (rows : List SqlRow) (a b : Stock) : Type 0 where
   pub last_is : b.last_id ≡ a.last_id
 
 -- the lanes begin without rows, with these figures, and take these rows; the last id used is the one noted if they say so
-pub record IsPutBack (figures : List Figures) (rows : List SqlRow) (noted : ℕ) (s : Stock) (is_noted : Bool) : Type 0 where
+pub record IsPutBack (figures : List Figures) (rows : List SqlRow) (noted : ℕ) (s : EventBuffer) (is_noted : Bool) : Type 0 where
   pub last : ℕ
-  pub bare : Stock
+  pub bare : EventBuffer
   pub begun : IsBegun bare figures last
   pub restored : Restores 0 rows bare s
   pub same : IsTrue is_noted → noted ≡ last

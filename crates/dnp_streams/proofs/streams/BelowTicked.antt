@@ -3,7 +3,7 @@ use Rattle.std.specs.Prelude.{◌≡◌, ℕ, Bool, true, false, if◌then◌els
 use Rattle.std.proofs.Common.{refl, ap, sym, ◌∙◌}
 use Rattle.std.proofs.lemmas.List.{set-get_or}
 use Rattle.dnp_controls.specs.Book.{Ledger}
-use Rattle.dnp_eventbuf.specs.Stock.{Stock}
+use Rattle.dnp_eventbuf.specs.EventBuffer.{EventBuffer}
 use Rattle.dnp_master.specs.State.{State, closed, is_timed_out}
 use Rattle.dnp_outstation.specs.State.{Core}
 use Rattle.dnp_pointdb.specs.Plan as points
@@ -23,7 +23,7 @@ still_link links at now is =
     ∙ set-get_or links at no_link
 
 pub ticked_below : (ended : Bool) (now at : ℕ) (links links' : List Relaying) (core core' other other' : Core)
-    (indices indices' : List Spans) (plan plan' : points.Plan) (queue queue' more more' : Stock) (book book' : Ledger)
+    (indices indices' : List Spans) (plan plan' : points.Plan) (queue queue' more more' : EventBuffer) (book book' : Ledger)
     → ended ≡ is_timed_out (link_in links at).master now → links' ≡ slice_set links at (ticked (link_in links at) now)
     → core' ≡ (if ended then without_link core at else core) → other' ≡ (if ended then without_link other at else other)
     → indices' ≡ indices → plan' ≡ plan → queue' ≡ queue → more' ≡ more → book' ≡ book

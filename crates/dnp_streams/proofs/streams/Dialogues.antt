@@ -11,7 +11,7 @@ use Rattle.dnp_master.specs.declared.task.Task.{Task}
 use Rattle.dnp_streams.specs.declared.stream.serve.ServeFault.{ServeFault}
 use Rattle.dnp_streams.specs.declared.stream.serve.ServeFault.TheVariants.{ReadFailed, WriteFailed, TurnsSpent, Memory}
 use Rattle.dnp_streams.specs.streams.Counts.{most}
-use Rattle.dnp_streams.specs.streams.Dialogues.{Asking, Dialogue, Step, Beginning, Going, Hearing, Begins, Goes, Hears, Makes, MakesAll, heard_in}
+use Rattle.dnp_streams.specs.streams.Dialogues.{Asking, Dialogue, Step, Beginning, Going, Hearing, Begins, Goes, HearsAsking, Makes, MakesAll, heard_in}
 use Rattle.dnp_streams.specs.streams.Stations.{Opening, Receiving}
 use Rattle.dnp_streams.specs.steps.Hearing.{AreWritten}
 use Rattle.dnp_streams.specs.steps.Talking.{Puts, StepsEnd, Turns, WritesOn, Whole, Cut}
@@ -90,7 +90,7 @@ pub go_puts : {S : Type 0} (opens : Opening S) (receives : Receiving S) (asking 
 go_puts opens receives asking now old new octets begun idle puts = record { sent = puts.sent; sends = (begun, idle, puts.sends); spelled = puts.spelled }
 
 pub hear_puts : {S : Type 0} (opens : Opening S) (receives : Receiving S) (asking : Asking S) (now : ℕ) (old new : Dialogue S) (frame : Frame) (octets : List ℕ)
-    → old.is_begun ≡ true → asking.is_idle old.station ≡ false → Puts (λ sent. Hears receives now old frame sent new) octets
+    → old.is_begun ≡ true → asking.is_idle old.station ≡ false → Puts (λ sent. HearsAsking receives now old frame sent new) octets
     → Puts (λ sent. Makes opens receives asking now old (Hearing frame) sent new) octets
 hear_puts opens receives asking now old new frame octets begun busy puts = record { sent = puts.sent; sends = (begun, busy, puts.sends); spelled = puts.spelled }
 

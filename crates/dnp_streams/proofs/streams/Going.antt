@@ -13,7 +13,7 @@ use Rattle.dnp_streams.specs.streams.Stations.{Opening, Receiving, Endpoint}
 use Rattle.dnp_streams.specs.streams.Spelled.{AreSpelled}
 use Rattle.dnp_streams.specs.streams.Exchanges.{Output, no_output, output_with, Opens, HearsAll, Converses}
 use Rattle.dnp_streams.specs.streams.Counts.{none_served, Counts}
-use Rattle.dnp_streams.specs.streams.Serving.{EndsBy, Serves}
+use Rattle.dnp_streams.specs.streams.Serving.{StreamEndsBy, Serves}
 use Rattle.dnp_streams.specs.steps.Hearing.{AreWritten, ArePartlyWritten, Greets, HearsSome}
 use Rattle.dnp_streams.proofs.streams.Hearing.{or_left, or_right, with_none, with_assoc, counts_more, hears_then, written_more, written_part}
 
@@ -147,7 +147,7 @@ going_open opens receives now reads old new left left' held held' waiting served
 pub going_ends : {S : Type 0} (opens : Opening S) (receives : Receiving S) (now reads turns : ℕ) (old new : Endpoint S)
     (left left' left'' held held' : Option (List ℕ)) (waiting refused : List ℕ) (served : Served) (result : Result Served ServeFault)
     → (i : Going opens receives now reads old left left' held held' waiting served new) → served.closed ≡ false → Consumes left' left'' refused
-    → EndsBy turns (record { octets = i.octets; refused = refused; output = i.output; unheard = []; written = i.written.octets; unwritten = [] })
+    → StreamEndsBy turns (record { octets = i.octets; refused = refused; output = i.output; unheard = []; written = i.written.octets; unwritten = [] })
     (IsAtEnd left'') result
     → Serves opens receives now turns old left left'' held held' result new
 going_ends opens receives now reads turns old new left left' left'' held held' waiting refused served result i open_still last ends = record {

@@ -84,24 +84,6 @@ live_then opens receives asking life frames others all reads more both old mid n
       (ends_then (made_in first.steps) (made_in second.steps) new [] first.sent second.sent u v w result first.ends.0 second.ends);
 }
 
--- where it doesn't go on, no standing is reached
-pub live_stood : {S : Type 0} (opens : Opening S) (receives : Receiving S) (asking : Asking S) (life : Life S) (frames : List Frame) (reads : ℕ) (old new : Dialogue S)
-    (from to to' : Standing) (result : Result Bool ServeFault) (held held' : Option (List ℕ))
-    → LiveTurns opens receives asking life frames reads old from result held held' new to → (result ≡ Ok false → ⊥) → to.now ≤ to'.now
-    → LiveTurns opens receives asking life frames reads old from result held held' new to'
-live_stood opens receives asking life frames reads old new from to to' result held held' turns stops later = record {
-  steps = turns.steps;
-  sent = turns.sent;
-  stood = turns.stood;
-  came = turns.came;
-  often = turns.often;
-  follows = turns.follows;
-  until = omega (arith, turns.until, later);
-  goes_on = λ on. absurd (stops on);
-  makes = turns.makes;
-  ends = turns.ends;
-}
-
 -- ---- steps of a dialogue, all at one moment
 
 abbrev pub each_at : ℕ → List Step → List LiveStep
@@ -280,22 +262,6 @@ live_begins opens receives asking life from now old new result held held' low tu
 }
 
 -- ---- reads, and time that passes
-
--- no step yet
-pub live_none : {S : Type 0} (opens : Opening S) (receives : Receiving S) (asking : Asking S) (life : Life S) (old : Dialogue S) (from : Standing)
-    (held : Option (List ℕ)) → LiveTurns opens receives asking life [] 0 old from (Ok false) held held old from
-live_none opens receives asking life old from held = record {
-  steps = [];
-  sent = [];
-  stood = from;
-  came = refl;
-  often = omega arith;
-  follows = refl;
-  until = omega arith;
-  goes_on = λ same. refl;
-  makes = (refl, refl);
-  ends = (written_none held, refl);
-}
 
 -- memory for an outcome was refused before a step
 pub live_wants : {S : Type 0} (opens : Opening S) (receives : Receiving S) (asking : Asking S) (life : Life S) (old new : Dialogue S) (from to : Standing)

@@ -2,7 +2,7 @@
 use Rattle.std.proofs.Common.{◌≡◌, Ok, sym, ap, ◌∙◌, arith}
 use Rattle.std.specs.Prelude.{Result}
 use Rattle.dnp_eventbuf.specs.Archive.{with_events}
-use Rattle.dnp_eventbuf.specs.Stock.{Stock, with_rows}
+use Rattle.dnp_eventbuf.specs.EventBuffer.{EventBuffer, with_rows}
 use Rattle.dnp_master.specs.Calls.{Taking, receive_of}
 use Rattle.dnp_master.specs.declared.fault.MasterFault.{MasterFault}
 use Rattle.dnp_concentrator.specs.Below.{link_in}
@@ -38,7 +38,7 @@ abbrev taken_below : BelowSeen → Taking → BelowSeen
 taken_below old t = record old {
   links = with_link old (λ (link : Relaying). received link t);
   cores = both (with_readings old t) old.cores;
-  queues = both (λ (queue : Stock). with_rows queue (queued_rows old.indices old.points old.substation t.events)) old.queues;
+  queues = both (λ (queue : EventBuffer). with_rows queue (queued_rows old.indices old.points old.substation t.events)) old.queues;
 }
 
 pub below_receives_one_way : ReceivesOneWay below_receives

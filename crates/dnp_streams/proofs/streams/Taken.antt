@@ -6,7 +6,7 @@ use Rattle.dnp_controls.specs.declared.book.BookFault.{BookFault}
 use Rattle.dnp_controls.specs.Book.{Ledger}
 use Rattle.dnp_master.specs.Calls.{Taking, actions_of}
 use Rattle.dnp_master.specs.declared.actions.MasterActions.{MasterActions}
-use Rattle.dnp_eventbuf.specs.Stock.{Stock}
+use Rattle.dnp_eventbuf.specs.EventBuffer.{EventBuffer}
 use Rattle.dnp_outstation.specs.State.{Core}
 use Rattle.dnp_pointdb.specs.Plan as points
 use Rattle.dnp_concentrator.specs.Below.{link_in}
@@ -32,7 +32,7 @@ pub answered : (answer : Answer) (actions : MasterActions) (t : Taking) (dropped
 answered answer actions t dropped is by =
     is ∙ ap (λ (a : MasterActions). record { send = option_to_list a.send; close = false; taken = a.taken; outcome = a.outcome }) by
 
-abbrev pub below : ℕ → List Relaying → Core → Core → List Spans → points.Plan → Stock → Stock → Ledger → BelowSeen
+abbrev pub below : ℕ → List Relaying → Core → Core → List Spans → points.Plan → EventBuffer → EventBuffer → Ledger → BelowSeen
 below at links core other indices plan queue more book = record {
   substation = at;
   links = links;
@@ -45,7 +45,7 @@ below at links core other indices plan queue more book = record {
 
 -- a link of a concentrator is seen as its parts are
 pub seen : (at : ℕ) (links links' : List Relaying) (core core' other other' : Core) (indices indices' : List Spans) (plan plan' : points.Plan)
-    (queue queue' more more' : Stock) (book book' : Ledger)
+    (queue queue' more more' : EventBuffer) (book book' : Ledger)
     → links ≡ links' → core ≡ core' → other ≡ other' → indices ≡ indices' → plan ≡ plan' → queue ≡ queue' → more ≡ more' → book ≡ book'
     → below at links core other indices plan queue more book ≡ below at links' core' other' indices' plan' queue' more' book'
 seen at links links' core core' other other' indices indices' plan plan' queue queue' more more' book book' links_are core_is other_is indices_are plan_is
@@ -55,13 +55,13 @@ seen at links links' core core' other other' indices indices' plan plan' queue q
     ∙ ap (λ (k : Core). below at links' core' k indices plan queue more book) other_is
     ∙ ap (λ (s : List Spans). below at links' core' other' s plan queue more book) indices_are
     ∙ ap (λ (p : points.Plan). below at links' core' other' indices' p queue more book) plan_is
-    ∙ ap (λ (q : Stock). below at links' core' other' indices' plan' q more book) queue_is
-    ∙ ap (λ (q : Stock). below at links' core' other' indices' plan' queue' q book) more_is
+    ∙ ap (λ (q : EventBuffer). below at links' core' other' indices' plan' q more book) queue_is
+    ∙ ap (λ (q : EventBuffer). below at links' core' other' indices' plan' queue' q book) more_is
     ∙ ap (λ (b : Ledger). below at links' core' other' indices' plan' queue' more' b) book_is
 
 -- a step of relaying below, whose request stands in this fragment, is seen as its parts are
 pub relayed_below : (result : Result RelayedStep BookFault) (request : ArrayVec ℕ) (now at : ℕ) (links links' : List Relaying) (core core' other other' : Core)
-    (indices indices' : List Spans) (plan plan' : points.Plan) (queue queue' more more' : Stock) (book book' : Ledger)
+    (indices indices' : List Spans) (plan plan' : points.Plan) (queue queue' more more' : EventBuffer) (book book' : Ledger)
     → at < length links
     → IfOk result (λ relayed. Tells (link_in links at).master.seq (step_of (link_in links at) book.entries at) (with_request relayed request))
     → OnOk result (links' ≡ slice_set links at (relaying_after (link_in links at) now (step_of (link_in links at) book.entries at)))

@@ -2,7 +2,7 @@
 use Rattle.std.specs.Prelude.{◌≡◌, ℕ, ◌<◌, ◌≤◌, nat_lt, if◌then◌else◌, List, Ok, Option, length, slice_set}
 use Rattle.dnp_controls.specs.Book.{Ledger}
 use Rattle.dnp_eventbuf.specs.Sides.{either_exhausts, other_than}
-use Rattle.dnp_eventbuf.specs.Stock.{Stock, with_rows}
+use Rattle.dnp_eventbuf.specs.EventBuffer.{EventBuffer, with_rows}
 use Rattle.dnp_master.specs.Calls.{Taking, receive_of}
 use Rattle.dnp_objects.specs.declared.command.Command.{Command}
 use Rattle.dnp_outstation.specs.Calls.{opened_of, connection_after, performed_in}
@@ -40,10 +40,10 @@ pub record BelowSeen : Type 0 where
   pub cores : Two Core
   pub indices : List Spans
   pub points : points.Plan
-  pub queues : Two Stock
+  pub queues : Two EventBuffer
   pub controls : Ledger
 
-abbrev pub below_seen : {Q B : Type 0} → (Q → ℕ → Stock) → (B → Ledger) → Concentrator Q B → ℕ → BelowSeen
+abbrev pub below_seen : {Q B : Type 0} → (Q → ℕ → EventBuffer) → (B → Ledger) → Concentrator Q B → ℕ → BelowSeen
 below_seen contents ledger c substation = record {
   substation = substation;
   links = links_of c;
@@ -113,7 +113,7 @@ pub record AboveSeen : Type 0 where
   pub controls : Ledger
   pub reserved : ℕ → Option Command
 
-abbrev pub above_seen : {Q B : Type 0} → (Q → ℕ → Stock) → (B → Ledger) → Concentrator Q B → ℕ → AboveSeen
+abbrev pub above_seen : {Q B : Type 0} → (Q → ℕ → EventBuffer) → (B → Ledger) → Concentrator Q B → ℕ → AboveSeen
 above_seen contents ledger c centre = record {
   whole = above_of contents ledger centre c;
   indices = indices_of c;

@@ -111,16 +111,16 @@ pub data Begins {S : Type 0} (opens : Opening S) (now : ℕ) (old : Dialogue S) 
       → new ≡ refused (record old { is_begun = true }) → Begins opens now old sent new
 
 -- a frame comes: the port takes it and replies to it, and a fragment that it completes is answered by the station, or refused
-pub data Hears {S : Type 0} (receives : Receiving S) (now : ℕ) (old : Dialogue S) (frame : Frame) (sent : List Frame) (new : Dialogue S) : Type 0 where
+pub data HearsAsking {S : Type 0} (receives : Receiving S) (now : ℕ) (old : Dialogue S) (frame : Frame) (sent : List Frame) (new : Dialogue S) : Type 0 where
   Unfinished : (taken : Taken) (port : PortState) → Takes old.port frame port taken → taken.whole ≡ false
-      → sent ≡ option_to_list taken.reply → new ≡ record old { port = port } → Hears receives now old frame sent new
+      → sent ≡ option_to_list taken.reply → new ≡ record old { port = port } → HearsAsking receives now old frame sent new
   Answered : (taken : Taken) (port : PortState) (fragment : List ℕ) → Takes old.port frame port taken → taken.whole ≡ true → IsShown port fragment
       → (answer : Answer) (station : S) → receives.answers old.station now fragment answer station
       → sent ≡ option_to_list taken.reply ++ sent_frames port answer.send → new ≡ answered old station port answer
-      → Hears receives now old frame sent new
+      → HearsAsking receives now old frame sent new
   Unanswered : (taken : Taken) (port : PortState) (fragment : List ℕ) → Takes old.port frame port taken → taken.whole ≡ true → IsShown port fragment
       → (fault : StationFault) → receives.refuses old.station now fragment fault
-      → sent ≡ option_to_list taken.reply → new ≡ refused (record old { port = port }) → Hears receives now old frame sent new
+      → sent ≡ option_to_list taken.reply → new ≡ refused (record old { port = port }) → HearsAsking receives now old frame sent new
 
 -- The idle station asks the first of the tasks that are left, or refuses it, and stays as it was. Where none is left, it relays;
 -- where there is nothing to relay, or it refuses to, all is over.
@@ -147,7 +147,7 @@ abbrev pub Makes : {S : Type 0} → Opening S → Receiving S → Asking S → �
 Makes opens receives asking now old Beginning sent new = (old.is_begun ≡ false) × Begins opens now old sent new
 Makes opens receives asking now old Going sent new = (old.is_begun ≡ true) × (asking.is_idle old.station ≡ true) × Goes asking now old sent new
 Makes opens receives asking now old (Hearing frame) sent new =
-    (old.is_begun ≡ true) × (asking.is_idle old.station ≡ false) × Hears receives now old frame sent new
+    (old.is_begun ≡ true) × (asking.is_idle old.station ≡ false) × HearsAsking receives now old frame sent new
 
 -- steps are made, one after the other, none after one by which all was over
 abbrev pub MakesAll : {S : Type 0} → Opening S → Receiving S → Asking S → ℕ → Dialogue S → List Step → List Frame → Dialogue S → Type 0

@@ -3,7 +3,7 @@ use Rattle.std.specs.Prelude.{◌≡◌, ◌≢◌, ℕ, true, false, List, [], 
 use Rattle.dnp_appfragment.specs.Table.{function_octet}
 use Rattle.dnp_appfragment.specs.declared.function.Function.TheVariants as function
 use Rattle.dnp_controls.specs.Panel.{Panel}
-use Rattle.dnp_eventbuf.specs.Stock.{Stock}
+use Rattle.dnp_eventbuf.specs.EventBuffer.{EventBuffer}
 use Rattle.dnp_objects.specs.declared.command.Command.{Command}
 use Rattle.dnp_outstation.specs.Calls.{opened_of, connection_after, performed_in}
 use Rattle.dnp_outstation.specs.Connection.{case_of, closed, function_in, has_enabled_rows, is_looked_at}
@@ -24,7 +24,7 @@ pub record Seen : Type 0 where
   pub whole : State
   pub panel : Panel
 
-abbrev pub seen_of : {L O : Type 0} → (L → Stock) → (O → Panel) → Outstation L O → Seen
+abbrev pub seen_of : {L O : Type 0} → (L → EventBuffer) → (O → Panel) → Outstation L O → Seen
 seen_of contents panel s = record { whole = whole_of contents panel s; panel = panel (outputs_of s) }
 
 -- what it does, as an answer

@@ -37,12 +37,12 @@ pub record IsServed (t : Traffic) (at_end : Type 0) (served : Served) : Type 0 w
   pub ended : t.output.closed ≡ false → at_end × (t.unheard ≡ [])
 
 -- how a stream ends
-abbrev pub EndsBy : ℕ → Traffic → Type 0 → Result Served ServeFault → Type 0
-EndsBy turns t at_end (Ok served) = IsServed t at_end served
-EndsBy turns t at_end (Err ReadFailed) = IsOpenStill t
-EndsBy turns t at_end (Err WriteFailed) = t.refused ≡ []
-EndsBy turns t at_end (Err TurnsSpent) = IsOpenStill t × (turns ≤ length t.octets)
-EndsBy turns t at_end (Err Memory) = (t.unheard ≡ []) × (t.unwritten ≡ []) × (t.output.closed ≡ false)
+abbrev pub StreamEndsBy : ℕ → Traffic → Type 0 → Result Served ServeFault → Type 0
+StreamEndsBy turns t at_end (Ok served) = IsServed t at_end served
+StreamEndsBy turns t at_end (Err ReadFailed) = IsOpenStill t
+StreamEndsBy turns t at_end (Err WriteFailed) = t.refused ≡ []
+StreamEndsBy turns t at_end (Err TurnsSpent) = IsOpenStill t × (turns ≤ length t.octets)
+StreamEndsBy turns t at_end (Err Memory) = (t.unheard ≡ []) × (t.unwritten ≡ []) × (t.output.closed ≡ false)
 
 -- A station and its port served a stream, of which the reader had these octets left before and after, and the writer
 -- had these before and after.
@@ -53,7 +53,7 @@ pub record Serves {S : Type 0} (opens : Opening S) (receives : Receiving S) (now
   pub converses : Converses opens receives now old traffic.octets traffic.unheard traffic.output new
   pub spelled : AreSpelled traffic.output.frames (traffic.written ++ traffic.unwritten)
   pub appended : Appends held held' traffic.written
-  pub ends : EndsBy turns traffic (IsAtEnd left') result
+  pub ends : StreamEndsBy turns traffic (IsAtEnd left') result
 
 -- after a fault the station is hung up
 abbrev pub IsLeft : {S A : Type 0} → (S → S) → Result A ServeFault → S → S → Type 0

@@ -12,7 +12,7 @@ ghost use Rattle.dnp_streams.specs.steps.Talking.{AreNoted, IsFresh, Listens, Tu
 use crate::stream::asked::Asked;
 use crate::stream::asker::Asker;
 use crate::stream::asking::{go_to, hear_to, open_to};
-use crate::stream::kept::Kept;
+use crate::stream::kept::StreamKept;
 use crate::stream::log::{Log, read_noted, write_noted};
 use crate::stream::progress::Progress;
 use crate::stream::serve::ServeFault;
@@ -29,7 +29,7 @@ pub(super) fn go_on<S: Asker, W: Write>(
     station: &mut S,
     port: &mut Port,
     now: u64,
-    kept: &mut Kept,
+    kept: &mut StreamKept,
     out: &mut W,
     progress: &mut Progress<'_>,
     log: &mut Log,
@@ -69,7 +69,7 @@ pub(super) fn begin<S: Asker, W: Write>(
     station: &mut S,
     port: &mut Port,
     now: u64,
-    kept: &mut Kept,
+    kept: &mut StreamKept,
     out: &mut W,
     progress: &mut Progress<'_>,
     log: &mut Log,
@@ -100,7 +100,7 @@ pub(super) fn hear_one<S: Asker, W: Write>(
     port: &mut Port,
     now: u64,
     frame: &Frame,
-    kept: &mut Kept,
+    kept: &mut StreamKept,
     out: &mut W,
     progress: &mut Progress<'_>,
     log: &mut Log,
@@ -129,7 +129,7 @@ fn hear_each<S: Asker, W: Write>(
     port: &mut Port,
     now: u64,
     frames: &[Frame],
-    kept: &mut Kept,
+    kept: &mut StreamKept,
     out: &mut W,
     progress: &mut Progress<'_>,
     log: &mut Log,
@@ -173,7 +173,7 @@ fn ask_on<S: Asker, R: Read, W: Write>(
         (told_by result progress.new.asked) (endpoint (S.state station.new) port.new) }
     ensures noted { IsNoted turns result log.new }
 {
-    let mut kept = Kept::new(alloc);
+    let mut kept = StreamKept::new(alloc);
     match begin(alloc, station, port, now, &mut kept, out, progress, log) {
         Ok(false) => {}
         Ok(true) => return Ok(()),

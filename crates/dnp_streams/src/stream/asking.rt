@@ -1,11 +1,11 @@
 //! One step of a dialogue: the opening, a frame that comes, or a step of the idle station.
 
 ghost use Rattle.std.specs.Prelude.{◌≡◌, [], true, false};
-ghost use Rattle.dnp_streams.specs.streams.Dialogues.{Begins, Hears, Goes};
+ghost use Rattle.dnp_streams.specs.streams.Dialogues.{Begins, HearsAsking, Goes};
 ghost use Rattle.dnp_streams.specs.steps.Talking.{HasRoom, Puts, dialogue_of};
 
 use crate::stream::asker::Asker;
-use crate::stream::kept::Kept;
+use crate::stream::kept::StreamKept;
 use crate::stream::outgoing::{Outgoing, put_fragments, put_reply, put_request};
 use crate::stream::progress::Progress;
 use crate::stream::station::Station;
@@ -52,13 +52,13 @@ pub(super) fn hear_to<S: Station>(
     port: &mut Port,
     now: u64,
     frame: &Frame,
-    kept: &mut Kept,
+    kept: &mut StreamKept,
     progress: &mut Progress<'_>,
 )
     requires { HasRoom progress.old.asked }
     ensures kept { S.kept station.new ≡ S.kept station.old }
     ensures held { S.honest station.new → S.honest station.old }
-    ensures hears { S.honest station.new → Puts (λ sent. Hears S.receives now (dialogue_of (S.state station.old) port.old progress.old) frame.now sent
+    ensures hears { S.honest station.new → Puts (λ sent. HearsAsking S.receives now (dialogue_of (S.state station.old) port.old progress.old) frame.now sent
         (dialogue_of (S.state station.new) port.new progress.new)) kept.new.octets.items }
     ensures begun { progress.new.is_begun ≡ progress.old.is_begun }
 {
@@ -84,7 +84,7 @@ fn relay_to<S: Asker>(
     station: &mut S,
     port: &mut Port,
     now: u64,
-    kept: &mut Kept,
+    kept: &mut StreamKept,
     progress: &mut Progress<'_>,
 )
     requires { progress.old.left.now ≡ [] }
@@ -114,7 +114,7 @@ pub(super) fn go_to<S: Asker>(
     station: &mut S,
     port: &mut Port,
     now: u64,
-    kept: &mut Kept,
+    kept: &mut StreamKept,
     progress: &mut Progress<'_>,
 )
     ensures kept { S.kept station.new ≡ S.kept station.old }

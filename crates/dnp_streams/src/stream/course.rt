@@ -1,6 +1,6 @@
 //! A live session under way.
 
-use crate::stream::kept::Kept;
+use crate::stream::kept::StreamKept;
 use crate::stream::log::Log;
 use crate::stream::served::Served;
 use crate::stream::session::Session;
@@ -11,7 +11,7 @@ pub(super) struct Course<'a> {
     /// Where it stands.
     pub session: Session<'a>,
     /// Room for what each step brings.
-    pub kept: Kept,
+    pub kept: StreamKept,
     /// What was served.
     pub served: Served,
     /// What was asked of the reader and the writer.

@@ -140,7 +140,7 @@ impl KeptAnswer {
 }
 
 /// What a stream keeps for its steps, so that none of them asks for room again.
-pub(super) struct Kept {
+pub(super) struct StreamKept {
     /// What the station answers to confirms, and where time passes: mostly nothing. It stands apart, since a place in which there was a fragment
     /// is written over whole where it is emptied, and where it is filled after that.
     pub confirmed: KeptAnswer,
@@ -154,10 +154,10 @@ pub(super) struct Kept {
     pub octets: Outgoing,
 }
 
-impl Drop for Kept {
+impl Drop for StreamKept {
     /// One call for whoever lets it go: its parts are looked at here alone.
     fn drop(self) {
-        let Kept {
+        let StreamKept {
             confirmed: _,
             answer: _,
             changed: _,
@@ -167,16 +167,16 @@ impl Drop for Kept {
     }
 }
 
-impl Kept {
+impl StreamKept {
     /// Nothing is answered and sent.
-    pub fn new(alloc: Global) -> Kept
+    pub fn new(alloc: Global) -> StreamKept
         ensures confirmed { answer_in result.confirmed ≡ nothing_answered }
         ensures answer { answer_in result.answer ≡ nothing_answered }
         ensures changed { answer_in result.changed ≡ nothing_answered }
         ensures request { result.request.items ≡ [] }
         ensures octets { result.octets.items ≡ [] }
     {
-        Kept {
+        StreamKept {
             confirmed: KeptAnswer::new(alloc),
             answer: KeptAnswer::new(alloc),
             changed: KeptAnswer::new(alloc),

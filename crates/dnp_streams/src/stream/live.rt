@@ -8,7 +8,7 @@ ghost use Rattle.dnp_streams.specs.streams.Serving.{IsLeft, IsNoted};
 ghost use Rattle.dnp_streams.specs.streams.Living.{Lives};
 
 use crate::stream::course::Course;
-use crate::stream::kept::Kept;
+use crate::stream::kept::StreamKept;
 use crate::stream::live_steps::begin;
 use crate::stream::live_turns::{go_through, read_frames};
 use crate::stream::living::Living;
@@ -117,7 +117,7 @@ pub fn live_stream<S: Living, R: Waiting, W: Write, C: Clock>(
 {
     let mut course = Course {
         session: *session,
-        kept: Kept::new(alloc),
+        kept: StreamKept::new(alloc),
         served: Served::of(0, 0, false),
         log: *log,
     };

@@ -10,7 +10,7 @@ ghost use Rattle.dnp_streams.specs.steps.Talking.{IsFresh, told_by};
 use crate::stream::ask::{begin, leave};
 use crate::stream::asked::Asked;
 use crate::stream::asker::Asker;
-use crate::stream::kept::Kept;
+use crate::stream::kept::StreamKept;
 use crate::stream::live_ask_turns::take_turn;
 use crate::stream::live_turns::read_frames;
 use crate::stream::living::Living;
@@ -48,7 +48,7 @@ fn ask_on<S: Asker + Living, R: Waiting, W: Write, C: Clock>(
         (told_by result progress.new.asked) (endpoint (S.state station.new) port.new) }
     ensures noted { IsNoted limits.turns result log.new }
 {
-    let mut kept = Kept::new(alloc);
+    let mut kept = StreamKept::new(alloc);
     *now = moment(clock, *now);
     match begin(alloc, station, port, *now, &mut kept, out, progress, log) {
         Ok(false) => {}

@@ -8,7 +8,7 @@ ghost use Rattle.dnp_streams.specs.steps.Talking.{AreNoted, HasRoom, Listens, Pu
 
 use crate::stream::ask::{go_on, hear_one};
 use crate::stream::asker::Asker;
-use crate::stream::kept::Kept;
+use crate::stream::kept::StreamKept;
 use crate::stream::living::Living;
 use crate::stream::log::Log;
 use crate::stream::outgoing::put_fragments;
@@ -27,7 +27,7 @@ fn tick_to<S: Living>(
     station: &mut S,
     port: &mut Port,
     now: u64,
-    kept: &mut Kept,
+    kept: &mut StreamKept,
     progress: &mut Progress<'_>,
 )
     requires room { HasRoom progress.old.asked }
@@ -57,7 +57,7 @@ fn pass_time<S: Asker + Living, W: Write>(
     station: &mut S,
     port: &mut Port,
     now: u64,
-    kept: &mut Kept,
+    kept: &mut StreamKept,
     out: &mut W,
     progress: &mut Progress<'_>,
     log: &mut Log,
@@ -88,7 +88,7 @@ pub(super) fn take_turn<S: Asker + Living, W: Write, C: Clock>(
     clock: &C,
     now: &mut u64,
     frames: &[Frame],
-    kept: &mut Kept,
+    kept: &mut StreamKept,
     out: &mut W,
     progress: &mut Progress<'_>,
     log: &mut Log,

@@ -7,7 +7,7 @@ ghost use Rattle.dnp_streams.specs.streams.Serving.{Serves, IsLeft, IsNoted};
 ghost use Rattle.dnp_streams.specs.steps.Hearing.{Greets, HearsSome, AreWritten, ArePartlyWritten};
 ghost use Rattle.dnp_streams.specs.steps.Living.{IsWriteNoted};
 
-use crate::stream::kept::Kept;
+use crate::stream::kept::StreamKept;
 use crate::stream::log::{Log, read_noted, write_noted};
 use crate::stream::outgoing::Outgoing;
 use crate::stream::served::Served;
@@ -79,7 +79,7 @@ fn hear_all<S: Station, W: Write>(
     port: &mut Port,
     now: u64,
     frames: &[Frame],
-    kept: &mut Kept,
+    kept: &mut StreamKept,
     out: &mut W,
     served: &mut Served,
     log: &mut Log,
@@ -112,7 +112,7 @@ fn serve<S: Station, R: Read, W: Write>(
     station: &mut S,
     port: &mut Port,
     now: u64,
-    kept: &mut Kept,
+    kept: &mut StreamKept,
     reader: &mut R,
     out: &mut W,
     turns: u64,
@@ -188,7 +188,7 @@ pub fn serve_noted<S: Station, R: Read, W: Write>(
         (W.contents out.old) (W.contents out.new) result (endpoint ended port.new) }
     ensures noted { IsNoted turns result log.new }
 {
-    let mut kept = Kept::new(alloc);
+    let mut kept = StreamKept::new(alloc);
     let result = serve(
         alloc, station, port, now, &mut kept, reader, out, turns, log,
     );

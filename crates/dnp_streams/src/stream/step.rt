@@ -4,7 +4,7 @@ ghost use Rattle.std.specs.Prelude.{◌≡◌, ◌≤◌, length};
 ghost use Rattle.dnp_streams.specs.streams.Stations.{endpoint};
 ghost use Rattle.dnp_streams.specs.steps.Outgoing.{AnswersTo, OpensTo, HearsTo};
 
-use crate::stream::kept::{Kept, KeptAnswer};
+use crate::stream::kept::{KeptAnswer, StreamKept};
 use crate::stream::outgoing::{Outgoing, put_fragments, put_reply};
 use crate::stream::served::Served;
 use crate::stream::station::Station;
@@ -78,7 +78,7 @@ pub(super) fn hear<S: Station>(
     port: &mut Port,
     now: u64,
     frame: &Frame,
-    kept: &mut Kept,
+    kept: &mut StreamKept,
 ) -> Served
     ensures kept { S.kept station.new ≡ S.kept station.old }
     ensures held { S.honest station.new → S.honest station.old }

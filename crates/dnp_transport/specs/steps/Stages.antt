@@ -1,7 +1,7 @@
 -- Private steps: what the fields of an assembler mean, and what a segment makes of them.
 use Rattle.std.specs.Prelude.{◌≡◌, ℕ, ◌+◌, ◌%◌, ◌<◌, ◌≤◌, true, false, List, ◌++◌, length}
 use Rattle.dnp_transport.specs.Segments.{is_first, is_last, number, carried}
-use Rattle.dnp_transport.specs.Assembly.{Assembly, Idle, Joining, Complete, Stands}
+use Rattle.dnp_transport.specs.Assembly.{Assembly, Idle, Joining, Complete, ArePushed}
 use Rattle.dnp_transport.specs.declared.assembler.Pushed.{Pushed}
 use Rattle.dnp_transport.specs.declared.assembler.Pushed.TheVariants.{Nothing, Whole, Dropped}
 use Rattle.dnp_transport.specs.declared.assembler.Stage.{Stage}
@@ -16,7 +16,7 @@ assembly stage.Complete last octets = Complete octets
 
 -- some pushed strings made the assembler what it is
 abbrev pub HasHistory : Assembly → Type 0
-HasHistory a = (pushed : List (List ℕ)) × Stands pushed a
+HasHistory a = (pushed : List (List ℕ)) × ArePushed pushed a
 
 -- the segment begins a series, or is the next of the one in progress and no repeat
 pub data MayGoOn (a : Assembly) (segment : List ℕ) : Type 0 where

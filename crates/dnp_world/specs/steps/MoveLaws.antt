@@ -4,7 +4,7 @@ use Rattle.std.specs.List.{All}
 use Rattle.dnp_objects.specs.declared.lane.LaneRow.{LaneRow}
 use Rattle.dnp_objects.specs.declared.row.Kind.{Kind}
 use Rattle.dnp_controls.specs.Panel.{Panel}
-use Rattle.dnp_eventbuf.specs.Stock.{arriving, exhausts}
+use Rattle.dnp_eventbuf.specs.EventBuffer.{arriving, exhausts}
 use Rattle.dnp_pointdb.specs.Database.{answer_of}
 use Rattle.dnp_pointdb.specs.declared.reading.Reading.{Reading}
 use Rattle.dnp_outstation.specs.Calls.{connection_after, tick_of, change_of, opened_of, restart_of, emptied_of}
@@ -15,11 +15,11 @@ use Rattle.dnp_master.specs.declared.task.Task.{Task}
 use Rattle.dnp_master.specs.Calls.{ask_answer, asked, receive_of, unheeded}
 use Rattle.dnp_master.specs.State as master
 use Rattle.dnp_master.specs.LinkCalls.{Asks as MasterAsks, PassesOver, TakesReport, TakesResponse}
-use Rattle.dnp_world.specs.Link.{Down, Asks, Link}
+use Rattle.dnp_world.specs.LawLink.{Down, Asks, LawLink}
 use Rattle.dnp_world.specs.MasterSeen.{master_of, MasterTakes, master_hung_up, with_master_of}
 use Rattle.dnp_world.specs.Moves.{Move, Moves, asking, lost_up, opened}
 use Rattle.dnp_world.specs.OutstationSeen.{down_of, octets_of, ShowOctets, Shows, Simulates}
-use Rattle.dnp_world.specs.Standing.{Stands}
+use Rattle.dnp_world.specs.Standing.{CarriesLaw}
 use Rattle.dnp_line.specs.Flows.{AreFacing, Flows, RestMoves}
 use Rattle.dnp_line.specs.Ways.{Way, WayEvent, Happens, opened_on}
 
@@ -41,17 +41,17 @@ pub record PointLaws : Type 0 where
 
 -- of an outstation
 pub record OutstationLaws : Type 0 where
-  pub opens : (s : State) (now : ℕ) (l : Link) → Shows s l → Stands l → Simulates s [] (opened_of s now) (opened l)
-  pub comes : (s : State) (o : Panel) (now : ℕ) (octets : List ℕ) (l : Link) (rest : List Down) → ShowOctets o
+  pub opens : (s : State) (now : ℕ) (l : LawLink) → Shows s l → CarriesLaw l → Simulates s [] (opened_of s now) (opened l)
+  pub comes : (s : State) (o : Panel) (now : ℕ) (octets : List ℕ) (l : LawLink) (rest : List Down) → ShowOctets o
       → All (λ octet. octet < 2 ^ 8) octets
-      → Shows s l → Stands l → l.down ≡ down_of octets ∷ rest → Simulates s [] (connection_after s o now octets) l
-  pub ticks : (s : State) (now : ℕ) (l : Link) → Shows s l → Stands l → Simulates s [] (tick_of s now) l
-  pub changes : (s : State) (now : ℕ) (kind : Kind) (index : ℕ) (reading : Reading) (made : Option LaneRow) (l : Link)
+      → Shows s l → CarriesLaw l → l.down ≡ down_of octets ∷ rest → Simulates s [] (connection_after s o now octets) l
+  pub ticks : (s : State) (now : ℕ) (l : LawLink) → Shows s l → CarriesLaw l → Simulates s [] (tick_of s now) l
+  pub changes : (s : State) (now : ℕ) (kind : Kind) (index : ℕ) (reading : Reading) (made : Option LaneRow) (l : LawLink)
       → answer_of s.core.points kind index reading ≡ Ok made → IfSome made (λ row. exhausts s.lanes (row ∷ []) ≡ false)
-      → Shows s l → Stands l
+      → Shows s l → CarriesLaw l
       → Simulates s (arriving (option_to_list made)) (change_of s now kind index reading made) l
-  pub closes : (s : State) (l : Link) → Shows s l → Simulates s [] (still (record s { core = closed s.core })) l
-  pub restarts : (s : State) (keep : Bool) (l : Link) → Shows s l
+  pub closes : (s : State) (l : LawLink) → Shows s l → Simulates s [] (still (record s { core = closed s.core })) l
+  pub restarts : (s : State) (keep : Bool) (l : LawLink) → Shows s l
       → Simulates s [] (record { state = restart_of s keep; does = record nothing { overwritten = emptied_of s keep } }) l
   pub silent_received : (s : State) (o : Panel) (now : ℕ) (octets : List ℕ) → s.core.is_open ≡ false
       → connection_after s o now octets ≡ still s
@@ -60,14 +60,14 @@ pub record OutstationLaws : Type 0 where
 
 -- of a master
 pub record MasterLaws : Type 0 where
-  pub came : (s : master.State) (now : ℕ) (l : Link) (n : ℕ) (octets : List ℕ) → Stands l → l.master ≡ master_of s
+  pub came : (s : master.State) (now : ℕ) (l : LawLink) (n : ℕ) (octets : List ℕ) → CarriesLaw l → l.master ≡ master_of s
       → slice_get (map octets_of l.up) n ≡ Some octets → Move l (lost_up n l) × IfOk (receive_of s now octets) (λ t. MasterTakes t (lost_up n l))
-  pub asks : (s : master.State) (now : ℕ) (task : Task) (octets : List ℕ) (l : Link) → s.seq < 16 → l.master ≡ master_of s
+  pub asks : (s : master.State) (now : ℕ) (task : Task) (octets : List ℕ) (l : LawLink) → s.seq < 16 → l.master ≡ master_of s
       → ask_answer s task ≡ Ok octets
       → Move l (asking octets l) × ((asking octets l).master ≡ master_of (asked s now task)) × (down_of octets ≡ Asks octets)
   pub asked : (s : master.State) (now : ℕ) (task : Task) → IfOk (ask_answer s task) (λ octets. MasterAsks s task octets (asked s now task))
-  pub hung_up : (s : master.State) (l : Link) → Moves l (master_hung_up s l)
-  pub ticked : (s : master.State) (now : ℕ) (l : Link) → l.master ≡ master_of s → Moves l (with_master_of (master.ticked s now) l)
+  pub hung_up : (s : master.State) (l : LawLink) → Moves l (master_hung_up s l)
+  pub ticked : (s : master.State) (now : ℕ) (l : LawLink) → l.master ≡ master_of s → Moves l (with_master_of (master.ticked s now) l)
   pub takes : (s : master.State) (now : ℕ) (octets : List ℕ) → IfOk (receive_of s now octets) (λ t.
       PassesOver s t ⊎ (TakesResponse s octets t ⊎ TakesReport s octets t))
   pub silent_receives : (s : master.State) (now : ℕ) (octets : List ℕ) → s.is_open ≡ false → receive_of s now octets ≡ Ok (unheeded s)

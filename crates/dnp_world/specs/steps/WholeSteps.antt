@@ -8,7 +8,7 @@ use Rattle.dnp_concentrator.specs.declared.concentrator.Concentrator.{Concentrat
 use Rattle.dnp_concentrator.specs.declared.two.Two.{Two}
 use Rattle.dnp_concentrator.specs.Two.{at}
 use Rattle.dnp_eventbuf.specs.Sides.{ForEach, other_than}
-use Rattle.dnp_eventbuf.specs.Stock.{Stock, dropped_by, exhausts, with_rows}
+use Rattle.dnp_eventbuf.specs.EventBuffer.{EventBuffer, dropped_by, exhausts, with_rows}
 use Rattle.dnp_master.specs.Calls.{Taking}
 use Rattle.dnp_objects.specs.declared.lane.LaneRow.{LaneRow}
 use Rattle.dnp_objects.specs.declared.row.Row.{Row}
@@ -35,12 +35,12 @@ with_readings_of c substation t core =
 abbrev pub concentrator_taken : WholeConcentrator → ℕ → Taking → WholeConcentrator
 concentrator_taken c substation t = record c {
   cores = of_both (with_readings_of c substation t) c.cores;
-  queues = of_both (λ (s : Stock). with_rows s (queued_for c substation t)) c.queues;
+  queues = of_both (λ (s : EventBuffer). with_rows s (queued_for c substation t)) c.queues;
   links = slice_set c.links substation (relaying.received (link_in c.links substation) t);
 }
 
 abbrev pub dropped_for : WholeConcentrator → ℕ → Taking → Two (List Row)
-dropped_for c substation t = of_both (λ (s : Stock). dropped_by s (queued_for c substation t)) c.queues
+dropped_for c substation t = of_both (λ (s : EventBuffer). dropped_by s (queued_for c substation t)) c.queues
 
 -- both queues have numbers left for its events
 abbrev pub HaveNumbers : WholeConcentrator → ℕ → Taking → Type 0
@@ -49,7 +49,7 @@ HaveNumbers c substation t = t.events ≢ [] → ForEach (λ centre. exhausts (a
 -- ---- where one centre is served
 
 -- what is the other centre's stays, and so do the links below and the plan
-pub record KeepsOtherCentre {Q B : Type 0} (honest : Q → Type 0) (contents : Q → ℕ → Stock) (centre : ℕ) (old new : Concentrator Q B) : Type 0 where
+pub record KeepsOtherCentre {Q B : Type 0} (honest : Q → Type 0) (contents : Q → ℕ → EventBuffer) (centre : ℕ) (old new : Concentrator Q B) : Type 0 where
   pub core : core_of (other_than centre) new ≡ core_of (other_than centre) old
   pub side : honest (queue_of new) → contents (queue_of new) (other_than centre) ≡ contents (queue_of old) (other_than centre)
   pub links : links_of new ≡ links_of old

@@ -8,7 +8,7 @@ ghost use Rattle.dnp_world.specs.Carriers.{TellsDeviceOver};
 ghost use Rattle.dnp_world.specs.Causes.{TellsDevice};
 ghost use Rattle.dnp_world.specs.Centres.{HappensToAll, centre_of, has_link, is_quiet_on, is_there, may_stop, seen_at};
 ghost use Rattle.dnp_world.specs.declared.event.Link.TheVariants as link;
-ghost use Rattle.dnp_world.specs.steps.ControlSteps.{EndsBy};
+ghost use Rattle.dnp_world.specs.steps.ControlSteps.{EndsControlBy};
 ghost use Rattle.dnp_world.specs.Controls.{ControlEnds, IsAccepted, IsControlFor, IsRefusedFor, IsRefusedOn, IsTold, Passes, PassesBack, StopsBack, StopsFor, StopsOn, StopsRelaying, are_quiet_for, first_with, found_in, is_free_below, is_next_for, next_below, substation_in, status_in, status_on};
 ghost use Rattle.dnp_world.specs.Wholes.{seen_by};
 
@@ -260,7 +260,7 @@ impl<Q: PairLanes, J: JournalStore, A: Book, B: Book> Parts<Q, J, A, B> {
         requires { is_there (centre_of on) ≡ true }
         ensures held { ⟦<Self as Stored>⟧.well self.new → ⟦<Self as Stored>⟧.well self.old }
         ensures done { ⟦<Self as Stored>⟧.well self.new → OnOk result (Passes HappensToAll (seen_at (centre_of on)) on id self.old.system self.new.system) }
-        ensures ended { ⟦<Self as Stored>⟧.well self.new → IfErr result (EndsBy (λ status. IsTold HappensToAll (seen_at (centre_of on)) on id status self.old.system self.new.system) (StopsRelaying HappensToAll (seen_at (centre_of on)) may_stop on self.old.system self.new.system)) }
+        ensures ended { ⟦<Self as Stored>⟧.well self.new → IfErr result (EndsControlBy (λ status. IsTold HappensToAll (seen_at (centre_of on)) on id status self.old.system self.new.system) (StopsRelaying HappensToAll (seen_at (centre_of on)) may_stop on self.old.system self.new.system)) }
         ensures device { TellsDevice (⟦<Self as Stored>⟧.is_stopped self.old) (⟦<Self as Stored>⟧.is_stopped self.new) (result ≡ Err (ControlFault.Fault Cause.Device)) }
     {
         self.happen(alloc, &Event::Relay(on))?;
@@ -280,7 +280,7 @@ impl<Q: PairLanes, J: JournalStore, A: Book, B: Book> Parts<Q, J, A, B> {
         requires { is_there (centre_of on) ≡ true }
         ensures held { ⟦<Self as Stored>⟧.well self.new → ⟦<Self as Stored>⟧.well self.old }
         ensures done { ⟦<Self as Stored>⟧.well self.new → OnOk result (PassesBack HappensToAll (seen_at (centre_of on)) on id self.old.system self.new.system) }
-        ensures ended { ⟦<Self as Stored>⟧.well self.new → IfErr result (EndsBy (λ status. IsTold HappensToAll (seen_at (centre_of on)) on id status self.old.system self.new.system) (StopsBack HappensToAll (seen_at (centre_of on)) may_stop on id self.old.system self.new.system)) }
+        ensures ended { ⟦<Self as Stored>⟧.well self.new → IfErr result (EndsControlBy (λ status. IsTold HappensToAll (seen_at (centre_of on)) on id status self.old.system self.new.system) (StopsBack HappensToAll (seen_at (centre_of on)) may_stop on id self.old.system self.new.system)) }
         ensures device { TellsDeviceOver C.refuses (⟦<Self as Stored>⟧.is_stopped self.old) (⟦<Self as Stored>⟧.is_stopped self.new) (result ≡ Err (ControlFault.Fault Cause.Device)) }
     {
         self.relay_one(alloc, on, id)?;
@@ -300,7 +300,7 @@ impl<Q: PairLanes, J: JournalStore, A: Book, B: Book> Parts<Q, J, A, B> {
         requires { is_there (centre_of on) ≡ true }
         ensures held { ⟦<Self as Stored>⟧.well self.new → ⟦<Self as Stored>⟧.well self.old }
         ensures done { ⟦<Self as Stored>⟧.well self.new → OnOk result (IsAccepted HappensToAll (seen_at (centre_of on)) on id self.old.system self.new.system) }
-        ensures ended { ⟦<Self as Stored>⟧.well self.new → IfErr result (EndsBy (λ status. IsRefusedOn HappensToAll (seen_at (centre_of on)) on id status self.old.system self.new.system) (StopsOn HappensToAll (seen_at (centre_of on)) may_stop on id self.old.system self.new.system)) }
+        ensures ended { ⟦<Self as Stored>⟧.well self.new → IfErr result (EndsControlBy (λ status. IsRefusedOn HappensToAll (seen_at (centre_of on)) on id status self.old.system self.new.system) (StopsOn HappensToAll (seen_at (centre_of on)) may_stop on id self.old.system self.new.system)) }
         ensures device { TellsDeviceOver C.refuses (⟦<Self as Stored>⟧.is_stopped self.old) (⟦<Self as Stored>⟧.is_stopped self.new) (result ≡ Err (ControlFault.Fault Cause.Device)) }
     {
         self.exchange(alloc, on, id, carrier)?;
@@ -320,7 +320,7 @@ impl<Q: PairLanes, J: JournalStore, A: Book, B: Book> Parts<Q, J, A, B> {
         requires { centre < CENTRES }
         ensures held { ⟦<Self as Stored>⟧.well self.new → ⟦<Self as Stored>⟧.well self.old }
         ensures done { ⟦<Self as Stored>⟧.well self.new → OnOk result (IsControlFor HappensToAll (seen_by centre) centre substation id self.old.system self.new.system) }
-        ensures ended { ⟦<Self as Stored>⟧.well self.new → IfErr result (EndsBy (λ status. IsRefusedFor HappensToAll (seen_by centre) centre substation id status self.old.system self.new.system) (StopsFor HappensToAll (seen_by centre) may_stop centre substation id self.old.system self.new.system)) }
+        ensures ended { ⟦<Self as Stored>⟧.well self.new → IfErr result (EndsControlBy (λ status. IsRefusedFor HappensToAll (seen_by centre) centre substation id status self.old.system self.new.system) (StopsFor HappensToAll (seen_by centre) may_stop centre substation id self.old.system self.new.system)) }
         ensures device { TellsDeviceOver C.refuses (⟦<Self as Stored>⟧.is_stopped self.old) (⟦<Self as Stored>⟧.is_stopped self.new) (result ≡ Err (ControlFault.Fault Cause.Device)) }
     {
         self.relay_through(alloc, Link::Above(centre), Some(id), carrier)?;

@@ -2,7 +2,7 @@
 
 ghost use Rattle.std.specs.Prelude.{◌≡◌, ◌≢◌, ◌++◌, ◌^◌, ◌-◌, ◌<◌, Err, IfOk, OnOk, length, map as all_of, min, take};
 ghost use Rattle.dnp_eventbuf.specs.Sides.{ForEach, at};
-ghost use Rattle.dnp_eventbuf.specs.Stock.{lost_in};
+ghost use Rattle.dnp_eventbuf.specs.EventBuffer.{lost_in};
 ghost use Rattle.dnp_world.specs.Causes.{TellsDevice};
 ghost use Rattle.dnp_world.specs.Kept.{lane_rows_of};
 ghost use Rattle.dnp_world.specs.ReportShown.{AreById, IsDroppedOf, IsJournalOf, IsQueueOf, Shows, all_in, lists_of};
@@ -39,7 +39,7 @@ fn copied<T: Copy>(alloc: Global, list: &[(u8, T)]) -> Result<Listed<(u8, T)>, A
 
 /// What a report reads of stores and lanes.
 #[derive(Drop)]
-struct Stocks {
+struct StoredRows {
     journal: BothRows,
     queue: BothRows,
     buffered: Listed<(u8, Row)>,
@@ -220,19 +220,19 @@ impl<Q: PairLanes, J: JournalStore, A: Book, B: Book> Parts<Q, J, A, B> {
     }
 
     /// The rows of the journals and of the queue for each centre, and those in the lanes of substations.
-    fn stocks_below(&mut self, alloc: Global) -> Result<Stocks, Cause>
+    fn stored_below(&mut self, alloc: Global) -> Result<StoredRows, Cause>
         ensures held { ⟦<Self as Stored>⟧.well self.new → ⟦<Self as Stored>⟧.well self.old }
         ensures same { ⟦<Self as Stored>⟧.well self.new → self.new.system ≡ self.old.system }
-        ensures journal { ⟦<Self as Stored>⟧.well self.new → IfOk result (λ stocks. ForEach (λ centre. IsJournalOf (seen_by centre self.old.system) (at centre stocks.journal.0 stocks.journal.1))) }
-        ensures queue { ⟦<Self as Stored>⟧.well self.new → IfOk result (λ stocks. ForEach (λ centre. IsQueueOf (seen_by centre self.old.system) (at centre stocks.queue.0 stocks.queue.1))) }
-        ensures buffered { IfOk result (λ stocks. stocks.buffered ≡ listed_from lane_rows_of 0 (take NUMBERS self.old.system.substations)) }
+        ensures journal { ⟦<Self as Stored>⟧.well self.new → IfOk result (λ stored. ForEach (λ centre. IsJournalOf (seen_by centre self.old.system) (at centre stored.journal.0 stored.journal.1))) }
+        ensures queue { ⟦<Self as Stored>⟧.well self.new → IfOk result (λ stored. ForEach (λ centre. IsQueueOf (seen_by centre self.old.system) (at centre stored.queue.0 stored.queue.1))) }
+        ensures buffered { IfOk result (λ stored. stored.buffered ≡ listed_from lane_rows_of 0 (take NUMBERS self.old.system.substations)) }
         ensures device { TellsDevice (⟦<Self as Stored>⟧.is_stopped self.old) (⟦<Self as Stored>⟧.is_stopped self.new) (result ≡ Err Cause.Device) }
         ensures named { result ≢ Err Cause.Exhausted }
     {
         let buffered = self.buffered(alloc)?;
         let journal = self.journals_below(alloc)?;
         let queue = self.queues_below(alloc)?;
-        Ok(Stocks {
+        Ok(StoredRows {
             journal,
             queue,
             buffered,
@@ -292,14 +292,14 @@ impl<Q: PairLanes, J: JournalStore, A: Book, B: Book> Parts<Q, J, A, B> {
         ensures device { TellsDevice (⟦<Self as Stored>⟧.is_stopped self.old) (⟦<Self as Stored>⟧.is_stopped self.new) (result ≡ Err Cause.Device) }
         ensures named { result ≢ Err Cause.Exhausted }
     {
-        let stocks = self.stocks_below(alloc)?;
+        let stored = self.stored_below(alloc)?;
         let copies = self.copies(alloc)?;
         let lost = self.lost_for_both();
-        let Stocks {
+        let StoredRows {
             journal,
             queue,
             buffered,
-        } = stocks;
+        } = stored;
         let Copies {
             dropped,
             rows,

@@ -1,6 +1,6 @@
 -- The assembler of the frame's direction takes its user data; its lines are put after the two of the frame and the segment.
 use Rattle.std.proofs.Common.{◌≡◌, ◌==◌, ◌<◌, ℕ, true, cond, List, ◌∷◌, sym, ◌∙◌, ap, subst, refl}
-use Rattle.dnp_transport.specs.Assembly.{Assembly, Idle, Stands}
+use Rattle.dnp_transport.specs.Assembly.{Assembly, Idle, ArePushed}
 use Rattle.dnp_decode.specs.declared.line.Line.TheVariants as line
 use Rattle.dnp_decode.specs.FrameLines.{says_data, data_of, frame_line, segment_line, AreDataLines, Carries}
 use Rattle.dnp_decode.specs.steps.Remembered.{direction_of, assembly_at}
@@ -18,9 +18,9 @@ returns c = λ heard remembers.
     let old : Assembly = c.deref_mut.result.now in
     let was : old ≡ assembly_at c.args.ports.now (direction_of frame.source frame.dest) =
     c.deref_mut.ensures.value ∙ c.in_ok-assembler.ensures.taken ∙ ap (λ (d : ℕ). assembly_at c.args.ports.now d) way in
-    let stood : Stands pushed old = subst (λ (a : Assembly). Stands pushed a) (sym was) (remembers.each frame.source frame.dest low) in
-    let stands : Stands (frame.user.items ∷ pushed) c.push_data.new.assembler =
-    subst (λ (u : List ℕ). Stands (u ∷ pushed) c.push_data.new.assembler) user (c.in_ok-push_data.ensures.stands pushed stood) in
+    let stood : ArePushed pushed old = subst (λ (a : Assembly). ArePushed pushed a) (sym was) (remembers.each frame.source frame.dest low) in
+    let stands : ArePushed (frame.user.items ∷ pushed) c.push_data.new.assembler =
+    subst (λ (u : List ℕ). ArePushed (u ∷ pushed) c.push_data.new.assembler) user (c.in_ok-push_data.ensures.stands pushed stood) in
     let carries : says_data frame.control ≡ true = sym c.says_data.ensures ∙ c.if-not-says_data.false in
     let got = c.in_ok-push_data.ensures.lines pushed stood in
     let more : AreDataLines (data_of frame.source frame.dest (frame ∷ heard)) got.0 =

@@ -1,6 +1,6 @@
 -- what was added and what is left make the whole
 use Rattle.std.proofs.Common.{◌≡◌, ◌+◌, ◌++◌, drop, length, map, vec_capacity, vec_len}
-use Rattle.dnp_eventbuf.specs.Stock.{row_of}
+use Rattle.dnp_eventbuf.specs.EventBuffer.{row_of}
 use Rattle.dnp_eventbuf.proofs.in_order.push_rows.Given as goal
 
 abbrev pub invariant-loop-x : goal.invariant-loop-x

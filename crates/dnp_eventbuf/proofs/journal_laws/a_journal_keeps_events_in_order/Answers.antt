@@ -1,7 +1,7 @@
 use Rattle.std.proofs.Common.{◌++◌, ◌∙◌, ap, map}
 use Rattle.std.proofs.lemmas.List.{map-append}
 use Rattle.dnp_eventbuf.specs.Archive.{numbered}
-use Rattle.dnp_eventbuf.specs.Stock.{row_of}
+use Rattle.dnp_eventbuf.specs.EventBuffer.{row_of}
 use Rattle.dnp_eventbuf.proofs.Archives.{rows-numbered, with_both}
 use Rattle.dnp_eventbuf.proofs.journal_laws.a_journal_keeps_events_in_order.Goals as goal
 

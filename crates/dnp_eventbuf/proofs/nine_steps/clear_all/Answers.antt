@@ -1,6 +1,6 @@
 use Rattle.std.proofs.Common.{◌≡◌, length, rules, arith}
 use Rattle.dnp_objects.specs.declared.limits.TheConstants.{LANES}
-use Rattle.dnp_eventbuf.specs.Stock.{emptied}
+use Rattle.dnp_eventbuf.specs.EventBuffer.{emptied}
 use Rattle.dnp_eventbuf.proofs.InPlace.{mapped-step}
 use Rattle.dnp_eventbuf.proofs.nine_steps.clear_all.Goals as goal
 

@@ -1,5 +1,5 @@
 use Rattle.std.proofs.Common.{◌≡◌}
-use Rattle.dnp_eventbuf.specs.Stock.{emptied}
+use Rattle.dnp_eventbuf.specs.EventBuffer.{emptied}
 use Rattle.dnp_eventbuf.proofs.InPlace.{mapped}
 use Rattle.dnp_eventbuf.proofs.nine_steps.clear_all.Given as goal
 

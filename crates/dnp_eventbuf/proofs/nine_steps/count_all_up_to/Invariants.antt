@@ -1,6 +1,6 @@
 -- what was counted and what is left make the whole
 use Rattle.std.proofs.Common.{◌≡◌, ◌+◌, ◌*◌, ◌^◌, ◌≤◌, drop, length}
-use Rattle.dnp_eventbuf.specs.Stock.{lanes_up_to}
+use Rattle.dnp_eventbuf.specs.EventBuffer.{lanes_up_to}
 use Rattle.dnp_eventbuf.proofs.nine_steps.count_all_up_to.Given as goal
 
 abbrev pub invariant-loop-k : goal.invariant-loop-k

@@ -1,5 +1,5 @@
 use Rattle.std.proofs.Common.{◌≡◌, ◌+◌, ◌<◌, ◌∷◌, [], ◌∙◌, ap, arith, sym, drop, get_or, length, map, add-one, drop-cons}
-use Rattle.dnp_eventbuf.specs.Stock.{LaneState, lane_rows, row_of}
+use Rattle.dnp_eventbuf.specs.EventBuffer.{LaneState, lane_rows, row_of}
 use Rattle.dnp_eventbuf.proofs.Remaining.{on_err, front_there, whole_there}
 use Rattle.dnp_eventbuf.proofs.nine_steps.push_all.Goals as goal
 

@@ -1,6 +1,6 @@
 -- what was added and what is left make the whole
 use Rattle.std.proofs.Common.{◌≡◌, ◌≤◌, ◌++◌, drop, length}
-use Rattle.dnp_eventbuf.specs.Stock.{lane_rows}
+use Rattle.dnp_eventbuf.specs.EventBuffer.{lane_rows}
 use Rattle.dnp_eventbuf.proofs.nine_steps.push_all.Given as goal
 
 abbrev pub invariant-loop-lane : goal.invariant-loop-lane

@@ -1,7 +1,7 @@
 -- no lane so far is full
 use Rattle.std.proofs.Common.{◌≡◌, drop}
 use Rattle.std.specs.List.{list_any}
-use Rattle.dnp_eventbuf.specs.Stock.{is_full, lanes_above}
+use Rattle.dnp_eventbuf.specs.EventBuffer.{is_full, lanes_above}
 use Rattle.dnp_eventbuf.proofs.plain.any_full_above.Given as goal
 
 abbrev pub invariant-loop-k : goal.invariant-loop-k

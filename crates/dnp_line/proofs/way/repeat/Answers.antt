@@ -3,7 +3,7 @@ use Rattle.std.proofs.Common.{List, ℕ, [], ◌∷◌, ◌++◌, sym, subst}
 use Rattle.std.specs.Prelude.{if◌then◌else◌}
 use Rattle.dnp_line.specs.Lines.{LineState, repeated_on}
 use Rattle.dnp_line.specs.Ports.{PortState}
-use Rattle.dnp_line.specs.Ways.{Hears}
+use Rattle.dnp_line.specs.Ways.{HearsUnit}
 use Rattle.dnp_line.proofs.Bringing.{brings, brings_none}
 use Rattle.dnp_line.proofs.way.repeat.Goals as goal
 
@@ -14,8 +14,8 @@ returns-in-Some-clause-happens c =
     let given : List (List ℕ) = if c.hear.result then way.given ++ fragment ∷ [] else way.given in
     brings (λ (l : LineState). repeated_on l) c.args.line.now c.repeat.new.self unit way c.hear.new.port given
     (record { line = c.repeat.ensures.line; front = c.in-Some.ensures.unit }) e
-    (subst (λ (p : PortState). Hears unit p c.hear.new.port way.given given) (sym f)
-    (subst (λ (u : List ℕ). Hears u c.args.receiver.now c.hear.new.port way.given given) c.as_slice.ensures.value
+    (subst (λ (p : PortState). HearsUnit unit p c.hear.new.port way.given given) (sym f)
+    (subst (λ (u : List ℕ). HearsUnit u c.args.receiver.now c.hear.new.port way.given given) c.as_slice.ensures.value
     (c.hear.ensures way.given fragment shown)))
 
 pub returns-in-None-clause-happens : goal.returns-in-None-clause-happens

@@ -1,5 +1,5 @@
 use Rattle.std.proofs.Common.{rules, ◌≡◌, true, ap, sym, ◌∙◌}
-use Rattle.dnp_eventbuf.specs.Stock.{Stock}
+use Rattle.dnp_eventbuf.specs.EventBuffer.{EventBuffer}
 use Rattle.dnp_outstation.specs.steps.Filling.{after_release, ended, has_rows_in}
 use Rattle.dnp_outstation.specs.Items.{enabled_lanes}
 use Rattle.dnp_outstation.specs.Offer.{pushed}
@@ -16,7 +16,7 @@ returns-clause-ends g c = λ honest now step lanes_is enabled_is due_is.
     starts_at_end now step (ended c.in_ok-_is_last._is_last c.put_enabled.new.writer) (due ∙ due_is)
     (some ∙ c.has_enabled_rows.ensures.value before step.state here enabled_is)
     (c.in_ok-_is_last.ensures.pushed honest c.restart_unsolicited.ensures
-    ∙ ap (λ (s : Stock). pushed s c.args.enabled) (sym here) ∙ ap (pushed step.state.lanes) (sym enabled_is))
+    ∙ ap (λ (s : EventBuffer). pushed s c.args.enabled) (sym here) ∙ ap (pushed step.state.lanes) (sym enabled_is))
 
 pub returns-in_err-_is_last-clause-asks_rows : goal.returns-in_err-_is_last-clause-asks_rows
 returns-in_err-_is_last-clause-asks_rows g c = λ honest failed.

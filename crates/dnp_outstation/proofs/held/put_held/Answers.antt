@@ -1,6 +1,6 @@
 use Rattle.std.proofs.Common.{rules, ◌≡◌, ◌++◌, [], List, ℕ, true, false, if◌then◌else◌, length, get_or, subst}
 use Rattle.std.specs.Prelude.{option_to_list}
-use Rattle.dnp_eventbuf.specs.Stock.{Stock, with_rows}
+use Rattle.dnp_eventbuf.specs.EventBuffer.{EventBuffer, with_rows}
 use Rattle.dnp_outstation.specs.Items.{class_lanes, enabled_lanes, lane_items}
 use Rattle.dnp_outstation.specs.steps.Grouping.{mark}
 use Rattle.dnp_outstation.proofs.OfferParts.{ended_full, ended_last}
@@ -12,7 +12,7 @@ use Rattle.dnp_outstation.proofs.held.put_held.Goals as goal
 pub returns-then-not-put_held_class-clause-pushed : goal.returns-then-not-put_held_class-clause-pushed
 returns-then-not-put_held_class-clause-pushed g c = λ honest s held lanes_are dropped_are empty.
     let made = c.args.made.now in
-    let t : Stock = with_rows s (option_to_list made) in
+    let t : EventBuffer = with_rows s (option_to_list made) in
     let enabled = c.args.enabled in
     let few : length enabled ≡ 3 = search rules in
     let new_is = c.new_row-new.ensures.value honest s held.sound lanes_are dropped_are in
@@ -26,7 +26,7 @@ returns-then-not-put_held_class-clause-pushed g c = λ honest s held lanes_are d
 pub returns-then-not-put_held_class-2-clause-pushed : goal.returns-then-not-put_held_class-2-clause-pushed
 returns-then-not-put_held_class-2-clause-pushed g c = λ honest s held lanes_are dropped_are empty.
     let made = c.args.made.now in
-    let t : Stock = with_rows s (option_to_list made) in
+    let t : EventBuffer = with_rows s (option_to_list made) in
     let enabled = c.args.enabled in
     let few : length enabled ≡ 3 = search rules in
     let new_is = c.new_row-new.ensures.value honest s held.sound lanes_are dropped_are in
@@ -42,7 +42,7 @@ returns-then-not-put_held_class-2-clause-pushed g c = λ honest s held lanes_are
 pub returns-then-not-put_held_class-3-clause-pushed : goal.returns-then-not-put_held_class-3-clause-pushed
 returns-then-not-put_held_class-3-clause-pushed g c = λ honest s held lanes_are dropped_are empty.
     let made = c.args.made.now in
-    let t : Stock = with_rows s (option_to_list made) in
+    let t : EventBuffer = with_rows s (option_to_list made) in
     let enabled = c.args.enabled in
     let few : length enabled ≡ 3 = search rules in
     let new_is = c.new_row-new.ensures.value honest s held.sound lanes_are dropped_are in
@@ -60,7 +60,7 @@ returns-then-not-put_held_class-3-clause-pushed g c = λ honest s held lanes_are
 pub returns-clause-pushed : goal.returns-clause-pushed
 returns-clause-pushed g c = λ honest s held lanes_are dropped_are empty.
     let made = c.args.made.now in
-    let t : Stock = with_rows s (option_to_list made) in
+    let t : EventBuffer = with_rows s (option_to_list made) in
     let enabled = c.args.enabled in
     let few : length enabled ≡ 3 = search rules in
     let new_is = c.new_row-new.ensures.value honest s held.sound lanes_are dropped_are in

@@ -1,5 +1,5 @@
 use Rattle.std.proofs.Common.{rules, ◌≡◌, true, false, Bool, if◌then◌else◌, nat_lt, sym, ap, ◌∙◌}
-use Rattle.dnp_eventbuf.specs.Stock.{lane_at, last_of}
+use Rattle.dnp_eventbuf.specs.EventBuffer.{lane_at, last_of}
 use Rattle.dnp_outstation.specs.steps.Filling.{released_to}
 use Rattle.dnp_outstation.proofs.LeftLanes.{last_after}
 use Rattle.dnp_outstation.proofs.released.last_at.Goals as goal

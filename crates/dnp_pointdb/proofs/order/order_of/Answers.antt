@@ -1,7 +1,7 @@
 use Rattle.std.proofs.lemmas.List.Sorted.{IsNonDecreasingBy-from_sort_by_key}
 use Rattle.std.proofs.Common.{rules, ◌≡◌, ℕ, length, map, arith, ◌+◌, ◌<◌, List, [], ◌∷◌, ◌++◌, refl, sym, ◌∙◌, ap, subst, Vec, Global}
 use Rattle.std.proofs.lemmas.List.{length-map}
-use Rattle.dnp_pointdb.specs.declared.order.Place.{Place}
+use Rattle.dnp_pointdb.specs.declared.order.BlockPlace.{BlockPlace}
 use Rattle.dnp_pointdb.specs.declared.point.Point.{Point}
 use Rattle.dnp_pointdb.specs.steps.Order.{Extent, extent_of}
 use Rattle.dnp_pointdb.proofs.Orders.{Placed, extent_at, placed_push, placed_skip, placed_sorted}
@@ -17,14 +17,14 @@ loop-number-preserved c =
     elim c.if-count-gt0.branch [
       | then-count-gt0+in_ok-push w ↦
           let items : c.if-count-gt0.order.items ≡ c.loop-number.order.items ++ _ ∷ [] =
-          ap (λ (v : Vec Place Global). v.items) w.order-is ∙ w.in_ok-push.ensures.items in
-          subst (λ (order : List Place). Placed es (n + 1) order) (sym items) (placed_push es n c.loop-number.order.items _ c.loop-number.invariant lt
+          ap (λ (v : Vec BlockPlace Global). v.items) w.order-is ∙ w.in_ok-push.ensures.items in
+          subst (λ (order : List BlockPlace). Placed es (n + 1) order) (sym items) (placed_push es n c.loop-number.order.items _ c.loop-number.invariant lt
           refl w.if-count-gt0.true
           (λ d. (ap (λ (e : Extent). e.first) (at d), ap (λ (e : Extent). e.count) (at d) ∙ ap (λ (ps : List Point). length ps) (sym c.as_slice-count.ensures))))
       | else-count-gt0 w ↦
           let none : length c.index-blocks-number.result.points ≡ 0 =
           ap (λ (ps : List Point). length ps) (sym c.as_slice-count.ensures) ∙ omega (arith, w.if-count-gt0.false) in
-          subst (λ (v : Vec Place Global). Placed es (n + 1) v.items) (sym w.order-is) (placed_skip es n c.loop-number.order.items c.loop-number.invariant
+          subst (λ (v : Vec BlockPlace Global). Placed es (n + 1) v.items) (sym w.order-is) (placed_skip es n c.loop-number.order.items c.loop-number.invariant
           (λ d. ap (λ (e : Extent). e.count) (at d) ∙ none))
     ]
 
@@ -32,5 +32,5 @@ pub returns : goal.returns
 returns c =
     placed_sorted (map extent_of c.args.blocks.now) c.loop-number.number c.loop-number.order.items c.sort_unstable_by_key.new.self.items c.loop-number.invariant
     (omega (arith, length-map c.args.blocks.now extent_of)) c.sort_unstable_by_key.ensures.permutation
-    (IsNonDecreasingBy-from_sort_by_key (λ (place : Place). place.first) _ c.sort_unstable_by_key.ensures.sorted (λ a r q k. search rules))
+    (IsNonDecreasingBy-from_sort_by_key (λ (place : BlockPlace). place.first) _ c.sort_unstable_by_key.ensures.sorted (λ a r q k. search rules))
     c.requires

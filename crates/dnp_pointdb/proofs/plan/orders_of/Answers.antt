@@ -3,13 +3,13 @@ use Rattle.dnp_objects.specs.declared.row.Kind.{Kind}
 use Rattle.dnp_objects.specs.declared.row.Kind.TheVariants.{Binary, Counter, Analog}
 use Rattle.dnp_pointdb.specs.declared.point.Block.{Block}
 use Rattle.dnp_pointdb.specs.declared.fault.PlanFault.TheVariants.{Overlap}
-use Rattle.dnp_pointdb.specs.Plan.{Plan, IsSound, blocks_of}
+use Rattle.dnp_pointdb.specs.Plan.{Plan, IsSoundPlan, blocks_of}
 use Rattle.dnp_pointdb.specs.steps.Order.{extent_of, AreApart}
 use Rattle.dnp_pointdb.proofs.Orders.{apart_plan}
 use Rattle.dnp_pointdb.proofs.plan.orders_of.Goals as goal
 
 -- the blocks of a kind that were handed out are apart
-apart : (plan : Plan) (kind : Kind) (blocks : List Block) → IsSound plan → blocks ≡ blocks_of plan kind → AreApart (map extent_of blocks)
+apart : (plan : Plan) (kind : Kind) (blocks : List Block) → IsSoundPlan plan → blocks ≡ blocks_of plan kind → AreApart (map extent_of blocks)
 apart plan kind blocks sound is =
     subst (λ (bs : List Block). AreApart (map extent_of bs)) (sym is) (apart_plan (blocks_of plan kind) (λ shared. sound Overlap (kind, shared)))
 

@@ -6,9 +6,9 @@ use Rattle.dnp_controls.specs.declared.book.BookFault.TheVariants as fault
 use Rattle.dnp_store.specs.BookTables.{HoldsBook, IsBook}
 use Rattle.dnp_store.specs.declared.store_kind.StoreKind.TheVariants.{Book}
 use Rattle.dnp_store.specs.steps.Writing.{IsWritten}
-use Rattle.dnp_controls.specs.Book.{IsSound, Ledger, added}
+use Rattle.dnp_controls.specs.Book.{IsSoundLedger, Ledger, added}
 use Rattle.dnp_controls.specs.Moves.{Add}
-use Rattle.dnp_store.specs.BookKept.{IsPast, Stands}
+use Rattle.dnp_store.specs.BookKept.{IsPast, BookStands}
 use Rattle.dnp_store.proofs.BookPlaces.{past_push}
 use Rattle.dnp_store.proofs.BookStanding.{holding}
 use Rattle.dnp_store.proofs.Writing.{refused_first, refused_write, was_written}
@@ -21,8 +21,10 @@ added_is g c =
     let items : c.push-room.new.self.items ≡ (added (record { entries = c.args.entries.now.items; last_id = c.args.last_id.now }) c.args.target c.args.command.now).entries = search rules in
     ap (λ es. record { entries = es; last_id = c.args.last_id.now + 1 }) (sym items)
 
-written : (g : _) (c : goal.After-push-room g) → HasCleanDisk (state g.S.Store c.write_added.new.conn) → Stands (state g.S.Store c.args.conn.now) (record { entries = c.args.entries.now.items; last_id = c.args.last_id.now })
-    → Stands (state g.S.Store c.write_added.new.conn) (added (record { entries = c.args.entries.now.items; last_id = c.args.last_id.now }) c.args.target c.args.command.now)
+written : (g : _) (c : goal.After-push-room g) → HasCleanDisk (state g.S.Store c.write_added.new.conn)
+    → BookStands (state g.S.Store c.args.conn.now) (record { entries = c.args.entries.now.items; last_id = c.args.last_id.now })
+    → BookStands (state g.S.Store c.write_added.new.conn) (added (record { entries = c.args.entries.now.items; last_id = c.args.last_id.now }) c.args.target
+    c.args.command.now)
 written g c clean stood = c.in_default.ensures.ok clean (record { entries = c.args.entries.now.items; last_id = c.args.last_id.now }) c.requires.sound stood
 
 pub returns-clause-added : goal.returns-clause-added
@@ -30,7 +32,8 @@ returns-clause-added g c = sym (added_is g c)
 
 pub returns-clause-sound : goal.returns-clause-sound
 returns-clause-sound g c =
-    subst IsSound (added_is g c) (c.ids_go_on.ensures.sound (record { entries = c.args.entries.now.items; last_id = c.args.last_id.now }) (Add c.args.target c.args.command.now ∷ []) c.requires.sound)
+    subst IsSoundLedger (added_is g c) (c.ids_go_on.ensures.sound (record { entries = c.args.entries.now.items; last_id = c.args.last_id.now })
+    (Add c.args.target c.args.command.now ∷ []) c.requires.sound)
 
 pub returns-clause-past : goal.returns-clause-past
 returns-clause-past g c first past =
@@ -71,3 +74,22 @@ returns-clause-written g c =
     was_written g.S.Store Book fault.Device IsBook HoldsBook holding _ _ _ c.args.conn.now c.write_added.new.conn _ _
     (g.met.S.Store.settled c.write_added.new.conn.store) (λ _. added_is g c) c.write_added.ensures.idle c.write_added.ensures.survives
     (λ clean _ stood. written g c clean stood)
+
+-- room was made at most: the entries are those before
+pub returns-then-is_err-clause-sound : goal.returns-then-is_err-clause-sound
+returns-then-is_err-clause-sound g c =
+    let same : c.args.entries.now.items ≡ c.reserve.new.self.items = search rules in
+    subst (λ (es : List Entry). IsSoundLedger (record { entries = es; last_id = c.args.last_id.now })) same c.requires.sound
+
+pub returns-then-is_err-clause-past : goal.returns-then-is_err-clause-past
+returns-then-is_err-clause-past g c first past =
+    let same : c.args.entries.now.items ≡ c.reserve.new.self.items = search rules in subst (λ (es : List Entry). IsPast es first) same past
+
+pub returns-in-Err-clause-sound : goal.returns-in-Err-clause-sound
+returns-in-Err-clause-sound g c =
+    let same : c.args.entries.now.items ≡ c.reserve.new.self.items = search rules in
+    subst (λ (es : List Entry). IsSoundLedger (record { entries = es; last_id = c.args.last_id.now })) same c.requires.sound
+
+pub returns-in-Err-clause-past : goal.returns-in-Err-clause-past
+returns-in-Err-clause-past g c first past =
+    let same : c.args.entries.now.items ≡ c.reserve.new.self.items = search rules in subst (λ (es : List Entry). IsPast es first) same past

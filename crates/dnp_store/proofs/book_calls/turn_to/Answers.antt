@@ -4,8 +4,8 @@ use Rattle.sqlite.specs.Held.{state}
 use Rattle.dnp_controls.specs.declared.book.BookFault.TheVariants as fault
 use Rattle.dnp_store.specs.BookTables.{HoldsBook, IsBook}
 use Rattle.dnp_store.specs.declared.store_kind.StoreKind.TheVariants.{Book}
-use Rattle.dnp_controls.specs.Book.{Has, IsSound, Ledger, in_state}
-use Rattle.dnp_store.specs.BookKept.{IsPast, Stands}
+use Rattle.dnp_controls.specs.Book.{Has, IsSoundLedger, Ledger, in_state}
+use Rattle.dnp_store.specs.BookKept.{IsPast, BookStands}
 use Rattle.dnp_store.specs.steps.Turning.{may_turn}
 use Rattle.dnp_store.proofs.BookPlaces.{id_low, past_turned}
 use Rattle.dnp_store.proofs.BookStanding.{holding, not_device}
@@ -36,8 +36,8 @@ entries_are g c =
 
 -- what was written holds them
 written : (g : _) (c : goal.After-entries-1 g) → HasCleanDisk (state g.S.Store c.write_turned.new.conn)
-    → Stands (state g.S.Store c.args.conn.now) (record { entries = c.args.entries.now.items; last_id = c.args.last_id })
-    → Stands (state g.S.Store c.write_turned.new.conn)
+    → BookStands (state g.S.Store c.args.conn.now) (record { entries = c.args.entries.now.items; last_id = c.args.last_id })
+    → BookStands (state g.S.Store c.write_turned.new.conn)
     (record { entries = in_state c.args.entries.now.items c.args.id c.args.control.now; last_id = c.args.last_id })
 written g c clean stood =
     c.in_default.ensures.ok clean (record { entries = c.args.entries.now.items; last_id = c.args.last_id }) c.requires.sound
@@ -50,7 +50,7 @@ pub returns-clause-sound : goal.returns-clause-sound
 returns-clause-sound g c =
     let items = c.args.entries.now.items in
     let control = c.args.control.now in
-    subst IsSound (entries_are g c)
+    subst IsSoundLedger (entries_are g c)
     (sound_turned c.ids_go_on.ensures.sound (record { entries = items; last_id = c.args.last_id }) c.args.id control
     (not_pending items c.args.id control (has g c)) c.requires.sound)
 

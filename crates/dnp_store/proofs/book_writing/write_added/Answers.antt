@@ -1,7 +1,7 @@
 use Rattle.std.proofs.Common.{rules, ◌≡◌, not, IsTrue, sym, ap, subst, ◌∙◌}
 use Rattle.sqlite.specs.Held.{state}
-use Rattle.dnp_controls.specs.Book.{IsSound, Ledger, added}
-use Rattle.dnp_store.specs.BookKept.{Stands}
+use Rattle.dnp_controls.specs.Book.{IsSoundLedger, Ledger, added}
+use Rattle.dnp_store.specs.BookKept.{BookStands}
 use Rattle.dnp_store.specs.BookTables.{HoldsBook, IsBook}
 use Rattle.dnp_store.specs.declared.store_kind.StoreKind.TheVariants.{Book}
 use Rattle.dnp_store.proofs.Ending.{end_err, end_ok, end_refused, end_survives}
@@ -20,7 +20,7 @@ settled g c is_open =
     let idle : IsTrue c.is_autocommit.result = c.is_autocommit.ensures.value ∙ ap not c.requires.idle in
     ap (λ h. (state g.S.Store h).now) c.transaction-tx.ensures.begun ∙ c.is_autocommit.ensures.settled idle is_open
 
-was : (g : _) (c : goal.After-conn-1 g) (a : Ledger) → Stands (state g.S.Store c.args.conn.now) a
+was : (g : _) (c : goal.After-conn-1 g) (a : Ledger) → BookStands (state g.S.Store c.args.conn.now) a
     → IsBook (state g.S.Store c.transaction-tx.result.conn.now).now a
 was g c a stood = subst (λ d. IsBook d a) (sym (settled g c stood.is_open)) stood.holds
 
@@ -35,7 +35,7 @@ pub returns-clause-survives : goal.returns-clause-survives
 returns-clause-survives g c =
     end_survives g.S.Store c.args.conn.now c.conn-1.given.0 c.transaction-tx.result.conn c.insert-done.new.tx.conn c.end.new.tx.0 c.insert-done.result c.end.result
     c.transaction-tx.ensures.begun (ended g c) c.insert-done.ensures.step c.end.ensures
-    (λ db. (a : Ledger) → IsSound a → Stands (state g.S.Store c.args.conn.now) a → HoldsBook db (added a c.args.target c.args.command.now))
+    (λ db. (a : Ledger) → IsSoundLedger a → BookStands (state g.S.Store c.args.conn.now) a → HoldsBook db (added a c.args.target c.args.command.now))
     (λ early. on_then _ _ c.insert-done.result (λ went a sound stood. (went a sound (was g c a stood)).holds) (c.insert-done.ensures.added early))
 
 pub returns-clause-err : goal.returns-clause-err

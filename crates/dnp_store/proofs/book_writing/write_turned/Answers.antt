@@ -1,9 +1,9 @@
 use Rattle.std.proofs.Common.{rules, ◌≡◌, ℕ, not, IsTrue, sym, ap, subst, ◌∙◌}
 use Rattle.std.specs.Prelude.{IsSome}
 use Rattle.sqlite.specs.Held.{state}
-use Rattle.dnp_controls.specs.Book.{IsSound, Ledger, entry_of, in_state}
+use Rattle.dnp_controls.specs.Book.{IsSoundLedger, Ledger, entry_of, in_state}
 use Rattle.dnp_controls.specs.declared.book.State.{State as Control}
-use Rattle.dnp_store.specs.BookKept.{Stands}
+use Rattle.dnp_store.specs.BookKept.{BookStands}
 use Rattle.dnp_store.specs.BookTables.{HoldsBook, IsBook}
 use Rattle.dnp_store.specs.declared.store_kind.StoreKind.TheVariants.{Book}
 use Rattle.dnp_store.proofs.Ending.{end_err, end_ok, end_refused, end_survives}
@@ -25,7 +25,7 @@ settled g c is_open =
 abbrev turned : Ledger → ℕ → Control → Ledger
 turned a id s = record a { entries = in_state a.entries id s }
 
-was : (g : _) (c : goal.After-conn-1 g) (a : Ledger) → Stands (state g.S.Store c.args.conn.now) a
+was : (g : _) (c : goal.After-conn-1 g) (a : Ledger) → BookStands (state g.S.Store c.args.conn.now) a
     → IsBook (state g.S.Store c.transaction-tx.result.conn.now).now a
 was g c a stood = subst (λ d. IsBook d a) (sym (settled g c stood.is_open)) stood.holds
 
@@ -40,7 +40,7 @@ pub returns-clause-survives : goal.returns-clause-survives
 returns-clause-survives g c =
     end_survives g.S.Store c.args.conn.now c.conn-1.given.0 c.transaction-tx.result.conn c.turn-done.new.tx.conn c.end.new.tx.0 c.turn-done.result c.end.result
     c.transaction-tx.ensures.begun (ended g c) c.turn-done.ensures.step c.end.ensures
-    (λ db. (a : Ledger) → IsSound a → IsSome (entry_of a.entries c.args.id) → Stands (state g.S.Store c.args.conn.now) a
+    (λ db. (a : Ledger) → IsSoundLedger a → IsSome (entry_of a.entries c.args.id) → BookStands (state g.S.Store c.args.conn.now) a
     → HoldsBook db (turned a c.args.id c.args.control))
     (λ early. on_then _ _ c.turn-done.result (λ went a sound there stood. (went a sound there (was g c a stood)).holds) (c.turn-done.ensures.turned early))
 

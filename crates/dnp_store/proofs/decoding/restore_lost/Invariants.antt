@@ -1,7 +1,7 @@
 use Rattle.std.proofs.Common.{◌≡◌, ◌<◌, ℕ, length}
 use Rattle.std.specs.Prelude.{slice_index_or}
 use Rattle.dnp_objects.specs.declared.limits.TheConstants.{LANES}
-use Rattle.dnp_eventbuf.specs.Stock.{lane_at}
+use Rattle.dnp_eventbuf.specs.EventBuffer.{lane_at}
 use Rattle.dnp_store.specs.QueueTables.{no_figures}
 use Rattle.dnp_store.proofs.decoding.restore_lost.Given as goal
 

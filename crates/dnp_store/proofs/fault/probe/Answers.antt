@@ -3,6 +3,6 @@ use Rattle.sqlite.specs.Held.{state}
 use Rattle.dnp_store.proofs.Standing.{keeps_open}
 use Rattle.dnp_store.proofs.fault.probe.Goals as goal
 
-pub returns-in_err-_nothing-clause-same : goal.returns-in_err-_nothing-clause-same
-returns-in_err-_nothing-clause-same g c clean is_open =
-    keeps_open (state g.S.Store c.args.conn.now) (state g.S.Store c.prepare.new.self) _ [] _ (c.in_err-_nothing.ensures.err clean []) is_open
+pub returns-in-Err-clause-same : goal.returns-in-Err-clause-same
+returns-in-Err-clause-same g c clean is_open =
+    keeps_open (state g.S.Store c.args.conn.now) (state g.S.Store c.prepare.new.self) _ [] _ (c.in-Err.ensures.err clean []) is_open

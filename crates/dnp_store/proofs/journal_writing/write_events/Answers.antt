@@ -1,7 +1,7 @@
 use Rattle.std.proofs.Common.{rules, ◌≡◌, not, IsTrue, sym, ap, subst, ◌∙◌}
 use Rattle.sqlite.specs.Held.{state}
 use Rattle.dnp_eventbuf.specs.Archive.{Archive, with_events}
-use Rattle.dnp_store.specs.JournalKept.{Stands}
+use Rattle.dnp_store.specs.JournalKept.{JournalStands}
 use Rattle.dnp_store.specs.JournalTables.{HoldsArchive, IsJournal}
 use Rattle.dnp_store.specs.declared.store_kind.StoreKind.TheVariants.{Journal}
 use Rattle.dnp_store.proofs.Ending.{end_err, end_ok, end_refused, end_survives}
@@ -20,7 +20,7 @@ settled g c is_open =
     let idle : IsTrue c.is_autocommit.result = c.is_autocommit.ensures.value ∙ ap not c.requires.idle in
     ap (λ h. (state g.S.Store h).now) c.transaction-tx.ensures.begun ∙ c.is_autocommit.ensures.settled idle is_open
 
-was : (g : _) (c : goal.After-conn-1 g) (a : Archive) → Stands (state g.S.Store c.args.conn.now) a
+was : (g : _) (c : goal.After-conn-1 g) (a : Archive) → JournalStands (state g.S.Store c.args.conn.now) a
     → IsJournal (state g.S.Store c.transaction-tx.result.conn.now).now a
 was g c a stood = subst (λ d. IsJournal d a) (sym (settled g c stood.is_open)) stood.holds
 
@@ -35,7 +35,8 @@ returns-clause-ok g c clean a stood =
 pub returns-clause-survives : goal.returns-clause-survives
 returns-clause-survives g c =
     end_survives g.S.Store c.args.conn.now c.conn-1.given.0 c.transaction-tx.result.conn c.insert_all-done.new.tx.conn c.end.new.tx.0 c.insert_all-done.result c.end.result
-    c.transaction-tx.ensures.begun (ended g c) c.insert_all-done.ensures.step c.end.ensures (λ db. (a : Archive) → Stands (state g.S.Store c.args.conn.now) a → HoldsArchive db (with_events a c.args.events.now))
+    c.transaction-tx.ensures.begun (ended g c) c.insert_all-done.ensures.step c.end.ensures
+    (λ db. (a : Archive) → JournalStands (state g.S.Store c.args.conn.now) a → HoldsArchive db (with_events a c.args.events.now))
     (λ early. on_then _ _ c.insert_all-done.result (λ went a stood. (went a (was g c a stood)).holds) (c.insert_all-done.ensures.added early))
 
 pub returns-clause-err : goal.returns-clause-err

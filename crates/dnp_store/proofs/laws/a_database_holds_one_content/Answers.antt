@@ -1,8 +1,8 @@
-use Rattle.dnp_store.proofs.Once.{one_stock, one_archive, one_ledger, one_pair}
+use Rattle.dnp_store.proofs.Once.{one_buffer, one_archive, one_ledger, one_pair}
 use Rattle.dnp_store.proofs.laws.a_database_holds_one_content.Goals as goal
 
-pub returns-clause-stock : goal.returns-clause-stock
-returns-clause-stock c = one_stock
+pub returns-clause-buffer : goal.returns-clause-buffer
+returns-clause-buffer c = one_buffer
 
 pub returns-clause-sides : goal.returns-clause-sides
 returns-clause-sides c = one_pair

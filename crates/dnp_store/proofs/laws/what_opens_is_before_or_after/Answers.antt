@@ -1,9 +1,9 @@
-use Rattle.dnp_store.proofs.Once.{one_stock, one_archive, one_ledger, one_pair, of_two}
+use Rattle.dnp_store.proofs.Once.{one_buffer, one_archive, one_ledger, one_pair, of_two}
 use Rattle.dnp_store.proofs.laws.what_opens_is_before_or_after.Goals as goal
 
-pub returns-clause-stock : goal.returns-clause-stock
-returns-clause-stock c = λ db before after opened sound sounds soundly left holds.
-    of_two (one_stock db opened before soundly sound holds) (one_stock db opened after soundly sounds holds) left
+pub returns-clause-buffer : goal.returns-clause-buffer
+returns-clause-buffer c = λ db before after opened sound sounds soundly left holds.
+    of_two (one_buffer db opened before soundly sound holds) (one_buffer db opened after soundly sounds holds) left
 
 pub returns-clause-sides : goal.returns-clause-sides
 returns-clause-sides c = λ db before after opened sound sounds soundly left holds.

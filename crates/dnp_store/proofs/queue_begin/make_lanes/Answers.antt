@@ -1,7 +1,7 @@
 use Rattle.std.proofs.Common.{rules, ◌≡◌, IsTrue, false, Ok, Err, Result, ap₂, subst}
 use Rattle.std.specs.Prelude.{OnOk}
 use Rattle.sqlite.specs.declared.error.Error.{Error}
-use Rattle.dnp_eventbuf.specs.Stock.{Stock}
+use Rattle.dnp_eventbuf.specs.EventBuffer.{EventBuffer}
 use Rattle.dnp_store.specs.declared.store_kind.StoreKind.TheVariants.{Queue}
 use Rattle.dnp_store.specs.steps.Beginning.{Found, IsTold}
 use Rattle.dnp_store.proofs.Beginning.{made_inside, made_memory, made_not, made_well}
@@ -40,5 +40,5 @@ returns-in-Ok-told g c =
           c.write_tables-done.ensures.err c.write_tables-done.ensures.refused c.write_tables-done.ensures.survives
           (c.in-Ok.ours, c.in-Ok.others, c.is_bare-owned.result) c.is_bare-owned.ensures told
           (λ clean bare. and_too _ _ c.write_tables-done.result (c.write_tables-done.ensures.ok clean bare) (c.write_tables-done.ensures.schema clean bare));
-      empty = ap₂ (λ (a b : Stock). record { first = a; second = b }) c.in-Ok.ensures.0 c.in-Ok.ensures.1;
+      empty = ap₂ (λ (a b : EventBuffer). record { first = a; second = b }) c.in-Ok.ensures.0 c.in-Ok.ensures.1;
     }

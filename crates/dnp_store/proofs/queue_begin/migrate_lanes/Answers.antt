@@ -1,11 +1,11 @@
 use Rattle.std.proofs.Common.{rules, ◌≡◌, IsTrue, false, refl, arith, ap, sym, subst, ◌∙◌}
 use Rattle.sqlite.specs.Held.{state}
 use Rattle.sqlite.specs.State.{HasCleanDisk}
-use Rattle.dnp_eventbuf.specs.Sound.{IsSound}
-use Rattle.dnp_eventbuf.specs.Stock.{Stock, empty_stock}
+use Rattle.dnp_eventbuf.specs.Sound.{IsSoundBuffer}
+use Rattle.dnp_eventbuf.specs.EventBuffer.{EventBuffer, empty_buffer}
 use Rattle.dnp_store.specs.declared.open.OpenFault.TheVariants.{Memory}
 use Rattle.dnp_store.specs.declared.queue_opening.Stored.TheVariants.{One, Pair}
-use Rattle.dnp_store.specs.Kept.{Stands}
+use Rattle.dnp_store.specs.QueueKept.{QueueStands}
 use Rattle.dnp_store.specs.PairTables.{IsPair}
 use Rattle.dnp_store.specs.QueueTables.{IsQueue}
 use Rattle.dnp_store.specs.steps.Seconds.{Opens}
@@ -60,8 +60,8 @@ returns-in-Ok-Pair g c =
     let old = state g.S.Store c.args.conn.now in
     let first = c.in-Ok-Pair.first in
     let second = c.in-Ok-Pair.second in
-    let ours : IsSound first = search rules in
-    let theirs : IsSound second = search rules in
+    let ours : IsSoundBuffer first = search rules in
+    let theirs : IsSoundBuffer second = search rules in
     let stored : HasCleanDisk (state g.S.Store c.find_stored.new.conn) → IsStored old.committed (Pair first second c.in-Ok-Pair.owned) =
     λ clean. subst (IsStored old.committed) c.in-Ok-Pair.field-0-is (c.in-Ok-Pair.ensures.read clean) in
     record {
@@ -75,7 +75,7 @@ returns-in-Ok-Pair g c =
             is_open = is_open;
             holds = subst (λ d. IsPair d (record { first = first; second = second })) (sym (c.find_stored.ensures.same clean is_open).1) (stored clean own);
           };
-      made = λ clean own stock sound is. absurd (no_number (old.committed.trees 0) 1 refl is.holds.form (stored clean own).holds.form);
+      made = λ clean own buffer sound is. absurd (no_number (old.committed.trees 0) 1 refl is.holds.form (stored clean own).holds.form);
       same = λ clean own sides sound is.
           one_pair old.committed.trees (record { first = first; second = second }) sides (ours, theirs) sound (stored clean own).holds is.holds;
     }
@@ -111,8 +111,8 @@ returns-in-Ok-second_made g c =
     let mid = state g.S.Store c.find_stored.new.conn in
     let new = state g.S.Store c.second_made.new.conn in
     let first = c.in-Ok-One.first in
-    let ours : IsSound first = search rules in
-    let bare : c.in-Ok.second ≡ empty_stock c.args.capacities.now = search rules in
+    let ours : IsSoundBuffer first = search rules in
+    let bare : c.in-Ok.second ≡ empty_buffer c.args.capacities.now = search rules in
     let early : HasCleanDisk new → HasCleanDisk mid = λ clean. omega (arith, clean, c.second_made.ensures.survives.clean) in
     let stored : HasCleanDisk mid → IsStored old.committed (One first c.in-Ok-One.owned c.in-Ok-One._others) =
     λ clean. subst (IsStored old.committed) c.in-Ok-One.field-0-is (c.in-Ok-One.ensures.read clean) in
@@ -130,9 +130,9 @@ returns-in-Ok-second_made g c =
             is_open = is_open;
             holds = subst (λ d. IsQueue d first) (sym (c.find_stored.ensures.same (early clean) is_open).1) ((stored (early clean)).0 own);
           } in
-          subst (λ (s : Stock). Stands new (record { first = first; second = s })) (sym bare) (c.in-Ok-second_made.ensures.ok clean first opens);
-      made = λ clean own stock sound is.
-          ap (λ (s : Stock). record { first = first; second = s }) bare
-          ∙ moved old.committed first c.args.capacities.now ours ((stored (early clean)).0 own) stock sound is;
+          subst (λ (s : EventBuffer). QueueStands new (record { first = first; second = s })) (sym bare) (c.in-Ok-second_made.ensures.ok clean first opens);
+      made = λ clean own buffer sound is.
+          ap (λ (s : EventBuffer). record { first = first; second = s }) bare
+          ∙ moved old.committed first c.args.capacities.now ours ((stored (early clean)).0 own) buffer sound is;
       same = λ clean own sides sound is. absurd ((stored (early clean)).1 sides is);
     }

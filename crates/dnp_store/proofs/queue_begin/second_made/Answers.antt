@@ -1,5 +1,5 @@
 use Rattle.sqlite.specs.Held.{state}
-use Rattle.dnp_store.specs.Kept.{Stands}
+use Rattle.dnp_store.specs.QueueKept.{QueueStands}
 use Rattle.dnp_store.specs.PairTables.{migrated}
 use Rattle.dnp_store.proofs.Beginning.{told_current, told_err, told_ok}
 use Rattle.dnp_store.proofs.Statements.{survives_on}
@@ -11,7 +11,8 @@ returns-clause-idle g c = c.told.ensures.idle
 pub returns-clause-ok : goal.returns-clause-ok
 returns-clause-ok g c clean s opens =
     told_ok g.S.Store c.args.conn.now c.write_second-done.new.conn c.told.new.conn c.write_second-done.result
-    (λ h. Stands (state g.S.Store h) (migrated s c.args.capacities.now)) c.told.result c.told.ensures (λ early. c.write_second-done.ensures.ok early s opens) clean
+    (λ h. QueueStands (state g.S.Store h) (migrated s c.args.capacities.now)) c.told.result c.told.ensures
+    (λ early. c.write_second-done.ensures.ok early s opens) clean
 
 pub returns-clause-current : goal.returns-clause-current
 returns-clause-current g c =

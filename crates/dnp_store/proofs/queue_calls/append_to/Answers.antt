@@ -2,8 +2,8 @@ use Rattle.std.proofs.Common.{ap, arith, sym}
 use Rattle.dnp_objects.specs.declared.store.StoreFault.TheVariants as store
 use Rattle.dnp_store.specs.PairTables.{HoldsPair, IsPair}
 use Rattle.dnp_store.specs.declared.store_kind.StoreKind.TheVariants.{Queue}
-use Rattle.dnp_eventbuf.specs.Sound.{IsSound}
-use Rattle.dnp_eventbuf.specs.Stock.{Stock, with_rows}
+use Rattle.dnp_eventbuf.specs.Sound.{IsSoundBuffer}
+use Rattle.dnp_eventbuf.specs.EventBuffer.{EventBuffer, with_rows}
 use Rattle.dnp_store.specs.steps.Pairs.{sides_of}
 use Rattle.dnp_store.proofs.Trimming.{last_rows}
 use Rattle.dnp_store.proofs.Standing.{device_is, device_not, holding}
@@ -16,7 +16,7 @@ write_append-requires-clause-after g c =
 
 pub write_append-requires-clause-few : goal.write_append-requires-clause-few
 write_append-requires-clause-few g c =
-    let after : IsSound (with_rows c.args.lanes.now c.args.rows.now) =
+    let after : IsSoundBuffer (with_rows c.args.lanes.now c.args.rows.now) =
     c.lanes_stay_sound.ensures.appended c.args.lanes.now c.args.rows.now c.requires.sound c.requires.carried c.in_ok-dropped.ensures.fits in
     let last = after.last_id_at_most in
     omega (arith, last, last_rows c.args.lanes.now c.args.rows.now)
@@ -38,4 +38,5 @@ returns-in-Err-clause-written g c =
 pub returns-clause-written : goal.returns-clause-written
 returns-clause-written g c =
     was_written g.S.Store Queue store.Device IsPair HoldsPair holding _ _ _ c.args.conn.now c.write_append.new.conn _ _ (g.met.S.Store.settled c.write_append.new.conn.store)
-    (λ others. ap (λ (t : Stock). sides_of c.args.side t others) (sym c.put_all.ensures.with)) c.write_append.ensures.idle c.write_append.ensures.survives c.in_default.ensures.ok
+    (λ others. ap (λ (t : EventBuffer). sides_of c.args.side t others) (sym c.put_all.ensures.with)) c.write_append.ensures.idle
+    c.write_append.ensures.survives c.in_default.ensures.ok

@@ -3,8 +3,8 @@ use Rattle.sqlite.specs.State.{HasCleanDisk}
 use Rattle.sqlite.specs.Held.{state}
 use Rattle.dnp_objects.specs.declared.store.StoreFault.TheVariants as store
 use Rattle.dnp_store.specs.declared.store_kind.StoreKind.TheVariants.{Queue}
-use Rattle.dnp_eventbuf.specs.Stock.{Stock, without_all}
-use Rattle.dnp_store.specs.Kept.{Stands}
+use Rattle.dnp_eventbuf.specs.EventBuffer.{EventBuffer, without_all}
+use Rattle.dnp_store.specs.QueueKept.{QueueStands}
 use Rattle.dnp_store.specs.PairTables.{HoldsPair, IsPair}
 use Rattle.dnp_store.specs.steps.Pairs.{sides_of}
 use Rattle.dnp_store.specs.steps.Steps.{released}
@@ -14,9 +14,9 @@ use Rattle.dnp_store.proofs.Releasing.{all_left_of, all_left_in, nine_most, all_
 use Rattle.dnp_store.proofs.queue_calls.empty_of.Goals as goal
 
 -- what was written holds no rows on the side
-written : (g : _) (c : goal.After-clear g) → HasCleanDisk (state g.S.Store c.write_release.new.conn) → (others : Stock)
-    → Stands (state g.S.Store c.args.conn.now) (sides_of c.args.side c.args.lanes.now others)
-    → Stands (state g.S.Store c.write_release.new.conn) (sides_of c.args.side (without_all c.args.lanes.now) others)
+written : (g : _) (c : goal.After-clear g) → HasCleanDisk (state g.S.Store c.write_release.new.conn) → (others : EventBuffer)
+    → QueueStands (state g.S.Store c.args.conn.now) (sides_of c.args.side c.args.lanes.now others)
+    → QueueStands (state g.S.Store c.write_release.new.conn) (sides_of c.args.side (without_all c.args.lanes.now) others)
 written g c clean others stood =
     let new = state g.S.Store c.write_release.new.conn in
     let s = c.args.lanes.now in
@@ -44,4 +44,5 @@ returns-in-Err-clause-written g c =
 pub returns-clause-written : goal.returns-clause-written
 returns-clause-written g c =
     was_written g.S.Store Queue store.Device IsPair HoldsPair holding _ _ _ c.args.conn.now c.write_release.new.conn _ _ (g.met.S.Store.settled c.write_release.new.conn.store)
-    (λ others. ap (λ (t : Stock). sides_of c.args.side t others) (sym c.clear.ensures.without)) c.write_release.ensures.idle c.write_release.ensures.survives (written g c)
+    (λ others. ap (λ (t : EventBuffer). sides_of c.args.side t others) (sym c.clear.ensures.without)) c.write_release.ensures.idle
+    c.write_release.ensures.survives (written g c)

@@ -1,8 +1,8 @@
 use Rattle.std.proofs.Common.{ap, subst, sym}
 use Rattle.sqlite.specs.Held.{state}
 use Rattle.dnp_objects.specs.declared.store.StoreFault.TheVariants as store
-use Rattle.dnp_eventbuf.specs.Stock.{Stock}
-use Rattle.dnp_store.specs.Kept.{Stands}
+use Rattle.dnp_eventbuf.specs.EventBuffer.{EventBuffer}
+use Rattle.dnp_store.specs.QueueKept.{QueueStands}
 use Rattle.dnp_store.specs.PairTables.{HoldsPair, IsPair}
 use Rattle.dnp_store.specs.declared.store_kind.StoreKind.TheVariants.{Queue}
 use Rattle.dnp_store.specs.steps.Pairs.{sides_of}
@@ -12,20 +12,23 @@ use Rattle.dnp_store.proofs.queue_calls.release_from.Goals as goal
 
 pub returns-in_default-clause-written : goal.returns-in_default-clause-written
 returns-in_default-clause-written g c =
-    refused_first g.S.Store Queue store.Device IsPair HoldsPair holding _ _ c.args.conn.now _ (λ told. absurd cc) (g.met.S.Store.settled c.args.conn.now.store) c.requires.idle
+    refused_first g.S.Store Queue store.Device IsPair HoldsPair holding _ _ c.args.conn.now _ (λ told. absurd cc)
+    (g.met.S.Store.settled c.args.conn.now.store) c.requires.idle
 
 pub returns-in-Err-clause-written : goal.returns-in-Err-clause-written
 returns-in-Err-clause-written g c =
     let wrote = c.write_release.ensures in
     let asked = c.is_lost-lost.ensures in
-    refused_write g.S.Store Queue store.Device IsPair HoldsPair holding _ _ c.args.conn.now c.write_release.new.conn c.is_lost-lost.new.conn _ c.is_lost-lost.result c.fault.result _
-    (g.met.S.Store.settled c.args.conn.now.store) (λ others stood db made. subst (λ (t : Stock). HoldsPair db (sides_of c.args.side t others)) c.lowers-lower.ensures (made others stood)) wrote.survives c.in-Err.ensures.err c.in-Err.ensures.refused
-    asked.survives asked.idle asked.same asked.serves asked.lost (device_is c.is_lost-lost.result c.fault.result c.fault.ensures)
-    (device_not c.is_lost-lost.result c.fault.result c.fault.ensures)
+    refused_write g.S.Store Queue store.Device IsPair HoldsPair holding _ _ c.args.conn.now c.write_release.new.conn c.is_lost-lost.new.conn _
+    c.is_lost-lost.result c.fault.result _ (g.met.S.Store.settled c.args.conn.now.store)
+    (λ others stood db made. subst (λ (t : EventBuffer). HoldsPair db (sides_of c.args.side t others)) c.lowers-lower.ensures (made others stood))
+    wrote.survives c.in-Err.ensures.err c.in-Err.ensures.refused asked.survives asked.idle asked.same asked.serves asked.lost
+    (device_is c.is_lost-lost.result c.fault.result c.fault.ensures) (device_not c.is_lost-lost.result c.fault.result c.fault.ensures)
 
 pub returns-clause-written : goal.returns-clause-written
 returns-clause-written g c =
     was_written g.S.Store Queue store.Device IsPair HoldsPair holding _ _ _ c.args.conn.now c.write_release.new.conn _ _ (g.met.S.Store.settled c.write_release.new.conn.store)
-    (λ others. ap (λ (t : Stock). sides_of c.args.side t others) (sym c.cut.ensures.without)) c.write_release.ensures.idle c.write_release.ensures.survives (λ clean others stood.
-    subst (λ (t : Stock). Stands (state g.S.Store c.write_release.new.conn) (sides_of c.args.side t others)) c.lowers-lower.ensures
+    (λ others. ap (λ (t : EventBuffer). sides_of c.args.side t others) (sym c.cut.ensures.without)) c.write_release.ensures.idle
+    c.write_release.ensures.survives (λ clean others stood.
+    subst (λ (t : EventBuffer). QueueStands (state g.S.Store c.write_release.new.conn) (sides_of c.args.side t others)) c.lowers-lower.ensures
     (c.in_default-write_release.ensures.ok clean others stood))

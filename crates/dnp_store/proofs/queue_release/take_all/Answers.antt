@@ -3,7 +3,7 @@ use Rattle.std.proofs.lemmas.List.{append-nil, drop_all, take_all}
 use Rattle.sqlite.specs.State.{HasCleanDisk}
 use Rattle.sqlite.specs.Held.{state}
 use Rattle.dnp_objects.specs.declared.limits.TheConstants.{LANES, MAX_ID}
-use Rattle.dnp_eventbuf.specs.Stock.{LaneState, Stock}
+use Rattle.dnp_eventbuf.specs.EventBuffer.{LaneState, EventBuffer}
 use Rattle.dnp_store.specs.steps.Pairs.{HoldsFor}
 use Rattle.dnp_store.specs.steps.Steps.{left, mixed}
 use Rattle.dnp_store.proofs.Releasing.{cut_step, nine_left}
@@ -60,7 +60,7 @@ pub take_some-requires-clause-inside : goal.take_some-requires-clause-inside
 take_some-requires-clause-inside g c = c.loop-number.invariant.step.inside
 
 -- all lanes are those without the rows
-all_mixed : (number : ℕ) (s : Stock) (upto : List ℕ) → LANES ≤ number → length s.lanes ≡ LANES → mixed number s (left s upto) ≡ left s upto
+all_mixed : (number : ℕ) (s : EventBuffer) (upto : List ℕ) → LANES ≤ number → length s.lanes ≡ LANES → mixed number s (left s upto) ≡ left s upto
 all_mixed number s upto all nine =
     let nine_b = nine_left s upto nine in
     let ours = take_all number (left s upto).lanes (omega (arith, all, nine_b)) in

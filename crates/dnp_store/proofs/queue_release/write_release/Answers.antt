@@ -1,8 +1,8 @@
 use Rattle.std.proofs.Common.{rules, ◌≡◌, not, IsTrue, sym, ap, subst, ◌∙◌}
 use Rattle.sqlite.specs.Held.{state}
-use Rattle.dnp_eventbuf.specs.Stock.{Stock}
+use Rattle.dnp_eventbuf.specs.EventBuffer.{EventBuffer}
 use Rattle.dnp_store.specs.steps.Steps.{released}
-use Rattle.dnp_store.specs.Kept.{Stands}
+use Rattle.dnp_store.specs.QueueKept.{QueueStands}
 use Rattle.dnp_store.specs.PairTables.{HoldsPair, IsPair}
 use Rattle.dnp_store.specs.steps.Pairs.{IsFor, sides_of}
 use Rattle.dnp_store.specs.declared.store_kind.StoreKind.TheVariants.{Queue}
@@ -24,9 +24,11 @@ settled g c is_open =
     ap (λ h. (state g.S.Store h).now) c.transaction-tx.ensures.begun ∙ c.is_autocommit.ensures.settled idle is_open
 
 -- the lanes on the side, before and after
-done : (g : _) (c : goal.After-conn-1 g) → ((others : Stock) → IsFor c.args.side others (state g.S.Store c.transaction-tx.result.conn.now).now c.args.lanes.now
-    → IsFor c.args.side others (state g.S.Store c.release_in-done.new.tx.conn.now).now (released c.args.lanes.now c.args.upto.now c.args.lower)) → (others : Stock)
-    → Stands (state g.S.Store c.args.conn.now) (sides_of c.args.side c.args.lanes.now others)
+done : (g : _) (c : goal.After-conn-1 g) → ((others : EventBuffer) → IsFor c.args.side others (state g.S.Store c.transaction-tx.result.conn.now).now
+    c.args.lanes.now
+    → IsFor c.args.side others (state g.S.Store c.release_in-done.new.tx.conn.now).now (released c.args.lanes.now c.args.upto.now c.args.lower)) →
+    (others : EventBuffer)
+    → QueueStands (state g.S.Store c.args.conn.now) (sides_of c.args.side c.args.lanes.now others)
     → IsPair (state g.S.Store c.release_in-done.new.tx.conn.now).now (sides_of c.args.side (released c.args.lanes.now c.args.upto.now c.args.lower) others)
 done g c went others stood =
     let begun = state g.S.Store c.transaction-tx.result.conn.now in
@@ -47,7 +49,7 @@ pub returns-clause-survives : goal.returns-clause-survives
 returns-clause-survives g c =
     end_survives g.S.Store c.args.conn.now c.conn-1.given.0 c.transaction-tx.result.conn c.release_in-done.new.tx.conn c.end.new.tx.0 c.release_in-done.result c.end.result
     c.transaction-tx.ensures.begun (ended g c) c.release_in-done.ensures.step c.end.ensures
-    (λ db. (others : Stock) → Stands (state g.S.Store c.args.conn.now) (sides_of c.args.side c.args.lanes.now others)
+    (λ db. (others : EventBuffer) → QueueStands (state g.S.Store c.args.conn.now) (sides_of c.args.side c.args.lanes.now others)
     → HoldsPair db (sides_of c.args.side (released c.args.lanes.now c.args.upto.now c.args.lower) others))
     (λ early. on_then _ _ c.release_in-done.result (λ went others stood. (done g c went others stood).holds) (c.release_in-done.ensures.released early))
 

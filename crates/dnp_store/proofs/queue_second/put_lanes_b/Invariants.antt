@@ -2,7 +2,7 @@ use Rattle.std.proofs.Common.{[], take, map, List}
 use Rattle.sqlite.specs.State.{HasCleanDisk}
 use Rattle.sqlite.specs.Held.{state}
 use Rattle.sqlite.specs.Term.{Term}
-use Rattle.dnp_eventbuf.specs.Stock.{Stock}
+use Rattle.dnp_eventbuf.specs.EventBuffer.{EventBuffer}
 use Rattle.dnp_store.specs.steps.Making.{fresh}
 use Rattle.dnp_store.specs.steps.Seconds.{HasSecond}
 use Rattle.dnp_store.proofs.Stepping.{AreSteps}
@@ -15,6 +15,6 @@ invariant-loop-number g l =
     let now = state g.S.Store l.tx.conn.now in
     record {
       step : AreSteps g.S.Store l.fn.tx.conn l.tx.conn;
-      made : HasCleanDisk now → (f q b : List Term) (s : Stock) → HasSecond f q b s [] old.now
+      made : HasCleanDisk now → (f q b : List Term) (s : EventBuffer) → HasSecond f q b s [] old.now
           → HasSecond f q b s (map fresh (take l.number l.capacities)) now.now;
     }

@@ -4,7 +4,7 @@ use Rattle.std.proofs.lemmas.List.Elements.{recursion_from_All}
 use Rattle.sqlite.specs.Values.{bound}
 use Rattle.sqlite.specs.Held.{state}
 use Rattle.sqlite.specs.State.{Executes}
-use Rattle.dnp_eventbuf.specs.Carried.{IsCarried}
+use Rattle.dnp_eventbuf.specs.FitsLane.{FitsLane}
 use Rattle.dnp_store.specs.steps.Steps.{cells_of}
 use Rattle.dnp_store.proofs.QueueStatements.{insert_params}
 use Rattle.dnp_store.proofs.Holding.{queued_for}
@@ -41,7 +41,7 @@ returns-clause-added g c clean =
     let given = given_all (queued_for 0) xs c.loop-number.given
     (ap (map bound) (sym cells) ∙ all.given ∙ ap (map (λ x. insert_params (queued_for 0 x))) rows) in
     ran_then old new _ _ _ c.run.result (c.run.ensures.ran clean) (λ count ran others s figures nine holds.
-    holds_16 c.args.side old new others s figures xs count nine c.requires.sixteen (recursion_from_All IsCarried xs c.requires.carried)
+    holds_16 c.args.side old new others s figures xs count nine c.requires.sixteen (recursion_from_All FitsLane xs c.requires.carried)
     (subst₂ (λ sql ps. Executes sql ps old new (Ok count)) c.insert_16_text.ensures (ap bound c.as_flattened.ensures.value ∙ given) ran) holds)
 
 pub returns-clause-refused : goal.returns-clause-refused

@@ -2,7 +2,7 @@ use Rattle.std.proofs.Common.{rules, ◌≡◌, length, arith}
 use Rattle.sqlite.specs.State.{HasCleanDisk}
 use Rattle.sqlite.specs.Held.{state}
 use Rattle.dnp_objects.specs.declared.limits.TheConstants.{LANES}
-use Rattle.dnp_eventbuf.specs.Stock.{empty_stock}
+use Rattle.dnp_eventbuf.specs.EventBuffer.{empty_buffer}
 use Rattle.dnp_store.specs.Schemas.{checks_of_form, checks_of_lanes, checks_of_rows}
 use Rattle.dnp_store.specs.declared.store_kind.StoreKind.TheVariants.{Queue}
 use Rattle.dnp_store.proofs.Filling.{made_empty, made_of}
@@ -19,7 +19,7 @@ returns-clause-made g c clean =
     let nine : length c.args.first.now ≡ LANES = search rules in
     on_then _ _ c.make_second.result (λ made none.
     let has = c.in_ok-make_all.ensures.made early none in
-    made checks_of_form (checks_of_rows Queue) checks_of_lanes (empty_stock c.args.first.now) (made_of mid.now _ has)
+    made checks_of_form (checks_of_rows Queue) checks_of_lanes (empty_buffer c.args.first.now) (made_of mid.now _ has)
     (made_empty mid.now c.args.first.now nine has))
     (c.make_second.ensures.made clean)
 

@@ -1,25 +1,27 @@
-use Rattle.std.proofs.Common.{rules, ◌≡◌, ◌+◌, ◌<◌, ◌++◌, [], ◌∷◌, map, take, length, get_or, arith, sym, ap, subst, ◌∙◌, length-take}
+use Rattle.std.proofs.Common.{rules, ◌≡◌, ◌+◌, ◌<◌, ◌++◌, [], ◌∷◌, map, take, length, get_or, Ok, arith, sym, ap, ap₂, refl, subst, ◌∙◌, length-take}
 use Rattle.std.proofs.lemmas.List.{take_more, map-append}
-use Rattle.sqlite.specs.State.{HasCleanDisk}
+use Rattle.sqlite.specs.State.{Executes, HasCleanDisk}
+use Rattle.sqlite.specs.declared.types.Value.{Value}
+use Rattle.sqlite.specs.Values.{bound_value}
 use Rattle.sqlite.specs.Held.{state}
 use Rattle.dnp_objects.specs.declared.limits.TheConstants.{LANES}
 use Rattle.dnp_store.specs.steps.Making.{HasLanes, fresh}
-use Rattle.dnp_store.proofs.Filling.{length_fresh}
+use Rattle.dnp_store.proofs.Filling.{lane_made, lane_text, length_fresh}
 use Rattle.dnp_store.proofs.Stepping.{step_then, step_none}
 use Rattle.dnp_store.specs.declared.store_kind.StoreKind.TheVariants.{Queue}
-use Rattle.dnp_store.proofs.Refusing.{refused_after}
+use Rattle.dnp_store.proofs.Refusing.{by_making, refused_after}
 use Rattle.dnp_store.proofs.Running.{err_too, step_too}
 use Rattle.dnp_store.proofs.queue_tables.put_lanes.Goals as goal
 
 pub loop-number-preserved : goal.loop-number-preserved
 loop-number-preserved g c =
     let mid = state g.S.Store c.loop-number.tx.conn.now in
-    let new = state g.S.Store c.put_lane.new.tx.conn.now in
+    let new = state g.S.Store c.run.new.tx.conn.now in
     let number = c.loop-number.number in
     let all = c.args.capacities.now in record {
-      step = step_then g.S.Store c.args.tx.now.conn c.loop-number.tx.conn c.put_lane.new.tx.conn _ _ c.loop-number.invariant.step c.in_ok-put_lane.ensures.step;
+      step = step_then g.S.Store c.args.tx.now.conn c.loop-number.tx.conn c.run.new.tx.conn _ _ c.loop-number.invariant.step c.in_ok-run.ensures.step;
       made = λ clean.
-          let early : HasCleanDisk mid = omega (arith, c.put_lane.ensures.step.survives.clean) in
+          let early : HasCleanDisk mid = omega (arith, c.run.ensures.step.survives.clean) in
           let was = c.loop-number.invariant.made early in
           λ has.
           let nine : length all ≡ LANES = search rules in
@@ -28,19 +30,24 @@ loop-number-preserved g c =
           let at : number ≡ length before = omega (arith, length_fresh (take number all), length-take number all, nine) in
           let more : map fresh (take (number + 1) all) ≡ before ++ fresh (get_or all number 0) ∷ [] =
           ap (map fresh) (take_more all number 0 (omega (arith, nine))) ∙ map-append fresh (take number all) (get_or all number 0 ∷ []) in
-          subst (HasLanes new.now) (sym more) (c.in_ok-put_lane.ensures.made clean before at (was has));
+          let ran = c.in_ok-run.ensures.ran clean in
+          let given =
+          ap₂ (λ (a b : Value). bound_value a ∷ bound_value b ∷ []) c.params-to_sql.ensures c.params-to_sql-in-loop-number.ensures in
+          subst (HasLanes new.now) (sym more)
+          (lane_made mid new number (get_or all number 0) ran.0 before at (was has) (subst (λ ps. Executes lane_text ps mid new (Ok ran.0)) given ran.1));
     }
 
-pub returns-in_err-put_lane-clause-refused : goal.returns-in_err-put_lane-clause-refused
-returns-in_err-put_lane-clause-refused g c clean =
-    let here = refused_after g.S.Store Queue c.args.tx.now.conn.now c.loop-number.tx.conn.now c.put_lane.new.tx.conn.now _ c.loop-number.invariant.step.survives
-    (c.in_err-put_lane.ensures.refused clean) in
+pub returns-in_err-run-clause-refused : goal.returns-in_err-run-clause-refused
+returns-in_err-run-clause-refused g c clean =
+    let told = c.in_err-run.ensures.refused clean in
+    let here = refused_after g.S.Store Queue c.args.tx.now.conn.now c.loop-number.tx.conn.now c.run.new.tx.conn.now _ c.loop-number.invariant.step.survives
+    (by_making g.S.Store Queue c.loop-number.tx.conn.now c.run.new.tx.conn.now _ _ _ (4, refl) told.0 told.1) in
     err_too _ c.from_residual.result _ c.from_residual.ensures here
 
-pub returns-in_err-put_lane-clause-step : goal.returns-in_err-put_lane-clause-step
-returns-in_err-put_lane-clause-step g c =
-    let here = step_then g.S.Store c.args.tx.now.conn c.loop-number.tx.conn c.put_lane.new.tx.conn _ _ c.loop-number.invariant.step
-    c.in_err-put_lane.ensures.step in
+pub returns-in_err-run-clause-step : goal.returns-in_err-run-clause-step
+returns-in_err-run-clause-step g c =
+    let here = step_then g.S.Store c.args.tx.now.conn c.loop-number.tx.conn c.run.new.tx.conn _ _ c.loop-number.invariant.step
+    c.in_err-run.ensures.step in
     step_too g.S.Store _ _ _ c.from_residual.result c.from_residual.ensures here
 
 pub loop-number-init : goal.loop-number-init

@@ -1,8 +1,8 @@
 use Rattle.std.proofs.Common.{rules, ◌≡◌, not, IsTrue, List, sym, ap, subst, ◌∙◌}
 use Rattle.sqlite.specs.Held.{state}
 use Rattle.sqlite.specs.Term.{Term}
-use Rattle.dnp_eventbuf.specs.Stock.{Stock}
-use Rattle.dnp_store.specs.QueueTables.{HoldsStock, IsQueue, queue_schema}
+use Rattle.dnp_eventbuf.specs.EventBuffer.{EventBuffer}
+use Rattle.dnp_store.specs.QueueTables.{HoldsBuffer, IsQueue, queue_schema}
 use Rattle.dnp_store.specs.PairTables.{HoldsPair, IsPair, migrated}
 use Rattle.dnp_store.specs.steps.Seconds.{IsSecond, Opens}
 use Rattle.dnp_store.specs.declared.store_kind.StoreKind.TheVariants.{Queue}
@@ -22,9 +22,11 @@ settled g c is_open =
     let idle : IsTrue c.is_autocommit.result = c.is_autocommit.ensures.value ∙ ap not c.requires.idle in
     ap (λ h. (state g.S.Store h).now) c.transaction-tx.ensures.begun ∙ c.is_autocommit.ensures.settled idle is_open
 
-done : (g : _) (c : goal.After-conn-1 g) → ((f q l : List Term) (s : Stock) → (state g.S.Store c.transaction-tx.result.conn.now).now.schema ≡ queue_schema f q l
-    → HoldsStock (state g.S.Store c.transaction-tx.result.conn.now).now.trees s
-    → IsSecond f q l (migrated s c.args.capacities.now) (state g.S.Store c.make_second-done.new.tx.conn.now).now) → (s : Stock) → Opens (state g.S.Store c.args.conn.now) s
+done : (g : _) (c : goal.After-conn-1 g) → ((f q l : List Term) (s : EventBuffer) → (state g.S.Store c.transaction-tx.result.conn.now).now.schema ≡
+    queue_schema f q l
+    → HoldsBuffer (state g.S.Store c.transaction-tx.result.conn.now).now.trees s
+    → IsSecond f q l (migrated s c.args.capacities.now) (state g.S.Store c.make_second-done.new.tx.conn.now).now) → (s : EventBuffer) → Opens
+    (state g.S.Store c.args.conn.now) s
     → IsPair (state g.S.Store c.make_second-done.new.tx.conn.now).now (migrated s c.args.capacities.now)
 done g c went s stood =
     let was = subst (λ d. IsQueue d s) (sym (settled g c stood.is_open)) stood.holds in
@@ -41,7 +43,8 @@ returns-clause-ok g c clean s stood =
 pub returns-clause-survives : goal.returns-clause-survives
 returns-clause-survives g c =
     end_survives g.S.Store c.args.conn.now c.conn-1.given.0 c.transaction-tx.result.conn c.make_second-done.new.tx.conn c.end.new.tx.0 c.make_second-done.result c.end.result
-    c.transaction-tx.ensures.begun (ended g c) c.make_second-done.ensures.step c.end.ensures (λ db. (s : Stock) → Opens (state g.S.Store c.args.conn.now) s → HoldsPair db (migrated s c.args.capacities.now))
+    c.transaction-tx.ensures.begun (ended g c) c.make_second-done.ensures.step c.end.ensures
+    (λ db. (s : EventBuffer) → Opens (state g.S.Store c.args.conn.now) s → HoldsPair db (migrated s c.args.capacities.now))
     (λ early. on_then _ _ c.make_second-done.result (λ went s stood. (done g c went s stood).holds) (c.make_second-done.ensures.made early))
 
 pub returns-clause-err : goal.returns-clause-err

@@ -3,7 +3,7 @@ use Rattle.std.specs.Prelude.{OnOk}
 use Rattle.sqlite.specs.Held.{state}
 use Rattle.sqlite.specs.Tree.{Trees}
 use Rattle.sqlite.specs.State.{HasCleanDisk}
-use Rattle.dnp_eventbuf.specs.Stock.{empty_stock}
+use Rattle.dnp_eventbuf.specs.EventBuffer.{empty_buffer}
 use Rattle.dnp_store.specs.Tables.{no_schema}
 use Rattle.dnp_store.specs.Schemas.{checks_of_form, checks_of_lanes, checks_of_rows, made_pair}
 use Rattle.dnp_store.specs.PairTables.{HoldsPair, IsPair, Sides, migrated}
@@ -20,7 +20,7 @@ ended : (g : _) (c : goal.After-conn-1 g) → c.end.new.tx.0 ≡ c.conn-1.given.
 ended g c = search rules
 
 abbrev empties : List ℕ → List ℕ → Sides
-empties first second = migrated (empty_stock first) second
+empties first second = migrated (empty_buffer first) second
 
 made : (g : _) (c : goal.After-conn-1 g) → c.args.conn.now.schema ≡ no_schema → HasCleanDisk (state g.S.Store c.make_pair-done.new.tx.conn.now)
     → OnOk c.make_pair-done.result (IsSecond checks_of_form (checks_of_rows Queue) checks_of_lanes (empties c.args.first.now c.args.second.now) (state g.S.Store c.make_pair-done.new.tx.conn.now).now)

@@ -4,7 +4,7 @@ use Rattle.std.proofs.lemmas.List.Elements.{All-from_recursion, recursion_from_A
 use Rattle.sqlite.specs.State.{HasCleanDisk}
 use Rattle.sqlite.specs.Held.{state}
 use Rattle.dnp_objects.specs.declared.lane.LaneRow.{LaneRow}
-use Rattle.dnp_eventbuf.specs.Carried.{IsCarried}
+use Rattle.dnp_eventbuf.specs.FitsLane.{FitsLane}
 use Rattle.dnp_store.specs.steps.Pairs.{HoldsFor}
 use Rattle.dnp_store.specs.steps.Steps.{all_added}
 use Rattle.dnp_store.proofs.Appending.{added-append, nine_added}
@@ -23,7 +23,7 @@ loop-block-init g c =
     record {
       done = [];
       parts = sym whole;
-      carried = subst (AllByRecursion IsCarried) (sym whole) (recursion_from_All IsCarried rows c.requires.carried);
+      carried = subst (AllByRecursion FitsLane) (sym whole) (recursion_from_All FitsLane rows c.requires.carried);
       step = step_none g.S.Store c.args.tx.now.conn c.requires.inside;
       added = λ clean others s figures nine held. held;
     }
@@ -32,8 +32,8 @@ pub insert_block-requires : goal.insert_block-requires
 insert_block-requires g c =
     let block = c.in-Some.block.now in
     let after = c.next.new.self.rest.now in
-    let all = subst (AllByRecursion IsCarried) (c.in-Some.ensures).steps.1.0 c.loop-block.invariant.carried in
-    record { inside = c.loop-block.invariant.step.inside; carried = All-from_recursion IsCarried block (parted IsCarried block after all).0 }
+    let all = subst (AllByRecursion FitsLane) (c.in-Some.ensures).steps.1.0 c.loop-block.invariant.carried in
+    record { inside = c.loop-block.invariant.step.inside; carried = All-from_recursion FitsLane block (parted FitsLane block after all).0 }
 
 pub loop-block-preserved : goal.loop-block-preserved
 loop-block-preserved g c =
@@ -46,7 +46,7 @@ loop-block-preserved g c =
     record {
       done = so_far.done ++ block;
       parts = so_far.parts ∙ ap (λ (xs : List LaneRow). so_far.done ++ xs) parts ∙ sym (append_assoc so_far.done block after);
-      carried = (parted IsCarried block after (subst (AllByRecursion IsCarried) parts so_far.carried)).1;
+      carried = (parted FitsLane block after (subst (AllByRecursion FitsLane) parts so_far.carried)).1;
       step = step_then g.S.Store c.args.tx.now.conn c.loop-block.tx.conn c.insert_block.new.tx.conn _ _ so_far.step c.in_ok-insert_block.ensures.step;
       added = λ clean.
           let early : HasCleanDisk mid = omega (arith, c.insert_block.ensures.step.survives.clean) in

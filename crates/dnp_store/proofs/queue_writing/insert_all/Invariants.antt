@@ -4,8 +4,8 @@ use Rattle.sqlite.specs.State.{HasCleanDisk}
 use Rattle.sqlite.specs.Held.{state}
 use Rattle.dnp_objects.specs.declared.limits.TheConstants.{LANES}
 use Rattle.dnp_objects.specs.declared.lane.LaneRow.{LaneRow}
-use Rattle.dnp_eventbuf.specs.Carried.{IsCarried}
-use Rattle.dnp_eventbuf.specs.Stock.{Stock}
+use Rattle.dnp_eventbuf.specs.FitsLane.{FitsLane}
+use Rattle.dnp_eventbuf.specs.EventBuffer.{EventBuffer}
 use Rattle.dnp_store.specs.QueueTables.{Figures}
 use Rattle.dnp_store.specs.steps.Pairs.{HoldsFor}
 use Rattle.dnp_store.specs.steps.Steps.{all_added}
@@ -21,8 +21,8 @@ invariant-loop-block g l =
     record {
       done : List LaneRow;
       parts : l.rows ≡ done ++ rest;
-      carried : AllByRecursion IsCarried rest;
+      carried : AllByRecursion FitsLane rest;
       step : AreSteps g.S.Store l.fn.tx.conn l.tx.conn;
-      added : HasCleanDisk now → (others s : Stock) (figures : List Figures) → length s.lanes ≡ LANES → HoldsFor l.side others old.now s figures
+      added : HasCleanDisk now → (others s : EventBuffer) (figures : List Figures) → length s.lanes ≡ LANES → HoldsFor l.side others old.now s figures
           → HoldsFor l.side others now.now (all_added s done) figures;
     }

@@ -2,7 +2,7 @@ use Rattle.std.proofs.Common.{◌≡◌, take, length, List}
 use Rattle.sqlite.specs.State.{HasCleanDisk}
 use Rattle.sqlite.specs.Held.{state}
 use Rattle.dnp_objects.specs.declared.limits.TheConstants.{LANES}
-use Rattle.dnp_eventbuf.specs.Stock.{Stock}
+use Rattle.dnp_eventbuf.specs.EventBuffer.{EventBuffer}
 use Rattle.dnp_store.specs.QueueTables.{Figures}
 use Rattle.dnp_store.specs.steps.Pairs.{HoldsFor}
 use Rattle.dnp_store.specs.steps.Steps.{all_added}
@@ -16,6 +16,6 @@ invariant-loop-x g l =
     let now = state g.S.Store l.tx.conn.now in
     record {
       step : AreSteps g.S.Store l.fn.tx.conn l.tx.conn;
-      added : HasCleanDisk now → (others s : Stock) (figures : List Figures) → length s.lanes ≡ LANES → HoldsFor l.side others old.now s figures
+      added : HasCleanDisk now → (others s : EventBuffer) (figures : List Figures) → length s.lanes ≡ LANES → HoldsFor l.side others old.now s figures
           → HoldsFor l.side others now.now (all_added s (take l.x-index l.rows)) figures;
     }

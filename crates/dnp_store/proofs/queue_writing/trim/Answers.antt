@@ -1,7 +1,7 @@
 use Rattle.std.proofs.Common.{rules, ◌≡◌, ◌+◌, ◌-◌, ◌<◌, ◌++◌, length, slice_get, option_map, length-append, length-set, None, Some, arith, sym, ap, subst, ◌∙◌, add-one}
 use Rattle.sqlite.specs.State.{HasCleanDisk}
 use Rattle.sqlite.specs.Held.{state}
-use Rattle.dnp_eventbuf.specs.Stock.{lane_at, above}
+use Rattle.dnp_eventbuf.specs.EventBuffer.{lane_at, above}
 use Rattle.dnp_eventbuf.specs.declared.numbered.Numbered.{Numbered}
 use Rattle.dnp_eventbuf.specs.Latest.{numbered_for}
 use Rattle.dnp_store.specs.steps.Steps.{over, cut, IsTrimmed}

@@ -1,7 +1,7 @@
 use Rattle.std.proofs.Common.{Bool}
 use Rattle.sqlite.specs.State.{HasCleanDisk}
 use Rattle.sqlite.specs.Held.{state}
-use Rattle.dnp_eventbuf.specs.Stock.{Stock}
+use Rattle.dnp_eventbuf.specs.EventBuffer.{EventBuffer}
 use Rattle.dnp_store.specs.steps.Steps.{IsTrimmed}
 use Rattle.dnp_store.proofs.Stepping.{AreSteps}
 use Rattle.dnp_store.proofs.queue_writing.trim_all.Given as goal
@@ -13,5 +13,6 @@ invariant-loop-number g l =
     let now = state g.S.Store l.tx.conn.now in
     record {
       step : AreSteps g.S.Store l.fn.tx.conn l.tx.conn;
-      trimmed : HasCleanDisk now → (others : Stock) (raised : Bool) → IsTrimmed l.side others old.now l.lanes l.rows raised 0 → IsTrimmed l.side others now.now l.lanes l.rows raised l.number;
+      trimmed : HasCleanDisk now → (others : EventBuffer) (raised : Bool) → IsTrimmed l.side others old.now l.lanes l.rows raised 0
+          → IsTrimmed l.side others now.now l.lanes l.rows raised l.number;
     }

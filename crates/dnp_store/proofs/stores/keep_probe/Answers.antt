@@ -5,38 +5,36 @@ use Rattle.sqlite.proofs.InsideLemmas.{unchanged_keeps, not_run_inside}
 use Rattle.dnp_store.proofs.Standing.{keeps_commit}
 use Rattle.dnp_store.specs.declared.store_kind.StoreKind.{StoreKind}
 use Rattle.dnp_store.proofs.Refusing.{by_making}
-use Rattle.dnp_store.proofs.Running.{err_too, step_too}
 use Rattle.dnp_store.proofs.stores.keep_probe.Goals as goal
 
-pub returns-clause-step : goal.returns-clause-step
-returns-clause-step g c =
+pub returns-in-Ok-clause-step : goal.returns-in-Ok-clause-step
+returns-in-Ok-clause-step g c =
     let old = state g.S.Store c.args.tx.now.conn.now in
     let new = state g.S.Store c.prepare.new.self.conn.now in
     record {
       same_reference = c.prepare.ensures.same_reference;
       inside = λ clean.
           let was : HasCleanDisk old = omega (arith, clean, c.prepare.ensures.survives.clean) in
-          (c.in_ok-_nothing.ensures.ok clean).1.0.mode ∙ c.requires.inside was;
-      kept = λ clean. unchanged_keeps old new (inl (c.in_ok-_nothing.ensures.ok clean).1);
+          (c.in-Ok.ensures.ok clean).1.0.mode ∙ c.requires.inside was;
+      kept = λ clean. unchanged_keeps old new (inl (c.in-Ok.ensures.ok clean).1);
       survives = c.prepare.ensures.survives;
     }
 
-pub returns-in_err-_nothing-clause-step : goal.returns-in_err-_nothing-clause-step
-returns-in_err-_nothing-clause-step g c =
+pub returns-in-Err-clause-step : goal.returns-in-Err-clause-step
+returns-in-Err-clause-step g c =
     let old = state g.S.Store c.args.tx.now.conn.now in
     let new = state g.S.Store c.prepare.new.self.conn.now in
-    step_too {A = Unit {0}} {E = Unit {0}} g.S.Store _ _ tt c.from_residual.result c.from_residual.ensures (record {
+    record {
       same_reference = c.prepare.ensures.same_reference;
       inside = λ clean. tt;
-      kept = λ clean. keeps_commit old new _ [] _ (c.in_err-_nothing.ensures.err clean []);
+      kept = λ clean. keeps_commit old new _ [] _ (c.in-Err.ensures.err clean []);
       survives = c.prepare.ensures.survives;
-    })
+    }
 
-pub returns-in_err-_nothing-clause-refused : goal.returns-in_err-_nothing-clause-refused
-returns-in_err-_nothing-clause-refused g c clean =
+pub returns-in-Err-clause-refused : goal.returns-in-Err-clause-refused
+returns-in-Err-clause-refused g c clean =
     let old = state g.S.Store c.args.tx.now.conn.now in
     let new = state g.S.Store c.prepare.new.self.conn.now in
     let was : HasCleanDisk old = omega (arith, clean, c.prepare.ensures.survives.clean) in
-    err_too _ c.from_residual.result _ c.from_residual.ensures
-    (λ (kind : StoreKind). by_making g.S.Store kind c.args.tx.now.conn.now c.prepare.new.self.conn.now [] [] _ (5, refl) (c.requires.inside was)
-    (not_run_inside old new 0 false [] [] _ (c.in_err-_nothing.ensures.err clean [])))
+    λ (kind : StoreKind). by_making g.S.Store kind c.args.tx.now.conn.now c.prepare.new.self.conn.now [] [] _ (5, refl) (c.requires.inside was)
+    (not_run_inside old new 0 false [] [] _ (c.in-Err.ensures.err clean []))

@@ -1,42 +1,27 @@
-use Rattle.sqlite.specs.Held.{state}
-use Rattle.sqlite.proofs.StateLemmas.{survives_then}
-use Rattle.dnp_store.proofs.Refusing.{refused_after, any_kind}
-use Rattle.dnp_store.proofs.Stepping.{step_then}
-use Rattle.dnp_store.proofs.Running.{err_too, step_too}
+use Rattle.std.proofs.Common.{[], ◌∷◌, Some, ap, refl, subst, sym}
+use Rattle.std.specs.List.{AllByRecursion}
+use Rattle.dnp_store.specs.Schemas.{form_text}
+use Rattle.dnp_store.specs.Texts.{IsMaking}
+use Rattle.dnp_store.specs.steps.Making.{ExecuteAll}
+use Rattle.dnp_store.proofs.Numbering.{began, number_text}
+use Rattle.dnp_store.proofs.Running.{making_told}
+use Rattle.dnp_store.proofs.Stepping.{on_then}
 use Rattle.dnp_store.proofs.stores.make_tables.Goals as goal
 
-pub returns-in_err-make_form-clause-refused : goal.returns-in_err-make_form-clause-refused
-returns-in_err-make_form-clause-refused g c clean =
-    let here = c.in_err-make_form.ensures.refused clean c.args.kind in
-    err_too _ c.from_residual.result _ c.from_residual.ensures here
+pub returns-clause-step : goal.returns-clause-step
+returns-clause-step g c = c.run_all.ensures.step
 
-pub returns-in_err-make_rows-clause-refused : goal.returns-in_err-make_rows-clause-refused
-returns-in_err-make_rows-clause-refused g c clean =
-    let here = refused_after g.S.Store c.args.kind c.args.tx.now.conn.now c.make_form.new.tx.conn.now c.make_rows.new.tx.conn.now _
-    c.make_form.ensures.step.survives
-    (c.in_err-make_rows.ensures.refused clean) in
-    err_too _ c.from_residual-in_err-make_rows.result _ c.from_residual-in_err-make_rows.ensures here
+pub returns-clause-made : goal.returns-clause-made
+returns-clause-made g c clean =
+    let old = c.args.tx.now.conn.now in
+    let new = c.run_all.new.tx.conn.now in
+    on_then _ _ c.run_all.result (λ ran none. began g.S.Store c.args.kind old new none
+    (subst (λ text. ExecuteAll g.S.Store (form_text ∷ text ∷ number_text ∷ []) old new) c.rows_text.ensures ran))
+    (c.run_all.ensures.ran clean)
 
 pub returns-clause-refused : goal.returns-clause-refused
 returns-clause-refused g c clean =
-    let begun = c.make_form.new.tx.conn.now in
-    let mid = c.make_rows.new.tx.conn.now in
-    any_kind g.S.Store c.args.kind c.args.tx.now.conn.now mid c.put_number.new.tx.conn.now c.put_number.result
-    (survives_then (state g.S.Store c.args.tx.now.conn.now) (state g.S.Store begun) (state g.S.Store mid) (λ _. ⊥) (λ _. ⊥) (λ _. ⊥)
-    (λ _ db none. none) (λ _ db none. none) c.make_form.ensures.step.survives c.make_rows.ensures.step.survives)
-    (c.put_number.ensures.refused clean)
-
-pub returns-in_err-make_rows-clause-step : goal.returns-in_err-make_rows-clause-step
-returns-in_err-make_rows-clause-step g c =
-    let here = (step_then g.S.Store c.args.tx.now.conn c.make_form.new.tx.conn c.make_rows.new.tx.conn _ _ c.make_form.ensures.step
-    c.in_err-make_rows.ensures.step) in
-    step_too g.S.Store _ _ _ c.from_residual-in_err-make_rows.result c.from_residual-in_err-make_rows.ensures here
-
-pub returns-clause-step : goal.returns-clause-step
-returns-clause-step g c =
-    (step_then g.S.Store c.args.tx.now.conn c.make_form.new.tx.conn c.put_number.new.tx.conn _ _ c.make_form.ensures.step
-    (step_then g.S.Store c.make_form.new.tx.conn c.make_rows.new.tx.conn c.put_number.new.tx.conn _ _ c.make_rows.ensures.step
-    c.put_number.ensures.step))
-
-pub returns-in_err-make_form-clause-step : goal.returns-in_err-make_form-clause-step
-returns-in_err-make_form-clause-step g c = step_too g.S.Store _ _ _ c.from_residual.result c.from_residual.ensures c.in_err-make_form.ensures.step
+    let own : AllByRecursion (IsMaking c.args.kind) (form_text ∷ c.rows_text.result.now ∷ number_text ∷ []) =
+    ((0, refl), ((1, ap Some (sym c.rows_text.ensures)), ((2, refl), tt))) in
+    making_told g.S.Store c.args.kind c.args.tx.now.conn.now c.run_all.new.tx.conn.now (form_text ∷ c.rows_text.result.now ∷ number_text ∷ [])
+    c.run_all.result own (c.run_all.ensures.refused clean)

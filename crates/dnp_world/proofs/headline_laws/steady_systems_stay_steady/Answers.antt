@@ -6,7 +6,7 @@ use Rattle.dnp_concentrator.specs.declared.plan.Plan.{Plan}
 use Rattle.dnp_controls.specs.Book.{Ledger}
 use Rattle.dnp_controls.specs.declared.book.Entry.{Entry}
 use Rattle.dnp_eventbuf.specs.Archive.{Archive}
-use Rattle.dnp_eventbuf.specs.Stock.{Stock}
+use Rattle.dnp_eventbuf.specs.EventBuffer.{EventBuffer}
 use Rattle.dnp_objects.specs.declared.command.Command.{Command}
 use Rattle.dnp_world.specs.Behind.{Elsewhere, alone}
 use Rattle.dnp_world.specs.BothSteady.{HoldsForAll, ListsAllOfAll}
@@ -45,7 +45,7 @@ pub returns-clause-joined : goal.returns-clause-joined
 returns-clause-joined c = lasts_on (laws_of c)
 
 -- as one centre sees it, whose link has performed nothing
-fresh : goal.After-what_stands_is_shown → (plan : Plan) (centre : ℕ) (queue : Stock) (journal : Archive) (controls orders : Ledger) → CanBegin plan
+fresh : goal.After-what_stands_is_shown → (plan : Plan) (centre : ℕ) (queue : EventBuffer) (journal : Archive) (controls orders : Ledger) → CanBegin plan
     → AreEmpty queue journal controls orders
     → (steady : IsSteadyBeside alone (fresh_system plan centre queue journal controls orders)) × (steady.standing.links.above.performed ≡ [])
 fresh c plan centre queue journal controls orders begins empty =

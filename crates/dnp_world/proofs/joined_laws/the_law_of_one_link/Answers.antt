@@ -1,7 +1,7 @@
 -- The laws that the body calls are what the lemmas ask for.
 use Rattle.std.specs.Prelude.{List, ◌++◌, take}
 use Rattle.dnp_objects.specs.declared.row.Row.{Row}
-use Rattle.dnp_eventbuf.specs.Stock.{arriving, dropped_by}
+use Rattle.dnp_eventbuf.specs.EventBuffer.{arriving, dropped_by}
 use Rattle.dnp_world.specs.Joined.{rows_made_by, with_others_rows}
 use Rattle.dnp_world.proofs.JoinedConclusions.{LinkLaws, law_of, kept_by, grown_by}
 use Rattle.dnp_world.proofs.joined_laws.the_law_of_one_link.Given as given

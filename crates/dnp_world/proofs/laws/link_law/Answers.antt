@@ -1,4 +1,4 @@
--- The clauses are what was proved of `Stands`.
+-- The clauses are what was proved of `CarriesLaw`.
 use Rattle.dnp_world.specs.Standing.{inventory}
 use Rattle.dnp_world.proofs.EventLaw.{Laws, released_covered, took_rows_stood}
 use Rattle.dnp_world.proofs.Keeping.{fresh_stands, move_stands, moves_stand}

@@ -2,8 +2,8 @@
 use Rattle.std.proofs.Common.{◌≡◌, ℕ, ◌+◌, ◌∙◌, length, ap, arith, subst, sym}
 use Rattle.std.proofs.lemmas.Bool.{false≢true}
 use Rattle.dnp_objects.specs.Lanes.{lane_number}
-use Rattle.dnp_eventbuf.specs.Sound.{IsSound}
-use Rattle.dnp_eventbuf.specs.Stock.{lane_at}
+use Rattle.dnp_eventbuf.specs.Sound.{IsSoundBuffer}
+use Rattle.dnp_eventbuf.specs.EventBuffer.{lane_at}
 use Rattle.dnp_world.proofs.OneLinkLists.{IsCounting, one_counted, all_counted}
 use Rattle.dnp_world.proofs.listing.rows_waiting.Goals as goal
 use Rattle.dnp_world.proofs.listing.rows_waiting.Goals.{in-Some, in_default}
@@ -19,7 +19,7 @@ loop-number-preserved g c =
           (let same : w.len.new.self ≡ lanes = w.len.ensures.same in
           let counted = one_counted honest contents c.args.lanes.now lanes c.loop-number.count number (lane_number w.in-Some.lane) w.len.result
           c.loop-number.invariant c.loop-number-test.true w.in-Some.ensures.value (omega arith)
-          (λ h. subst (λ ls. IsSound (contents ls)) same (w.len.ensures.sound (subst honest (sym same) h)))
+          (λ h. subst (λ ls. IsSoundBuffer (contents ls)) same (w.len.ensures.sound (subst honest (sym same) h)))
           (λ h. w.len.ensures.value (subst honest (sym same) h) ∙ ap (λ ls. length (lane_at (contents ls) (lane_number w.in-Some.lane)).rows) same) in
           subst (λ ls. IsCounting honest contents c.args.lanes.now ls c.match-numbered.count (number + 1)) (sym (w.lanes-is ∙ same))
           (subst (λ (n : ℕ). IsCounting honest contents c.args.lanes.now lanes n (number + 1)) (sym w.count-is) counted))

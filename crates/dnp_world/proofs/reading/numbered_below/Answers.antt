@@ -1,5 +1,5 @@
 -- One row more was put, of those that were left.
-use Rattle.dnp_eventbuf.specs.Stock.{row_of}
+use Rattle.dnp_eventbuf.specs.EventBuffer.{row_of}
 use Rattle.dnp_concentrator.specs.Mapped.{row_below}
 use Rattle.dnp_world.proofs.ReportLists.{one_below}
 use Rattle.dnp_world.proofs.reading.numbered_below.Goals as goal

@@ -1,6 +1,6 @@
 -- what is put and what is still to come make the whole
 use Rattle.std.specs.Prelude.{◌≡◌, ◌++◌, drop, map}
-use Rattle.dnp_eventbuf.specs.Stock.{row_of}
+use Rattle.dnp_eventbuf.specs.EventBuffer.{row_of}
 use Rattle.dnp_world.specs.Kept.{rows_below}
 use Rattle.dnp_world.proofs.reading.numbered_below.Given as goal
 

@@ -1,5 +1,5 @@
 use Rattle.std.specs.Prelude.{◌≡◌, ◌++◌, map, take}
-use Rattle.dnp_eventbuf.specs.Stock.{row_of}
+use Rattle.dnp_eventbuf.specs.EventBuffer.{row_of}
 use Rattle.dnp_world.specs.Systems.{at_substation}
 use Rattle.dnp_world.proofs.reading.put_rows_of.Given as goal
 

@@ -3,7 +3,7 @@ use Rattle.std.proofs.Common.{ℕ, refl, ap, subst}
 use Rattle.std.specs.Borrow.{GName}
 use Rattle.std.specs.Prelude.{IfOk}
 use Rattle.dnp_eventbuf.specs.Sides.{centre_in, pair_in}
-use Rattle.dnp_eventbuf.specs.Stock.{Stock}
+use Rattle.dnp_eventbuf.specs.EventBuffer.{EventBuffer}
 use Rattle.dnp_world.specs.ReportShown.{AreById, all_in}
 use Rattle.dnp_world.proofs.CentreReads.{both_sides, centre_low}
 use Rattle.dnp_world.proofs.reading.side_rows.Goals as goal
@@ -21,4 +21,4 @@ returns-clause-same g c = λ honest.
 pub returns-clause-rows : goal.returns-clause-rows
 returns-clause-rows g c = λ honest.
     let read = c.rows_by_id.ensures in
-    subst (λ (s : Stock). IfOk c.rows_by_id.result (λ rows. AreById (all_in s) rows.items)) (read.same honest) (read.rows honest)
+    subst (λ (s : EventBuffer). IfOk c.rows_by_id.result (λ rows. AreById (all_in s) rows.items)) (read.same honest) (read.rows honest)

@@ -1,4 +1,4 @@
--- What the calls of the port did is what `Hears` says.
+-- What the calls of the port did is what `HearsUnit` says.
 use Rattle.std.proofs.Common.{refl}
 use Rattle.dnp_line.specs.Ways.{AFrame, NoFrame}
 use Rattle.dnp_world.proofs.sending.hear.Goals as goal

@@ -10,7 +10,7 @@ use Rattle.std.proofs.lemmas.List.Sorted.{IsPermutation-map, IsPermutation-sym}
 use Rattle.std.proofs.lemmas.Option.{slice_get_cases, slice_get_past}
 use Rattle.dnp_concentrator.specs.declared.plan.SubPlan.{SubPlan}
 use Rattle.dnp_concentrator.specs.Mapped.{row_below}
-use Rattle.dnp_eventbuf.specs.Stock.{lost_in, row_of}
+use Rattle.dnp_eventbuf.specs.EventBuffer.{lost_in, row_of}
 use Rattle.dnp_objects.specs.declared.row.Row.{Row}
 use Rattle.dnp_world.specs.Kept.{lane_rows_of, report_of, rows_below}
 use Rattle.dnp_world.specs.Planned.{HasClassesBelow, IsAsPlanned}

@@ -3,7 +3,7 @@ use Rattle.std.proofs.Common.{◌∙◌}
 use Rattle.std.proofs.Math.Logic.{∥∥₁_elim}
 use Rattle.std.proofs.Props.{props}
 use Rattle.std.proofs.lemmas.List.{length-map}
-use Rattle.dnp_eventbuf.specs.Stock.{row_of}
+use Rattle.dnp_eventbuf.specs.EventBuffer.{row_of}
 use Rattle.dnp_world.specs.Kept.{AreMapped, kept_in, report_of}
 use Rattle.dnp_world.specs.ReportShown.{ListsAll}
 use Rattle.dnp_world.specs.Reports.{Holds, Report}

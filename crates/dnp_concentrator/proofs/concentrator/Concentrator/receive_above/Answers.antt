@@ -1,5 +1,5 @@
 use Rattle.std.proofs.Common.{◌≡◌, ◌≢◌, ◌⊎◌, ℕ, List, [], Option, ap, ap₂, ◌∙◌, sym, subst, true, false}
-use Rattle.dnp_eventbuf.specs.Stock.{rows_in}
+use Rattle.dnp_eventbuf.specs.EventBuffer.{rows_in}
 use Rattle.dnp_objects.specs.declared.command.Command.{Command}
 use Rattle.dnp_objects.specs.declared.store.StoreFault.TheVariants as store
 use Rattle.dnp_outstation.specs.Calls.{performed_in}

@@ -1,5 +1,5 @@
 use Rattle.std.proofs.Common.{◌≡◌, ◌++◌, ◌∙◌, ap, arith, length, length-append, subst, sym}
-use Rattle.dnp_eventbuf.specs.Stock.{LaneState}
+use Rattle.dnp_eventbuf.specs.EventBuffer.{LaneState}
 use Rattle.dnp_eventbuf.proofs.InOrder.{few_pass, is_up_to, rises_back}
 use Rattle.dnp_eventbuf.proofs.Offers.{Rises}
 use Rattle.dnp_eventbuf.proofs.lane_of.LaneOf.count_up_to.Goals as goal

@@ -1,7 +1,7 @@
 use Rattle.std.proofs.Common.{◌≡◌, ◌∙◌, ap, sym, nat_lt, filter, false, List, [], ◌∷◌, ℕ, length, refl, arith}
 use Rattle.std.specs.List.{list_any}
 use Rattle.dnp_eventbuf.specs.declared.numbered.Numbered.{Numbered}
-use Rattle.dnp_eventbuf.specs.Stock.{LaneState, above, emptied}
+use Rattle.dnp_eventbuf.specs.EventBuffer.{LaneState, above, emptied}
 use Rattle.dnp_eventbuf.proofs.Over.{filter-none}
 use Rattle.dnp_eventbuf.proofs.lane_of.LaneOf.cut.Goals as goal
 

@@ -1,7 +1,7 @@
 use Rattle.std.proofs.Common.{◌≡◌, ◌∙◌, ap, false, nat_lt, subst, sym}
 use Rattle.std.specs.List.{list_any}
 use Rattle.dnp_eventbuf.specs.declared.numbered.Numbered.{Numbered}
-use Rattle.dnp_eventbuf.specs.Stock.{LaneState}
+use Rattle.dnp_eventbuf.specs.EventBuffer.{LaneState}
 use Rattle.dnp_eventbuf.proofs.InOrder.{rises_back}
 use Rattle.dnp_eventbuf.proofs.Offers.{Rises}
 use Rattle.dnp_eventbuf.proofs.Over.{filter-none, take-none}

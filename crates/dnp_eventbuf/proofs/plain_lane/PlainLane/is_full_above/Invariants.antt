@@ -2,7 +2,7 @@
 use Rattle.std.proofs.Common.{◌≡◌, ◌+◌, ◌≤◌, length, nat_lt}
 use Rattle.std.specs.List.{filter}
 use Rattle.std.specs.VecDeque.Iter.{deque_iter_rest}
-use Rattle.dnp_eventbuf.specs.Stock.{above}
+use Rattle.dnp_eventbuf.specs.EventBuffer.{above}
 use Rattle.dnp_eventbuf.proofs.plain_lane.PlainLane.is_full_above.Given as goal
 
 abbrev pub invariant-loop-x : goal.invariant-loop-x

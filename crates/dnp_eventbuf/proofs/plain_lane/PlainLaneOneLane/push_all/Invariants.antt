@@ -1,7 +1,7 @@
 -- what was added and what is left make the whole
 use Rattle.std.proofs.Common.{◌≡◌, ◌≤◌, ◌++◌, length, map}
 use Rattle.std.specs.VecDeque.Iter.{deque_iter_rest}
-use Rattle.dnp_eventbuf.specs.Stock.{row_of}
+use Rattle.dnp_eventbuf.specs.EventBuffer.{row_of}
 use Rattle.dnp_eventbuf.proofs.plain_lane.PlainLaneOneLane.push_all.Given as goal
 
 abbrev pub invariant-loop-x : goal.invariant-loop-x

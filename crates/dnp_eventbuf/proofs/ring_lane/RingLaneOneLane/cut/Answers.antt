@@ -1,7 +1,7 @@
 use Rattle.std.proofs.Common.{◌≡◌, ◌∙◌, ◌-◌, ap, sym, subst, drop, length, List}
 use Rattle.circular_buffer.specs.Buffer.{Buffer}
 use Rattle.dnp_eventbuf.specs.declared.numbered.Numbered.{Numbered}
-use Rattle.dnp_eventbuf.specs.Stock.{LaneState, above}
+use Rattle.dnp_eventbuf.specs.EventBuffer.{LaneState, above}
 use Rattle.dnp_eventbuf.proofs.InOrder.{last_over}
 use Rattle.dnp_eventbuf.proofs.Offers.{Rises}
 use Rattle.dnp_eventbuf.proofs.ring_lane.RingLaneOneLane.cut.Goals as goal

@@ -5,7 +5,7 @@ use Rattle.dnp_objects.specs.Status as status
 use Rattle.dnp_objects.specs.declared.command.Command.{Command}
 use Rattle.dnp_controls.specs.Panel.{Panel}
 use Rattle.dnp_outstation.specs.Controls.{alike}
-use Rattle.dnp_outstation.specs.declared.controls.told.Told.TheVariants.{Alike, Checked}
+use Rattle.dnp_outstation.specs.declared.controls.told.Statuses.TheVariants.{Alike, Checked}
 use Rattle.dnp_outstation.proofs.controls.decision.stands.Goals as goal
 
 -- few commands each have their check

@@ -5,8 +5,8 @@ use Rattle.dnp_objects.specs.Lanes.{lane_number}
 use Rattle.dnp_objects.specs.declared.limits.TheConstants.{LANES}
 use Rattle.dnp_objects.specs.declared.store.StoreFault.TheVariants.{Memory}
 use Rattle.dnp_eventbuf.specs.declared.numbered.Numbered.{Numbered}
-use Rattle.dnp_eventbuf.specs.Sound.{IsSound}
-use Rattle.dnp_eventbuf.specs.Stock.{Stock, offered, rows_in}
+use Rattle.dnp_eventbuf.specs.Sound.{IsSoundBuffer}
+use Rattle.dnp_eventbuf.specs.EventBuffer.{EventBuffer, offered, rows_in}
 use Rattle.dnp_outstation.specs.Items.{rows_left}
 use Rattle.dnp_outstation.specs.steps.Filling.{after_release, over_of}
 use Rattle.dnp_outstation.proofs.NoRows.{none_offered}
@@ -44,9 +44,9 @@ returns-clause-rows g c = λ honest.
     c.keep_stood.ensures.kept
     (subst Rises (sym (c.in_ok-offer_into.ensures.rows honest))
     (rises_offered (g.L.Lanes.contents c.args.lanes.now) number c.over-over.result ask
-    (subst IsSound (c.in_ok-offer_into.ensures.same honest) (c.in_ok-offer_into.ensures.call.sound honest)) low))
+    (subst IsSoundBuffer (c.in_ok-offer_into.ensures.same honest) (c.in_ok-offer_into.ensures.call.sound honest)) low))
     ∙ ap (filter stood) (c.in_ok-offer_into.ensures.rows honest)
-    ∙ ap (λ (t : Stock). filter stood (offered t number c.over-over.result ask)) (sym (c.in_ok-offer_into.ensures.same honest))
+    ∙ ap (λ (t : EventBuffer). filter stood (offered t number c.over-over.result ask)) (sym (c.in_ok-offer_into.ensures.same honest))
     ∙ ap (λ (n : ℕ). filter stood (offered s number n ask)) over
     ∙ rows_given s bounds.released.now bounds.stood bounds.given.now number (Some ask) (c.in_ok-offer_into.ensures.call.sound honest) low
     c.over-over.ensures.nine c.an_offer_after_a_release.ensures
@@ -60,8 +60,8 @@ returns-clause-kinds g c = λ honest.
     let same : g.L.Lanes.contents c.offer_into.new.self ≡ g.L.Lanes.contents c.args.lanes.now = c.in_ok-offer_into.ensures.same honest in
     let asked : All P (offered (g.L.Lanes.contents c.args.lanes.now) (lane_number c.args.lane) c.over-over.result c.asked.result) =
     lane_kinds (g.L.Lanes.contents c.args.lanes.now) c.args.lane c.over-over.result c.asked.result
-    (subst IsSound same (c.in_ok-offer_into.ensures.call.sound honest)) low in
-    let sound = subst IsSound same (c.in_ok-offer_into.ensures.call.sound honest) in
+    (subst IsSoundBuffer same (c.in_ok-offer_into.ensures.call.sound honest)) low in
+    let sound = subst IsSoundBuffer same (c.in_ok-offer_into.ensures.call.sound honest) in
     let rises = subst Rises (sym (c.in_ok-offer_into.ensures.rows honest))
     (rises_offered (g.L.Lanes.contents c.args.lanes.now) (lane_number c.args.lane) c.over-over.result c.asked.result sound low) in
     subst (All P) (sym (c.keep_stood.ensures.kept rises))

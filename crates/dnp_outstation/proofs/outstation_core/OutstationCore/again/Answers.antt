@@ -1,6 +1,6 @@
 use Rattle.std.proofs.Common.{rules, ◌≡◌, ◌&&◌, not, ℕ, Bool, Some, if◌then◌else◌, refl, ap, sym, subst, ◌∙◌}
 use Rattle.dnp_controls.specs.Selecting.{deadline}
-use Rattle.dnp_eventbuf.specs.Stock.{Stock}
+use Rattle.dnp_eventbuf.specs.EventBuffer.{EventBuffer}
 use Rattle.dnp_outstation.specs.declared.session.Awaited.{Awaited}
 use Rattle.dnp_outstation.specs.declared.session.Session.{Session}
 use Rattle.dnp_outstation.specs.Calls.{with_that}
@@ -10,6 +10,7 @@ use Rattle.dnp_outstation.specs.State.{Core, State, Step, Actions, sending, with
 use Rattle.dnp_outstation.specs.Station.{state_of}
 use Rattle.dnp_outstation.proofs.Cores.{core_in}
 use Rattle.dnp_outstation.proofs.Endings.{awaits_in_session, first_again, ready_unless}
+use Rattle.dnp_outstation.proofs.Passed.{look_by, look_to}
 use Rattle.dnp_outstation.proofs.outstation_core.OutstationCore.again.Goals as goal
 
 abbrev awaiting : State → Bool → Awaited → Step
@@ -27,7 +28,7 @@ returns-clause-answered g c = λ honest p.
     let f = c.in-Some.first in
     let core = core_in c.self.inside in
     let s : State = state_of core new p in
-    let again = λ (k : Core) (l : Stock). let t = state_of k l p in at_end now (with_that t t.core.session.last (on_again t now octets)) in
+    let again = λ (k : Core) (l : EventBuffer). let t = state_of k l p in at_end now (with_that t t.core.session.last (on_again t now octets)) in
     let written = subst (λ l. g.L.Lanes.honest l) c.end_call.ensures.same honest in
     let lanes_is : new ≡ old = ap g.L.Lanes.contents c.end_call.ensures.same ∙ c.in_ok-starts.ensures.look.same written in
     let seq_is : (control_in octets).seq ≡ c.of-seq.result = search rules in
@@ -44,10 +45,16 @@ returns-clause-answered g c = λ honest p.
     let ready =
     c.is_ready_unless-is_due.ensures.value ∙ ap (λ (k : Core). not awaits && is_ready k) (sym c.self.view_is)
     ∙ ready_unless s awaits w ∙ ap (λ (t : State). is_ready t.core) session_is in
-    ap (λ (l : Stock). again c.args.self.now l) (sym lanes_is)
+    ap (λ (l : EventBuffer). again c.args.self.now l) (sym lanes_is)
     ∙ ap (λ (k : Core). again k new) (sym c.self.view_is)
     ∙ ap (at_end now) on
     ∙ c.in_ok-starts.ensures.ends written now step lanes_is refl ready
     ∙ ap (λ (d : Actions). let x : Step = record { state = step.state; does = d } in ended_by c.write_ending.new.writer c.in_ok-starts.starts now x)
     (ap sending (sym (c.octets.ensures.value ∙ c.await_again.ensures.response)) ∙ sym c.set_sending.ensures.value)
     ∙ c.end_call.ensures.ended honest step.state now refl refl refl c.deadline-ends.ensures
+
+pub returns-in_err-starts-clause-look : goal.returns-in_err-starts-clause-look
+returns-in_err-starts-clause-look g c = look_by _ _ (search rules) c.in_err-starts.ensures.look
+
+pub returns-clause-look : goal.returns-clause-look
+returns-clause-look g c = look_by _ _ refl (look_to c.end_call.ensures.same c.in_ok-starts.ensures.look)

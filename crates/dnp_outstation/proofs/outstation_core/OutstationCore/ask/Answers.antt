@@ -1,5 +1,5 @@
 use Rattle.std.proofs.Common.{rules, ◌≡◌, ℕ, Bool, if◌then◌else◌, refl, ap, sym, subst, ◌∙◌}
-use Rattle.dnp_eventbuf.specs.Stock.{Stock}
+use Rattle.dnp_eventbuf.specs.EventBuffer.{EventBuffer}
 use Rattle.dnp_outstation.specs.steps.Answering.{KeepsWhole, content_by, state_by, executed_by}
 use Rattle.dnp_outstation.specs.declared.answer.Answer.{Answer}
 use Rattle.dnp_outstation.specs.declared.answer.Switches.{Switches}
@@ -12,6 +12,7 @@ use Rattle.dnp_outstation.specs.State.{Core, State, Step, Actions, sending, with
 use Rattle.dnp_outstation.specs.Station.{state_of, actions_of}
 use Rattle.dnp_outstation.proofs.Cores.{core_in}
 use Rattle.dnp_outstation.proofs.Endings.{first_is_free}
+use Rattle.dnp_outstation.proofs.Passed.{look_by, look_then, look_to}
 use Rattle.dnp_outstation.proofs.outstation_core.OutstationCore.ask.Goals as goal
 
 abbrev with_time : Answer → Step → Step
@@ -62,10 +63,21 @@ returns-clause-answered g c = λ honest p.
     let does_is : step.does ≡ actions_of (record c.set_sending.new.self { time = a.time }) =
     ap (λ (d : Actions). let x : Actions = record d { time = a.time } in x)
     (ap sending (sym c.octets.ensures.value) ∙ sym c.set_sending.ensures.value) in
-    ap (λ (l : Stock). at_end now (on_request (state_of c.args.self.now l p) o now octets)) (sym lanes_is)
+    ap (λ (l : EventBuffer). at_end now (on_request (state_of c.args.self.now l p) o now octets)) (sym lanes_is)
     ∙ ap (λ (k : Core). at_end now (on_request (state_of k new p) o now octets)) (sym c.self.view_is)
     ∙ ap (at_end now) on
     ∙ c.in_ok-starts.ensures.ends written now step lanes_here refl
     (c.is_due-is_due.ensures.value step.state.core refl refl refl (free ∙ sym c.is_free_sent-free.ensures))
     ∙ ap (λ (d : Actions). let x : Step = record { state = step.state; does = d } in ended_by c.write_ending.new.writer c.in_ok-starts.starts now x) does_is
     ∙ c.end_call.ensures.ended honest step.state now refl refl refl c.deadline-ends.ensures
+
+pub returns-in_err-answer-clause-look : goal.returns-in_err-answer-clause-look
+returns-in_err-answer-clause-look g c = look_by _ _ (search rules) c.in_err-answer.ensures.look
+
+pub returns-in_err-starts-clause-look : goal.returns-in_err-starts-clause-look
+returns-in_err-starts-clause-look g c = look_by _ _ (search rules) (look_then c.in_ok-answer.ensures.look c.in_err-starts.ensures.look)
+
+pub returns-clause-look : goal.returns-clause-look
+returns-clause-look g c =
+    look_by _ _ refl
+    (look_to (c.end_call.ensures.same ∙ c.respond.ensures.same) (look_then c.in_ok-answer.ensures.look c.in_ok-starts.ensures.look))

@@ -5,7 +5,7 @@ use Rattle.dnp_objects.specs.declared.row.Row.{Row}
 use Rattle.dnp_objects.specs.declared.store.StoreFault.TheVariants as store
 use Rattle.dnp_pointdb.specs.Database.{Database, answer_of, changed_of}
 use Rattle.dnp_pointdb.specs.declared.fault.ChangeFault.{ChangeFault}
-use Rattle.dnp_eventbuf.specs.Stock.{Stock, with_rows, dropped_by}
+use Rattle.dnp_eventbuf.specs.EventBuffer.{EventBuffer, with_rows, dropped_by}
 use Rattle.dnp_outstation.specs.Calls.{change_of}
 use Rattle.dnp_outstation.specs.Connection.{has_enabled_rows}
 use Rattle.dnp_outstation.specs.State.{Core, State, Step, Actions, nothing, is_ready}
@@ -82,7 +82,7 @@ returns-clause-changed g c = λ honest.
     ∙ nothing_at_end now step unready
     ∙ ap (λ (points : Database). let x : Step = record { state = state_of (record core { points = points }) (with_rows old (option_to_list made)) panel; does = does } in x)
     (sym c.change_at.ensures.after)
-    ∙ ap (λ (l : Stock). let x : Step = record { state = state_of changed l panel; does = does } in x) (sym (c.in_ok-append_made.ensures.appended honest))
+    ∙ ap (λ (l : EventBuffer). let x : Step = record { state = state_of changed l panel; does = does } in x) (sym (c.in_ok-append_made.ensures.appended honest))
     ∙ ap (λ (d : Actions). let x : Step = record { state = state_of changed new panel; does = d } in x) (sym does_is) in
     let answer_is : Ok made ≡ answer_of c.args.self.now.points kind index reading =
     sym c.made-made.ensures.answer ∙ ap (λ (k : Core). answer_of k.points kind index reading) c.self.view_is in

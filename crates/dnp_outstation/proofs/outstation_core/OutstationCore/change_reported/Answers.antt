@@ -3,7 +3,7 @@ use Rattle.std.specs.Result.{result_err}
 use Rattle.dnp_objects.specs.declared.row.Row.{Row}
 use Rattle.dnp_objects.specs.declared.store.StoreFault.TheVariants as store
 use Rattle.dnp_pointdb.specs.Database.{Database, changed_of}
-use Rattle.dnp_eventbuf.specs.Stock.{Stock, rows_in, with_rows, dropped_by}
+use Rattle.dnp_eventbuf.specs.EventBuffer.{EventBuffer, rows_in, with_rows, dropped_by}
 use Rattle.dnp_outstation.specs.Calls.{change_of}
 use Rattle.dnp_outstation.specs.steps.Pushing.{ended_by}
 use Rattle.dnp_outstation.specs.State.{Core, State, Step, Actions, nothing, is_ready}
@@ -38,9 +38,9 @@ returns-clause-changed g c = λ honest panel.
     let looked = c.in_ok-append_made.ensures.lanes.held appended in
     let mid_is : mid ≡ old = c.in_ok-held.ensures.look.same looked in
     let rows_are : g.L.Lanes.contents c.append_made.new.lanes ≡ with_rows old (option_to_list made) =
-    c.in_ok-append_made.ensures.appended appended ∙ ap (λ (l : Stock). with_rows l (option_to_list made)) mid_is in
+    c.in_ok-append_made.ensures.appended appended ∙ ap (λ (l : EventBuffer). with_rows l (option_to_list made)) mid_is in
     let dropped_is : c.append_made.new.dropped ≡ dropped_by old (option_to_list made) =
-    c.in_ok-append_made.ensures.dropped appended ∙ ap (λ (l : Stock). dropped_by l (option_to_list made)) mid_is in
+    c.in_ok-append_made.ensures.dropped appended ∙ ap (λ (l : EventBuffer). dropped_by l (option_to_list made)) mid_is in
     let written_are : g.L.Lanes.contents c.write_changed-starts.new.lanes ≡ with_rows old (option_to_list made) =
     ap g.L.Lanes.contents c.write_changed-starts.ensures.same ∙ rows_are in
     let lanes_are : new ≡ with_rows old (option_to_list made) = ap g.L.Lanes.contents c.end_change.ensures.same ∙ written_are in
@@ -55,6 +55,6 @@ returns-clause-changed g c = λ honest panel.
     ∙ c.write_changed-starts.ensures.ends written old now step (c.in_ok-held.ensures.rows looked) written_are (c.as_slice.ensures ∙ dropped_is) refl refl ready
     ∙ ap (λ (points : Database). let k : Core = record core { points = points } in
     let y : Step = record { state = state_of k (with_rows old (option_to_list made)) panel; does = does } in ended_by w starts now y) (sym c.change_at.ensures.after)
-    ∙ ap (λ (l : Stock). let y : Step = record { state = state_of changed l panel; does = does } in ended_by w starts now y) (sym lanes_are)
+    ∙ ap (λ (l : EventBuffer). let y : Step = record { state = state_of changed l panel; does = does } in ended_by w starts now y) (sym lanes_are)
     ∙ ap (λ (rows : List Row). let y : Step = record { state = s; does = record nothing { overwritten = rows } } in ended_by w starts now y) (sym dropped_is)
     ∙ c.end_change.ensures.ended honest s now refl refl refl c.deadline-ends.ensures

@@ -1,5 +1,5 @@
 use Rattle.std.proofs.Common.{rules, ◌≡◌, ◌≢◌, ℕ, ◌+◌, ◌%◌, true, [], Option, Some, refl, ap, sym, subst, ◌∙◌}
-use Rattle.dnp_eventbuf.specs.Stock.{Stock, without, all_up_to, rows_in}
+use Rattle.dnp_eventbuf.specs.EventBuffer.{EventBuffer, without, all_up_to}
 use Rattle.dnp_controls.specs.Panel.{Panel}
 use Rattle.dnp_outstation.specs.declared.answer.Switches.{Switches}
 use Rattle.dnp_outstation.specs.declared.session.Awaited.{Awaited}
@@ -12,13 +12,13 @@ use Rattle.dnp_outstation.specs.State.{Core, State, Step, nothing, with_session,
 use Rattle.dnp_outstation.specs.Station.{state_of, actions_of}
 use Rattle.dnp_outstation.proofs.Cores.{core_in}
 use Rattle.dnp_outstation.proofs.Idle.{behind_confirm, confirm_goes_on, confirm_releases, confirm_reports}
-use Rattle.dnp_outstation.proofs.NoRows.{released_is_there}
 use Rattle.dnp_outstation.proofs.Endings.{went_on_session, restart_by}
 use Rattle.dnp_outstation.proofs.Steps.{confirmed_step}
+use Rattle.dnp_outstation.proofs.Passed.{look_by, look_releases, look_then, release_then, release_to}
 use Rattle.dnp_outstation.proofs.outstation_core.OutstationCore.confirm.Goals as goal
 
 -- what a confirm does, by the parts that are looked at
-seen_as : (core core' : Core) (old : Stock) (o p : Panel) (now : ℕ) (w : Awaited) → core' ≡ core → core.session.awaited ≡ Some w
+seen_as : (core core' : Core) (old : EventBuffer) (o p : Panel) (now : ℕ) (w : Awaited) → core' ≡ core → core.session.awaited ≡ Some w
     → (let s = state_of core' old p in at_end now (with_that s s.core.session.awaited (on_confirm s o now))) ≡ at_end now (on_confirm (state_of core old p) o now w)
 seen_as core core' old o p now w same is =
     ap (λ (k : Core). let t = state_of k old p in at_end now (with_that t t.core.session.awaited (on_confirm t o now))) same
@@ -55,7 +55,8 @@ returns-in_err-starts-clause-memory_idle g c = λ honest failed asks p none.
     let ready : true ≡ is_ready k =
     due ∙ c.is_due-is_due.ensures.value k refl refl refl (c.is_free_after-free.ensures k now seq refl) in
     let rows : true ≡ has_rows_in (without old w.upto) (enabled_lanes 0 core.enabled) =
-    sym (ap (λ (t : Stock). has_rows_in (without t w.upto) (enabled_lanes 0 core.enabled)) (sym to_old) ∙ c.in_err-starts.ensures.asks_rows honest refl) in
+    sym (ap (λ (t : EventBuffer). has_rows_in (without t w.upto) (enabled_lanes 0 core.enabled)) (sym to_old) ∙ c.in_err-starts.ensures.asks_rows honest refl)
+    in
     confirm_reports s o now w writer next goes ready rows
     (ap (λ (x : Step). x.does) (sym (seen_as core c.args.self.now old o p now w (sym c.self.view_is) c.in-Some.is)) ∙ none)
 
@@ -70,7 +71,7 @@ returns-in_err-release_into-clause-memory_idle g c = λ honest failed asks p non
     let written = c.in_err-release_into.ensures.call.held honest in
     let read = c.in_ok-starts.ensures.look.held written in
     let to_old : g.L.Lanes.contents c.write_ending.new.lanes ≡ old = c.in_ok-starts.ensures.look.same written ∙ c.in_ok-next.ensures.look.same read in
-    let some = subst (λ (t : Stock). all_up_to t w.upto ≢ []) to_old (c.in_err-release_into.ensures.memory (search rules) asks) in
+    let some = subst (λ (t : EventBuffer). all_up_to t w.upto ≢ []) to_old (c.in_err-release_into.ensures.memory (search rules) asks) in
     confirm_releases s o now w some
     (ap (λ (x : Step). x.does) (sym (seen_as core c.args.self.now old o p now w (sym c.self.view_is) c.in-Some.is)) ∙ none)
 
@@ -93,11 +94,11 @@ returns-clause-confirmed g c = λ honest p.
     let read = c.in_ok-starts.ensures.look.held written in
     let to_old = c.in_ok-starts.ensures.look.same written ∙ c.in_ok-next.ensures.look.same read in
     let to_release = ap g.L.Lanes.contents (c.end_call.ensures.same ∙ c.go_on.ensures.same) ∙ c.in_ok-release_into.ensures.released released in
-    let lanes_is : new ≡ without old w.upto = to_release ∙ ap (λ (t : Stock). without t w.upto) to_old in
+    let lanes_is : new ≡ without old w.upto = to_release ∙ ap (λ (t : EventBuffer). without t w.upto) to_old in
     let lanes_here : new ≡ without (g.L.Lanes.contents c.write_next.new.lanes) w.upto =
-    to_release ∙ ap (λ (t : Stock). without t w.upto) (c.in_ok-starts.ensures.look.same written) in
+    to_release ∙ ap (λ (t : EventBuffer). without t w.upto) (c.in_ok-starts.ensures.look.same written) in
     let rows_is : c.release_into.new.taken ≡ all_up_to old w.upto =
-    c.in_ok-release_into.ensures.taken released ∙ ap (λ (t : Stock). all_up_to t w.upto) to_old in
+    c.in_ok-release_into.ensures.taken released ∙ ap (λ (t : EventBuffer). all_up_to t w.upto) to_old in
     let restart_is = ap (λ (k : Core). k.restart) c.self.view_is ∙ ap (λ (x : Switches). x.restart) (sym c.switches-switches.ensures) in
     let further = c.go_on.ensures.goes gone after now (ap g.L.Lanes.contents c.end_call.ensures.same)
     (restart_by c.switches-switches.result core.restart next restart_is c.in_ok-next.ensures.switches) refl c.deadline-ends.ensures in
@@ -114,20 +115,19 @@ returns-clause-confirmed g c = λ honest p.
     ∙ c.in_ok-starts.ensures.ends written now step lanes_here refl (c.is_due-is_due.ensures.value step.state.core refl refl refl free)
     ∙ c.end_call.ensures.ended honest step.state now refl refl refl c.deadline-ends.ensures
 
+pub returns-in_err-next-clause-releases : goal.returns-in_err-next-clause-releases
+returns-in_err-next-clause-releases g c = look_releases _ (look_by _ _ (search rules) c.in_err-next.ensures.look)
+
+pub returns-in_err-starts-clause-releases : goal.returns-in_err-starts-clause-releases
+returns-in_err-starts-clause-releases g c = look_releases _ (look_by _ _ (search rules) (look_then c.in_ok-next.ensures.look c.in_err-starts.ensures.look))
+
 pub returns-in_err-release_into-clause-releases : goal.returns-in_err-release_into-clause-releases
-returns-in_err-release_into-clause-releases g c = record {
-  held = search rules;
-  place = search rules;
-  beside = search rules;
-  unchanged = search rules;
-  device = search rules;
-  runs_on = search rules;
-  memory = λ honest failed asks none.
-      let written = c.in_err-release_into.ensures.call.held honest in
-      let read = c.in_ok-starts.ensures.look.held written in
-      let empty : rows_in (g.L.Lanes.contents c.write_ending.new.lanes) ≡ [] =
-      ap rows_in (c.in_ok-starts.ensures.look.same written ∙ c.in_ok-next.ensures.look.same read) ∙ none in
-      released_is_there (g.L.Lanes.contents c.write_ending.new.lanes) c.in-Some.awaited.upto (c.in_err-release_into.ensures.memory (search rules) asks) empty;
-  named = search rules;
-  faults = search rules;
-}
+returns-in_err-release_into-clause-releases g c =
+    let e = c.in_err-release_into.ensures in
+    release_then c.in-Some.awaited.upto _ _ (search rules) (look_then c.in_ok-next.ensures.look c.in_ok-starts.ensures.look) e.call e.place e.memory e.named e.faults
+
+pub returns-clause-releases : goal.returns-clause-releases
+returns-clause-releases g c =
+    let e = c.in_ok-release_into.ensures in
+    release_to (c.end_call.ensures.same ∙ c.go_on.ensures.same)
+    (release_then c.in-Some.awaited.upto _ _ refl (look_then c.in_ok-next.ensures.look c.in_ok-starts.ensures.look) e.call e.place e.memory e.named e.faults)

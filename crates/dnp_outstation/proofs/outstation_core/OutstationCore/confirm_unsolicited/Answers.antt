@@ -1,6 +1,6 @@
-use Rattle.std.proofs.Common.{rules, ◌≡◌, ℕ, true, List, [], Option, None, IfSome, refl, ap, sym, subst, ◌∙◌}
+use Rattle.std.proofs.Common.{rules, ◌≡◌, ℕ, true, List, Option, None, IfSome, refl, ap, sym, subst, ◌∙◌}
 use Rattle.dnp_objects.specs.declared.row.Row.{Row}
-use Rattle.dnp_eventbuf.specs.Stock.{Stock, without, all_up_to, rows_in}
+use Rattle.dnp_eventbuf.specs.EventBuffer.{EventBuffer, without, all_up_to}
 use Rattle.dnp_outstation.specs.declared.answer.Switches.{Switches}
 use Rattle.dnp_outstation.specs.declared.session.Unsolicited.{Unsolicited}
 use Rattle.dnp_outstation.specs.steps.Answering.{answers_held_by}
@@ -11,26 +11,8 @@ use Rattle.dnp_outstation.specs.State.{Core, State, Step, Actions, with_session,
 use Rattle.dnp_outstation.specs.Station.{state_of, actions_of}
 use Rattle.dnp_outstation.proofs.Cores.{core_in}
 use Rattle.dnp_outstation.proofs.HeldRead.{with_switches, held_switched, held_stands}
-use Rattle.dnp_outstation.proofs.NoRows.{released_is_there}
+use Rattle.dnp_outstation.proofs.Passed.{look_by, look_releases, look_then, release_then, release_to}
 use Rattle.dnp_outstation.proofs.outstation_core.OutstationCore.confirm_unsolicited.Goals as goal
-
-pub returns-in_err-release_into-clause-releases : goal.returns-in_err-release_into-clause-releases
-returns-in_err-release_into-clause-releases g c = record {
-  held = search rules;
-  place = search rules;
-  beside = search rules;
-  unchanged = search rules;
-  device = search rules;
-  runs_on = search rules;
-  memory = λ honest failed asks none.
-      let written = c.in_err-release_into.ensures.call.held honest in
-      let read = c.in_ok-starts.ensures.look.held written in
-      let empty : rows_in (g.L.Lanes.contents c.write_ending.new.lanes) ≡ [] =
-      ap rows_in (c.in_ok-starts.ensures.look.same written ∙ c.in_ok-held.ensures.look.same read) ∙ none in
-      released_is_there (g.L.Lanes.contents c.write_ending.new.lanes) c.in-Some.response.upto (c.in_err-release_into.ensures.memory (search rules) asks) empty;
-  named = search rules;
-  faults = search rules;
-}
 
 pub returns-clause-confirmed : goal.returns-clause-confirmed
 returns-clause-confirmed g c = λ honest p.
@@ -44,7 +26,10 @@ returns-clause-confirmed g c = λ honest p.
     let core = core_in c.self.inside in
     let s : State = state_of core old p in
     let confirming = λ (k : Core). let t = state_of k old p in at_end now (with_that t t.core.session.unsolicited (on_unsolicited_confirm t o now)) in
-    let behind = λ (l : Stock). let x : State = record s { core = record core { announced = true; session = record core.session { unsolicited = None } }; lanes = l } in x in
+    let behind = λ (l : EventBuffer). let x : State = record s {
+      core = record core { announced = true; session = record core.session { unsolicited = None } };
+      lanes = l;
+    } in x in
     let before = c.switches-before.result in
     let after : State = with_switches (behind new) c.switched_by-after.result in
     let gone = subst (λ l. g.L.Lanes.honest l) c.end_call.ensures.same honest in
@@ -53,11 +38,11 @@ returns-clause-confirmed g c = λ honest p.
     let read = c.in_ok-starts.ensures.look.held written in
     let to_old = c.in_ok-starts.ensures.look.same written ∙ c.in_ok-held.ensures.look.same read in
     let to_release = ap g.L.Lanes.contents (c.end_call.ensures.same ∙ c.answer_held.ensures.same) ∙ c.in_ok-release_into.ensures.released released in
-    let lanes_is : new ≡ without old w.upto = to_release ∙ ap (λ (t : Stock). without t w.upto) to_old in
+    let lanes_is : new ≡ without old w.upto = to_release ∙ ap (λ (t : EventBuffer). without t w.upto) to_old in
     let lanes_here : new ≡ without (g.L.Lanes.contents c.write_held.new.lanes) w.upto =
-    to_release ∙ ap (λ (t : Stock). without t w.upto) (c.in_ok-starts.ensures.look.same written) in
+    to_release ∙ ap (λ (t : EventBuffer). without t w.upto) (c.in_ok-starts.ensures.look.same written) in
     let rows_is : c.release_into.new.taken ≡ all_up_to old w.upto =
-    c.in_ok-release_into.ensures.taken released ∙ ap (λ (t : Stock). all_up_to t w.upto) to_old in
+    c.in_ok-release_into.ensures.taken released ∙ ap (λ (t : EventBuffer). all_up_to t w.upto) to_old in
     let before_is : before ≡ record { restart = core.restart; enabled = core.enabled } =
     c.switches-before.ensures ∙ ap (λ (k : Core). let x : Switches = record { restart = k.restart; enabled = k.enabled } in x) (sym c.self.view_is) in
     let read_by : answers_held (behind new) o now core.session.last ≡ answers_held_by (behind new) now writer held =
@@ -72,7 +57,7 @@ returns-clause-confirmed g c = λ honest p.
     let does : Actions = actions_of c.answer_held.new.actions in
     let step : Step = record { state = with_session after c.answer_held.new.self; does = does } in
     let on : on_unsolicited_confirm s o now w ≡ step =
-    ap (λ (l : Stock). discarding s w.upto (answers_held (behind l) o now core.session.last)) (sym lanes_is)
+    ap (λ (l : EventBuffer). discarding s w.upto (answers_held (behind l) o now core.session.last)) (sym lanes_is)
     ∙ ap (discarding s w.upto) (read_by ∙ switched ∙ answers)
     ∙ ap (λ (rows : List Row). let x : Step = record { state = step.state; does = record does { discarded = rows } } in x)
     (sym (c.answer_held.ensures.discarded ∙ rows_is)) in
@@ -82,3 +67,20 @@ returns-clause-confirmed g c = λ honest p.
     ∙ ap (at_end now) on
     ∙ c.in_ok-starts.ensures.ends written now step lanes_here refl (c.is_due-is_due.ensures.value step.state.core refl refl refl free)
     ∙ c.end_call.ensures.ended honest step.state now refl refl refl c.deadline-ends.ensures
+
+pub returns-in_err-held-clause-releases : goal.returns-in_err-held-clause-releases
+returns-in_err-held-clause-releases g c = look_releases _ (look_by _ _ (search rules) c.in_err-held.ensures.look)
+
+pub returns-in_err-starts-clause-releases : goal.returns-in_err-starts-clause-releases
+returns-in_err-starts-clause-releases g c = look_releases _ (look_by _ _ (search rules) (look_then c.in_ok-held.ensures.look c.in_err-starts.ensures.look))
+
+pub returns-in_err-release_into-clause-releases : goal.returns-in_err-release_into-clause-releases
+returns-in_err-release_into-clause-releases g c =
+    let e = c.in_err-release_into.ensures in
+    release_then c.in-Some.response.upto _ _ (search rules) (look_then c.in_ok-held.ensures.look c.in_ok-starts.ensures.look) e.call e.place e.memory e.named e.faults
+
+pub returns-clause-releases : goal.returns-clause-releases
+returns-clause-releases g c =
+    let e = c.in_ok-release_into.ensures in
+    release_to (c.end_call.ensures.same ∙ c.answer_held.ensures.same)
+    (release_then c.in-Some.response.upto _ _ refl (look_then c.in_ok-held.ensures.look c.in_ok-starts.ensures.look) e.call e.place e.memory e.named e.faults)

@@ -1,9 +1,10 @@
-use Rattle.std.proofs.Common.{◌≡◌, ℕ, Bool, true, false, ◌&&◌, if◌then◌else◌, List, Option, None, Some, IfSome, is_none, is_some, not, option_map, refl, ap, sym, subst, ◌∙◌}
+use Rattle.std.proofs.Common.{rules, ◌≡◌, ℕ, Bool, true, false, ◌&&◌, if◌then◌else◌, List, Option, None, Some, IfSome, is_none, is_some, not, option_map, refl, ap, sym, subst, ◌∙◌}
 use Rattle.dnp_appfragment.specs.Control.{ControlBits}
 use Rattle.dnp_controls.specs.Panel.{Panel}
 use Rattle.dnp_controls.specs.Selecting.{Select}
 use Rattle.dnp_objects.specs.declared.command.Command.{Command}
-use Rattle.dnp_eventbuf.specs.Stock.{Stock}
+use Rattle.dnp_objects.specs.declared.store.StoreFault.TheVariants as store
+use Rattle.dnp_eventbuf.specs.EventBuffer.{EventBuffer}
 use Rattle.dnp_outstation.specs.declared.answer.Answer.{Answer}
 use Rattle.dnp_outstation.specs.declared.answer.Switches.{Switches}
 use Rattle.dnp_outstation.specs.declared.offer.writer.Writer.{Writer}
@@ -16,13 +17,14 @@ use Rattle.dnp_outstation.specs.Items.{no_ids, last_in}
 use Rattle.dnp_outstation.specs.State.{Core, State, Step, with_session, is_free, is_ready}
 use Rattle.dnp_outstation.specs.Station.{state_of, actions_of}
 use Rattle.dnp_outstation.proofs.Cores.{core_in}
+use Rattle.dnp_outstation.proofs.Passed.{look_by, look_keeps, look_to, looked_keeps, untouched_keeps}
 use Rattle.dnp_outstation.proofs.outstation_core.OutstationCore.control.Goals as goal
 
 -- what is answered without rows, and has no more fragments
 abbrev plainly : Switches → ℕ → Answer → Answer
 plainly switches stood a = record { bits = a.bits; switches = switches; stood = stood; left = None; time = None }
 
-said : (a : Option Answer) (switches : Switches) (stood : ℕ) (lanes : Stock) (restart : Bool) → restart ≡ switches.restart
+said : (a : Option Answer) (switches : Switches) (stood : ℕ) (lanes : EventBuffer) (restart : Bool) → restart ≡ switches.restart
     → IfSome a (λ x. x ≡ plainly switches stood x) → stood ≡ last_in lanes
     → IfSome a (λ x. (restart ≡ x.switches.restart) × (x.stood ≡ last_in lanes) × (x.time ≡ None))
 said None switches stood lanes restart restart_is is stood_is = tt
@@ -115,8 +117,24 @@ returns-clause-answered g c = λ honest outputs_honest.
     ∙ ap (λ (k : Session). is_none k.unsolicited) session_is ∙ none_is c.self.inside.session.unsolicited c.is_none-free.result c.is_none-free.ensures in
     let due_is : c.is_due-is_due.result ≡ is_ready step.state.core =
     c.is_due-is_due.ensures.value step.state.core (ap (λ (k : Core). k.times) c.self.view_is) refl refl free_is in
-    ap (λ (l : Stock). at_end now (on_request (state_of c.args.self.now l o) o now octets)) (sym lanes_is)
+    ap (λ (l : EventBuffer). at_end now (on_request (state_of c.args.self.now l o) o now octets)) (sym lanes_is)
     ∙ ap (λ (k : Core). at_end now (on_request (state_of k new o) o now octets)) (sym c.self.view_is)
     ∙ ap (at_end now) (request_is ∙ ap (λ (n : ℕ). replied now n x) seq_is ∙ replied_is)
     ∙ c.in_ok-starts.ensures.ends written now step lanes_left refl due_is
     ∙ c.end_call.ensures.ended honest step.state now refl refl refl c.deadline-ends.ensures
+
+pub returns-in_err-starts-clause-lanes : goal.returns-in_err-starts-clause-lanes
+returns-in_err-starts-clause-lanes g c = look_keeps _ (look_by _ _ (search rules) (rw c.last_left-stood.ensures.same at c.in_err-starts.ensures.look))
+
+pub returns-in_err-answer-clause-lanes : goal.returns-in_err-answer-clause-lanes
+returns-in_err-answer-clause-lanes g c = looked_keeps _ (rw c.last_left-stood.ensures.same at c.in_ok-starts.ensures.look)
+
+pub returns-clause-lanes : goal.returns-clause-lanes
+returns-clause-lanes g c =
+    looked_keeps _ (look_to (c.end_call.ensures.same ∙ c.reply.ensures.same) (rw c.last_left-stood.ensures.same at c.in_ok-starts.ensures.look))
+
+pub returns-in_err-starts-clause-outputs : goal.returns-in_err-starts-clause-outputs
+returns-in_err-starts-clause-outputs g c =
+    let o = g.O.Outputs in
+    untouched_keeps o.honest o.is_stopped o.panel o.performs o.exhausts (o.may_fault store.Exhausted) _ c.args.outputs.now _ _ (search rules)
+    c.in_err-starts.ensures.look.named

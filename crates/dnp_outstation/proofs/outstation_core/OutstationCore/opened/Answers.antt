@@ -1,5 +1,5 @@
-use Rattle.std.proofs.Common.{◌≡◌, true, refl, ap, sym, subst, ◌∙◌}
-use Rattle.dnp_eventbuf.specs.Stock.{Stock}
+use Rattle.std.proofs.Common.{rules, ◌≡◌, true, refl, ap, sym, subst, ◌∙◌}
+use Rattle.dnp_eventbuf.specs.EventBuffer.{EventBuffer}
 use Rattle.dnp_outstation.specs.Calls.{opened_of}
 use Rattle.dnp_outstation.specs.steps.Pushing.{ended_by}
 use Rattle.dnp_outstation.specs.State.{Core, State, Step, Actions, still}
@@ -7,6 +7,7 @@ use Rattle.dnp_outstation.specs.Station.{state_of}
 use Rattle.dnp_outstation.specs.Links.{begun}
 use Rattle.dnp_outstation.specs.declared.session.Session.{Session}
 use Rattle.dnp_outstation.proofs.Cores.{core_in}
+use Rattle.dnp_outstation.proofs.Passed.{look_by, look_to}
 use Rattle.dnp_outstation.proofs.outstation_core.OutstationCore.opened.Goals as goal
 
 pub returns-clause-opened : goal.returns-clause-opened
@@ -25,7 +26,13 @@ returns-clause-opened g c = λ honest.
     let starts = c.in_ok-starts.starts in
     ap (λ (k : Core). opened_of (state_of k old panel) now) (sym c.self.view_is)
     ∙ c.in_ok-starts.ensures.opens written s now refl refl refl refl
-    ∙ ap (λ (l : Stock). let x : Step = still (begun (state_of core l panel)) in ended_by w starts now x) (sym lanes_is)
+    ∙ ap (λ (l : EventBuffer). let x : Step = still (begun (state_of core l panel)) in ended_by w starts now x) (sym lanes_is)
     ∙ ap (λ (session : Session). let k : Core = record core { is_open = true; session = session } in let x : Step = still (state_of k new panel) in ended_by w starts now x) (sym c.reset.ensures)
     ∙ ap (λ (d : Actions). let x : Step = record { state = after; does = d } in ended_by w starts now x) (sym c.set_nothing.ensures.value)
     ∙ c.end_call.ensures.ended honest after now refl refl refl c.deadline-ends.ensures
+
+pub returns-in_err-starts-clause-look : goal.returns-in_err-starts-clause-look
+returns-in_err-starts-clause-look g c = look_by _ _ (search rules) c.in_err-starts.ensures.look
+
+pub returns-clause-look : goal.returns-clause-look
+returns-clause-look g c = look_by _ _ refl (look_to c.end_call.ensures.same c.in_ok-starts.ensures.look)

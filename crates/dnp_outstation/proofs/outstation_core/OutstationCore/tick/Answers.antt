@@ -1,5 +1,5 @@
 use Rattle.std.proofs.Common.{rules, ◌≡◌, true, refl, ap, sym, subst, ◌∙◌}
-use Rattle.dnp_eventbuf.specs.Stock.{Stock}
+use Rattle.dnp_eventbuf.specs.EventBuffer.{EventBuffer}
 use Rattle.dnp_outstation.specs.Calls.{tick_of}
 use Rattle.dnp_outstation.specs.Connection.{at_end, solicited_timer}
 use Rattle.dnp_outstation.specs.steps.Pushing.{ended_by}
@@ -8,6 +8,7 @@ use Rattle.dnp_outstation.specs.Station.{state_of, actions_of}
 use Rattle.dnp_outstation.proofs.Cores.{core_in}
 use Rattle.dnp_outstation.proofs.LinkTimers.{open_tick, solicited_is}
 use Rattle.dnp_outstation.proofs.Timing.{ready_after}
+use Rattle.dnp_outstation.proofs.Passed.{look_by, look_to}
 use Rattle.dnp_outstation.proofs.outstation_core.OutstationCore.tick.Goals as goal
 
 pub returns-clause-ticked : goal.returns-clause-ticked
@@ -38,7 +39,7 @@ returns-clause-ticked g c = λ honest.
     ∙ ap (at_end now) passed_is
     ∙ c.in_ok-starts.ensures.ends written now passed refl refl
     (due ∙ sym (ready_after waited now) ∙ ap (λ (step : Step). is_ready step.state.core) passed_is)
-    ∙ ap (λ (l : Stock). let x : Step = record { state = state_of timed l panel; does = passed.does } in ended_by w starts now x) (sym lanes_is)
+    ∙ ap (λ (l : EventBuffer). let x : Step = record { state = state_of timed l panel; does = passed.does } in ended_by w starts now x) (sym lanes_is)
     ∙ c.end_call.ensures.ended honest (state_of timed new panel) now refl refl refl c.deadline-ends.ensures
 
 pub returns-clause-whole : goal.returns-clause-whole
@@ -46,3 +47,9 @@ returns-clause-whole g c =
     let core = core_in c.self.inside in
     let s : State = state_of core (g.L.Lanes.contents c.args.lanes.now) (g.O.Outputs.panel c.args.outputs.now) in
     c.end_call.ensures.whole (c.pass_time-is_open.ensures.whole s refl refl refl c.self.invariant)
+
+pub returns-in_err-starts-clause-look : goal.returns-in_err-starts-clause-look
+returns-in_err-starts-clause-look g c = look_by _ _ (search rules) c.in_err-starts.ensures.look
+
+pub returns-clause-look : goal.returns-clause-look
+returns-clause-look g c = look_by _ _ refl (look_to c.end_call.ensures.same c.in_ok-starts.ensures.look)

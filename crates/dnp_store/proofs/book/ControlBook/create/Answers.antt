@@ -2,14 +2,14 @@ use Rattle.std.proofs.Common.{rules, ◌≡◌, Err, IsTrue, refl, arith, ap}
 use Rattle.sqlite.specs.State.{HasCleanDisk}
 use Rattle.sqlite.specs.Held.{state}
 use Rattle.dnp_controls.specs.Book.{empty_ledger}
-use Rattle.dnp_store.specs.BookKept.{Stands}
+use Rattle.dnp_store.specs.BookKept.{BookStands}
 use Rattle.dnp_store.proofs.Beginning.{inside_not, inside_wrong}
 use Rattle.dnp_store.proofs.Numbering.{fresh_book, no_entries}
 use Rattle.dnp_store.proofs.Statements.{survives_as}
 use Rattle.dnp_store.proofs.book.ControlBook.create.Goals as goal
 
 stood : (g : _) (c : goal.After-new g) → HasCleanDisk (state g.S.Store c.begin_tables.new.conn) → IsTrue c.in-Ok.owned
-    → Stands (state g.S.Store c.begin_tables.new.conn) empty_ledger
+    → BookStands (state g.S.Store c.begin_tables.new.conn) empty_ledger
 stood g c clean own =
     let made = c.in-Ok.ensures.made clean (c.in-Ok.ensures.alone.0 own) in
     record { is_open = made.0; holds = no_entries (state g.S.Store c.begin_tables.new.conn).committed made.1 }
@@ -17,7 +17,7 @@ stood g c clean own =
 pub invariant_of-result : goal.invariant_of-result
 invariant_of-result g c =
     let stands : HasCleanDisk (state g.S.Store c.begin_tables.new.conn) → IsTrue c.in-Ok.owned
-    → Stands (state g.S.Store c.begin_tables.new.conn) empty_ledger = stood g c in search (rules, stands)
+    → BookStands (state g.S.Store c.begin_tables.new.conn) empty_ledger = stood g c in search (rules, stands)
 
 pub returns-in-Ok-clause-inside : goal.returns-in-Ok-clause-inside
 returns-in-Ok-clause-inside g c inside = inside_not g.S.Store _ c.args.conn c.begin_tables.new.conn _ c.in-Ok.ensures.begins inside
@@ -46,7 +46,7 @@ returns-in-Err-clause-taken g c clean told = c.in-Err.ensures.taken clean (ap Er
 pub returns-in-Ok-clause-stands : goal.returns-in-Ok-clause-stands
 returns-in-Ok-clause-stands g c =
     let stands : HasCleanDisk (state g.S.Store c.begin_tables.new.conn) → IsTrue c.in-Ok.owned
-    → Stands (state g.S.Store c.begin_tables.new.conn) empty_ledger = stood g c in search (rules, stands)
+    → BookStands (state g.S.Store c.begin_tables.new.conn) empty_ledger = stood g c in search (rules, stands)
 
 pub returns-in-Ok-clause-made : goal.returns-in-Ok-clause-made
 returns-in-Ok-clause-made g c =

@@ -2,7 +2,7 @@ use Rattle.std.proofs.Common.{◌≡◌, ◌≤◌, ap, ◌∙◌, subst, List, 
 use Rattle.std.specs.Prelude.{All}
 use Rattle.dnp_controls.specs.declared.book.Entry.{Entry}
 use Rattle.dnp_controls.specs.Book.{is_pending, next_of}
-use Rattle.dnp_store.specs.BookKept.{Kept}
+use Rattle.dnp_store.specs.BookKept.{BookValue}
 use Rattle.dnp_store.proofs.BookPlaces.{next_after, past_on}
 use Rattle.dnp_store.proofs.book.ControlBookBook.next.Goals as goal
 
@@ -28,4 +28,4 @@ returns-clause-value g c =
     ∙ next_after c.split_at.result.1.now c.count_past-past.result c.args.target c.count_past-past.ensures.past
     ∙ ap (λ es. next_of es c.args.target) rest
     ∙ next_after c.self.inside.entries.items c.self.inside.first c.args.target c.self.invariant.past.none
-    ∙ ap (λ (k : Kept _). next_of k.ledger.entries c.args.target) c.self.view_is
+    ∙ ap (λ (k : BookValue _). next_of k.ledger.entries c.args.target) c.self.view_is

@@ -2,7 +2,7 @@ use Rattle.std.proofs.Common.{◌≡◌, Err, IsTrue, length, refl, arith, ap, s
 use Rattle.sqlite.specs.State.{HasCleanDisk}
 use Rattle.sqlite.specs.Held.{state}
 use Rattle.dnp_eventbuf.specs.Archive.{Archive}
-use Rattle.dnp_store.specs.JournalKept.{Stands}
+use Rattle.dnp_store.specs.JournalKept.{JournalStands}
 use Rattle.dnp_store.specs.JournalTables.{empty_archive}
 use Rattle.dnp_store.proofs.Beginning.{inside_not, inside_wrong}
 use Rattle.dnp_store.proofs.JournalStanding.{told_is, told_stands}
@@ -11,7 +11,7 @@ use Rattle.dnp_store.proofs.Statements.{survives_as}
 use Rattle.dnp_store.proofs.journal.Journal.create.Goals as goal
 
 stood : (g : _) (c : goal.In-Ok g) → HasCleanDisk (state g.S.Store c.begin_tables.new.conn) → IsTrue c.in-Ok.owned
-    → Stands (state g.S.Store c.begin_tables.new.conn) empty_archive
+    → JournalStands (state g.S.Store c.begin_tables.new.conn) empty_archive
 stood g c clean own =
     let made = c.in-Ok.ensures.made clean (c.in-Ok.ensures.alone.0 own) in
     record { is_open = made.0; holds = no_events (state g.S.Store c.begin_tables.new.conn).committed made.1 }

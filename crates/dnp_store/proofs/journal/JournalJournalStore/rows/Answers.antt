@@ -2,7 +2,7 @@ use Rattle.std.proofs.Common.{rules, ◌≡◌, ◌⊎◌, ◌≤◌, ℕ, min, 
 use Rattle.sqlite.specs.State.{HasCleanDisk}
 use Rattle.sqlite.specs.Held.{state}
 use Rattle.dnp_eventbuf.specs.Archive.{IsSoundArchive, rows_over}
-use Rattle.dnp_store.specs.JournalKept.{Kept, IsHonest, archive_of, held_archive}
+use Rattle.dnp_store.specs.JournalKept.{JournalValue, IsHonestJournal, archive_of, held_archive}
 use Rattle.dnp_store.proofs.JournalCalls.{call_done, call_lost, count_on, stands_on}
 use Rattle.dnp_store.proofs.JournalStanding.{journal_stopped, sound_kept, same_archive, sound_still, over_none, over_few, smaller}
 use Rattle.dnp_store.specs.Refusals.{LosesReading}
@@ -12,16 +12,17 @@ use Rattle.dnp_store.proofs.journal.JournalJournalStore.rows.Goals.{After-drop-r
 
 pub returns-then-from-self-clause-call : goal.returns-then-from-self-clause-call
 returns-then-from-self-clause-call g c =
-    let sound : IsHonest g.S.Store c.args.self.now → IsSoundArchive (held_archive g.S.Store c.args.self.now) =
-    subst (λ (k : Kept _). IsHonest g.S.Store k → IsSoundArchive (held_archive g.S.Store k)) c.self.view_is (sound_kept g.S.Store _ c.self.invariant) in
-    call_done g.S.Store _ _ _ c.args.self.now c.self.view_is c.if-self.false (λ h. subst (IsHonest g.S.Store) (sym c.self.view_is) h) sound _
-    (sym (ap (λ (k : Kept _). k.stopped) c.self.view_is))
+    let sound : IsHonestJournal g.S.Store c.args.self.now → IsSoundArchive (held_archive g.S.Store c.args.self.now) =
+    subst (λ (k : JournalValue _). IsHonestJournal g.S.Store k → IsSoundArchive (held_archive g.S.Store k)) c.self.view_is
+    (sound_kept g.S.Store _ c.self.invariant) in
+    call_done g.S.Store _ _ _ c.args.self.now c.self.view_is c.if-self.false (λ h. subst (IsHonestJournal g.S.Store) (sym c.self.view_is) h) sound _
+    (sym (ap (λ (k : JournalValue _). k.stopped) c.self.view_is))
 
 pub returns-then-from-self-clause-rows : goal.returns-then-from-self-clause-rows
 returns-then-from-self-clause-rows g c =
     let from = c.args.from in
     let most = c.args.most in
-    subst (λ (k : Kept _). IsHonest g.S.Store k → c.new.result.items ≡ rows_over (held_archive g.S.Store k) from most) c.self.view_is
+    subst (λ (k : JournalValue _). IsHonestJournal g.S.Store k → c.new.result.items ≡ rows_over (held_archive g.S.Store k) from most) c.self.view_is
     (λ h. c.new.ensures.items ∙ sym (over_none (archive_of g.S.Store c.self.inside.conn c.self.inside.last_id) from most
     (sound_kept g.S.Store _ c.self.invariant h) (omega (arith, c.if-from-self.true))))
 
@@ -66,7 +67,7 @@ returns-clause-rows g c =
     let old = c.self.inside.conn in
     let a = archive_of g.S.Store old c.self.inside.last_id in
     let is : few ≡ min most c.self.inside.count = search rules in
-    λ h. subst (λ (k : Kept _). c.read_over.new.events.items ≡ rows_over (held_archive g.S.Store k) from most) c.self.view_is
+    λ h. subst (λ (k : JournalValue _). c.read_over.new.events.items ≡ rows_over (held_archive g.S.Store k) from most) c.self.view_is
     (let early : HasCleanDisk (state g.S.Store old) = c.read_over.ensures.held h.0 in
     let stands = c.self.invariant.stands h.1 h.2 early in
     c.in_default.ensures.read h.0 a stands
@@ -114,7 +115,7 @@ returns-in-Err-clause-device g c clean told =
     let new = c.is_lost_unread-lost.new.conn in
     let early : HasCleanDisk (state g.S.Store c.read_over.new.conn) = c.is_lost_unread-lost.ensures.held clean in
     let lost : c.is_lost_unread-lost.result ≡ true = lost_if c.is_lost_unread-lost.result c.fault.result c.fault.ensures told in
-    subst (λ (k : Kept _). IsTrue k.stopped ⊎ LosesReading g.S.Store k.conn new) c.self.view_is (inr (record {
+    subst (λ (k : JournalValue _). IsTrue k.stopped ⊎ LosesReading g.S.Store k.conn new) c.self.view_is (inr (record {
       between = c.read_over.new.conn;
       cause = c.in-Err.unread;
       unread = c.in-Err.ensures.unread early;

@@ -5,7 +5,7 @@ use Rattle.sqlite.specs.Held.{state}
 use Rattle.dnp_objects.specs.declared.store.StoreFault.TheVariants as fault
 use Rattle.dnp_eventbuf.specs.Archive.{Archive, with_events}
 use Rattle.dnp_store.specs.JournalTables.{archive_in}
-use Rattle.dnp_store.specs.JournalKept.{Kept, Stands, Leaves, LeavesEither, archive_of, held_archive}
+use Rattle.dnp_store.specs.JournalKept.{JournalValue, JournalStands, LeavesJournal, LeavesEitherJournal, archive_of, held_archive}
 use Rattle.dnp_store.proofs.JournalCalls.{call_done, call_lost, count_on, stands_on}
 use Rattle.dnp_store.proofs.JournalHolding.{count_with}
 use Rattle.dnp_store.proofs.JournalStanding.{either_of, leaves_before, leaves_last, seen_stands, sink_refused, sink_stopped, told_is, told_stands}
@@ -21,7 +21,8 @@ returns-in-Err-clause-either g c clean =
     let mid = state g.S.Store c.write_events.new.conn in
     let new = state g.S.Store c.is_lost-lost.new.conn in
     let a = archive_of g.S.Store c.self.inside.conn c.self.inside.last_id in
-    let P = λ (k : Kept _). k.stopped ≡ false → IsTrue k.owned → LeavesEither new (held_archive g.S.Store k) (with_events (held_archive g.S.Store k) events) in
+    let P = λ (k : JournalValue _). k.stopped ≡ false → IsTrue k.owned → LeavesEitherJournal new (held_archive g.S.Store k)
+    (with_events (held_archive g.S.Store k) events) in
     subst P c.self.view_is (λ serves own db may.
     let early : HasCleanDisk mid = omega (arith, c.is_lost-lost.ensures.survives.clean) in
     let first : HasCleanDisk old = omega (arith, early, c.write_events.ensures.survives.clean) in
@@ -68,7 +69,7 @@ returns-clause-call g c =
 
 -- what was written holds the events too
 stood : (g : _) (c : goal.After-new g) → HasCleanDisk (state g.S.Store c.write_events.new.conn) → c.self.inside.stopped ≡ false → IsTrue c.self.inside.owned
-    → Stands (state g.S.Store c.write_events.new.conn) (with_events (archive_of g.S.Store c.self.inside.conn c.self.inside.last_id) c.args.events.now)
+    → JournalStands (state g.S.Store c.write_events.new.conn) (with_events (archive_of g.S.Store c.self.inside.conn c.self.inside.last_id) c.args.events.now)
 stood g c clean serves own =
     let early : HasCleanDisk (state g.S.Store c.self.inside.conn) = omega (arith, clean, c.write_events.ensures.survives.clean) in
     let was = c.self.invariant.stands serves own early in
@@ -96,7 +97,7 @@ returns-clause-taken g c h =
     let events = c.args.events.now in
     let last = c.self.inside.last_id + length events in
     let a = archive_of g.S.Store c.self.inside.conn c.self.inside.last_id in (
-      subst (λ (k : Kept _). archive_of g.S.Store c.write_events.new.conn last ≡ with_events (held_archive g.S.Store k) events) c.self.view_is
+      subst (λ (k : JournalValue _). archive_of g.S.Store c.write_events.new.conn last ≡ with_events (held_archive g.S.Store k) events) c.self.view_is
           (told_is new (with_events a events) last refl (stood g c h.0 h.1 h.2)),
       c.new.ensures.items,
     )
@@ -107,7 +108,7 @@ returns-clause-after g c clean =
     let events = c.args.events.now in
     let last = c.self.inside.last_id + length events in
     let a = archive_of g.S.Store c.self.inside.conn c.self.inside.last_id in
-    let P = λ (k : Kept _). IsTrue k.owned → Leaves new (archive_of g.S.Store c.write_events.new.conn last) in
+    let P = λ (k : JournalValue _). IsTrue k.owned → LeavesJournal new (archive_of g.S.Store c.write_events.new.conn last) in
     subst P c.self.view_is (λ own. leaves_last new (archive_of g.S.Store c.write_events.new.conn last) (g.met.S.Store.settled c.write_events.new.conn.store)
     (told_stands new (with_events a events) last refl (stood g c clean c.if-self.false own)))
 
@@ -116,7 +117,7 @@ returns-in-Err-clause-device g c clean told =
     let new = c.is_lost-lost.new.conn in
     let early : HasCleanDisk (state g.S.Store c.write_events.new.conn) = omega (arith, clean, c.is_lost-lost.ensures.survives.clean) in
     let lost : c.is_lost-lost.result ≡ true = lost_if c.is_lost-lost.result c.fault.result c.fault.ensures told in
-    subst (λ (k : Kept _). IsTrue k.stopped ⊎ IsLost g.S.Store Journal k.conn new) c.self.view_is (inr (record {
+    subst (λ (k : JournalValue _). IsTrue k.stopped ⊎ IsLost g.S.Store Journal k.conn new) c.self.view_is (inr (record {
       between = c.write_events.new.conn;
       error = _;
       refused = c.in-Err.ensures.refused early;
@@ -138,6 +139,7 @@ pub returns-clause-either : goal.returns-clause-either
 returns-clause-either g c clean =
     let new = state g.S.Store c.write_events.new.conn in
     let events = c.args.events.now in
-    let P = λ (k : Kept _). k.stopped ≡ false → IsTrue k.owned → LeavesEither new (held_archive g.S.Store k) (with_events (held_archive g.S.Store k) events) in
+    let P = λ (k : JournalValue _). k.stopped ≡ false → IsTrue k.owned → LeavesEitherJournal new (held_archive g.S.Store k)
+    (with_events (held_archive g.S.Store k) events) in
     subst P c.self.view_is (λ serves own db may.
     inr (leaves_last new _ (g.met.S.Store.settled c.write_events.new.conn.store) (stood g c clean serves own) db may))

@@ -1,7 +1,7 @@
 use Rattle.std.proofs.Common.{rules, ◌≡◌, Err, refl, arith, ap, sym, subst}
 use Rattle.sqlite.specs.Held.{state}
 use Rattle.dnp_store.specs.PairTables.{Sides}
-use Rattle.dnp_store.specs.Kept.{Stands}
+use Rattle.dnp_store.specs.QueueKept.{QueueStands}
 use Rattle.dnp_store.proofs.Beginning.{inside_not, inside_wrong}
 use Rattle.dnp_store.proofs.queue.Queue.create.Goals as goal
 
@@ -11,7 +11,8 @@ invariant_of-result g c = record {
   first = search rules;
   second = search rules;
   stands = λ serves own clean.
-      subst (Stands (state g.S.Store c.make_lanes.new.conn)) (sym c.in-Ok.ensures.empty) (c.in-Ok.ensures.is.made clean (c.in-Ok.ensures.is.alone.0 own)).0;
+      subst (QueueStands (state g.S.Store c.make_lanes.new.conn)) (sym c.in-Ok.ensures.empty)
+      (c.in-Ok.ensures.is.made clean (c.in-Ok.ensures.is.alone.0 own)).0;
 }
 
 pub returns-in-Ok-clause-inside : goal.returns-in-Ok-clause-inside
@@ -43,7 +44,7 @@ returns-in-Ok-clause-empty g c = (c.in-Ok.ensures.empty, refl)
 
 pub returns-in-Ok-clause-stands : goal.returns-in-Ok-clause-stands
 returns-in-Ok-clause-stands g c clean own =
-    subst (Stands (state g.S.Store c.make_lanes.new.conn)) (sym c.in-Ok.ensures.empty) (c.in-Ok.ensures.is.made clean (c.in-Ok.ensures.is.alone.0 own)).0
+    subst (QueueStands (state g.S.Store c.make_lanes.new.conn)) (sym c.in-Ok.ensures.empty) (c.in-Ok.ensures.is.made clean (c.in-Ok.ensures.is.alone.0 own)).0
 
 pub returns-in-Ok-clause-schema : goal.returns-in-Ok-clause-schema
 returns-in-Ok-clause-schema g c clean own = (c.in-Ok.ensures.is.made clean (c.in-Ok.ensures.is.alone.0 own)).1

@@ -1,5 +1,5 @@
 use Rattle.std.proofs.Common.{◌≡◌, ℕ, List, ap, ◌∙◌, sym, subst, arith}
-use Rattle.dnp_transport.specs.Assembly.{Assembly, Complete, Stands, Shows}
+use Rattle.dnp_transport.specs.Assembly.{Assembly, Complete, ArePushed, Shows}
 use Rattle.dnp_transport.specs.steps.Stages.{assembly}
 use Rattle.dnp_transport.specs.declared.assembler.Stage.{Stage}
 use Rattle.dnp_transport.proofs.Exits.{shows_complete, unfinished_shows_none}
@@ -11,7 +11,7 @@ returns-in-Complete-clause-shown c =
     let is : Complete c.self.inside.octets.items ≡ c.args.self.now =
     ap (λ (s : Stage). assembly s c.self.inside.last.items c.self.inside.octets.items) (sym c.in-Complete.is) ∙ c.self.view_is in
     subst (λ (octets : List ℕ). Shows pushed octets) (sym c.as_slice.ensures.value)
-    (shows_complete pushed c.self.inside.octets.items (subst (λ (a : Assembly). Stands pushed a) (sym is) h))
+    (shows_complete pushed c.self.inside.octets.items (subst (λ (a : Assembly). ArePushed pushed a) (sym is) h))
 
 pub returns-in-Idle : goal.returns-in-Idle
 returns-in-Idle c =

@@ -4,7 +4,7 @@ use Rattle.std.proofs.lemmas.Bool.{both_ways}
 use Rattle.std.proofs.lemmas.Slice.Eq.{bytes_eq-Decides}
 use Rattle.dnp_transport.specs.Segments.{is_first, number, has_no_size}
 use Rattle.dnp_transport.specs.Series.{IsDropped}
-use Rattle.dnp_transport.specs.Assembly.{IsJoining, Stands}
+use Rattle.dnp_transport.specs.Assembly.{IsJoining, ArePushed}
 use Rattle.dnp_transport.proofs.Exits.{NoSeries, Accepted}
 use Rattle.dnp_transport.specs.steps.Stages.{Next}
 use Rattle.dnp_transport.proofs.Exits as exits
@@ -37,7 +37,7 @@ returns-else-not-joining-clause-stands c =
 -- no first segment, and no series in progress
 pub returns-then-not-joining-2 : goal.returns-then-not-joining-2
 returns-then-not-joining-2 c =
-    let none : (before : List (List ℕ)) → Stands before c.args.self.now → NoSeries before =
+    let none : (before : List (List ℕ)) → ArePushed before c.args.self.now → NoSeries before =
     λ before h.
     exits.no_series c.self.inside.stage c.self.inside.last.items c.self.inside.octets.items c.args.self.now before
     c.is_joining-joining.result c.self.view_is c.is_joining-joining.ensures c.if-not-joining-2.true h in
@@ -57,7 +57,7 @@ returns-then-eq c =
     let no_first : is_first c.args.segment.now ≡ false = sym c.is_first.ensures ∙ c.if-is_first.false in
     let same : c.args.segment.now ≡ c.self.inside.last.items =
     (bytes_eq-Decides c.args.segment.now c.as_slice.result.now).0 (sym c.eq.ensures ∙ c.if-eq.true) ∙ c.as_slice.ensures.value in
-    let joining : (before : List (List ℕ)) → Stands before c.args.self.now
+    let joining : (before : List (List ℕ)) → ArePushed before c.args.self.now
     → IsJoining (c.args.segment.now ∷ before) c.self.inside.last.items c.self.inside.octets.items =
     λ before h.
     exits.repeat_joining before c.args.segment.now c.self.inside.last.items c.self.inside.octets.items
@@ -88,7 +88,7 @@ returns-then-number c =
     c.number-2.ensures ∙ ap (λ (l : List ℕ). number l) c.deref.ensures.0 in
     let astray : number c.args.segment.now ≡ (number c.self.inside.last.items + 1) % SEGMENT_NUMBERS → ⊥ =
     λ e. c.if-number.true (c.number.ensures ∙ e ∙ ap (λ (n : ℕ). (n + 1) % SEGMENT_NUMBERS) (sym same_number)) in
-    let dropped : (before : List (List ℕ)) → Stands before c.args.self.now → IsDropped (c.args.segment.now ∷ before) =
+    let dropped : (before : List (List ℕ)) → ArePushed before c.args.self.now → IsDropped (c.args.segment.now ∷ before) =
     λ before h.
     exits.drops_series before c.args.segment.now c.self.inside.last.items c.self.inside.octets.items
     (exits.is_joining c.self.inside.stage c.self.inside.last.items c.self.inside.octets.items c.args.self.now before

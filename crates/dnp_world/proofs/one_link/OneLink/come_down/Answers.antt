@@ -4,7 +4,7 @@ use Rattle.std.specs.Prelude.{is_ok, ⊤}
 use Rattle.std.proofs.lemmas.Bool.{false≢true}
 use Rattle.dnp_objects.specs.declared.row.Row.{Row}
 use Rattle.dnp_controls.specs.Latches.{no_panel}
-use Rattle.dnp_eventbuf.specs.Stock.{rows_in}
+use Rattle.dnp_eventbuf.specs.EventBuffer.{rows_in}
 use Rattle.dnp_line.specs.Lines.{front_of}
 use Rattle.dnp_outstation.specs.Parts.{whole_of, with_lanes}
 use Rattle.dnp_outstation.specs.State.{State, Actions}

@@ -9,14 +9,14 @@ use Rattle.dnp_world.proofs.parts.Parts.come_up_below.Goals as goal
 
 pub returns-clause-done : goal.returns-clause-done
 returns-clause-done g c = λ well.
-    let stock = g.Q.PairLanes.contents in
+    let buffer = g.Q.PairLanes.contents in
     let ledger = g.A.Book.contents in
     let old = (viewed c.self.view_is).system in
     let rows = c.come_up.new.dropped in
     rw (← c.self.view_is)
     (at_ok c.come_up.result (c.come_up.ensures.came (well.queues_are, (well.controls_are.is, well.controls_are.runs)))
     (comes_to_concentrator (left_by c.args.repeats) old c.args.substation c.from.result c.self.inside.substations.items c.index_mut.result.now
-    (concentrator_of stock ledger c.come_up.new.end) c.come_up.new.self rows.first.items rows.second.items refl c.from.ensures
+    (concentrator_of buffer ledger c.come_up.new.end) c.come_up.new.self rows.first.items rows.second.items refl c.from.ensures
     (rw (← c.self.view_is) at c.requires)
     c.index_mut.ensures.value))
 

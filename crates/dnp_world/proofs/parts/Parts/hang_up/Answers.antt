@@ -18,7 +18,7 @@ use Rattle.dnp_world.proofs.parts.Parts.hang_up.Goals as goal
 
 pub returns-in-Below-Master-clause-done : goal.returns-in-Below-Master-clause-done
 returns-in-Below-Master-clause-done g c =
-    let stock = g.Q.PairLanes.contents in
+    let buffer = g.Q.PairLanes.contents in
     let ledger = g.A.Book.contents in
     let old = (viewed c.self.view_is).system in
     let substation = c.in-Below-Master.substation in
@@ -28,7 +28,7 @@ returns-in-Below-Master-clause-done g c =
     let has = rw (← c.self.view_is, c.in-Below-Master.is-0) at c.requires in
     let cores = of_both (λ core. without_link core substation) old.concentrator.cores in
     let links = slice_set old.concentrator.links substation (hung_up (link_in old.concentrator.links substation)) in
-    let middle = concentrator_with stock ledger c.self.inside.concentrator c.hung_up_below.new.self cores links
+    let middle = concentrator_with buffer ledger c.self.inside.concentrator c.hung_up_below.new.self cores links
     (c.hung_up_below.ensures.cores 0 (omega arith)) (c.hung_up_below.ensures.cores 1 (omega arith)) c.hung_up_below.ensures.link
     c.hung_up_below.ensures.stores in
     rw (c.in-Below-Master.is-0, c.in-Below-Master.is-1, ← c.self.view_is)

@@ -25,14 +25,14 @@ returns-in_err-open-in-Below-clause-stopped g c = λ well.
 
 pub returns-in_ok-open-in-Below-clause-done : goal.returns-in_ok-open-in-Below-clause-done
 returns-in_ok-open-in-Below-clause-done g c = λ well.
-    let stock = g.Q.PairLanes.contents in
+    let buffer = g.Q.PairLanes.contents in
     let ledger = g.A.Book.contents in
     let old = (viewed c.self.view_is).system in
     let substation = c.in-Below.substation in
     let xs = c.self.inside.substations.items in
     let i = c.from.result in
     let has = rw (← c.self.view_is, c.in-Below.is) at c.requires in
-    let middle = concentrator_with stock ledger c.self.inside.concentrator c.opened_below.new.self old.concentrator.cores _
+    let middle = concentrator_with buffer ledger c.self.inside.concentrator c.opened_below.new.self old.concentrator.cores _
     (c.opened_below.ensures.cores 0 (omega arith)) (c.opened_below.ensures.cores 1 (omega arith)) c.opened_below.ensures.link
     c.opened_below.ensures.stores in
     let first = opened (link_in old.concentrator.links substation) in

@@ -2,7 +2,7 @@
 use Rattle.std.proofs.Common.{subst}
 use Rattle.std.specs.Prelude.{IfOk}
 use Rattle.dnp_concentrator.specs.Concentrator.{book_of, queue_of}
-use Rattle.dnp_eventbuf.specs.Stock.{Stock}
+use Rattle.dnp_eventbuf.specs.EventBuffer.{EventBuffer}
 use Rattle.dnp_world.specs.ReportShown.{AreById, all_in}
 use Rattle.dnp_world.proofs.CentreReads.{queue_read, queue_there, tells_by_queue, well_before_queue}
 use Rattle.dnp_world.proofs.SystemPlaces.{viewed}
@@ -24,7 +24,7 @@ returns-clause-same g c = λ well.
 pub returns-clause-rows : goal.returns-clause-rows
 returns-clause-rows g c = λ well.
     rw (← c.self.view_is)
-    (subst (λ (s : Stock). IfOk c.queue_rows.result (λ rows. AreById (all_in s) rows.items))
+    (subst (λ (s : EventBuffer). IfOk c.queue_rows.result (λ rows. AreById (all_in s) rows.items))
     (queue_there g.Q.PairLanes.contents c.args.centre c.requires c.self.inside.concentrator c.queue-queue.result.now c.queue-queue.ensures.value)
     (c.queue_rows.ensures.rows well.queues_are))
 

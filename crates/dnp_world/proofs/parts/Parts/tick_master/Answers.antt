@@ -14,7 +14,7 @@ use Rattle.dnp_world.proofs.parts.Parts.tick_master.Goals as goal
 
 pub returns-in-Below-clause-done : goal.returns-in-Below-clause-done
 returns-in-Below-clause-done g c =
-    let stock = g.Q.PairLanes.contents in
+    let buffer = g.Q.PairLanes.contents in
     let ledger = g.A.Book.contents in
     let old = (viewed c.self.view_is).system in
     let substation = c.in-Below.substation in
@@ -23,8 +23,8 @@ returns-in-Below-clause-done g c =
     let cores = of_both (λ core. if closes then without_link core substation else core) old.concentrator.cores in
     let links = slice_set old.concentrator.links substation (ticked (link_in old.concentrator.links substation) old.now) in
     rw (c.in-Below.is, ← c.self.view_is)
-    (ticks_below substation old (concentrator_of stock ledger c.tick_below.new.self) closes ticks.closes
-    (concentrator_with stock ledger c.self.inside.concentrator c.tick_below.new.self cores links (ticks.cores 0 (omega arith)) (ticks.cores 1 (omega arith))
+    (ticks_below substation old (concentrator_of buffer ledger c.tick_below.new.self) closes ticks.closes
+    (concentrator_with buffer ledger c.self.inside.concentrator c.tick_below.new.self cores links (ticks.cores 0 (omega arith)) (ticks.cores 1 (omega arith))
     ticks.link ticks.stores))
 
 pub returns-in-Above-clause-done : goal.returns-in-Above-clause-done

@@ -6,7 +6,7 @@ use Rattle.dnp_controls.specs.Latches.{PlainState}
 use Rattle.dnp_world.proofs.OneLinkComing.{few_came}
 use Rattle.dnp_world.proofs.OneLinkRuns.{any_err}
 use Rattle.dnp_world.proofs.OneLinkSteps.{Laws}
-use Rattle.dnp_eventbuf.specs.Stock.{Stock}
+use Rattle.dnp_eventbuf.specs.EventBuffer.{EventBuffer}
 use Rattle.dnp_outstation.specs.Parts.{outputs_of}
 use Rattle.dnp_outstation.specs.State.{State}
 use Rattle.dnp_outstation.specs.Station.{actions_of}
@@ -48,7 +48,7 @@ returns-then-answered-clause-done c =
     let first = c.outputs.result.now in
     let was : SubstationState = record (substation_of self) { lanes = lanes; outputs = first } in
     let same : was ≡ substation_of self =
-    ap (λ (l : Stock). record (substation_of self) { lanes = l; outputs = first }) (c.rows_waiting-waiting.ensures.same ∙ c.lanes.ensures.value)
+    ap (λ (l : EventBuffer). record (substation_of self) { lanes = l; outputs = first }) (c.rows_waiting-waiting.ensures.same ∙ c.lanes.ensures.value)
     ∙ ap (λ (o : PlainState). record (substation_of self) { outputs = o }) c.outputs.ensures.value in
     let is : SubstationState = substation_of (record self { outstation = c.come_down.new.end; channel = c.come_down.new.self }) in
     let lines : ChannelState = state_of c.come_down.new.self in
@@ -91,7 +91,7 @@ returns-in_err-answered-clause-stopped c =
     any_err c.from_residual-in_err-answered.result _
     (ap (λ (s : State). record (substation_of self) { core = s.core; lanes = s.lanes; outputs = outputs_of end; channel = state_of c.come_down.new.self })
     (c.in_err-answered.ensures.unchanged (tt, tt))
-    ∙ ap (λ (l : Stock). record (substation_of self) { lanes = l; outputs = outputs_of end; channel = state_of c.come_down.new.self })
+    ∙ ap (λ (l : EventBuffer). record (substation_of self) { lanes = l; outputs = outputs_of end; channel = state_of c.come_down.new.self })
     (c.rows_waiting-waiting.ensures.same ∙ c.lanes.ensures.value)
     ∙ ap (λ (o : PlainState). record (substation_of self) { outputs = o; channel = state_of c.come_down.new.self })
     (same_outputs (outputs_of end) c.outputs.result.now kept ∙ c.outputs.ensures.value)

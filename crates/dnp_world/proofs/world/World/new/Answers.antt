@@ -4,7 +4,7 @@ use Rattle.dnp_concentrator.specs.declared.addresses.TheConstants.{CONCENTRATOR_
 use Rattle.dnp_concentrator.specs.declared.two.Two.{Two}
 use Rattle.dnp_controls.specs.Book.{Ledger}
 use Rattle.dnp_eventbuf.specs.Archive.{Archive}
-use Rattle.dnp_eventbuf.specs.Stock.{Stock}
+use Rattle.dnp_eventbuf.specs.EventBuffer.{EventBuffer}
 use Rattle.dnp_world.specs.BothSteady.{AreSteady}
 use Rattle.dnp_world.specs.Channels.{fresh_channel}
 use Rattle.dnp_world.specs.NewSystems.{CanBegin}
@@ -58,7 +58,7 @@ returns-clause-fresh g c =
 pub invariant_of-result : goal.invariant_of-result
 invariant_of-result g c = λ well.
     let plan = c.args.plan.now in
-    let queues : Two Stock = record { first = g.Q.PairLanes.contents c.args.queues 0; second = g.Q.PairLanes.contents c.args.queues 1 } in
+    let queues : Two EventBuffer = record { first = g.Q.PairLanes.contents c.args.queues 0; second = g.Q.PairLanes.contents c.args.queues 1 } in
     let journals : Two Archive = record { first = g.J.JournalStore.archive c.args.journals.0; second = g.J.JournalStore.archive c.args.journals.1 } in
     let controls = g.A.Book.contents c.args.controls in
     let orders : Two Ledger = record { first = g.B.Book.contents c.args.orders.0; second = g.B.Book.contents c.args.orders.1 } in

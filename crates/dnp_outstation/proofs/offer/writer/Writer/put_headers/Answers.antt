@@ -1,7 +1,7 @@
 use Rattle.std.proofs.Common.{◌≡◌, ◌∷◌, ◌++◌, ℕ, Bool, IsTrue, true, false, ap, subst, sym, ◌∙◌, arith, rules, length, map}
 use Rattle.dnp_appfragment.specs.Left.{Left}
 use Rattle.dnp_appfragment.specs.Seen.{head}
-use Rattle.dnp_eventbuf.specs.Stock.{Stock}
+use Rattle.dnp_eventbuf.specs.EventBuffer.{EventBuffer}
 use Rattle.dnp_outstation.specs.steps.Filling.{after_release, fill, reached}
 use Rattle.dnp_outstation.specs.Items.{items_of, part_of, parts_left}
 use Rattle.dnp_outstation.specs.steps.Grouping.{opened}
@@ -21,7 +21,7 @@ loop-header-preserved g c =
       written = λ honest s points panel lanes may leaves.
           let before = put.look.held honest in
           let here : s.lanes ≡ after_release (g.L.Lanes.contents l.lanes) from.released.now =
-          lanes ∙ ap (λ (t : Stock). after_release t from.released.now) (sym (l.invariant.same before)) in
+          lanes ∙ ap (λ (t : EventBuffer). after_release t from.released.now) (sym (l.invariant.same before)) in
           let all = l.invariant.written before s points panel lanes may leaves in
           let opens : LeavesOpen may l.at (head c.in-Some.header ∷ c.next.new.self.headers) = subst (LeavesOpen may l.at) left all.0 in (
             opens.1,
@@ -50,7 +50,7 @@ returns-then-not-branch-clause-written g c = λ honest s points panel lanes may 
     let same = c.into_iter-header-iterator.ensures.into_iter_gives in
     let before = put.look.held honest in
     let here : s.lanes ≡ after_release (g.L.Lanes.contents l.lanes) from.released.now =
-    lanes ∙ ap (λ (t : Stock). after_release t from.released.now) (sym (l.invariant.same before)) in
+    lanes ∙ ap (λ (t : EventBuffer). after_release t from.released.now) (sym (l.invariant.same before)) in
     let all = l.invariant.written before s points panel lanes may (subst (λ (it : Left). LeavesOpen may c.args.first it.headers) (sym same) leaves) in
     let opens : LeavesOpen may l.at (head c.in-Some.header ∷ c.next.new.self.headers) = subst (LeavesOpen may l.at) left all.0 in
     ap (λ (it : Left). fill c.args.self.now (map (opened may)

@@ -1,13 +1,13 @@
 use Rattle.std.proofs.Common.{◌+◌, ◌*◌, true, false, [], ◌∷◌, sym, subst, arith}
 use Rattle.std.specs.Prelude.{option_to_list}
-use Rattle.dnp_eventbuf.specs.Stock.{Stock, lane_at, with_rows}
+use Rattle.dnp_eventbuf.specs.EventBuffer.{EventBuffer, lane_at, with_rows}
 use Rattle.dnp_outstation.specs.steps.Holding.{AreFirst, IsClassHeld}
 use Rattle.dnp_outstation.proofs.Holding.{lane_put, lanes_put, lanes_full, class_on}
 use Rattle.dnp_outstation.proofs.offer.writer.Writer.put_held_class.Goals as goal
 
 pub returns-then-not-put_held_lane-clause-written : goal.returns-then-not-put_held_lane-clause-written
 returns-then-not-put_held_lane-clause-written c = λ s made sound new_is held_if.
-    let t : Stock = with_rows s (option_to_list made) in
+    let t : EventBuffer = with_rows s (option_to_list made) in
     let a = 3 * c.args.class in
     let low = c.requires.class in
     let held : IsClassHeld s c.args.class c.args.held.now = held_if c.if-not-is_enabled.false in
@@ -19,7 +19,7 @@ returns-then-not-put_held_lane-clause-written c = λ s made sound new_is held_if
 
 pub returns-then-not-put_held_lane-2-clause-written : goal.returns-then-not-put_held_lane-2-clause-written
 returns-then-not-put_held_lane-2-clause-written c = λ s made sound new_is held_if.
-    let t : Stock = with_rows s (option_to_list made) in
+    let t : EventBuffer = with_rows s (option_to_list made) in
     let a = 3 * c.args.class in
     let low = c.requires.class in
     let held : IsClassHeld s c.args.class c.args.held.now = held_if c.if-not-is_enabled.false in
@@ -36,7 +36,7 @@ returns-then-not-put_held_lane-2-clause-written c = λ s made sound new_is held_
 
 pub returns-clause-written : goal.returns-clause-written
 returns-clause-written c = λ s made sound new_is held_if.
-    let t : Stock = with_rows s (option_to_list made) in
+    let t : EventBuffer = with_rows s (option_to_list made) in
     let a = 3 * c.args.class in
     let low = c.requires.class in
     let held : IsClassHeld s c.args.class c.args.held.now = held_if c.if-not-is_enabled.false in

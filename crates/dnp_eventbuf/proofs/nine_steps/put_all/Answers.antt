@@ -1,0 +1,39 @@
+use Rattle.std.proofs.Common.{◌≡◌, ◌∙◌, ◌+◌, ◌<◌, ◌||◌, ◌++◌, ◌∷◌, Bool, drop, length, get_or, ap, sym, subst, rules, arith, refl, add-one, drop-cons, vec_len, vec_capacity}
+use Rattle.std.proofs.lemmas.Grind.{common_steps}
+use Rattle.std.proofs.lemmas.List.{get_or_read_under}
+use Rattle.dnp_objects.specs.declared.limits.TheConstants.{LANES}
+use Rattle.dnp_objects.specs.Lanes.{lane_number}
+use Rattle.dnp_objects.specs.declared.lane.LaneRow.{LaneRow}
+use Rattle.dnp_eventbuf.specs.FitsLane.{FitsLane}
+use Rattle.dnp_eventbuf.specs.EventBuffer.{LaneState, EventBuffer, lane_at, no_lane, is_full, dropped_from}
+use Rattle.dnp_eventbuf.proofs.Puts.{goes_on, is_with_row}
+use Rattle.dnp_eventbuf.proofs.nine_steps.put_all.Goals as goal
+
+pub loop-x-preserved : goal.loop-x-preserved
+loop-x-preserved g c =
+    let i = c.loop-x.x-index in
+    let rows = c.args.rows.now in
+    let x = c.x-item.result in
+    let low : i < length rows = c.loop-x-test.true in
+    let first : drop i rows ≡ get_or rows i x ∷ drop (i + 1) rows = rw (add-one, drop-cons rows i x) in
+    let is : drop i rows ≡ x ∷ drop (i + 1) rows = first ∙ ap (λ (y : LaneRow). y ∷ drop (i + 1) rows) (sym c.x-item.is) in
+    let s : EventBuffer = record { lanes = c.loop-x.lanes; overflow = c.loop-x.overflow; last_id = c.loop-x.last_id } in
+    let begin : EventBuffer = record { lanes = c.args.lanes.now; overflow = c.args.overflow.now; last_id = c.args.last_id.now } in
+    let lane : LaneState = c.index-lanes-number.result in
+    let place : lane ≡ lane_at s (lane_number x.lane) =
+    get_or_read_under c.loop-x.lanes c.number.result LANES lane no_lane c.index-lanes-number.is c.number.ensures.range (sym c.loop-x.invariant.sound.nine)
+    ∙ ap (lane_at s) c.number.ensures.value in
+    let was : is_full lane ≡ is_full (lane_at s (lane_number x.lane)) = ap is_full place in
+    let carried : FitsLane x = subst FitsLane (sym c.x-item.is) (c.requires.carried i x low) in
+    let told : c.is_full-was_full.result ≡ is_full lane = search rules in
+    let full : (c.loop-x.overflow || c.is_full-was_full.result) ≡ (s.overflow || is_full (lane_at s (lane_number x.lane))) =
+    ap (λ (b : Bool). c.loop-x.overflow || b) (told ∙ was) in
+    let left : c.put.new.dropped.items ≡ c.loop-x.dropped.items ++ dropped_from lane = search rules in
+    let count : vec_len c.put.new.dropped ≡ vec_len c.loop-x.dropped + length (dropped_from lane) = search rules in
+    let more : c.put.new.dropped.items ≡ c.loop-x.dropped.items ++ dropped_from (lane_at s (lane_number x.lane)) =
+    left ∙ ap (λ (l : LaneState). c.loop-x.dropped.items ++ dropped_from l) place in
+    let longer : vec_len c.put.new.dropped ≡ vec_len c.loop-x.dropped + length (dropped_from (lane_at s (lane_number x.lane))) =
+    count ∙ ap (λ (l : LaneState). vec_len c.loop-x.dropped + length (dropped_from l)) place in
+    goes_on begin rows c.args.dropped.now.items s _ x (drop i rows) (drop (i + 1) rows) c.loop-x.dropped.items c.put.new.dropped.items
+    (vec_len c.loop-x.dropped) (vec_len c.put.new.dropped) (vec_capacity c.loop-x.dropped) (vec_capacity c.put.new.dropped)
+    is (is_with_row s x _ _ _ (grind (arith, common_steps)) full refl) carried c.requires.fits more longer c.put.ensures.capacity c.loop-x.invariant
