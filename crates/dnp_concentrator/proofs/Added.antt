@@ -9,7 +9,7 @@ use Rattle.dnp_controls.specs.Panel.{accepted}
 use Rattle.dnp_concentrator.specs.declared.span.Spans.{Spans}
 use Rattle.dnp_concentrator.specs.BookOutputs.{added_for, can_relay, obeys_code, ordered, relay_check}
 use Rattle.dnp_concentrator.specs.Mapped.{command_below}
-use Rattle.dnp_concentrator.specs.Reserving.{is_reserved}
+use Rattle.dnp_concentrator.specs.Reserving.{Reserved, is_reserved}
 use Rattle.dnp_concentrator.proofs.MappedBack.{command_redone}
 
 -- a list of one
@@ -19,7 +19,7 @@ one_command (x ∷ []) d some few = refl
 one_command (x ∷ y ∷ more) d some few = absurd (omega arith)
 
 -- a command whose status is SUCCESS is accepted, and no other
-accepts : (spans : List Spans) (reserved : Option Command) (command : Command) (b : Bool)
+accepts : (spans : List Spans) (reserved : Reserved) (command : Command) (b : Bool)
     → (relay_check spans reserved command == status.success) ≡ b
     → accepted (relay_check spans reserved) (command ∷ []) ≡ cond b (command ∷ []) []
 accepts spans reserved command b is = ap (λ (c : Bool). cond c (command ∷ []) []) is
@@ -39,7 +39,7 @@ added_ordered spans book command (Some p) is some =
     ∙ ap (λ (o : Option Command). map (ordered spans) book.entries ++ unwrap_or o p.1 ∷ []) (command_redone spans command p is)
 
 -- a command whose status is SUCCESS stands after the others as it came
-pub listed_added : (spans : List Spans) (reserved : Option Command) (book after : Ledger) (commands : List Command) (command : Command)
+pub listed_added : (spans : List Spans) (reserved : Reserved) (book after : Ledger) (commands : List Command) (command : Command)
     → commands ≡ command ∷ [] → (relay_check spans reserved command == status.success) ≡ true → after ≡ added_for book (command_below spans command)
     → map (ordered spans) after.entries ≡ map (ordered spans) book.entries ++ accepted (relay_check spans reserved) commands
 listed_added spans reserved book after commands command one can is =
@@ -54,7 +54,7 @@ listed_added spans reserved book after commands command one can is =
     found false b e = absurd (cc)
 
 -- one of another status changes nothing
-pub listed_same : (spans : List Spans) (reserved : Option Command) (book : Ledger) (commands : List Command) (command : Command)
+pub listed_same : (spans : List Spans) (reserved : Reserved) (book : Ledger) (commands : List Command) (command : Command)
     → commands ≡ command ∷ [] → (relay_check spans reserved command == status.success) ≡ false
     → map (ordered spans) book.entries ≡ map (ordered spans) book.entries ++ accepted (relay_check spans reserved) commands
 listed_same spans reserved book commands command one can =

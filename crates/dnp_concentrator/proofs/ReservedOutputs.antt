@@ -1,9 +1,10 @@
 -- Outputs in which a point is reserved while a call lasts: what the call leaves of them.
-use Rattle.std.proofs.Common.{◌≡◌, ◌⊎◌, inl, inr, Bool, true, List, Option, Result, Ok, Err, refl, ap, ◌∙◌, sym, subst}
+use Rattle.std.proofs.Common.{◌≡◌, inl, inr, Bool, true, List, Result, Ok, Err, refl, ap, ◌∙◌, sym, subst}
 use Rattle.std.specs.Prelude.{OnErr, OnOk}
 use Rattle.dnp_controls.specs.Book.{Ledger}
 use Rattle.dnp_objects.specs.declared.command.Command.{Command}
 use Rattle.dnp_outstation.specs.Stores.{HaveDoneNothing, KeepsOutputs}
+use Rattle.dnp_concentrator.specs.Reserving.{Reserved}
 use Rattle.dnp_concentrator.specs.BookOutputs.{Exhausts, IsWell, Performs, book_in, book_panel, map_in, panel_of, reserved_in, with_reserved}
 use Rattle.dnp_concentrator.specs.declared.book_outputs.BookOutputs.{BookOutputs}
 use Rattle.dnp_concentrator.specs.declared.span.Spans.{Spans}
@@ -17,7 +18,7 @@ on_err (Ok x) f p = tt {0}
 on_err (Err e) f p = f p
 
 -- what nothing was done to while a point was reserved is as before once that is forgotten
-undone : {B : Type 0} (contents : B → Ledger) (old after : BookOutputs B) (reserved : Option Command)
+undone : {B : Type 0} (contents : B → Ledger) (old after : BookOutputs B) (reserved : Reserved)
     → HaveDoneNothing (Performs contents) (with_reserved old reserved) after
     → HaveDoneNothing (Performs contents) old (with_reserved after (reserved_in old))
 undone contents old after reserved (inl same) = inl (ap (λ o. with_reserved o (reserved_in old)) same)
@@ -29,12 +30,12 @@ shows_same : {B : Type 0} (contents : B → Ledger) (old new : BookOutputs B) �
 shows_same contents old new (inl same) = ap (λ o. panel_of contents o) same
 shows_same contents old new (inr p) =
     ap (λ (spans : List Spans). book_panel spans (reserved_in new) (contents (book_in new))) p.0
-    ∙ ap (λ (reserved : Option Command). book_panel (map_in old) reserved (contents (book_in new))) p.2
+    ∙ ap (λ (reserved : Reserved). book_panel (map_in old) reserved (contents (book_in new))) p.2
     ∙ ap (λ (ledger : Ledger). book_panel (map_in old) (reserved_in old) ledger) p.1
 
 -- a call that keeps the outputs while a point is reserved keeps them
 pub reserved_kept : {B Answer Fault : Type 0} (honest : B → Type 0) (is_stopped : B → Bool) (contents : B → Ledger) (no_numbers device : Fault)
-    (old lent after new : BookOutputs B) (reserved : Option Command) (commands : List Command) (answer : Result Answer Fault)
+    (old lent after new : BookOutputs B) (reserved : Reserved) (commands : List Command) (answer : Result Answer Fault)
     → lent ≡ with_reserved old reserved → new ≡ with_reserved after (reserved_in old)
     → KeepsOutputs (IsWell honest is_stopped) (λ o. is_stopped (book_in o)) (panel_of contents) (Performs contents) (Exhausts contents)
     true no_numbers device commands lent after answer

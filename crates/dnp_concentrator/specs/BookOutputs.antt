@@ -16,7 +16,7 @@ use Rattle.dnp_controls.specs.Panel.{Panel}
 use Rattle.dnp_concentrator.specs.declared.book_outputs.BookOutputs.{BookOutputs}
 use Rattle.dnp_concentrator.specs.declared.span.Spans.{Spans}
 use Rattle.dnp_concentrator.specs.Mapped.{command_above, command_below}
-use Rattle.dnp_concentrator.specs.Reserving.{is_reserved}
+use Rattle.dnp_concentrator.specs.Reserving.{Reserved, is_reserved}
 
 -- ---- what they are made of
 
@@ -27,10 +27,10 @@ abbrev pub book_in : {B : Type 0} → BookOutputs B → B
 book_in outputs = outputs.book
 
 -- the command of another centre's select, whose point is reserved while a call lasts
-abbrev pub reserved_in : {B : Type 0} → BookOutputs B → Option Command
+abbrev pub reserved_in : {B : Type 0} → BookOutputs B → Reserved
 reserved_in outputs = outputs.reserved
 
-abbrev pub with_reserved : {B : Type 0} → BookOutputs B → Option Command → BookOutputs B
+abbrev pub with_reserved : {B : Type 0} → BookOutputs B → Reserved → BookOutputs B
 with_reserved outputs reserved = record outputs { reserved = reserved }
 
 abbrev pub with_book : {B : Type 0} → BookOutputs B → B → BookOutputs B
@@ -57,7 +57,7 @@ abbrev pub can_relay : List Spans → Command → Bool
 can_relay spans command = is_some (command_below spans command) && obeys_code command
 
 -- what can't be relayed is told first, and then that another centre has the point reserved
-abbrev pub relay_check : List Spans → Option Command → Command → ℕ
+abbrev pub relay_check : List Spans → Reserved → Command → ℕ
 relay_check spans reserved command =
     (if can_relay spans command
     then (if is_reserved reserved command then status.already_active else status.success)
@@ -89,7 +89,7 @@ ordered spans entry = unwrap_or (command_above spans entry.target entry.command)
 
 -- one command at a time is answered, no output shows a status, and the commands that were performed are those of the
 -- book's entries
-abbrev pub book_panel : List Spans → Option Command → Ledger → Panel
+abbrev pub book_panel : List Spans → Reserved → Ledger → Panel
 book_panel spans reserved ledger = record {
   most = 1;
   outputs = 0;
@@ -102,7 +102,7 @@ abbrev pub panel_of : {B : Type 0} → (B → Ledger) → BookOutputs B → Pane
 panel_of contents outputs = book_panel (map_in outputs) (reserved_in outputs) (contents (book_in outputs))
 
 -- where the point of another centre's select is reserved
-abbrev pub panel_beside : {B : Type 0} → (B → Ledger) → Option Command → BookOutputs B → Panel
+abbrev pub panel_beside : {B : Type 0} → (B → Ledger) → Reserved → BookOutputs B → Panel
 panel_beside contents reserved outputs = panel_of contents (with_reserved outputs reserved)
 
 -- the second outputs come of the first by performing these commands: the book has them, and nothing else has changed

@@ -24,8 +24,8 @@ use Rattle.dnp_concentrator.specs.declared.span.Spans.{Spans}
 use Rattle.dnp_concentrator.specs.Mapped.{queued_rows}
 use Rattle.dnp_concentrator.specs.Relaying.{Relaying}
 use Rattle.dnp_concentrator.specs.BookOutputs.{IsWell, book_in, map_in, panel_beside, panel_of, with_book}
-use Rattle.dnp_concentrator.specs.Reserving.{reserved_by}
-use Rattle.dnp_concentrator.specs.Two.{at}
+use Rattle.dnp_concentrator.specs.Reserving.{Reserved, reserved_beside}
+use Rattle.dnp_concentrator.specs.PerCentre.{at}
 
 -- the outstation towards a centre
 abbrev pub core_of : {Q B : Type 0} → ℕ → Concentrator Q B → Core
@@ -74,9 +74,13 @@ IsBookWell honest is_stopped c = IsWell honest is_stopped (outputs_of c)
 abbrev pub above_of : {Q B : Type 0} → (Q → ℕ → EventBuffer) → (B → Ledger) → ℕ → Concentrator Q B → State
 above_of contents ledger centre c = state_of (core_of centre c) (contents (queue_of c) centre) (panel_of ledger (outputs_of c))
 
--- the outputs that a centre sees at this moment: the point of the other centre's standing select is reserved
+-- what the other centres' standing selects reserve
+abbrev pub reserved_above : {Q B : Type 0} → ℕ → Concentrator Q B → ℕ → Reserved
+reserved_above centre c = reserved_beside centre c.cores
+
+-- the outputs that a centre sees at this moment: the points of the other centres' standing selects are reserved
 abbrev pub panel_above : {Q B : Type 0} → (B → Ledger) → ℕ → ℕ → Concentrator Q B → Panel
-panel_above ledger centre now c = panel_beside ledger (reserved_by (core_of (other_than centre) c) now) (outputs_of c)
+panel_above ledger centre now c = panel_beside ledger (reserved_above centre c now) (outputs_of c)
 
 -- ---- what comes on a link below
 

@@ -9,12 +9,12 @@ pub mod Concentrator
 pub mod IndexKinds
 pub mod IndexMap
 pub mod Mapped
+pub mod PerCentre
 pub mod Plan
 pub mod PointsAbove
 pub mod Relayed
 pub mod Relaying
 pub mod Reserving
 pub mod Restarting
-pub mod Two
 -- Words of private steps.
 pub mod steps

@@ -1,4 +1,4 @@
--- Definition: the point that a select reserves while it stands, where two centres operate over one book of controls (own
+-- Definition: the point that a select reserves while it stands, where more than one centre operates over one book of controls (own
 -- rule; IEEE Std 1815-2012, application layer: function SELECT).
 use Rattle.std.specs.Prelude.{◌≡◌, ℕ, ◌-◌, ◌==◌, Bool, true, false, ◌&&◌, if◌then◌else◌, nat_lt, List, [], ◌∷◌, length, slice_get, Option, None, Some, IfSome, option_to_list, Result, Ok, Err}
 use Rattle.std.specs.Option.{option_and_then}
@@ -14,7 +14,10 @@ use Rattle.dnp_appfragment.specs.Table.{function_octet}
 use Rattle.dnp_controls.specs.Selecting.{Select, running}
 use Rattle.dnp_outstation.specs.Controls.{commands_in}
 use Rattle.dnp_outstation.specs.State.{Core}
+use Rattle.dnp_eventbuf.specs.Sides.{other_than}
 use Rattle.dnp_concentrator.specs.IndexKinds.{kind_of_command, number_of}
+use Rattle.dnp_concentrator.specs.PerCentre.{at}
+use Rattle.dnp_concentrator.specs.declared.per_centre.PerCentre.{PerCentre}
 
 -- ---- what a select names
 
@@ -57,8 +60,19 @@ standing_command select now time = option_and_then named_by (running select now 
 abbrev pub reserved_by : Core → ℕ → Option Command
 reserved_by core now = standing_command core.session.selects now core.times.select_ms
 
+-- what the selects of other centres reserve at a moment: the command of the one that stands, if there is one
+abbrev pub Reserved : Type 0
+Reserved = Option Command
+
+abbrev pub none_reserved : Reserved
+none_reserved = None
+
+-- what stands to one centre of what all have selected: what the others have
+abbrev pub reserved_beside : ℕ → PerCentre Core → ℕ → Reserved
+reserved_beside centre cores now = reserved_by (at (other_than centre) cores) now
+
 -- a command is to the point that is reserved: of its kind, outputs or setpoints, and of its index
-abbrev pub is_reserved : Option Command → Command → Bool
+abbrev pub is_reserved : Reserved → Command → Bool
 is_reserved None command = false
 is_reserved (Some other) command =
     number_of (kind_of_command other) == number_of (kind_of_command command) && index_of other == index_of command

@@ -1,9 +1,10 @@
 //! Outputs over a book.
 
-ghost use Rattle.std.specs.Prelude.{◌==◌, ◌≡◌, ◌<◌, ◌≤◌, None, OnOk, IfErr, IfSome, IsSome, ⊤};
+ghost use Rattle.std.specs.Prelude.{◌==◌, ◌≡◌, ◌<◌, ◌≤◌, OnOk, IfErr, IfSome, IsSome, ⊤};
 ghost use Rattle.std.specs.Borrow.{Lends, sem};
 ghost use Rattle.dnp_objects.specs.Status as status;
 ghost use Rattle.dnp_objects.specs.Stores.{IsStoreCall};
+ghost use Rattle.dnp_concentrator.specs.Reserving.{none_reserved};
 ghost use Rattle.dnp_concentrator.specs.contracts.book_outputs.BookOutputs.{the_row};
 ghost use Rattle.dnp_concentrator.specs.BookOutputs.{map_in, book_in, reserved_in, with_book, with_reserved, obeys_code, can_relay, relay_check, HoldsSame, IsWell, added_for, store_fault};
 ghost use Rattle.dnp_objects.specs.declared.limits.TheConstants.{MAX_ID};
@@ -65,7 +66,7 @@ impl<B: Book> BookOutputs<B> {
     pub fn new(map: IndexMap, book: B) -> Self
         ensures map { map_in result ≡ map }
         ensures book { book_in result ≡ book }
-        ensures reserved { reserved_in result ≡ None }
+        ensures reserved { reserved_in result ≡ none_reserved }
     {
         BookOutputs {
             map,

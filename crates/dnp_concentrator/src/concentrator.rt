@@ -23,12 +23,12 @@ use crate::book_outputs::BookOutputs;
 use crate::fault::MapFault;
 use crate::index_map::IndexMap;
 use crate::links::{hang_up_all, new_links};
+use crate::per_centre::PerCentre;
 use crate::plan::Plan;
 use crate::points_above::points_above;
 use crate::relay::Relay;
 use crate::reserving::named_by;
 use crate::restart_laws::a_restart_leaves_what_is_new;
-use crate::two::Two;
 use dnp_controls::Book;
 use dnp_eventbuf::{CENTRES, PairLanes, Side, StoreFault};
 use dnp_objects::Command;
@@ -46,7 +46,7 @@ use std::alloc::{AllocError, Global};
 /// they hold. The moment of a call, `now`, is in milliseconds.
 pub struct Concentrator<Q, B> {
     /// The outstations towards the centres.
-    pub(crate) cores: Two<OutstationCore>,
+    pub(crate) cores: PerCentre<OutstationCore>,
     pub(crate) queue: Q,
     /// The points above, whose classes say to which lanes events go.
     pub(crate) points: PointPlan,
@@ -110,7 +110,7 @@ impl<Q: PairLanes + Drop, B: Book + Drop> Concentrator<Q, B> {
             return Err(MapFault::Memory);
         };
         Ok(Concentrator {
-            cores: Two {
+            cores: PerCentre {
                 first: OutstationCore::new(first, plan.times),
                 second: OutstationCore::new(second, plan.times),
             },

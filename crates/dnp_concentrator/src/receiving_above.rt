@@ -12,15 +12,24 @@ ghost use Rattle.dnp_outstation.specs.Station.{actions_of, reads_inside, MayAsk}
 ghost use Rattle.dnp_outstation.specs.Stores.{KeepsOutputs};
 ghost use Rattle.dnp_outstation.specs.declared.case.Case.TheVariants as case;
 ghost use Rattle.dnp_concentrator.specs.BookOutputs.{book_in, panel_of, IsWell, Performs, Exhausts};
-ghost use Rattle.dnp_concentrator.specs.Concentrator.{core_of, queue_of, outputs_of, book_of, indices_of, links_of, plan_above, IsBookWell, KeepsSide, above_of, panel_above};
+ghost use Rattle.dnp_concentrator.specs.Concentrator.{core_of, queue_of, outputs_of, book_of, indices_of, links_of, plan_above, IsBookWell, KeepsSide, above_of, panel_above, reserved_above};
 
 use crate::concentrator::Concentrator;
 use dnp_controls::Book;
 use dnp_eventbuf::{CENTRES, PairLanes, Side, StoreFault};
+use dnp_objects::Command;
 use dnp_outstation::Actions;
 use std::alloc::Global;
 
 impl<Q: PairLanes, B: Book> Concentrator<Q, B> {
+    /// What the other centres' standing selects reserve at this moment.
+    fn reserved_above(&self, centre: u8, now: u64) -> Option<Command>
+        requires { centre < CENTRES }
+        ensures { result ≡ reserved_above centre self.now now }
+    {
+        self.standing_above(1 - centre, now)
+    }
+
     /// A fragment came from this centre. What is done is put into the actions, in place of what was there. A command that is
     /// performed is added to the book; one to a point that the other centre's standing select names is answered
     /// ALREADY_ACTIVE, and not added.
@@ -67,7 +76,7 @@ impl<Q: PairLanes, B: Book> Concentrator<Q, B> {
         ensures links { links_of self.new ≡ links_of self.old }
         ensures plan { plan_above self.new ≡ plan_above self.old }
     {
-        let reserved = self.standing_above(1 - centre, now);
+        let reserved = self.reserved_above(centre, now);
         let before = self.outputs.reserve(reserved);
         let mut side = Side::new(&mut self.queue, centre);
         let answer = self

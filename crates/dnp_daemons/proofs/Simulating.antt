@@ -10,6 +10,7 @@ use Rattle.dnp_eventbuf.specs.Archive.{Archive}
 use Rattle.dnp_eventbuf.specs.Sides.{ForEach}
 use Rattle.dnp_eventbuf.specs.Sound.{IsSoundBuffer}
 use Rattle.dnp_eventbuf.specs.EventBuffer.{EventBuffer, empty_buffer, lost_in, rows_in}
+use Rattle.dnp_eventbuf.specs.declared.pair.TheConstants.{CENTRES}
 use Rattle.dnp_objects.specs.declared.limits.TheConstants.{LANES}
 use Rattle.dnp_world.specs.NewSystems.{AreEmpty}
 use Rattle.dnp_concentrator.specs.declared.cause.Cause.TheVariants as cause
@@ -26,6 +27,12 @@ use Rattle.dnp_daemons.specs.ScriptWorlds.{empty_archive, law_of_worlds, plain_s
 use Rattle.dnp_daemons.specs.steps.Judging.{SaysRefused, reading_by}
 use Rattle.dnp_daemons.specs.Words.{lines_of}
 use Rattle.dnp_world.specs.Wholes.{Whole}
+
+-- what holds of both centres by their numbers does of each
+pub at_every : (Holds : ℕ → Type 0) → Holds 0 → Holds 1 → ForEach Holds
+at_every Holds first second zero low = first
+at_every Holds first second (suc zero) low = second
+at_every Holds first second (suc (suc n)) low = absurd (omega (arith, low))
 
 -- a refusal that was not written to its end
 pub cut_refusal : (reads : LineReader) (plan script name : List ℕ) (number : ℕ) (by : ScriptStop) (held held' : Option (List ℕ))

@@ -8,7 +8,10 @@ use dnp_objects::Kind;
 use dnp_outstation::{Actions, Outstation};
 use dnp_pointdb::{Block, Point, PointDb, PointPlan, Points, Reading, Times};
 use std::alloc::Global;
-use std::{fmt, io};
+use std::io;
+
+/// An outstation with lanes in memory, and no outputs.
+type Station = Outstation<PlainLanes, NoOutputs>;
 
 /// The breaker is binary 3, an event of class 1 whenever it changes.
 fn plan(alloc: Global) -> Option<PointPlan> {
@@ -22,7 +25,7 @@ fn plan(alloc: Global) -> Option<PointPlan> {
 }
 
 /// A substation with the breaker. Its lanes take 100 events each, and a full one drops its oldest.
-fn substation(alloc: Global) -> Option<Outstation<PlainLanes, NoOutputs>> {
+fn substation(alloc: Global) -> Option<Station> {
     let times = Times {
         confirm_ms: 5_000,
         response_ms: 10_000,
@@ -35,24 +38,19 @@ fn substation(alloc: Global) -> Option<Outstation<PlainLanes, NoOutputs>> {
     Some(Outstation::new(points, lanes, NoOutputs, times))
 }
 
-/// Who speaks, and the octets of the fragment.
-#[derive(Clone, Copy)]
-struct Spoken<'a>(&'a str, &'a [u8]);
-
-impl fmt::Display for Spoken<'_> {
-    fn fmt<W: fmt::Write>(&self, f: &mut fmt::Formatter<W>) -> fmt::Result {
-        write!(f, "{}:", self.0)?;
-        for octet in self.1 {
-            write!(f, " {octet:02X}")?;
-        }
-        Ok(())
+/// Prints who speaks, and the octets of the fragment.
+fn speak(rt: &impl Print, who: &str, octets: &[u8]) -> io::Result<()> {
+    print!(rt; "{who}:")?;
+    for octet in octets {
+        print!(rt; " {octet:02X}")?;
     }
+    println!(rt)
 }
 
 /// Prints what a call did: the fragments that go to the master, and the events that left.
 fn tell(rt: &impl Print, actions: &Actions) -> io::Result<()> {
     for fragment in actions.send.iter().flatten() {
-        println!(rt; "{}", Spoken("substation", fragment.as_slice()))?;
+        speak(rt, "substation", fragment.as_slice())?;
     }
     for row in actions.discarded.as_slice() {
         println!(rt; "confirmed: {row}")?;
@@ -60,12 +58,9 @@ fn tell(rt: &impl Print, actions: &Actions) -> io::Result<()> {
     Ok(())
 }
 
-fn main(rt: HostRuntime) -> io::Result<()> {
-    let alloc = rt.alloc();
-    let Some(mut station) = substation(alloc) else {
-        return println!(rt; "out of memory");
-    };
-    // A connection begins, and the breaker opens at 1,000 ms.
+/// A connection begins, and the breaker opens at 1,000 ms. Then the master reads class 1, and confirms what it got by
+/// its number.
+fn run(rt: &impl Print, alloc: Global, station: &mut Station) -> io::Result<()> {
     let opened = Reading {
         value: 0,
         flags: 0x01,
@@ -76,14 +71,21 @@ fn main(rt: HostRuntime) -> io::Result<()> {
     if !begun {
         return println!(rt; "refused");
     }
-    // The master reads class 1, and confirms what it got by its number.
     let requests: [&[u8]; 2] = [&[0xC1, 0x01, 0x3C, 0x02, 0x06], &[0xC1, 0x00]];
     for request in requests {
-        println!(rt; "{}", Spoken("master", request))?;
+        speak(rt, "master", request)?;
         match station.receive(alloc, 10, request) {
-            Ok(actions) => tell(&rt, &actions)?,
+            Ok(actions) => tell(rt, &actions)?,
             Err(fault) => println!(rt; "refused: {fault}")?,
         }
     }
     Ok(())
+}
+
+fn main(rt: HostRuntime) -> io::Result<()> {
+    let alloc = rt.alloc();
+    let Some(mut station) = substation(alloc) else {
+        return println!(rt; "out of memory");
+    };
+    run(&rt, alloc, &mut station)
 }

@@ -1,8 +1,8 @@
 -- Rows that are held while a row is appended are, with it, the rows of the lanes after that.
-use Rattle.std.proofs.Common.{◌≡◌, inl, inr, ℕ, zero, suc, ◌+◌, ◌<◌, ◌≤◌, ◌==◌, ◌&&◌, not, Bool, true, false, if◌then◌else◌, List, [], ◌∷◌, ◌++◌, map, length, get_or, set, take, drop, nat_lt, nat_le, Option, None, Some, refl, sym, ap, subst, ◌∙◌, arith, append_assoc, append-nil, eq-eqb, ne_eqb}
+use Rattle.std.proofs.Common.{◌≡◌, ◌≢◌, inl, inr, ℕ, zero, suc, ◌+◌, ◌*◌, ◌<◌, ◌≤◌, ◌==◌, ◌&&◌, not, Bool, true, false, if◌then◌else◌, List, [], ◌∷◌, ◌++◌, map, length, get_or, set, take, drop, nat_lt, nat_le, Option, None, Some, refl, sym, ap, subst, ◌∙◌, arith, append_assoc, append-nil, eq-eqb, ne_eqb}
 use Rattle.std.specs.Prelude.{option_to_list}
 use Rattle.std.specs.List.{All}
-use Rattle.std.proofs.lemmas.Bool.{cases_eq, leb-true, or_right}
+use Rattle.std.proofs.lemmas.Bool.{cases_eq, leb-true, or_left, or_right}
 use Rattle.std.proofs.lemmas.Bool.Decides.{nat_tests}
 use Rattle.std.proofs.lemmas.List.{take-append-drop, map-append, get_or-set_same, get_or-set_other}
 use Rattle.std.proofs.lemmas.List.Elements.{All-drop}
@@ -242,7 +242,24 @@ three_classes (a ∷ []) few = absurd (omega arith)
 three_classes (a ∷ b ∷ []) few = absurd (omega arith)
 three_classes (a ∷ b ∷ c ∷ d ∷ more) few = absurd (omega arith)
 
--- the last class has rows
+-- one of the classes has rows
+pub first_has_rows : (s : EventBuffer) (enabled : List Bool) → length enabled ≡ 3
+    → has_rows_in s (if get_or enabled 0 false then class_lanes 0 else []) ≡ true → has_rows_in s (enabled_lanes 0 enabled) ≡ true
+first_has_rows s enabled few some =
+    let on : ℕ → List ℕ = λ class. if get_or enabled class false then class_lanes class else [] in
+    let has : ℕ → Bool = λ lane. nat_lt 0 (length (lane_at s lane).rows) in
+    subst (λ (lanes : List ℕ). has_rows_in s lanes ≡ true) (three_classes enabled few)
+    (list_any-append has (on 0) (on 1 ++ on 2) ∙ or_left _ (has_rows_in s (on 1 ++ on 2)) some)
+
+pub second_has_rows : (s : EventBuffer) (enabled : List Bool) → length enabled ≡ 3
+    → has_rows_in s (if get_or enabled 1 false then class_lanes 1 else []) ≡ true → has_rows_in s (enabled_lanes 0 enabled) ≡ true
+second_has_rows s enabled few some =
+    let on : ℕ → List ℕ = λ class. if get_or enabled class false then class_lanes class else [] in
+    let has : ℕ → Bool = λ lane. nat_lt 0 (length (lane_at s lane).rows) in
+    subst (λ (lanes : List ℕ). has_rows_in s lanes ≡ true) (three_classes enabled few)
+    (list_any-append has (on 0) (on 1 ++ on 2)
+    ∙ or_right (has_rows_in s (on 0)) _ (list_any-append has (on 1) (on 2) ∙ or_left _ (has_rows_in s (on 2)) some))
+
 pub third_has_rows : (s : EventBuffer) (enabled : List Bool) → length enabled ≡ 3
     → has_rows_in s (if get_or enabled 2 false then class_lanes 2 else []) ≡ true → has_rows_in s (enabled_lanes 0 enabled) ≡ true
 third_has_rows s enabled few some =
@@ -251,6 +268,31 @@ third_has_rows s enabled few some =
     subst (λ (lanes : List ℕ). has_rows_in s lanes ≡ true) (three_classes enabled few)
     (list_any-append has (on 0) (on 1 ++ on 2)
     ∙ or_right (has_rows_in s (on 0)) _ (list_any-append has (on 1) (on 2) ∙ or_right (has_rows_in s (on 1)) _ some))
+
+-- and a class that is enabled, where a lane of it has
+some_row : (rows : List Numbered) → rows ≢ [] → nat_lt 0 (length rows) ≡ true
+some_row [] none = absurd (none refl)
+some_row (x ∷ rows) none = grind (arith, nat_tests)
+
+pub first_has : (s : EventBuffer) (class : ℕ) (on : Bool) → on ≡ true → (lane_at s (3 * class)).rows ≢ []
+    → has_rows_in s (if on then class_lanes class else []) ≡ true
+first_has s class on is some =
+    subst (λ (b : Bool). has_rows_in s (if b then class_lanes class else []) ≡ true) (sym is)
+    (or_left (nat_lt 0 (length (lane_at s (3 * class)).rows)) (has_rows_in s ((3 * class + 1) ∷ (3 * class + 2) ∷ [])) (some_row _ some))
+
+pub second_has : (s : EventBuffer) (class : ℕ) (on : Bool) → on ≡ true → (lane_at s (3 * class + 1)).rows ≢ []
+    → has_rows_in s (if on then class_lanes class else []) ≡ true
+second_has s class on is some =
+    let has : ℕ → Bool = λ lane. nat_lt 0 (length (lane_at s lane).rows) in
+    subst (λ (b : Bool). has_rows_in s (if b then class_lanes class else []) ≡ true) (sym is)
+    (or_right (has (3 * class)) _ (or_left (has (3 * class + 1)) (has_rows_in s ((3 * class + 2) ∷ [])) (some_row _ some)))
+
+pub third_has : (s : EventBuffer) (class : ℕ) (on : Bool) → on ≡ true → (lane_at s (3 * class + 2)).rows ≢ []
+    → has_rows_in s (if on then class_lanes class else []) ≡ true
+third_has s class on is some =
+    let has : ℕ → Bool = λ lane. nat_lt 0 (length (lane_at s lane).rows) in
+    subst (λ (b : Bool). has_rows_in s (if b then class_lanes class else []) ≡ true) (sym is)
+    (or_right (has (3 * class)) _ (or_right (has (3 * class + 1)) _ (or_left (has (3 * class + 2)) _ (some_row _ some))))
 
 -- ---- small steps
 

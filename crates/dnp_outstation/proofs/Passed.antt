@@ -12,7 +12,7 @@ use Rattle.dnp_outstation.specs.Stores.{IsLook, KeepsLanes, KeepsOutputs, IsRele
 
 -- ---- answers that are refused alike
 
-err_by : {A B E : Type 0} (answer : Result A E) (said : Result B E) → result_err answer ≡ result_err said
+pub err_by : {A B E : Type 0} (answer : Result A E) (said : Result B E) → result_err answer ≡ result_err said
     → (e : E) → answer ≡ Err e → said ≡ Err e
 err_by answer (Ok y) told e is = absurd (let some : Some e ≡ result_err answer = sym (ap result_err is) in cc)
 err_by answer (Err f) told e is = let same : Some e ≡ Some f = sym (ap result_err is) ∙ told in cc
@@ -84,11 +84,33 @@ module _ {Store Place Answer : Type 0} {honest : Store → Type 0} {is_stopped :
     faults = second.faults;
   }
 
+  -- no look at all, where the call is answered
+  pub look_none : {x : Answer} → new ≡ old
+      → IsLook honest is_stopped contents others kept asks_memory may_fault old new (let answer : Result Answer StoreFault = Ok x in answer)
+  look_none same = record {
+    held = λ h. subst (λ (s : Store). honest s) same h;
+    same = λ h. ap contents same;
+    place = ap kept same;
+    beside = λ h. ap others same;
+    stopped = λ stopped. subst (λ (s : Store). IsTrue (is_stopped s)) (sym same) stopped;
+    device = λ is. absurd (cc);
+    runs_on = λ other. ap is_stopped same;
+    memory = λ h is. absurd (cc);
+    named = tt;
+    faults = tt;
+  }
+
   -- a look, of lanes that stay then as they are
   pub look_to : {after : Store} {answer : Result Answer StoreFault} → after ≡ new
       → IsLook honest is_stopped contents others kept asks_memory may_fault old new answer
       → IsLook honest is_stopped contents others kept asks_memory may_fault old after answer
   look_to {answer = answer} same look = subst (λ (s : Store). IsLook honest is_stopped contents others kept asks_memory may_fault old s answer) (sym same) look
+
+  -- a look, before which the lanes were looked at and stayed as they were
+  pub look_after : {before : Store} {answer : Result Answer StoreFault} → old ≡ before
+      → IsLook honest is_stopped contents others kept asks_memory may_fault old new answer
+      → IsLook honest is_stopped contents others kept asks_memory may_fault before new answer
+  look_after {answer = answer} same look = subst (λ (s : Store). IsLook honest is_stopped contents others kept asks_memory may_fault s new answer) same look
 
   -- a look that was answered, and what is done after it, which leaves the lanes alone
   pub looked_keeps : {First : Type 0} {x : First} (answer : Result Answer StoreFault)

@@ -24,24 +24,10 @@ pub ran_then : (old new : State) (sql : List ℕ) (params : Row) (Q : Type 0) (r
 ran_then old new sql params Q (Ok _) h follows = follows h.0 h.1
 ran_then old new sql params Q (Err e) h follows = tt
 
-pub making_refused : {S : Type 0} (g : Ghosts S) (kind : StoreKind) (old new : Held S) (sql : List ℕ) (params : Row) (r : Result (Unit {0}) Error)
-    → IsMaking kind sql → IfErr r (λ e. IsTrue (state g old).in_transaction × ExecutesInside 0 sql params (state g old) (state g new) (Err e))
-    → IfErr r (IsRefused g kind old new)
-making_refused g kind old new sql params (Ok _) making h = tt
-making_refused g kind old new sql params (Err e) making h = by_making g kind old new sql params e making h.0 h.1
-
 pub statement_refused : {S : Type 0} (g : Ghosts S) (kind : StoreKind) (old new : Held S) (sql : List ℕ) (params : Row) (r : Result (Unit {0}) Error) → IsOwn kind sql
     → IfErr r (λ e. IsTrue (state g old).in_transaction × ExecutesInside 0 sql params (state g old) (state g new) (Err e)) → IfErr r (IsRefused g kind old new)
 statement_refused g kind old new sql params (Ok _) own h = tt
 statement_refused g kind old new sql params (Err e) own h = by_statement g kind old new sql params e own h.0 h.1
-
--- a statement by which each store's tables are made
-pub making_refused_any : {S : Type 0} (g : Ghosts S) (old new : Held S) (sql : List ℕ) (params : Row) (r : Result (Unit {0}) Error)
-    → ((kind : StoreKind) → IsMaking kind sql)
-    → IfErr r (λ e. IsTrue (state g old).in_transaction × ExecutesInside 0 sql params (state g old) (state g new) (Err e))
-    → IfErr r (λ e. (kind : StoreKind) → IsRefused g kind old new e)
-making_refused_any g old new sql params (Ok _) making h = tt
-making_refused_any g old new sql params (Err e) making h = λ kind. by_making g kind old new sql params e (making kind) h.0 h.1
 
 -- ---- what `?` hands on
 

@@ -14,7 +14,8 @@ use Rattle.dnp_store.specs.PairTables.{Sides, side_at, with_side}
 
 -- a crash leaves the lanes before, or those that the call makes of a centre's
 abbrev pub EitherAt : {S : Type 0} → State → QueueValue S → (EventBuffer → EventBuffer) → ℕ → Type 0
-EitherAt new k next centre = k.stopped ≡ false → IsTrue k.owned → LeavesEitherQueue new k.sides (with_side k.sides centre (next (side_at k.sides centre)))
+EitherAt new k next centre =
+    k.stopped ≡ false → IsTrue k.owned → LeavesEitherQueue new k.sides (with_side k.sides centre (next (side_at k.sides centre)))
 
 pub either_at : {S : Type 0} (new : State) (inner outer : QueueValue S) (next : EventBuffer → EventBuffer) (n centre : ℕ) → inner ≡ outer → centre ≡ n
     → EitherAt new inner next n → EitherAt new outer next centre
@@ -26,8 +27,8 @@ pub after_at : {S A E : Type 0} (new : State) (inner outer : QueueValue S) (resu
 after_at {S} new inner outer result sides is h = subst (λ (k : QueueValue S). IsTrue k.owned → OnOk result (LeavesQueue new sides)) is h
 
 -- what the call is to a store of lanes
-pub side_call : {S A : Type 0} (g : Ghosts S) (inner outer new : QueueValue S) (answer : Result A StoreFault) (n centre : ℕ) → inner ≡ outer → centre ≡ n
-    → inner.stopped ≡ false → new.owned ≡ inner.owned → (HasCleanDisk (state g new.conn) → HasCleanDisk (state g inner.conn))
+pub side_call : {S A : Type 0} (g : Ghosts S) (inner outer new : QueueValue S) (answer : Result A StoreFault) (n centre : ℕ)
+    → inner ≡ outer → centre ≡ n → inner.stopped ≡ false → new.owned ≡ inner.owned → (HasCleanDisk (state g new.conn) → HasCleanDisk (state g inner.conn))
     → (IsTrue new.stopped → answer ≡ Err Device) → (new.stopped ≡ false → answer ≡ Err Device → ⊥) → IsSoundBuffer (side_at new.sides n)
     → side_at new.sides (other_than n) ≡ side_at inner.sides (other_than n) → OnErr answer (side_at new.sides n ≡ side_at inner.sides n)
     → IsSideCall (IsHonestQueue g) (λ q. q.stopped) (λ q. side_at q.sides) centre outer new answer

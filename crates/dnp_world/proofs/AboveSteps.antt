@@ -12,7 +12,7 @@ use Rattle.dnp_appfragment.specs.Meaning.{request_at}
 use Rattle.dnp_appfragment.specs.Table.{function_octet}
 use Rattle.dnp_concentrator.specs.BookOutputs.{added_for, all_added, book_panel, can_relay, obeys_code, ordered, relay_check}
 use Rattle.dnp_concentrator.specs.Mapped.{command_above, command_below}
-use Rattle.dnp_concentrator.specs.Reserving.{is_reserved}
+use Rattle.dnp_concentrator.specs.Reserving.{Reserved, is_reserved}
 use Rattle.dnp_concentrator.specs.declared.span.Spans.{Spans}
 use Rattle.dnp_controls.specs.Book.{Ledger, added}
 use Rattle.dnp_controls.specs.Panel.{Panel, accepted}
@@ -176,7 +176,7 @@ performs_as laws s o now octets = by (case_of s.core octets) refl (laws.says s.c
 abbrev pub IsRelayed : List Spans → Command → Type 0
 IsRelayed spans command = is_some (command_below spans command) ≡ true
 
-relayed : (spans : List Spans) (reserved : Option Command) (command : Command) → (relay_check spans reserved command == status.success) ≡ true
+relayed : (spans : List Spans) (reserved : Reserved) (command : Command) → (relay_check spans reserved command == status.success) ≡ true
     → IsRelayed spans command
 relayed spans reserved command is = by (can_relay spans command) refl is
   where
@@ -187,7 +187,7 @@ relayed spans reserved command is = by (can_relay spans command) refl is
     by true can is = (and_parts (is_some (command_below spans command)) (obeys_code command) can).0
     by false can is = absurd (cc)
 
-accepted_relayed : (spans : List Spans) (reserved : Option Command) (commands : List Command)
+accepted_relayed : (spans : List Spans) (reserved : Reserved) (commands : List Command)
     → Each (IsRelayed spans) (accepted (relay_check spans reserved) commands)
 accepted_relayed spans reserved [] = tt
 accepted_relayed spans reserved (c ∷ cs) = by (relay_check spans reserved c == status.success) refl (accepted_relayed spans reserved cs)
@@ -197,7 +197,7 @@ accepted_relayed spans reserved (c ∷ cs) = by (relay_check spans reserved c ==
     by true is rest = (relayed spans reserved c is, rest)
     by false is rest = rest
 
-performed_relayed : (spans : List Spans) (reserved : Option Command) (book : Ledger) (commands : List Command)
+performed_relayed : (spans : List Spans) (reserved : Reserved) (book : Ledger) (commands : List Command)
     → Each (IsRelayed spans) (performed_of (book_panel spans reserved book) commands)
 performed_relayed spans reserved book commands = by (are_too_many (book_panel spans reserved book) commands)
   where
@@ -205,7 +205,7 @@ performed_relayed spans reserved book commands = by (are_too_many (book_panel sp
     by true = tt
     by false = accepted_relayed spans reserved commands
 
-function_relayed : (spans : List Spans) (reserved : Option Command) (book : Ledger) (select : Option Select) (time now : ℕ) (octets : List ℕ) (f : Function)
+function_relayed : (spans : List Spans) (reserved : Reserved) (book : Ledger) (select : Option Select) (time now : ℕ) (octets : List ℕ) (f : Function)
     (headers : List Head)
     → (let o : Panel = book_panel spans reserved book in
     Each (IsRelayed spans) (performs_of (come_to (outcome_of f select time o now octets (commands_in headers)) headers)))
@@ -226,7 +226,7 @@ function_relayed spans reserved book select time now octets function.DirectOpera
 function_relayed spans reserved book select time now octets function.DirectOperateNr headers = performed_relayed spans reserved book (commands_in headers)
 function_relayed spans reserved book select time now octets _ headers = tt
 
-outcome_relayed : (spans : List Spans) (reserved : Option Command) (book : Ledger) (select : Option Select) (time now : ℕ) (octets : List ℕ)
+outcome_relayed : (spans : List Spans) (reserved : Reserved) (book : Ledger) (select : Option Select) (time now : ℕ) (octets : List ℕ)
     (r : Result Asked AppFault)
     → Each (IsRelayed spans) (performs_of (outcome_at select time (book_panel spans reserved book) now octets r))
 outcome_relayed spans reserved book select time now octets (Err fault) = tt
@@ -237,7 +237,7 @@ outcome_relayed spans reserved book select time now octets (Ok request) = by (na
     by true = tt
     by false = function_relayed spans reserved book select time now octets request.function request.headers
 
-pub all_relayed : (spans : List Spans) (reserved : Option Command) (book : Ledger) (c : Core) (now : ℕ) (octets : List ℕ)
+pub all_relayed : (spans : List Spans) (reserved : Reserved) (book : Ledger) (c : Core) (now : ℕ) (octets : List ℕ)
     → Each (IsRelayed spans) (performed_in c (book_panel spans reserved book) now octets)
 all_relayed spans reserved book c now octets = by (case_of c octets)
   where

@@ -1,20 +1,24 @@
--- An event keeps a whole system steady to both centres.
-use Rattle.std.proofs.Common.{◌≡◌, ℕ, ◌&&◌, length, option_map, List, [], ◌∷◌, ◌++◌, Option, Some, None, refl, sym, ap, ◌∙◌, subst, arith}
+-- An event keeps a whole system steady to all centres.
+use Rattle.std.proofs.Common.{◌≡◌, ◌==◌, ℕ, ◌<◌, ◌&&◌, Bool, false, length, option_map, List, [], ◌∷◌, ◌++◌, Option, Some, None, refl, sym, ap, ◌∙◌, subst, arith}
 use Rattle.std.specs.Prelude.{nat_lt, slice_get}
-use Rattle.std.specs.List.{flat_map}
+use Rattle.std.specs.List.{count_by, flat_map}
 use Rattle.std.proofs.lemmas.Option.{none-some}
 use Rattle.dnp_objects.specs.declared.command.Command.{Command}
 use Rattle.dnp_objects.specs.declared.row.Row.{Row}
+use Rattle.dnp_concentrator.specs.PerCentre.{at, with_at}
 use Rattle.dnp_concentrator.specs.Relaying.{Relaying}
+use Rattle.dnp_concentrator.specs.declared.per_centre.PerCentre.{PerCentre}
 use Rattle.dnp_concentrator.specs.declared.span.Spans.{Spans}
+use Rattle.dnp_controls.specs.declared.book.Entry.{Entry}
+use Rattle.dnp_eventbuf.specs.Sides.{ForEach}
+use Rattle.dnp_eventbuf.specs.declared.pair.TheConstants.{CENTRES}
 use Rattle.dnp_pointdb.specs.Database.{Database}
 use Rattle.dnp_pointdb.specs.Runs.{Move}
 use Rattle.dnp_world.specs.Behind.{Elsewhere, IsFrom, Links}
-use Rattle.dnp_world.specs.BothSteady.{AreSteady, GoesOn, IssuesAs, LeavesBooks, RelaysAs, StaysBeside, side_of}
-use Rattle.dnp_world.specs.Centres.{HappensToAll, SeesElsewhere, centre_at}
+use Rattle.dnp_world.specs.BothSteady.{AreSteady, GoesOn, IssuesAs, LeavesBooks, RelaysAs, StaysBeside, all_but, beside, side_of}
+use Rattle.dnp_world.specs.Centres.{HappensToAll, SeesElsewhere, centre_at, is_elsewhere}
 use Rattle.dnp_world.specs.Kept.{commands_below, commands_in, kept_in, orders_in, report_of}
 use Rattle.dnp_world.specs.Reports.{IsFate, Report}
-use Rattle.dnp_world.specs.Stations.{HasSameCounts}
 use Rattle.dnp_world.specs.Steady.{Goes, IsSteadyBeside, made_from, moves_at, points_at, rows_made_at}
 use Rattle.dnp_world.specs.SystemRuns.{Happens}
 use Rattle.dnp_world.specs.Systems.{SubstationState, System}
@@ -22,160 +26,24 @@ use Rattle.dnp_world.specs.Wholes.{Whole, seen_by}
 use Rattle.dnp_world.specs.declared.event.Event.{Event}
 use Rattle.dnp_world.specs.declared.event.Event.TheVariants as event
 use Rattle.dnp_world.specs.declared.event.Place.TheVariants as place
+use Rattle.dnp_world.proofs.Beside.{below_but, from_but, ordered_but, same_but, same_total, total, total_with}
 use Rattle.dnp_world.proofs.Counting.{count_by-append}
 use Rattle.dnp_world.proofs.EventPoints.{all_moves, none_made}
-use Rattle.dnp_world.proofs.EachCentre.{by_place, for_both}
+use Rattle.dnp_world.proofs.EachCentre.{Others, by_place, by_seen, done_at}
 use Rattle.dnp_world.proofs.Lasting.{fate_as, made_by, nothing_more}
+use Rattle.dnp_world.proofs.PerCentre.{choose, own_and_others, written_elsewhere, written_here}
 use Rattle.dnp_world.proofs.Seen.{sees_same}
 
 -- what the laws of one centre's system promise
-pub record BothLaws : Type 0 where
+pub record AllLaws : Type 0 where
   pub goes : (old new : System) (el : Elsewhere) (e : Event) → IsSteadyBeside el old → Happens old e new → Goes el (rows_made_at old (e ∷ [])) old new
   pub elsewhere : (old new : System) (el others : Elsewhere) (steady : IsSteadyBeside el old) → SeesElsewhere old new → IsFrom old.indices others
       → RelaysAs others steady.standing.links new → IssuesAs others new → StaysBeside others steady.standing.links old new
   pub from : (s : System) (el : Elsewhere) (steady : IsSteadyBeside el s) → IsFrom s.indices (side_of steady.standing.links (kept_in s))
   pub books : (old new : System) (e : Event) → centre_at e ≡ None → Happens old e new → LeavesBooks old new
 
--- ---- two centres, and what each of them sees
+-- ---- what is at a centre makes no row
 
--- the one centre's side is what stands elsewhere to the other one
-abbrev pub IsSide : Elsewhere → Links → System → Type 0
-IsSide el links s = el ≡ side_of links (kept_in s)
-
--- what both see
-pub record Shares (one other : System) : Type 0 where
-  pub indices : other.indices ≡ one.indices
-  pub controls : (kept_in other).controls ≡ (kept_in one).controls
-  pub issued : (kept_in other).issued ≡ (kept_in one).issued
-
--- counts of two lists, the other way round
-turned_round : {A : Type 0} (xs ys zs : List A) → HasSameCounts (xs ++ ys) zs → HasSameCounts (ys ++ xs) zs
-turned_round xs ys zs s = record { same = λ test. omega (arith, s.same test, count_by-append test xs ys, count_by-append test ys xs) }
-
--- both are steady after it, each beside the other
-pub record BothGo (made made' : ℕ → List Row) (old new old' new' : System) : Type 0 where
-  pub here : Elsewhere
-  pub there : Elsewhere
-  pub steady : IsSteadyBeside here new
-  pub steady' : IsSteadyBeside there new'
-  pub here_is : IsSide here steady'.standing.links new'
-  pub there_is : IsSide there steady.standing.links new
-  pub fate : IsFate made (report_of old) (report_of new)
-  pub fate' : IsFate made' (report_of old') (report_of new')
-
--- a side of the same links and the same book
-same_side : (el : Elsewhere) (links links' : Links) (old new : System) → IsSide el links old → links' ≡ links
-    → (kept_in new).orders ≡ (kept_in old).orders → IsSide el links' new
-same_side el links links' old new is same orders = rw (same, orders) is
-
--- ---- what is at the one centre
-
--- What is at the one centre, and elsewhere to the other.
-pub at_one : BothLaws → (e : Event) (a a' b b' : System) {el el' : Elsewhere} (s : IsSteadyBeside el a) (t : IsSteadyBeside el' b)
-    → IsSide el t.standing.links b → Happens a e a' → SeesElsewhere b b' → Shares a' b' → BothGo (rows_made_at a (e ∷ [])) (λ i. []) a a' b b'
-at_one laws e a a' b b' {el = el} {el' = el'} s t is h x shares =
-    let g : Goes el (rows_made_at a (e ∷ [])) a a' = laws.goes a a' el e s h in
-    let there : Elsewhere = side_of g.steady.standing.links (kept_in a') in
-    let orders : (kept_in b').orders ≡ (kept_in b).orders = ap (λ (y : System). (kept_in y).orders) x.after in
-    let map_is : a'.indices ≡ b.indices = sym shares.indices ∙ ap (λ (y : System). y.indices) x.after in
-    let performed : el.performed ≡ t.standing.links.above.performed = ap (λ (y : Elsewhere). y.performed) is in
-    let entered : el.orders ≡ (kept_in b').orders = ap (λ (y : Elsewhere). y.orders) is ∙ sym orders in
-    let relays : RelaysAs there t.standing.links b' =
-    rw (shares.controls, shares.indices) (turned_round (commands_below a'.indices there.performed)
-    (commands_below a'.indices t.standing.links.above.performed) _ (simp performed at g.steady.standing.behind.relayed)) in
-    let issues : IssuesAs there b' =
-    rw (shares.issued, shares.indices) (turned_round (commands_below a'.indices (commands_in there.orders))
-    (commands_below a'.indices (commands_in (kept_in b').orders)) _ (simp entered at g.steady.standing.behind.issued)) in
-    let st : StaysBeside there t.standing.links b b' =
-    laws.elsewhere b b' el' there t x (subst (λ (m : List Spans). IsFrom m there) map_is (laws.from a' el g.steady)) relays issues in
-    record {
-      here = el;
-      there = there;
-      steady = g.steady;
-      steady' = st.steady;
-      here_is = same_side el t.standing.links st.steady.standing.links b b' is st.same orders;
-      there_is = refl;
-      fate = g.fate;
-      fate' = st.fate;
-    }
-
--- ---- what no centre does
-
--- what both links above performed is in the book, where an event moved both and left the book's commands
-both_relayed : (a a' b b' : System) {el el' : Elsewhere} (s : IsSteadyBeside el a) (s' : IsSteadyBeside el a') (t' : IsSteadyBeside el' b')
-    (links : Links) → el.performed ≡ links.above.performed → el'.performed ≡ s.standing.links.above.performed → a.indices ≡ a'.indices
-    → Shares a' b' → LeavesBooks a a'
-    → RelaysAs (side_of t'.standing.links (kept_in b')) s'.standing.links a'
-both_relayed a a' b b' {el = el} {el' = el'} s s' t' links theirs ours same shares leaves =
-    let m : List Spans = a'.indices in
-    let p : List (ℕ × Command) = commands_below m s.standing.links.above.performed in
-    let p' : List (ℕ × Command) = commands_below m links.above.performed in
-    let q : List (ℕ × Command) = commands_below m s'.standing.links.above.performed in
-    let q' : List (ℕ × Command) = commands_below m t'.standing.links.above.performed in
-    let was : HasSameCounts (p ++ p') (orders_in (kept_in a).controls) = rw (same, theirs) at s.standing.behind.relayed in
-    let here : HasSameCounts (q ++ p') (orders_in (kept_in a').controls) = rw theirs at s'.standing.behind.relayed in
-    let there : HasSameCounts (q' ++ p) (orders_in (kept_in a').controls) =
-    rw (ours, shares.indices, shares.controls) at t'.standing.behind.relayed in
-    record {
-      same = λ test. omega (
-        arith,
-        was.same test,
-        here.same test,
-        there.same test,
-        leaves.controls.same test,
-        count_by-append test p p',
-        count_by-append test q p',
-        count_by-append test q' p,
-        count_by-append test q q',
-      );
-    }
-
--- the view of the one centre, beside what stands at the other one then
-beside_other : BothLaws → (a' b' : System) {el el' : Elsewhere} (s' : IsSteadyBeside el a') (t' : IsSteadyBeside el' b') → Shares a' b'
-    → RelaysAs (side_of t'.standing.links (kept_in b')) s'.standing.links a' → el.orders ≡ (kept_in b').orders
-    → StaysBeside (side_of t'.standing.links (kept_in b')) s'.standing.links a' a'
-beside_other laws a' b' {el = el} {el' = el'} s' t' shares relays orders =
-    let there : Elsewhere = side_of t'.standing.links (kept_in b') in
-    laws.elsewhere a' a' el there s' (sees_same a' a' refl) (subst (λ (m : List Spans). IsFrom m there) shares.indices (laws.from b' el' t')) relays
-    (rw orders at s'.standing.behind.issued)
-
-shared_back : (a b : System) → Shares a b → Shares b a
-shared_back a b s = record { indices = sym s.indices; controls = sym s.controls; issued = sym s.issued }
-
-pub at_none : BothLaws → (e : Event) (a a' b b' : System) {el el' : Elsewhere} (s : IsSteadyBeside el a) (t : IsSteadyBeside el' b)
-    → IsSide el t.standing.links b → IsSide el' s.standing.links a → centre_at e ≡ None → Happens a e a' → Happens b e b'
-    → Shares a' b' → BothGo (rows_made_at a (e ∷ [])) (rows_made_at b (e ∷ [])) a a' b b'
-at_none laws e a a' b b' {el = el} {el' = el'} s t is is' none h k shares =
-    let g : Goes el (rows_made_at a (e ∷ [])) a a' = laws.goes a a' el e s h in
-    let f : Goes el' (rows_made_at b (e ∷ [])) b b' = laws.goes b b' el' e t k in
-    let l : LeavesBooks a a' = laws.books a a' e none h in
-    let m : LeavesBooks b b' = laws.books b b' e none k in
-    let links : Links = g.steady.standing.links in
-    let links' : Links = f.steady.standing.links in
-    let relays : RelaysAs (side_of links' (kept_in b')) links a' =
-    both_relayed a a' b b' s g.steady f.steady t.standing.links (ap (λ (y : Elsewhere). y.performed) is) (ap (λ (y : Elsewhere). y.performed) is')
-    (sym l.indices) shares l in
-    let relays' : RelaysAs (side_of links (kept_in a')) links' b' =
-    simp (shares.controls, shares.indices)
-    (turned_round (commands_below a'.indices links.above.performed) (commands_below a'.indices links'.above.performed) _ relays) in
-    let one : StaysBeside (side_of links' (kept_in b')) links a' a' =
-    beside_other laws a' b' g.steady f.steady shares relays (ap (λ (y : Elsewhere). y.orders) is ∙ sym m.orders) in
-    let other : StaysBeside (side_of links (kept_in a')) links' b' b' =
-    beside_other laws b' a' f.steady g.steady (shared_back a' b' shares) relays' (ap (λ (y : Elsewhere). y.orders) is' ∙ sym l.orders) in
-    record {
-      here = side_of links' (kept_in b');
-      there = side_of links (kept_in a');
-      steady = one.steady;
-      steady' = other.steady;
-      here_is = same_side (side_of links' (kept_in b')) links' other.steady.standing.links b' b' refl other.same refl;
-      there_is = same_side (side_of links (kept_in a')) links one.steady.standing.links a' a' refl one.same refl;
-      fate = g.fate;
-      fate' = f.fate;
-    }
-
--- ---- of the whole
-
--- what is at a centre makes no row
 none_at : (s : System) (e : Event) (i : ℕ) (o : ℕ) → centre_at e ≡ Some o → moves_at s e i ≡ []
 none_at s (event.Change substation kind index reading) i o is = absurd (none-some o is)
 none_at s (event.Restart (place.Substation substation)) i o is = absurd (none-some o is)
@@ -184,52 +52,270 @@ none_at s e i o is = refl
 pub none_made_at : (s : System) (e : Event) (o : ℕ) → centre_at e ≡ Some o → (i : ℕ) → rows_made_at s (e ∷ []) i ≡ []
 none_made_at s e o is i = rw (none_at s e i o is) (none_made (points_at s i))
 
--- both see the same substations
-pub seen_alike : (w : Whole) (events : List Event) (i : ℕ) → rows_made_at (seen_by 1 w) events i ≡ rows_made_at (seen_by 0 w) events i
-seen_alike w events i = rw (all_moves (seen_by 0 w) (seen_by 1 w) (λ substation. refl) events i) refl
+-- all see the same substations
+pub seen_alike : (n : ℕ) (w : Whole) (events : List Event) (i : ℕ) → rows_made_at (seen_by n w) events i ≡ rows_made_at (seen_by 0 w) events i
+seen_alike n w events i = rw (all_moves (seen_by 0 w) (seen_by n w) (λ substation. refl) events i) refl
+
+-- ---- what stands at each, once an event was done
+
+-- What a centre's system is steady as, before what stands at the others is what it is then: what its link performed then and its book are
+-- the side, and the rows that the event made come of it.
+pub record IsAlmost (made : ℕ → List Row) (side : Elsewhere) (old new : System) : Type 0 where
+  pub from : System
+  pub el : Elsewhere
+  pub steady : IsSteadyBeside el from
+  pub sees : SeesElsewhere from new
+  pub side_is : side ≡ side_of steady.standing.links (kept_in new)
+  pub fate : IsFate (λ i. []) (report_of from) (report_of new) → IsFate made (report_of old) (report_of new)
+
+-- what all performed is the book's, and what their books have was issued
+pub record AddUp (sides : PerCentre Elsewhere) (s : System) : Type 0 where
+  pub performed : (test : ℕ × Command → Bool)
+      → total test (λ n. commands_below s.indices (at n sides).performed) CENTRES ≡ count_by test (orders_in (kept_in s).controls)
+  pub issued : (test : ℕ × Command → Bool)
+      → total test (λ n. commands_below s.indices (commands_in (at n sides).orders)) CENTRES ≡ count_by test (kept_in s).issued
+
+-- then it is steady to each
+all_steady : AllLaws → (made : ℕ → List Row) (old new : Whole) (sides : PerCentre Elsewhere)
+    → ForEach (λ n. IsAlmost made (at n sides) (seen_by n old) (seen_by n new)) → AddUp sides (seen_by 0 new) → GoesOn made old new
+all_steady laws made old new sides almost sum = record {
+  steady = record {
+    sides = sides;
+    among = λ n low.
+        let a = almost n low in
+        let st = settled n low in
+        record { steady = st.steady; side = a.side_is ∙ ap (λ (links : Links). side_of links (kept_in (seen_by n new))) (sym st.same) };
+  };
+  fate = λ n low. (almost n low).fate (settled n low).fate;
+}
+  where
+    -- what stands at a centre is from there
+    from : (n : ℕ) → n < CENTRES → IsFrom new.indices (at n sides)
+    from n low =
+        let a = almost n low in
+        let orders : (kept_in (seen_by n new)).orders ≡ (kept_in a.from).orders = ap (λ (s : System). (kept_in s).orders) a.sees.after in
+        let indices : new.indices ≡ a.from.indices = ap (λ (s : System). s.indices) a.sees.after in
+        rw (a.side_is, orders, indices) (laws.from a.from a.el a.steady)
+
+    settled : (n : ℕ) (low : n < CENTRES)
+        → (let a = almost n low in StaysBeside (beside n sides) a.steady.standing.links a.from (seen_by n new))
+    settled n low =
+        let a = almost n low in
+        let links = a.steady.standing.links in
+        let is : System = seen_by n new in
+        let indices : new.indices ≡ a.from.indices = ap (λ (s : System). s.indices) a.sees.after in
+        laws.elsewhere a.from is a.el (beside n sides) a.steady a.sees
+        (subst (λ (m : List Spans). IsFrom m (beside n sides)) indices (from_but new.indices n (λ k. at k sides) CENTRES from))
+        (rw (below_but new.indices n (λ k. (at k sides).performed) CENTRES) (record {
+          same = λ test. omega (
+            arith,
+            count_by-append test (commands_below new.indices links.above.performed)
+                (all_but n (λ k. commands_below new.indices (at k sides).performed) CENTRES),
+            ap (λ (side : Elsewhere). count_by test (commands_below new.indices side.performed)) a.side_is,
+            total_with test n (λ k. commands_below new.indices (at k sides).performed) CENTRES low,
+            sum.performed test,
+          );
+        }))
+        (rw (ordered_but new.indices n (λ k. (at k sides).orders) CENTRES) (record {
+          same = λ test. omega (
+            arith,
+            count_by-append test (commands_below new.indices (commands_in (kept_in is).orders))
+                (all_but n (λ k. commands_below new.indices (commands_in (at k sides).orders)) CENTRES),
+            ap (λ (side : Elsewhere). count_by test (commands_below new.indices (commands_in side.orders))) a.side_is,
+            total_with test n (λ k. commands_below new.indices (commands_in (at k sides).orders)) CENTRES low,
+            sum.issued test,
+          );
+        }))
+
+-- at all centres but one stands as much as elsewhere to it
+pub record IsAsMuch (s : System) (n : ℕ) (sides : PerCentre Elsewhere) (el : Elsewhere) : Type 0 where
+  pub performed : (test : ℕ × Command → Bool) → count_by test (all_but n (λ k. commands_below s.indices (at k sides).performed) CENTRES)
+      ≡ count_by test (commands_below s.indices el.performed)
+  pub issued : (test : ℕ × Command → Bool) → count_by test (all_but n (λ k. commands_below s.indices (commands_in (at k sides).orders)) CENTRES)
+      ≡ count_by test (commands_below s.indices (commands_in el.orders))
+
+-- what adds up where one centre's links stand behind what it sees, and its side is one of these
+adds_up : (s : System) (n : ℕ) → n < CENTRES → (sides : PerCentre Elsewhere) (el : Elsewhere) (steady : IsSteadyBeside el s)
+    → at n sides ≡ side_of steady.standing.links (kept_in s) → IsAsMuch s n sides el → AddUp sides s
+adds_up s n low sides el steady side much = record {
+  performed = λ test. omega (
+    arith,
+    steady.standing.behind.relayed.same test,
+    count_by-append test (commands_below s.indices steady.standing.links.above.performed) (commands_below s.indices el.performed),
+    ap (λ (x : Elsewhere). count_by test (commands_below s.indices x.performed)) side,
+    total_with test n (λ k. commands_below s.indices (at k sides).performed) CENTRES low,
+    much.performed test,
+  );
+  issued = λ test. omega (
+    arith,
+    steady.standing.behind.issued.same test,
+    count_by-append test (commands_below s.indices (commands_in (kept_in s).orders)) (commands_below s.indices (commands_in el.orders)),
+    ap (λ (x : Elsewhere). count_by test (commands_below s.indices (commands_in x.orders))) side,
+    total_with test n (λ k. commands_below s.indices (commands_in (at k sides).orders)) CENTRES low,
+    much.issued test,
+  );
+}
+
+-- so it is beside those that stand there
+as_much : (s : System) (n : ℕ) (sides : PerCentre Elsewhere) → IsAsMuch s n sides (beside n sides)
+as_much s n sides = record {
+  performed = λ test. ap (λ (xs : List (ℕ × Command)). count_by test xs) (sym (below_but s.indices n (λ k. (at k sides).performed) CENTRES));
+  issued = λ test. ap (λ (xs : List (ℕ × Command)). count_by test xs) (sym (ordered_but s.indices n (λ k. (at k sides).orders) CENTRES));
+}
+
+-- also where the one's own side was written
+written_much : (s : System) (n : ℕ) → n < CENTRES → (sides : PerCentre Elsewhere) (side : Elsewhere)
+    → IsAsMuch s n (with_at n sides side) (beside n sides)
+written_much s n low sides side =
+    let m = as_much s n sides in
+    let apart : (k : ℕ) → k < CENTRES → (n == k) ≡ false → at k (with_at n sides side) ≡ at k sides = written_elsewhere sides side n low in
+    record {
+      performed = λ test. ap (λ (xs : List (ℕ × Command)). count_by test xs)
+          (same_but n _ _ CENTRES (λ k few other. ap (λ (x : Elsewhere). commands_below s.indices x.performed) (apart k few other))) ∙ m.performed test;
+      issued = λ test. ap (λ (xs : List (ℕ × Command)). count_by test xs)
+          (same_but n _ _ CENTRES (λ k few other. ap (λ (x : Elsewhere). commands_below s.indices (commands_in x.orders)) (apart k few other)))
+          ∙ m.issued test;
+    }
+
+-- a side has as many commands as another one, and the same orders
+pub record IsAlike (s : System) (was is : Elsewhere) : Type 0 where
+  pub performed : (test : ℕ × Command → Bool)
+      → count_by test (commands_below s.indices is.performed) ≡ count_by test (commands_below s.indices was.performed)
+  pub orders : is.orders ≡ was.orders
+
+-- and where all are alike
+alike_much : (s : System) (n : ℕ) → n < CENTRES → (was is : PerCentre Elsewhere) → ForEach (λ k. IsAlike s (at k was) (at k is))
+    → IsAsMuch s n is (beside n was)
+alike_much s n low was is alike =
+    let m = as_much s n was in
+    record {
+      performed = λ test. omega (
+        arith,
+        total_with test n (λ k. commands_below s.indices (at k is).performed) CENTRES low,
+        total_with test n (λ k. commands_below s.indices (at k was).performed) CENTRES low,
+        same_total test (λ k. commands_below s.indices (at k is).performed) (λ k. commands_below s.indices (at k was).performed) CENTRES
+            (λ k few. (alike k few).performed test),
+        (alike n low).performed test,
+        m.performed test,
+      );
+      issued = λ test. ap (λ (xs : List (ℕ × Command)). count_by test xs)
+          (same_but n _ _ CENTRES (λ k few other. ap (λ (xs : List Entry). commands_below s.indices (commands_in xs)) (alike k few).orders)) ∙ m.issued test;
+    }
 
 -- ---- an event
 
-pub every_event : BothLaws → (old new : Whole) (e : Event) → AreSteady old → HappensToAll old e new
-    → GoesOn (rows_made_at (seen_by 0 old) (e ∷ [])) old new
+abbrev pub made_in : Whole → Event → ℕ → List Row
+made_in w e = rows_made_at (seen_by 0 w) (e ∷ [])
+
+-- at one centre, and elsewhere to the others
+at_one : AllLaws → (old new : Whole) (e : Event) → AreSteady old → (n : ℕ) → n < CENTRES → centre_at e ≡ Some n
+    → Happens (seen_by n old) e (seen_by n new) → Others n old new → GoesOn (made_in old e) old new
+at_one laws old new e s n low at_it happens others =
+    let own = s.among n low in
+    let g : Goes (beside n s.sides) (rows_made_at (seen_by n old) (e ∷ [])) (seen_by n old) (seen_by n new) =
+    laws.goes (seen_by n old) (seen_by n new) (beside n s.sides) e own.steady happens in
+    let side : Elsewhere = side_of g.steady.standing.links (kept_in (seen_by n new)) in
+    let sides : PerCentre Elsewhere = with_at n s.sides side in
+    let here : at n sides ≡ side = written_here s.sides side n low in
+    let Almost : ℕ → Type 0 = λ m. IsAlmost (made_in old e) (at m sides) (seen_by m old) (seen_by m new) in
+    let almost : ForEach Almost =
+    own_and_others Almost n (record {
+      from = seen_by n new;
+      el = beside n s.sides;
+      steady = g.steady;
+      sees = sees_same (seen_by n new) (seen_by n new) refl;
+      side_is = here;
+      fate = λ _.
+          fate_as (rows_made_at (seen_by n old) (e ∷ [])) (made_in old e) (report_of (seen_by n old)) (report_of (seen_by n new))
+          (seen_alike n old (e ∷ [])) g.fate;
+    }) (λ m few apart.
+    let x = others m few apart in
+    let b = s.among m few in
+    record {
+      from = seen_by m old;
+      el = beside m s.sides;
+      steady = b.steady;
+      sees = x;
+      side_is = written_elsewhere s.sides side n low m few apart ∙ b.side
+          ∙ ap (λ (orders : List Entry). let el : Elsewhere = record { performed = b.steady.standing.links.above.performed; orders = orders } in el)
+          (sym (ap (λ (y : System). (kept_in y).orders) x.after));
+      fate = fate_as (λ i. []) (made_in old e) (report_of (seen_by m old)) (report_of (seen_by m new)) (λ i. sym (none_made_at (seen_by 0 old) e n at_it i));
+    }) in
+    let sum : AddUp sides (seen_by n new) =
+    adds_up (seen_by n new) n low sides (beside n s.sides) g.steady here (written_much (seen_by n new) n low s.sides side) in
+    all_steady laws (made_in old e) old new sides almost (record { performed = sum.performed; issued = sum.issued })
+
+-- what one side is after an event of none
+pub record IsMoved (old new : Whole) (e : Event) (was : Elsewhere) (n : ℕ) (side : Elsewhere) : Type 0 where
+  pub almost : IsAlmost (made_in old e) side (seen_by n old) (seen_by n new)
+  pub alike : IsAlike (seen_by n new) was side
+
+moves : AllLaws → (old new : Whole) (e : Event) (s : AreSteady old) → centre_at e ≡ None → (n : ℕ) → n < CENTRES
+    → Happens (seen_by n old) e (seen_by n new)
+    → (side : Elsewhere) × (IsMoved old new e (at n s.sides) n side
+    × ((el : Elsewhere) × (el ≡ beside n s.sides) × ((st : IsSteadyBeside el (seen_by n new)) × (side ≡ side_of st.standing.links (kept_in (seen_by n new))))))
+moves laws old new e s none n low happens =
+    let own = s.among n low in
+    let el : Elsewhere = beside n s.sides in
+    let g : Goes el (rows_made_at (seen_by n old) (e ∷ [])) (seen_by n old) (seen_by n new) =
+    laws.goes (seen_by n old) (seen_by n new) el e own.steady happens in
+    let l : LeavesBooks (seen_by n old) (seen_by n new) = laws.books (seen_by n old) (seen_by n new) e none happens in
+    let side : Elsewhere = side_of g.steady.standing.links (kept_in (seen_by n new)) in (
+      side,
+      (
+        record {
+          almost = record {
+            from = seen_by n new;
+            el = el;
+            steady = g.steady;
+            sees = sees_same (seen_by n new) (seen_by n new) refl;
+            side_is = refl;
+            fate = λ _.
+                fate_as (rows_made_at (seen_by n old) (e ∷ [])) (made_in old e) (report_of (seen_by n old)) (report_of (seen_by n new))
+                (seen_alike n old (e ∷ [])) g.fate;
+          };
+          alike = record {
+            performed = λ test. omega (
+              arith,
+              (rw (sym l.indices) at own.steady.standing.behind.relayed).same test,
+              g.steady.standing.behind.relayed.same test,
+              l.controls.same test,
+              count_by-append test (commands_below new.indices own.steady.standing.links.above.performed) (commands_below new.indices el.performed),
+              count_by-append test (commands_below new.indices g.steady.standing.links.above.performed) (commands_below new.indices el.performed),
+              ap (λ (x : Elsewhere). count_by test (commands_below new.indices x.performed)) own.side,
+            );
+            orders = l.orders ∙ sym (ap (λ (x : Elsewhere). x.orders) own.side);
+          };
+        },
+        (el, refl, (g.steady, refl)),
+      ),
+    )
+
+-- of the concentrator and the substations: all centres' links move
+at_none : AllLaws → (old new : Whole) (e : Event) → AreSteady old → centre_at e ≡ None
+    → ForEach (λ n. Happens (seen_by n old) e (seen_by n new)) → GoesOn (made_in old e) old new
+at_none laws old new e s none happens =
+    let chosen = choose (λ n side. IsMoved old new e (at n s.sides) n side
+    × ((el : Elsewhere) × (el ≡ beside n s.sides) × ((st : IsSteadyBeside el (seen_by n new)) × (side ≡ side_of st.standing.links (kept_in (seen_by n new))))))
+    (λ n low. moves laws old new e s none n low (happens n low)) in
+    let first = chosen.1 0 (omega arith) in
+    let sum : AddUp chosen.0 (seen_by 0 new) =
+    adds_up (seen_by 0 new) 0 (omega arith) chosen.0 first.1.0 first.1.2.0 first.1.2.1
+    (subst (IsAsMuch (seen_by 0 new) 0 chosen.0) (sym first.1.1) (alike_much (seen_by 0 new) 0 (omega arith) s.sides chosen.0
+    (λ k few. let a = (chosen.1 k few).0.alike in record { performed = a.performed; orders = a.orders }))) in
+    all_steady laws (made_in old e) old new chosen.0 (λ n low. (chosen.1 n low).0.almost) sum
+
+pub every_event : AllLaws → (old new : Whole) (e : Event) → AreSteady old → HappensToAll old e new → GoesOn (made_in old e) old new
 every_event laws old new e s h =
-    by_place (GoesOn made old new) (λ was is. Happens was e is) (centre_at e) old new
-    (λ at first second.
-    let b = at_none laws e (seen_by 0 old) (seen_by 0 new) (seen_by 1 old) (seen_by 1 new) s.here s.there s.first_is s.second_is at first second
-    (record { indices = refl; controls = refl; issued = refl }) in
-    record {
-      steady = record { first = b.here; second = b.there; here = b.steady; there = b.steady'; first_is = b.here_is; second_is = b.there_is };
-      fate = for_both _ b.fate (seen_second b.fate');
-    })
-    (λ at first second.
-    let b = at_one laws e (seen_by 0 old) (seen_by 0 new) (seen_by 1 old) (seen_by 1 new) s.here s.there s.first_is first second
-    (record { indices = refl; controls = refl; issued = refl }) in
-    record {
-      steady = record { first = b.here; second = b.there; here = b.steady; there = b.steady'; first_is = b.here_is; second_is = b.there_is };
-      fate = for_both _ b.fate (none_made_of 0 at (report_of (seen_by 1 old)) (report_of (seen_by 1 new)) b.fate');
-    })
-    (λ at first second.
-    let b = at_one laws e (seen_by 1 old) (seen_by 1 new) (seen_by 0 old) (seen_by 0 new) s.there s.here s.second_is second first
-    (record { indices = refl; controls = refl; issued = refl }) in
-    record {
-      steady = record { first = b.there; second = b.here; here = b.steady'; there = b.steady; first_is = b.there_is; second_is = b.here_is };
-      fate = for_both _ (none_made_of 1 at (report_of (seen_by 0 old)) (report_of (seen_by 0 new)) b.fate') (seen_second b.fate);
-    })
-    (λ n at same. subst (GoesOn made old) (sym same) (record {
+    by_place (GoesOn (made_in old e) old new) (λ was is. Happens was e is) (centre_at e) old new
+    (λ none happens. at_none laws old new e s none happens)
+    (λ n low at_it happens others. at_one laws old new e s n low at_it happens others)
+    (λ n at_it high same. subst (GoesOn (made_in old e) old) (sym same) (record {
       steady = s;
-      fate = λ centre low. let r : Report = report_of (seen_by centre old) in none_made_of n at r r (nothing_more r);
+      fate = λ centre low.
+          let r : Report = report_of (seen_by centre old) in
+          fate_as (λ i. []) (made_in old e) r r (λ i. sym (none_made_at (seen_by 0 old) e n at_it i)) (nothing_more r);
     })) h
-  where
-    made : ℕ → List Row
-    made = rows_made_at (seen_by 0 old) (e ∷ [])
-
-    none_made_of : (n : ℕ) → centre_at e ≡ Some n → (was is : Report) → IsFate (λ i. []) was is → IsFate made was is
-    none_made_of n at was is fate = fate_as (λ i. []) made was is (λ i. sym (none_made_at (seen_by 0 old) e n at i)) fate
-
-    seen_second : IsFate (rows_made_at (seen_by 1 old) (e ∷ [])) (report_of (seen_by 1 old)) (report_of (seen_by 1 new))
-        → IsFate made (report_of (seen_by 1 old)) (report_of (seen_by 1 new))
-    seen_second fate =
-        fate_as (rows_made_at (seen_by 1 old) (e ∷ [])) made (report_of (seen_by 1 old)) (report_of (seen_by 1 new)) (λ i. seen_alike old (e ∷ []) i) fate
 
 -- ---- the rows of an event, and then those of the events after it
 
@@ -264,9 +350,11 @@ pub rows_follow : RowsLaw → (old next : Whole) (e : Event) (events : List Even
     → made_by old (e ∷ events) i ≡ made_by old (e ∷ []) i ++ made_by next events i
 rows_follow law old next e events h i =
     by_place (made_by old (e ∷ events) i ≡ made_by old (e ∷ []) i ++ made_by next events i) (λ s t. Happens s e t) (centre_at e) old next
-    (λ at first second. law (seen_by 0 old) (seen_by 0 next) e events first i)
-    (λ at first second. law (seen_by 0 old) (seen_by 0 next) e events first i)
-    (λ at first second. made_later (seen_by 0 old) (seen_by 0 next) e events 1 at (ap (λ (s : System). s.substations) first.after)
-    (ap (λ (s : System). s.concentrator.links) first.after) i)
-    (λ n at same. made_later (seen_by 0 old) (seen_by 0 next) e events n at (ap (λ (w : Whole). w.substations) same)
+    (λ none happens. law (seen_by 0 old) (seen_by 0 next) e events (happens 0 (omega arith)) i)
+    (λ n low at_it happens others.
+    by_seen (made_by old (e ∷ events) i ≡ made_by old (e ∷ []) i ++ made_by next events i) (λ s t. Happens s e t) (is_elsewhere 0 (centre_at e))
+    (seen_by 0 old) (seen_by 0 next) (λ first. law (seen_by 0 old) (seen_by 0 next) e events first i)
+    (λ first. made_later (seen_by 0 old) (seen_by 0 next) e events n at_it (ap (λ (s : System). s.substations) first.after)
+    (ap (λ (s : System). s.concentrator.links) first.after) i) (rw at_it (done_at n (λ s t. Happens s e t) old next happens others 0 (omega arith))))
+    (λ n at_it high same. made_later (seen_by 0 old) (seen_by 0 next) e events n at_it (ap (λ (w : Whole). w.substations) same)
     (ap (λ (w : Whole). w.concentrator.links) same) i) h

@@ -1,5 +1,5 @@
 -- Lists of events of a system whose units are carried.
-use Rattle.std.proofs.Common.{◌≡◌, Bool, inl, inr, ℕ, ◌+◌, ◌<◌, ◌≤◌, List, [], ◌∷◌, ◌++◌, length, take, get_or, refl, sym, ap, ◌∙◌, subst}
+use Rattle.std.proofs.Common.{◌≡◌, Bool, inl, inr, ℕ, ◌+◌, ◌<◌, ◌≤◌, List, [], ◌∷◌, ◌++◌, Result, Err, length, take, get_or, refl, sym, ap, ◌∙◌, subst}
 use Rattle.std.proofs.lemmas.List.{take_all, take_more}
 use Rattle.dnp_concentrator.specs.declared.cause.Cause.{Cause}
 use Rattle.dnp_concentrator.specs.declared.cause.Cause.TheVariants.{Device}
@@ -10,6 +10,8 @@ use Rattle.dnp_world.specs.Wholes.{Whole}
 use Rattle.dnp_world.specs.declared.event.Event.{Event}
 use Rattle.dnp_world.specs.declared.event.Link.{Link}
 use Rattle.dnp_world.specs.declared.link_event.Way.{Way}
+use Rattle.dnp_world.specs.declared.round_fault.RoundFault.{RoundFault}
+use Rattle.dnp_world.specs.declared.round_fault.RoundFault.TheVariants.{Fault}
 
 pub over_more : {C : Type 0} (carries : C → Link → Way → List ℕ → C → Type 0) (old mid new : Whole) (events : List Event) (event : Event)
     (before between after : C) → RunsOver carries old events mid before between → HappensToAll mid event new → Crosses carries mid event between after
@@ -44,4 +46,25 @@ pub in_memory : {C : Type 0} (refuses : C → Cause → C → Type 0) → ((old 
 in_memory refuses never before after says tells = record {
   stopped = λ is. elim (tells.stopped is) [ inl stopped ↦ stopped | inr may ↦ absurd (never may.0 Device may.1 may.2) ];
   runs_on = tells.runs_on;
+}
+
+-- ---- a call that hands on another's fault tells Device where that one does
+
+-- by its cause, after calls at which all ran on
+pub device_by_cause : {C T : Type 0} {refuses : C → Cause → C → Type 0} {first before after : Bool} (cause : Cause) → before ≡ first
+    → TellsDeviceOver refuses before after ((let said : Result T Cause = Err cause in said) ≡ Err Device)
+    → TellsDeviceOver refuses first after (cause ≡ Device)
+device_by_cause cause ran_on tells = record {
+  stopped = λ is. tells.stopped (ap Err is);
+  runs_on = λ other. tells.runs_on (λ is. other (cc)) ∙ ran_on;
+}
+
+-- as a round's fault
+pub device_as_fault : {C T U : Type 0} {refuses : C → Cause → C → Type 0} {before after : Bool} (cause : Cause) (r : Result U RoundFault)
+    → r ≡ Err (Fault cause)
+    → TellsDeviceOver refuses before after ((let said : Result T Cause = Err cause in said) ≡ Err Device)
+    → TellsDeviceOver refuses before after (r ≡ Err (Fault Device))
+device_as_fault cause r told tells = record {
+  stopped = λ is. tells.stopped (cc);
+  runs_on = λ other. tells.runs_on (λ is. other (cc));
 }

@@ -1,12 +1,12 @@
--- A command that is issued at one of the two centres, or that names no output.
+-- A command that is issued at a centre, or that names no output.
 use Rattle.std.proofs.Common.{◌≡◌, ℕ, ◌<◌, ◌++◌, Bool, true, false, List, [], ◌∷◌, Option, Some, None, refl, sym, ap, ◌∙◌, subst}
 use Rattle.std.specs.Prelude.{IfSome, is_some}
 use Rattle.std.proofs.lemmas.Bool.{false≢true}
 use Rattle.dnp_concentrator.specs.Centre.{book_of, indices_of, journal_of, link_of}
 use Rattle.dnp_concentrator.specs.Mapped.{command_above}
-use Rattle.dnp_concentrator.specs.Two.{at, with_at}
+use Rattle.dnp_concentrator.specs.PerCentre.{at, of_each, with_at}
 use Rattle.dnp_concentrator.specs.declared.centre.Centre.{Centre}
-use Rattle.dnp_concentrator.specs.declared.two.Two.{Two}
+use Rattle.dnp_concentrator.specs.declared.per_centre.PerCentre.{PerCentre}
 use Rattle.dnp_controls.specs.Book.{Ledger, added}
 use Rattle.dnp_eventbuf.specs.Archive.{Archive}
 use Rattle.dnp_eventbuf.specs.declared.pair.TheConstants.{CENTRES}
@@ -18,8 +18,8 @@ use Rattle.dnp_world.specs.SystemEvents.{IssuesBy}
 use Rattle.dnp_world.specs.SystemParts.{centre_of}
 use Rattle.dnp_world.specs.Systems.{CentreState, System}
 use Rattle.dnp_world.specs.Wholes.{Whole, seen_by}
-use Rattle.dnp_world.specs.steps.WholeSteps.{of_both}
-use Rattle.dnp_world.proofs.CentrePlaces.{centre_there, issued_there, kept_there}
+use Rattle.dnp_world.proofs.CentrePlaces.{centre_there, issued_there}
+use Rattle.dnp_world.proofs.PerCentre.{kept_there}
 use Rattle.dnp_world.proofs.SystemTasks.{centre_with}
 
 -- it is issued at the centre that a system has
@@ -50,15 +50,15 @@ stands archive orders (Some above) substation command rest was k some left width
   }) (centre_with archive orders was k (link_of was) (added (orders (book_of was)) 0 above) link book journal indices),
 )
 
-module _ {J B : Type 0} (archive : J → Archive) (orders : B → Ledger) (n : ℕ) (low : n < CENTRES) (rest : Whole) (centres : Two (Centre J B))
+module _ {J B : Type 0} (archive : J → Archive) (orders : B → Ledger) (n : ℕ) (low : n < CENTRES) (rest : Whole) (centres : PerCentre (Centre J B))
     (substation : ℕ) (command : Command) (was : Centre J B) (there : was ≡ at n centres) where
-  -- so it is at one of the two: it does nothing
+  -- so it is at one that there is: it does nothing
   pub issues_nothing : (has : Bool) → has ≡ is_some (command_above (indices_of was) substation command) → has ≡ false
-      → ChangesAll (Some n) (Issues substation command) (record rest { centres = of_both (centre_of archive orders) centres })
-      (record rest { centres = of_both (centre_of archive orders) centres })
+      → ChangesAll (Some n) (Issues substation command) (record rest { centres = of_each (centre_of archive orders) centres })
+      (record rest { centres = of_each (centre_of archive orders) centres })
   issues_nothing has looked none =
-      let set : Two (Centre J B) → Whole = λ t. record rest { centres = of_both (centre_of archive orders) t } in
-      subst (λ (t : Two (Centre J B)). ChangesAll (Some n) (Issues substation command) (set centres) (set t)) (kept_there n centres was was there refl)
+      let set : PerCentre (Centre J B) → Whole = λ t. record rest { centres = of_each (centre_of archive orders) t } in
+      subst (λ (t : PerCentre (Centre J B)). ChangesAll (Some n) (Issues substation command) (set centres) (set t)) (kept_there n centres was was there refl)
       (centre_there archive orders n low (Issues substation command) rest centres was was there
       (idle (command_above (indices_of was) substation command) substation command _ (sym looked ∙ none)))
 
@@ -68,8 +68,8 @@ module _ {J B : Type 0} (archive : J → Archive) (orders : B → Ledger) (n : �
       → IfSome (command_above (indices_of was) substation command) (λ above. orders (book_of k) ≡ added (orders (book_of was)) 0 above)
       → link_of k ≡ link_of was → journal_of k ≡ journal_of was → indices_of k ≡ indices_of was
       → listed ≡ rest.history.issued → items ≡ listed ++ (substation, command) ∷ []
-      → ChangesAll (Some n) (Issues substation command) (record rest { centres = of_both (centre_of archive orders) centres }) (record rest {
-        centres = of_both (centre_of archive orders) (with_at n centres k);
+      → ChangesAll (Some n) (Issues substation command) (record rest { centres = of_each (centre_of archive orders) centres }) (record rest {
+        centres = of_each (centre_of archive orders) (with_at n centres k);
         history = record rest.history { issued = items };
       })
   issues_there seen k has listed items seen_there looked some left widths book link journal indices same put =

@@ -1,5 +1,6 @@
 -- Fragments that arrive at the ends of the link above, as fragments that come to its two stations, and what they leave alone.
 use Rattle.std.proofs.Common.{◌≡◌, ℕ, List, [], ◌∷◌, ◌++◌, Option, Some, Result, Ok, Err, refl, sym, ap, ◌∙◌, subst, arith}
+use Rattle.dnp_concentrator.specs.Reserving.{Reserved}
 use Rattle.dnp_concentrator.specs.BookOutputs.{added_for, all_added, relay_check}
 use Rattle.dnp_concentrator.specs.Mapped.{command_below}
 use Rattle.dnp_concentrator.specs.Relaying.{Relaying, Step, relaying_after}
@@ -36,7 +37,7 @@ pub record Around : Type 0 where
   pub history : History
   pub links : List Relaying
   pub spans : List Spans
-  pub reserved : ℕ → Option Command
+  pub reserved : ℕ → Reserved
 
 abbrev pub around : System → Around
 around s = record {
@@ -70,7 +71,7 @@ moved spans commands core queue s = record s {
 }
 
 -- and nothing else but lines is another
-pub record DownAbove (command : Command) (spans : List Spans) (reserved : Option Command) (fragments answers : List (List ℕ)) (old new : System) : Type 0 where
+pub record DownAbove (command : Command) (spans : List Spans) (reserved : Reserved) (fragments answers : List (List ℕ)) (old new : System) : Type 0 where
   pub commands : List Command
   pub all : AnswersAll old.now (ChecksAs command (relay_check spans reserved command)) fragments (middle_of old.concentrator)
       (middle_of new.concentrator) answers
@@ -92,12 +93,12 @@ one_down centre fragment answers old new a =
 abbrev CheckedBy : List Spans → Option Command → System → Type 0
 CheckedBy spans reserved s = (s.concentrator.indices ≡ spans) × (s.concentrator.reserved s.now ≡ reserved)
 
-still_checked : (spans : List Spans) (reserved : Option Command) (old new : System) → KeepsAround old new → CheckedBy spans reserved old
+still_checked : (spans : List Spans) (reserved : Reserved) (old new : System) → KeepsAround old new → CheckedBy spans reserved old
     → CheckedBy spans reserved new
 still_checked spans reserved old new keeps (indices, names) =
     (ap (λ a. a.spans) keeps ∙ indices, ap (λ a. a.reserved a.now) keeps ∙ names)
 
-pub above_down : (centre : ℕ) (command : Command) (spans : List Spans) (reserved : Option Command) (fragments answers : List (List ℕ)) (old new : System)
+pub above_down : (centre : ℕ) (command : Command) (spans : List Spans) (reserved : Reserved) (fragments answers : List (List ℕ)) (old new : System)
     → CheckedBy spans reserved old → Arrive (Above centre) way.Down fragments answers old new
     → DownAbove command spans reserved fragments answers old new
 above_down centre command spans reserved [] answers old new checked (answers_is, new_is) =
@@ -189,7 +190,7 @@ above_up centre (f ∷ fs) answers old new (first, more, next, arrives, rest, an
 abbrev pub ends_above : System → List (List ℕ) → ExchangeEnds
 ends_above s going = record { link = s.centre.link; book = s.centre.orders; station = middle_of s.concentrator; going = going }
 
-pub record SeenAbove (centre : ℕ) (spans : List Spans) (reserved : Option Command) (s : System) (ends : ExchangeEnds) : Type 0 where
+pub record SeenAbove (centre : ℕ) (spans : List Spans) (reserved : Reserved) (s : System) (ends : ExchangeEnds) : Type 0 where
   pub going : List (List ℕ)
   pub is : ends ≡ ends_above s going
   pub under : UnderWay (Above centre) going [] s
@@ -225,7 +226,7 @@ relayed_above laws centre old relayed going under (Steps pending sends) taken =
     record { channel = under.channel; there = under.there; down_is = under.down_is; up_is = under.up_is } in
     record { under = laws.asked (Above centre) requests going [] link (told old (Above centre) step) relayed still sends; sends = sends }
 
-pub back_from : LineLaws → (centre : ℕ) (spans : List Spans) (reserved : Option Command) (id : ℕ) (command : Command) (old new : System)
+pub back_from : LineLaws → (centre : ℕ) (spans : List Spans) (reserved : Reserved) (id : ℕ) (command : Command) (old new : System)
     (going : List (List ℕ)) → UnderWay (Above centre) going [] old → CheckedBy spans reserved old
     → PassesBack Happens itself (Above centre) (Some id) old new → IsTaken 0 (ends_above old going)
     → Back (SeenAbove centre spans reserved) (KeptAbove spans) 0 id (relay_check spans reserved command) command old new (ends_above old going)
@@ -285,7 +286,7 @@ step_from laws centre spans old new going under relays taken =
       is = ap (λ (s : System). s.centre.orders) after;
     }
 
-unfoldable pub over_above : LineLaws → (centre : ℕ) (spans : List Spans) (reserved : Option Command) (id : ℕ) (command : Command)
+unfoldable pub over_above : LineLaws → (centre : ℕ) (spans : List Spans) (reserved : Reserved) (id : ℕ) (command : Command)
     → OverLink (Above centre) 0 id (relay_check spans reserved command) command
 over_above laws centre spans reserved id command = record {
   View = SeenAbove centre spans reserved;

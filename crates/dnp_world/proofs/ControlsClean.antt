@@ -6,7 +6,7 @@ use Rattle.std.proofs.lemmas.Bool.{and_parts}
 use Rattle.std.proofs.lemmas.List.Folds.{find-append}
 use Rattle.dnp_appfragment.specs.Fragments.{request_octets}
 use Rattle.dnp_concentrator.specs.BookOutputs.{can_relay, relay_check}
-use Rattle.dnp_concentrator.specs.Reserving.{is_reserved}
+use Rattle.dnp_concentrator.specs.Reserving.{Reserved, is_reserved}
 use Rattle.dnp_concentrator.specs.Mapped.{command_below}
 use Rattle.dnp_concentrator.specs.Relaying.{Relaying, step_of}
 use Rattle.dnp_concentrator.specs.declared.span.Spans.{Spans}
@@ -52,7 +52,7 @@ pub record CleanLaws : Type 0 where
 
 -- ---- statuses
 
-pub relay_low : (spans : List Spans) (reserved : Option Command) (command : Command) → relay_check spans reserved command < 128
+pub relay_low : (spans : List Spans) (reserved : Reserved) (command : Command) → relay_check spans reserved command < 128
 relay_low spans reserved command = by (can_relay spans command) (is_reserved reserved command)
   where
     by : (b taken : Bool) → (if b then (if taken then 5 else 0) else 4) < 128
@@ -68,7 +68,7 @@ plain_low outputs setpoints command = by (can_perform outputs setpoints command)
     by false = omega arith
 
 -- what is relayed with SUCCESS is for a substation
-pub relayed_some : (spans : List Spans) (reserved : Option Command) (command : Command) → relay_check spans reserved command ≡ success
+pub relayed_some : (spans : List Spans) (reserved : Reserved) (command : Command) → relay_check spans reserved command ≡ success
     → command_below spans command ≡ None → ⊥
 relayed_some spans reserved command good none =
     let never : 4 ≡ 0 = sym (rw none refl) ∙ good in

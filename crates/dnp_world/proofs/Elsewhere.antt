@@ -3,6 +3,7 @@ use Rattle.std.proofs.Common.{ℕ, List, [], ◌++◌, Option, refl, sym, subst}
 use Rattle.std.specs.Prelude.{⊤}
 use Rattle.dnp_objects.specs.declared.command.Command.{Command}
 use Rattle.dnp_objects.specs.Counts.{IsCoveredBy}
+use Rattle.dnp_concentrator.specs.Reserving.{Reserved}
 use Rattle.dnp_concentrator.specs.BookOutputs.{all_added}
 use Rattle.dnp_controls.specs.Book.{Ledger}
 use Rattle.dnp_world.specs.Behind.{Elsewhere, IsFrom, Links}
@@ -50,7 +51,7 @@ seen_then s commands reserved issues = record s {
 }
 
 -- with the same links, beside what stands elsewhere then
-beside_then : SoundLaw → (s : System) {el : Elsewhere} (others : Elsewhere) (commands : List Command) (reserved : ℕ → Option Command)
+beside_then : SoundLaw → (s : System) {el : Elsewhere} (others : Elsewhere) (commands : List Command) (reserved : ℕ → Reserved)
     (issues : List (ℕ × Command)) (h : IsSteadyBeside el s) → IsFrom s.indices others
     → RelaysAs others h.standing.links (seen_then s commands reserved issues) → IssuesAs others (seen_then s commands reserved issues)
     → StaysBeside others h.standing.links s (seen_then s commands reserved issues)

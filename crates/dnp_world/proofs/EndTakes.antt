@@ -9,7 +9,7 @@ use Rattle.dnp_objects.specs.Lanes.{lane_number}
 use Rattle.dnp_controls.specs.Book.{Ledger}
 use Rattle.dnp_eventbuf.specs.Archive.{Archive, with_events}
 use Rattle.dnp_eventbuf.specs.Sides.{AreSame, BothHave, ForEach, either_exhausts}
-use Rattle.dnp_eventbuf.specs.EventBuffer.{EventBuffer, dropped_by, exhausts, dropped_from, LaneState, is_full, lane_at, with_row}
+use Rattle.dnp_eventbuf.specs.EventBuffer.{EventBuffer, dropped_by, exhausts, dropped_from, LaneState, is_full, lane_at, with_row, with_rows}
 use Rattle.dnp_master.specs.declared.actions.MasterActions.{MasterActions}
 use Rattle.dnp_master.specs.declared.fault.MasterFault.{MasterFault}
 use Rattle.dnp_master.specs.Calls.{Taking, actions_of}
@@ -25,14 +25,13 @@ use Rattle.dnp_concentrator.specs.Relaying.{Relaying, received}
 use Rattle.dnp_concentrator.specs.declared.book_outputs.BookOutputs.{BookOutputs}
 use Rattle.dnp_concentrator.specs.declared.centre.Centre.{Centre}
 use Rattle.dnp_concentrator.specs.declared.concentrator.Concentrator.{Concentrator}
-use Rattle.dnp_concentrator.specs.Two.{at}
-use Rattle.dnp_concentrator.specs.declared.two.Two.{Two}
-use Rattle.dnp_world.specs.MasterEnds.{TakesIn, none_dropped}
+use Rattle.dnp_concentrator.specs.PerCentre.{at, of_each}
+use Rattle.dnp_world.specs.MasterEnds.{AreFew, TakesIn, none_dropped}
 use Rattle.dnp_world.specs.SystemEvents.{centre_taken}
 use Rattle.dnp_world.specs.SystemParts.{centre_of, concentrator_of}
 use Rattle.dnp_world.specs.Wholes.{WholeConcentrator}
-use Rattle.dnp_world.specs.steps.WholeSteps.{HaveNumbers, concentrator_taken, dropped_for, queued_for}
-use Rattle.dnp_world.proofs.EachCentre.{for_both}
+use Rattle.dnp_world.specs.steps.WholeSteps.{HaveNumbers, concentrator_taken, dropped_for, queued_for, with_readings_of}
+use Rattle.dnp_world.proofs.PerCentre.{at_every, made_alike}
 use Rattle.dnp_world.proofs.OneLinkSteps.{dropped_length}
 
 -- ---- what both say
@@ -63,13 +62,20 @@ book_before : {B : Type 0} (honest : B → Type 0) (is_stopped : B → Bool) (ol
 book_before {B} honest is_stopped old new same well = subst (λ (b : B). honest b × (is_stopped b ≡ false)) same well
 
 -- a concentrator by its parts
-concentrator_by : {Q A : Type 0} (buffer : Q → ℕ → EventBuffer) (ledger : A → Ledger) (old new : Concentrator Q A) (cores : Two Core) (queues : Two EventBuffer)
-    (links : List Relaying) → core_of 0 new ≡ cores.first → core_of 1 new ≡ cores.second → buffer (queue_of new) 0 ≡ queues.first
-    → buffer (queue_of new) 1 ≡ queues.second → outputs_of new ≡ outputs_of old → links_of new ≡ links
+concentrator_by : {Q A : Type 0} (buffer : Q → ℕ → EventBuffer) (ledger : A → Ledger) (old new : Concentrator Q A) (next : Core → Core)
+    (fill : EventBuffer → EventBuffer) (links : List Relaying) → ForEach (λ n. core_of n new ≡ next (core_of n old))
+    → ForEach (λ n. buffer (queue_of new) n ≡ fill (buffer (queue_of old) n)) → outputs_of new ≡ outputs_of old → links_of new ≡ links
     → plan_above new ≡ plan_above old
-    → concentrator_of buffer ledger new ≡ record (concentrator_of buffer ledger old) { cores = cores; queues = queues; links = links }
-concentrator_by buffer ledger old new cores queues links first_core second_core first_queue second_queue outputs links_is plan =
-    rw (first_core, second_core, first_queue, second_queue) cc
+    → concentrator_of buffer ledger new ≡ (let was = concentrator_of buffer ledger old in
+    record was { cores = of_each next was.cores; queues = of_each fill was.queues; links = links })
+concentrator_by buffer ledger old new next fill links cores queues outputs links_is plan =
+    cc (
+      made_alike (λ n. core_of n new) (λ n. next (core_of n old)) cores,
+      made_alike (buffer (queue_of new)) (λ n. fill (buffer (queue_of old) n)) queues,
+      outputs,
+      links_is,
+      plan,
+    )
 
 -- what a concentrator took on a link
 taken_below : {Q A : Type 0} (buffer : Q → ℕ → EventBuffer) (ledger : A → Ledger) (old new : Concentrator Q A) (link : ℕ) (r : Result Taking MasterFault)
@@ -89,15 +95,14 @@ taken_below buffer ledger old new link r (Err fault) actions dropped dropped_too
 taken_below buffer ledger old new link (Err fault) (Ok a) actions dropped dropped_too links queued core outputs plan room = tt
 taken_below buffer ledger old new link (Ok t) (Ok a) actions dropped dropped_too links queued core outputs plan room =
     let was : WholeConcentrator = concentrator_of buffer ledger old in
-    let is : WholeConcentrator = concentrator_taken was link t in
     let exhausted : ℕ → Bool = λ centre. exhausts (buffer (queue_of old) centre) (queued_at old link t.events) in (
       actions ∙ ap (λ (rows : List Row). actions_of t rows) dropped,
       dropped_too,
       (
         λ some. let none = or_parts (exhausted 0) (exhausted 1) (room some) in
-            for_both (λ centre. exhausts (at centre was.queues) (queued_at old link t.events) ≡ false) none.0 none.1,
-        concentrator_by buffer ledger old new is.cores is.queues is.links
-            (core 0 (omega arith)) (core 1 (omega arith)) (queued 0 (omega arith)) (queued 1 (omega arith)) outputs links plan,
+            at_every (λ centre. exhausts (at centre was.queues) (queued_at old link t.events) ≡ false) none.0 none.1,
+        concentrator_by buffer ledger old new (with_readings_of was link t) (λ (s : EventBuffer). with_rows s (queued_for was link t)) _
+            core queued outputs links plan,
       ),
     )
 
@@ -108,7 +113,7 @@ kept_below : {Q A Answer : Type 0} (buffer : Q → ℕ → EventBuffer) (ledger 
     → OnErr answer (concentrator_of buffer ledger new ≡ concentrator_of buffer ledger old)
 kept_below buffer ledger old new (Ok a) links core queue outputs plan = tt
 kept_below buffer ledger old new (Err fault) links core queue outputs plan =
-    cc (links, core 0 (omega arith), core 1 (omega arith), queue 0 (omega arith), queue 1 (omega arith))
+    concentrator_by buffer ledger old new (λ core. core) (λ queue. queue) (links_of old) core queue outputs links plan
 
 all_dropped : (s : EventBuffer) (rows : List LaneRow) → length (dropped_by s rows) ≤ length rows
 all_dropped s [] = omega arith
@@ -129,8 +134,12 @@ few_from : (s : EventBuffer) (c : WholeConcentrator) (link : ℕ) (t : Taking) �
 few_from s c link t = omega (arith, all_dropped s (queued_for c link t), all_queued (queued_row c.indices c.points link) t.events)
 
 few_below : (c : WholeConcentrator) (link : ℕ) (t : Taking)
-    → (length (dropped_for c link t).first ≤ length t.events) × (length (dropped_for c link t).second ≤ length t.events)
-few_below c link t = (few_from c.queues.first c link t, few_from c.queues.second c link t)
+    → AreFew (length t.events) (dropped_for c link t)
+few_below c link t = at_every _ (few_from c.queues.first c link t) (few_from c.queues.second c link t)
+
+-- where none are dropped
+pub none_few : (most : ℕ) → AreFew most none_dropped
+none_few most = at_every _ (omega arith) (omega arith)
 
 -- what a concentrator's call promises, as the master's end of a link promises it
 module _ {Q B : Type 0} (queue : Q → Type 0) (queue_stopped : Q → Bool) (buffer : Q → ℕ → EventBuffer) (book : B → Type 0) (book_stopped : B → Bool)
@@ -243,7 +252,7 @@ module _ {J B : Type 0} (journal : J → Type 0) (journal_stopped : J → Bool) 
             let orders = book_before order order_stopped _ _ book (well.1, well.2) in
             (kept.held well.0, orders.0, orders.1);
         taken = λ well. taken_above archive ledger old new r answer (actions well.0) link (stored well.0) book indices;
-        few = any_ok r _ (λ t. (omega arith, omega arith));
+        few = any_ok r _ (λ t. none_few (length t.events));
         kept = same;
         refused = refused_is;
         unasked = λ well. unasked_by (beside_none answer) r _ refused_is (same well);

@@ -1,11 +1,13 @@
 -- What lists of events issue.
-use Rattle.std.proofs.Common.{◌≡◌, ℕ, zero, suc, Bool, true, false, Option, Some, None, arith, List, [], ◌∷◌, ◌++◌, append-nil, append_assoc, take, Result, is_some, if◌then◌else◌, inl, inr, refl, sym, ap, ◌∙◌}
-use Rattle.std.specs.Prelude.{⊤}
+use Rattle.std.proofs.Common.{◌≡◌, ℕ, Bool, true, false, Option, Some, None, arith, List, [], ◌∷◌, ◌++◌, append-nil, append_assoc, take, Result, is_some, if◌then◌else◌, inl, inr, refl, sym, ap, ◌∙◌}
+use Rattle.std.specs.Prelude.{⊤, nat_lt}
 use Rattle.std.specs.List.{All, flat_map}
+use Rattle.std.proofs.lemmas.Bool.{ltb-true}
 use Rattle.std.proofs.lemmas.List.Elements.{All-head, All-tail, All-take}
 use Rattle.dnp_concentrator.specs.Mapped.{command_above}
 use Rattle.dnp_concentrator.specs.declared.span.Spans.{Spans}
 use Rattle.dnp_eventbuf.specs.Sides.{ForEach}
+use Rattle.dnp_eventbuf.specs.declared.pair.TheConstants.{CENTRES}
 use Rattle.dnp_objects.specs.declared.command.Command.{Command}
 use Rattle.dnp_world.specs.Controls.{ControlEnds}
 use Rattle.dnp_world.specs.Rounds.{IsRound, StopsInRound}
@@ -19,9 +21,10 @@ use Rattle.dnp_world.specs.declared.event.Event.{Event}
 use Rattle.dnp_world.specs.declared.event.Event.TheVariants as event
 use Rattle.dnp_world.specs.declared.event.Link.{Link}
 use Rattle.dnp_world.specs.declared.round_fault.ControlFault.{ControlFault}
-use Rattle.dnp_world.proofs.EachCentre.{by_place, for_both, no_such}
+use Rattle.dnp_world.proofs.EachCentre.{by_place, to_each}
 use Rattle.dnp_world.proofs.EventTouches.{Does, does}
 use Rattle.dnp_world.proofs.Lasting.{control_leaves, ran_round}
+use Rattle.dnp_world.proofs.Seen.{own_there}
 use Rattle.dnp_world.proofs.SystemControls.{IsOfControl}
 use Rattle.dnp_world.proofs.SystemRounds.{IsOfRound, Ran, StopsIn, stops_round}
 use Rattle.dnp_world.proofs.SystemRuns.{at_a_stop}
@@ -52,11 +55,11 @@ Issued o w e = if is_there o then one.issued_by (seen_at o w) e else []
 
 whole_issues : (old new : Whole) (e : Event) (o : Option ℕ) → IfThere (is_there o) (ChangesAll o (λ s t. Happens s e t)) old new
     → new.history.issued ≡ old.history.issued ++ Issued o old e
-whole_issues old new e None h = event_issues (seen_by 0 old) (seen_by 0 new) e (h 0 (omega arith))
-whole_issues old new e (Some zero) h = event_issues (seen_by 0 old) (seen_by 0 new) e (h 0 (omega arith))
-whole_issues old new e (Some (suc zero)) h = event_issues (seen_by 1 old) (seen_by 1 new) e (h 1 (omega arith))
-whole_issues old new e (Some (suc (suc n))) h =
-    rw (no_such n) (ap (λ (w : Whole). w.history.issued) (rw (no_such n) at h) ∙ sym (append-nil old.history.issued))
+whole_issues old new e o h =
+    by_place (new.history.issued ≡ old.history.issued ++ Issued o old e) (λ s t. Happens s e t) o old new
+    (λ at happens. rw at (event_issues (seen_by 0 old) (seen_by 0 new) e (happens 0 (omega arith))))
+    (λ n low at happens others. rw (at, own_there n low) (event_issues (seen_by n old) (seen_by n new) e happens))
+    (λ n at high same. rw (at, high) (ap (λ (w : Whole). w.history.issued) same ∙ sym (append-nil old.history.issued))) h
 
 -- no centre's index map changes
 keeps_map : (old next : System) (e : Event) → Happens old e next → next.centre.indices ≡ old.centre.indices
@@ -69,12 +72,9 @@ KeepMaps old next = ForEach (λ centre. (seen_by centre next).centre.indices ≡
 
 maps_kept : (old next : Whole) (e : Event) → HappensToAll old e next → KeepMaps old next
 maps_kept old next e h =
-    let at_first = keeps_map (seen_by 0 old) (seen_by 0 next) e in
-    let at_second = keeps_map (seen_by 1 old) (seen_by 1 next) e in
-    by_place (KeepMaps old next) (λ s t. Happens s e t) (centre_at e) old next (λ at first second. for_both _ (at_first first) (at_second second))
-    (λ at first second. for_both _ (at_first first) (ap (λ (s : System). s.centre.indices) second.after))
-    (λ at first second. for_both _ (ap (λ (s : System). s.centre.indices) first.after) (at_second second))
-    (λ n at same. λ centre low. ap (λ (w : Whole). (seen_by centre w).centre.indices) same) h
+    to_each (λ centre. (seen_by centre next).centre.indices ≡ (seen_by centre old).centre.indices) (λ s t. Happens s e t) (centre_at e) old next
+    (λ centre happens. keeps_map (seen_by centre old) (seen_by centre next) e happens)
+    (λ centre elsewhere. ap (λ (s : System). s.centre.indices) elsewhere.after) h
 
 -- ---- lists of events
 
@@ -85,9 +85,12 @@ by_map old next same e = refl
 
 issued_alike : (old next : Whole) → KeepMaps old next → (e : Event) (o : Option ℕ) → Issued o next e ≡ Issued o old e
 issued_alike old next same e None = by_map (seen_by 0 old) (seen_by 0 next) (same 0 (omega arith)) e
-issued_alike old next same e (Some zero) = by_map (seen_by 0 old) (seen_by 0 next) (same 0 (omega arith)) e
-issued_alike old next same e (Some (suc zero)) = by_map (seen_by 1 old) (seen_by 1 next) (same 1 (omega arith)) e
-issued_alike old next same e (Some (suc (suc n))) = rw (no_such n)
+issued_alike old next same e (Some n) = by (nat_lt n CENTRES) refl
+  where
+    by : (b : Bool) → nat_lt n CENTRES ≡ b
+        → (if b then one.issued_by (seen_by n next) e else []) ≡ (if b then one.issued_by (seen_by n old) e else [])
+    by true low = by_map (seen_by n old) (seen_by n next) (same n (ltb-true n CENTRES low)) e
+    by false high = refl
 
 all_by_map : (old next : Whole) → KeepMaps old next → (events : List Event)
     → flat_map (issued_by next) events ≡ flat_map (issued_by old) events

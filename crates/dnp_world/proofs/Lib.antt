@@ -143,6 +143,8 @@ mod ControlsMoved
 mod Reopening
 mod Restarted
 mod EachCentre
+mod Beside
+mod PerCentre
 mod Elsewhere
 mod LeftBooks
 mod FromThere

@@ -12,11 +12,13 @@ use Rattle.dnp_master.specs.Calls.{Taking, actions_of, receive_of}
 use Rattle.dnp_master.specs.Sinks.{IsSinkFault}
 use Rattle.dnp_master.specs.State as master
 use Rattle.dnp_master.specs.LinkCalls.{PassesOver, TakesResponse, TakesReport}
-use Rattle.dnp_concentrator.specs.declared.two.Two.{Two}
+use Rattle.dnp_concentrator.specs.PerCentre.{at}
+use Rattle.dnp_concentrator.specs.declared.per_centre.PerCentre.{PerCentre}
 use Rattle.dnp_world.specs.Channels.{ChannelState, GoDown, left_by}
 use Rattle.dnp_world.specs.MasterEnds.{AreFew, ComesToMaster, ListsDropped, TakesBy, TakesIn, none_dropped}
 use Rattle.dnp_world.specs.Octets.{rows_in}
 use Rattle.dnp_world.proofs.OneLinkArrivals.{events_first}
+use Rattle.dnp_world.proofs.PerCentre.{at_every, made_there, same_each}
 
 -- ---- the port
 
@@ -34,14 +36,19 @@ heard_none line port front = subst (λ (o : Option (List ℕ)). HearsIfAny o por
 -- ---- what is taken, and the lines
 
 -- none are dropped
-pub none_listed : (first second first' second' : List Row) → first' ≡ first → second' ≡ second → ListsDropped none_dropped first second first' second'
-none_listed first second first' second' same same_too = record {
-  to_first = same ∙ sym (append-nil first);
-  to_second = same_too ∙ sym (append-nil second);
-}
+pub none_listed : (old new : PerCentre (List Row)) → new ≡ old → ListsDropped none_dropped old new
+none_listed old new same n low =
+    ap (λ (t : PerCentre (List Row)). at n t) same ∙ sym (append-nil (at n old))
+    ∙ ap (λ (rows : List Row). at n old ++ rows) (sym (made_there (λ _. let none : List Row = [] in none) n low))
+
+-- and the lists are what they were
+pub still_listed : (old new : PerCentre (List Row)) → ListsDropped none_dropped old new → new ≡ old
+still_listed old new none =
+    same_each new old (λ n low. none n low ∙ ap (λ (rows : List Row). at n old ++ rows) (made_there (λ _. let none : List Row = [] in none) n low)
+    ∙ append-nil (at n old))
 
 -- the rows that are dropped to either centre are as few as its stores drop for what comes
-pub few_dropped : {Station : Type 0} (honest : Station → Type 0) (takes : Taking → Type 0) (drops : Taking → Two (List Row)) (keeps stays : Type 0)
+pub few_dropped : {Station : Type 0} (honest : Station → Type 0) (takes : Taking → Type 0) (drops : Taking → PerCentre (List Row)) (keeps stays : Type 0)
     (s : master.State) (octets : List ℕ) (r : Result Taking MasterFault) (old new : Station) (answer : Result (MasterActions × List Row) MasterFault)
     (a : MasterActions × List Row) (most : ℕ) → IfOk r (λ t. PassesOver s t ⊎ (TakesResponse s octets t ⊎ TakesReport s octets t))
     → ((t : Taking) → length t.events ≤ length (rows_in octets) → AreFew (length t.events) (drops t) → AreFew most (drops t))
@@ -58,18 +65,18 @@ few_dropped honest takes drops keeps stays s octets (Ok t) old new answer a most
       ap (λ (rows : List Row). length rows) (events_first s octets t law),
     ) in
     let both = bound t few call.few in (
-      omega (arith, both.0, ap (λ (x : MasterActions). length x.dropped) of.0),
-      omega (arith, both.1, ap (λ (rows : List Row). length rows) of.1),
+      omega (arith, both 0 (omega arith), ap (λ (x : MasterActions). length x.dropped) of.0),
+      omega (arith, both 1 (omega arith), ap (λ (rows : List Row). length rows) of.1),
     )
 
 -- what was taken
-pub taken_up : {Station : Type 0} (honest : Station → Type 0) (takes : Taking → Type 0) (drops : Taking → Two (List Row)) (keeps stays : Type 0)
+pub taken_up : {Station : Type 0} (honest : Station → Type 0) (takes : Taking → Type 0) (drops : Taking → PerCentre (List Row)) (keeps stays : Type 0)
     (r : Result Taking MasterFault) (old new : Station) (answer : Result (MasterActions × List Row) MasterFault) (a : MasterActions × List Row)
-    (lines mid last : ChannelState) (before after : Two (List Row))
+    (lines mid last : ChannelState) (before after : PerCentre (List Row))
     → TakesIn honest takes drops keeps stays r old new answer → answer ≡ Ok a → honest new → mid ≡ lines → GoDown (option_to_list a.0.send) mid last
     → after.first ≡ before.first ++ a.0.dropped → after.second ≡ before.second ++ a.1
-    → TakesBy r (λ t. takes t × ListsDropped (drops t) before.first before.second after.first after.second)
-    (stays × ListsDropped none_dropped before.first before.second after.first after.second) lines last
+    → TakesBy r (λ t. takes t × ListsDropped (drops t) before after)
+    (stays × ListsDropped none_dropped before after) lines last
 taken_up honest takes drops keeps stays (Err fault) old new answer a lines mid last before after call is well same down listed listed_too =
     let refused : Result (MasterActions × List Row) MasterFault = Err fault in
     let never : refused ≡ Ok a = sym call.refused ∙ is in absurd (cc)
@@ -80,28 +87,26 @@ taken_up honest takes drops keeps stays (Ok t) old new answer a lines mid last b
           (subst (λ (c : ChannelState). GoDown (option_to_list a.0.send) c last) same down),
       (
         of.2,
-        record {
-          to_first = listed ∙ ap (λ (x : MasterActions). before.first ++ x.dropped) of.0;
-          to_second = listed_too ∙ ap (λ (rows : List Row). before.second ++ rows) of.1;
-        },
+        at_every _ (listed ∙ ap (λ (x : MasterActions). before.first ++ x.dropped) of.0)
+            (listed_too ∙ ap (λ (rows : List Row). before.second ++ rows) of.1),
       ),
     )
 
 -- what the master refused for itself
-pub refused_up : {Station : Type 0} (honest : Station → Type 0) (takes : Taking → Type 0) (drops : Taking → Two (List Row)) (keeps stays : Type 0)
+pub refused_up : {Station : Type 0} (honest : Station → Type 0) (takes : Taking → Type 0) (drops : Taking → PerCentre (List Row)) (keeps stays : Type 0)
     (r : Result Taking MasterFault) (old new : Station) (answer : Result (MasterActions × List Row) MasterFault) (fault : MasterFault)
-    (lines last : ChannelState) (before after : Two (List Row))
+    (lines last : ChannelState) (before after : PerCentre (List Row))
     → TakesIn honest takes drops keeps stays r old new answer → answer ≡ Err fault → (IsSinkFault fault → ⊥) → honest new → last ≡ lines
-    → after.first ≡ before.first → after.second ≡ before.second
-    → TakesBy r (λ t. takes t × ListsDropped (drops t) before.first before.second after.first after.second)
-    (stays × ListsDropped none_dropped before.first before.second after.first after.second) lines last
-refused_up honest takes drops keeps stays r old new answer fault lines last before after call is none well same listed listed_too =
+    → after ≡ before
+    → TakesBy r (λ t. takes t × ListsDropped (drops t) before after)
+    (stays × ListsDropped none_dropped before after) lines last
+refused_up honest takes drops keeps stays r old new answer fault lines last before after call is none well same listed =
     let named = subst (λ (x : Result (MasterActions × List Row) MasterFault). IfErr x (λ e. (r ≡ Err e) ⊎ IsSinkFault e)) is call.named in
     let own : r ≡ Err fault = elim named [ inl e ↦ e | inr k ↦ absurd (none k) ] in
     let stayed : stays = subst (λ (x : Result Taking MasterFault). IfErr x (λ _. stays)) own (call.unasked well) in
-    subst (λ (x : Result Taking MasterFault). TakesBy x (λ t. takes t × ListsDropped (drops t) before.first before.second after.first after.second)
-    (stays × ListsDropped none_dropped before.first before.second after.first after.second) lines last) (sym own)
-    (same, (stayed, none_listed before.first before.second after.first after.second listed listed_too))
+    subst (λ (x : Result Taking MasterFault). TakesBy x (λ t. takes t × ListsDropped (drops t) before after)
+    (stays × ListsDropped none_dropped before after) lines last) (sym own)
+    (same, (stayed, none_listed before after listed))
 
 -- the line up has then given its front unit
 pub settled : (r : Result Taking MasterFault) (takes : Taking → Type 0) (same : Type 0) (repeats : Bool) (old new : ChannelState)

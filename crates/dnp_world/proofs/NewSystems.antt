@@ -10,6 +10,7 @@ use Rattle.dnp_concentrator.specs.IndexMap.{IsMap, IsTooWide, Overlaps}
 use Rattle.dnp_concentrator.specs.Plan.{IsCapacity, KeepsSubLimits, map_of}
 use Rattle.dnp_concentrator.specs.PointsAbove.{points_above, points_at, points_below}
 use Rattle.dnp_concentrator.specs.Relaying.{Relaying}
+use Rattle.dnp_concentrator.specs.Reserving.{none_reserved}
 use Rattle.dnp_concentrator.specs.declared.addresses.TheConstants.{CONCENTRATOR_ABOVE, MASTER_BELOW}
 use Rattle.dnp_concentrator.specs.declared.plan.Plan.{Plan}
 use Rattle.dnp_concentrator.specs.declared.plan.SubPlan.{SubPlan}
@@ -201,7 +202,7 @@ stands_at_first laws plan centre queue journal controls orders can empty =
         links = links;
         below = λ i. joined_in queue (link_in (new_links plan) i) (slice_get new.substations i) (joined i).joined;
         above = new_joined_to laws (new_database (points_above plan)) (points_above plan) plan.times queue
-            (book_panel (map_of plan) None controls).performed (centre_address centre) CONCENTRATOR_ABOVE
+            (book_panel (map_of plan) none_reserved controls).performed (centre_address centre) CONCENTRATOR_ABOVE
             (laws.sound_points (points_above plan) (sound_above plan can.limits (laws.is_map (map_of plan) can.narrow can.apart))) new_queue;
         behind = subst (IsBehind (map_of plan) alone links) (sym (nothing_in plan centre queue journal controls orders empty))
             (laws.at_first (map_of plan) links (λ i. untouched laws (lanes_in queue (slice_get new.substations i)) (joined i).new)

@@ -1,5 +1,5 @@
 -- A link that was opened is quiet, where its outstation sends no unsolicited responses.
-use Rattle.std.proofs.Common.{◌≡◌, ℕ, zero, suc, arith, ◌<◌, Bool, true, false, not, ◌&&◌, if◌then◌else◌, List, [], ◌∷◌, ◌++◌, length, Option, Some, refl, sym, ap, ◌∙◌, subst, ltb-true}
+use Rattle.std.proofs.Common.{◌≡◌, ℕ, arith, ◌<◌, Bool, true, false, not, ◌&&◌, if◌then◌else◌, List, [], ◌∷◌, ◌++◌, length, Option, Some, refl, sym, ap, ◌∙◌, subst, ltb-true}
 use Rattle.std.specs.Prelude.{nat_lt, slice_get}
 use Rattle.std.proofs.lemmas.Bool.{and_from, and_parts, both_ways, cond-false}
 use Rattle.std.proofs.lemmas.List.{length-set}
@@ -28,7 +28,7 @@ use Rattle.dnp_world.specs.declared.event.Event.TheVariants.{Open}
 use Rattle.dnp_world.specs.declared.event.Link.{Link}
 use Rattle.dnp_world.specs.declared.event.Link.TheVariants.{Below, Above}
 use Rattle.dnp_world.proofs.ArrivingLinks.{has_set}
-use Rattle.dnp_world.proofs.EachCentre.{no_such}
+use Rattle.dnp_world.proofs.Seen.{happens_seen, own_link}
 use Rattle.dnp_world.proofs.ListedAt.{set_here}
 use Rattle.dnp_world.proofs.SystemPlans.{link_here}
 
@@ -142,9 +142,8 @@ opens_quiet (Above centre) old new has off h = opens_above centre old new off h
 opened_there : (on : Link) (old new : Whole) → is_there (centre_of on) ≡ true → HappensToAll old (Open on) new
     → Happens (seen_at (centre_of on) old) (Open on) (seen_at (centre_of on) new)
 opened_there (Below substation) old new there h = h 0 (omega arith)
-opened_there (Above zero) old new there h = h 0 (omega arith)
-opened_there (Above (suc zero)) old new there h = h 1 (omega arith)
-opened_there (Above (suc (suc n))) old new there h = absurd (both_ways (nat_lt (suc (suc n)) CENTRES) (no_such n) there)
+opened_there (Above n) old new there h =
+    happens_seen n (ltb-true n CENTRES there) (Open (Above n)) there (own_link n) old new h
 
 -- a link that isn't there before its opening isn't there after it
 last_opens : (on : Link) (b : Bool) (old new : System) → has_link old on ≡ b → has_link new on ≡ true → reports_on new on ≡ false

@@ -1,16 +1,18 @@
 -- A concentrator and a centre over what their stores hold after a stop are those that a restart leaves.
-use Rattle.std.proofs.Common.{◌≡◌, ◌<◌, ◌⊎◌, ℕ, zero, suc, List, [], ◌∷◌, map, refl, sym, ap₂, ◌∙◌, subst, inl, inr, arith}
+use Rattle.std.proofs.Common.{◌≡◌, ◌<◌, ◌⊎◌, ℕ, List, [], ◌∷◌, map, refl, sym, ap₂, ◌∙◌, subst, inl, inr, arith}
 use Rattle.dnp_concentrator.specs.Relaying.{hung_up}
-use Rattle.dnp_concentrator.specs.Two.{at}
+use Rattle.dnp_concentrator.specs.PerCentre.{at, for_each, of_each, with_at}
 use Rattle.dnp_concentrator.specs.declared.plan.Plan.{Plan}
-use Rattle.dnp_concentrator.specs.declared.two.Two.{Two}
+use Rattle.dnp_concentrator.specs.declared.per_centre.PerCentre.{PerCentre}
 use Rattle.dnp_controls.specs.Book.{Ledger}
 use Rattle.dnp_eventbuf.specs.Archive.{Archive}
+use Rattle.dnp_eventbuf.specs.Sides.{ForEach}
 use Rattle.dnp_eventbuf.specs.EventBuffer.{EventBuffer}
 use Rattle.dnp_eventbuf.specs.declared.pair.TheConstants.{CENTRES}
 use Rattle.dnp_outstation.specs.Calls.{restarted_core}
 use Rattle.dnp_world.specs.Centres.{HappensToAll, SeesElsewhere, centre_at}
-use Rattle.dnp_world.specs.Channels.{hung_up_at}
+use Rattle.dnp_world.specs.Channels.{ChannelState, hung_up_at}
+use Rattle.dnp_world.specs.FreshSystems.{fresh_core}
 use Rattle.dnp_world.specs.Reopened.{AllRestartAsNew, AllWriteOne, CentreWritesOne, HoldsEither, RestartAsNew, StandsRestarted, WriteOne, WritesOne, new_centre, new_concentrator}
 use Rattle.dnp_world.specs.SystemEvents.{master_gone}
 use Rattle.dnp_world.specs.SystemRuns.{Happens, RunsTo}
@@ -21,8 +23,9 @@ use Rattle.dnp_world.specs.declared.event.Event.TheVariants as event
 use Rattle.dnp_world.specs.declared.event.Place.{Place}
 use Rattle.dnp_world.specs.declared.event.Place.TheVariants as place
 use Rattle.dnp_world.specs.declared.link_event.End.TheVariants as end
-use Rattle.dnp_world.proofs.EachCentre.{by_place, for_both}
-use Rattle.dnp_world.proofs.Seen.{sees_same}
+use Rattle.dnp_world.proofs.EachCentre.{done_at, to_each}
+use Rattle.dnp_world.proofs.PerCentre.{any_or_each, at_every, made_there, same_each, seen_there, written_elsewhere, written_here}
+use Rattle.dnp_world.proofs.Seen.{own_there, sees_same}
 use Rattle.dnp_world.proofs.SystemRounds.{runs_joined}
 
 -- ---- an event, of the whole
@@ -46,31 +49,26 @@ elsewhere_writes old new x = record {
 }
 
 -- the queue for each centre is the same, or the book is
-queues_or_book : {A B : Type 0} (old new : Two A) (was is : B) → (new.first ≡ old.first) ⊎ (is ≡ was) → (new.second ≡ old.second) ⊎ (is ≡ was)
-    → (new ≡ old) ⊎ (is ≡ was)
-queues_or_book {A} old new was is (inl x) (inl y) = inl (ap₂ (λ (a b : A). let t : Two A = record { first = a; second = b } in t) x y)
-queues_or_book old new was is (inr same) y = inr same
-queues_or_book old new was is (inl x) (inr same) = inr same
-
-of_views : (old new : Whole) → WriteOne (seen_by 0 old) (seen_by 0 new) → WriteOne (seen_by 1 old) (seen_by 1 new) → AllWriteOne old new
-of_views old new first second = record {
-  seen = for_both _ first second;
-  one = queues_or_book old.concentrator.queues new.concentrator.queues old.concentrator.controls new.concentrator.controls first.concentrator.one
-      second.concentrator.one;
-}
+queues_or_book : {A B : Type 0} (old new : PerCentre A) (was is : B) → ForEach (λ n. (at n new ≡ at n old) ⊎ (is ≡ was)) → (new ≡ old) ⊎ (is ≡ was)
+queues_or_book {A} {B} old new was is one = by (any_or_each (λ n. at n new ≡ at n old) (is ≡ was) one)
+  where
+    by : ForEach (λ n. at n new ≡ at n old) ⊎ (is ≡ was) → (new ≡ old) ⊎ (is ≡ was)
+    by (inl same) = inl (same_each new old same)
+    by (inr same) = inr same
 
 abbrev pub WritesLaw : Type 0
 WritesLaw = (old new : System) (event : Event) → Happens old event new → WriteOne old new
 
 pub all_write : WritesLaw → (old new : Whole) (event : Event) → HappensToAll old event new → AllWriteOne old new
 all_write law old new e h =
-    let at_first = law (seen_by 0 old) (seen_by 0 new) e in
-    let at_second = law (seen_by 1 old) (seen_by 1 new) e in
-    by_place (AllWriteOne old new) (λ s t. Happens s e t) (centre_at e) old new
-    (λ at first second. of_views old new (at_first first) (at_second second))
-    (λ at first second. of_views old new (at_first first) (elsewhere_writes (seen_by 1 old) (seen_by 1 new) second))
-    (λ at first second. of_views old new (elsewhere_writes (seen_by 0 old) (seen_by 0 new) first) (at_second second))
-    (λ n at same. subst (AllWriteOne old) (sym same) (of_views old old (nothing_written (seen_by 0 old)) (nothing_written (seen_by 1 old)))) h
+    let seen : ForEach (λ n. WriteOne (seen_by n old) (seen_by n new)) =
+    to_each (λ n. WriteOne (seen_by n old) (seen_by n new)) (λ s t. Happens s e t) (centre_at e) old new
+    (λ n happens. law (seen_by n old) (seen_by n new) e happens) (λ n x. elsewhere_writes (seen_by n old) (seen_by n new) x) h in
+    record {
+      seen = seen;
+      one = queues_or_book old.concentrator.queues new.concentrator.queues old.concentrator.controls new.concentrator.controls
+          (λ n low. (seen n low).concentrator.one);
+    }
 
 -- ---- runs
 
@@ -84,7 +82,7 @@ run_keeps : Steps → (plan : Plan) (events : List Event) (old new : Whole) → 
 run_keeps steps plan [] old new h same = subst (λ (w : Whole). AllRestartAsNew plan w) (sym same) h
 run_keeps steps plan (e ∷ events) old new h ran = run_keeps steps plan events ran.0 new (steps.keeps plan old ran.0 e h ran.1) ran.2
 
--- ---- which of the two
+-- ---- which of two stores
 
 -- One store at most was changed, so both hold what they held before the event, or both what the event made of them.
 module _ {A B : Type 0} (P : Type 0) (was is a : A) (wasnt isnt b : B) where
@@ -102,21 +100,22 @@ abbrev middle_restarted : Whole → Whole
 middle_restarted w = record w {
   substations = map master_gone w.substations;
   concentrator = record w.concentrator {
-    cores = record { first = restarted_core w.concentrator.cores.first; second = restarted_core w.concentrator.cores.second };
+    cores = of_each restarted_core w.concentrator.cores;
     links = map hung_up w.concentrator.links;
   };
-  above = record { first = hung_up_at end.Outstation w.above.first; second = hung_up_at end.Outstation w.above.second };
+  above = of_each (hung_up_at end.Outstation) w.above;
 }
 
 middle_restarts : (w : Whole) → HappensToAll w (event.Restart place.Concentrator) (middle_restarted w)
-middle_restarts w = for_both _ refl refl
+middle_restarts w = at_every _ refl refl
 
-middle_as_new : (plan : Plan) (w : Whole) (queues : Two EventBuffer) (controls : Ledger) → AllRestartAsNew plan w → queues ≡ w.concentrator.queues
+middle_as_new : (plan : Plan) (w : Whole) (queues : PerCentre EventBuffer) (controls : Ledger) → AllRestartAsNew plan w → queues ≡ w.concentrator.queues
     → controls ≡ w.concentrator.controls → (middle_restarted w).concentrator ≡ new_concentrator plan queues controls
 middle_as_new plan w queues controls h queued ordered =
-    let first : RestartAsNew plan (seen_by 0 w) = h 0 (omega arith) in
-    let second : RestartAsNew plan (seen_by 1 w) = h 1 (omega arith) in
-    rw (queued, ordered, first.concentrator.above, second.concentrator.above, first.indices, first.points, first.concentrator.below)
+    let seen : RestartAsNew plan (seen_by 0 w) = h 0 (omega arith) in
+    let cores : of_each restarted_core w.concentrator.cores ≡ for_each (λ n. fresh_core plan) =
+    same_each _ _ (λ n low. seen_there restarted_core n w.concentrator.cores ∙ (h n low).concentrator.above ∙ sym (made_there (λ n. fresh_core plan) n low)) in
+    rw (queued, ordered, cores, seen.indices, seen.points, seen.concentrator.below)
 
 -- it stands restarted over what it held before the event, or over what the event made of it
 stands_at : (at : Place) (Stands : Whole → Type 0) (restarted : Whole → Whole) → ((w : Whole) → HappensToAll w (event.Restart at) (restarted w))
@@ -134,7 +133,7 @@ stands_at at Stands restarted restarts old before after events last ran happens 
       (after, happens, (restarted after, restarts after, refl)));
 }
 
-pub middle_stands : Steps → (plan : Plan) (old before after : Whole) (events : List Event) (last : Event) (queues : Two EventBuffer) (controls : Ledger)
+pub middle_stands : Steps → (plan : Plan) (old before after : Whole) (events : List Event) (last : Event) (queues : PerCentre EventBuffer) (controls : Ledger)
     → AllRestartAsNew plan old → RunsTo HappensToAll old events before → HappensToAll before last after
     → HoldsEither before.concentrator.queues after.concentrator.queues queues → HoldsEither before.concentrator.controls after.concentrator.controls controls
     → StandsRestarted place.Concentrator (λ w. w.concentrator ≡ new_concentrator plan queues controls) old events last
@@ -152,26 +151,26 @@ middle_stands steps plan old before after events last queues controls h ran happ
 abbrev hung_up_centre : CentreState → CentreState
 hung_up_centre c = record c { link = hung_up c.link }
 
--- the whole after the restart of the first centre, and of the second
+-- the whole after the restart of a centre
 abbrev centre_restarted : ℕ → Whole → Whole
-centre_restarted zero w = record w {
-  centres = record w.centres { first = hung_up_centre w.centres.first };
-  above = record w.above { first = hung_up_at end.Master w.above.first };
-}
-centre_restarted (suc n) w = record w {
-  centres = record w.centres { second = hung_up_centre w.centres.second };
-  above = record w.above { second = hung_up_at end.Master w.above.second };
+centre_restarted n w = record w {
+  centres = with_at n w.centres (hung_up_centre (at n w.centres));
+  above = with_at n w.above (hung_up_at end.Master (at n w.above));
 }
 
 centre_restarts : (centre : ℕ) → centre < CENTRES → (w : Whole) → HappensToAll w (event.Restart (place.Centre centre)) (centre_restarted centre w)
-centre_restarts zero low w = for_both _ refl (sees_same (seen_by 1 w) (seen_by 1 w) refl)
-centre_restarts (suc zero) low w = for_both _ (sees_same (seen_by 0 w) (seen_by 0 w) refl) refl
-centre_restarts (suc (suc n)) low w = absurd (omega (arith, low))
+centre_restarts n low w =
+    let is : Whole = centre_restarted n w in
+    let seen : ℕ → CentreState → ChannelState → System = λ m k l. record (seen_by m w) { centre = k; above = l } in
+    rw (own_there n low)
+    (done_at n (λ s t. Happens s (event.Restart (place.Centre n)) t) w is
+    (ap₂ (seen n) (written_here w.centres (hung_up_centre (at n w.centres)) n low) (written_here w.above (hung_up_at end.Master (at n w.above)) n low))
+    (λ m few apart. sees_same (seen_by m w) (seen_by m is)
+    (ap₂ (seen m) (written_elsewhere w.centres (hung_up_centre (at n w.centres)) n low m few apart)
+    (written_elsewhere w.above (hung_up_at end.Master (at n w.above)) n low m few apart))))
 
 centre_hung_up : (centre : ℕ) → centre < CENTRES → (w : Whole) → at centre (centre_restarted centre w).centres ≡ hung_up_centre (at centre w.centres)
-centre_hung_up zero low w = refl
-centre_hung_up (suc zero) low w = refl
-centre_hung_up (suc (suc n)) low w = absurd (omega (arith, low))
+centre_hung_up n low w = written_here w.centres (hung_up_centre (at n w.centres)) n low
 
 centre_as_new : (plan : Plan) (s : System) (journal : Archive) (orders : Ledger) → RestartAsNew plan s → journal ≡ s.centre.journal
     → orders ≡ s.centre.orders → hung_up_centre s.centre ≡ new_centre plan journal orders

@@ -1,5 +1,5 @@
 -- What comes up the lines of a system.
-use Rattle.std.proofs.Common.{◌≡◌, ℕ, ◌<◌, true, length, List, [], ◌∷◌, ◌++◌, map, get_or, slice_set, None, Some, Result, Ok, Err, refl, sym, ap, ◌∙◌, subst, append-nil, arith}
+use Rattle.std.proofs.Common.{◌≡◌, ℕ, ◌<◌, true, length, List, [], ◌∷◌, ◌++◌, map, get_or, slice_set, None, Some, Result, Ok, Err, refl, sym, ap, ◌∙◌, subst, append-nil}
 use Rattle.std.specs.Prelude.{slice_get}
 use Rattle.std.proofs.lemmas.List.{map-set, set-set}
 use Rattle.dnp_objects.specs.declared.row.Row.{Row}
@@ -8,11 +8,13 @@ use Rattle.dnp_master.specs.declared.fault.MasterFault.{MasterFault}
 use Rattle.dnp_master.specs.Calls.{Taking, receive_of}
 use Rattle.dnp_master.specs.State.{State as MasterState}
 use Rattle.dnp_concentrator.specs.Below.{link_in}
-use Rattle.dnp_concentrator.specs.Two.{at, with_at}
+use Rattle.dnp_concentrator.specs.PerCentre.{at, of_each, with_at}
 use Rattle.dnp_concentrator.specs.declared.centre.Centre.{Centre}
-use Rattle.dnp_concentrator.specs.declared.two.Two.{Two}
+use Rattle.dnp_concentrator.specs.declared.per_centre.PerCentre.{PerCentre}
 use Rattle.dnp_controls.specs.Book.{Ledger}
 use Rattle.dnp_eventbuf.specs.Archive.{Archive}
+use Rattle.dnp_eventbuf.specs.EventBuffer.{EventBuffer, dropped_by}
+use Rattle.dnp_eventbuf.specs.Sides.{ForEach}
 use Rattle.dnp_eventbuf.specs.declared.pair.TheConstants.{CENTRES}
 use Rattle.dnp_world.specs.Centres.{ChangesAll, has_link}
 use Rattle.dnp_world.specs.Channels.{ChannelState, state_of}
@@ -25,10 +27,11 @@ use Rattle.dnp_world.specs.declared.channel.Channel.{Channel}
 use Rattle.dnp_world.specs.declared.event.Link.TheVariants.{Above, Below}
 use Rattle.dnp_world.specs.declared.substation.Substation.{Substation}
 use Rattle.dnp_world.specs.steps.WholeSteps as all
-use Rattle.dnp_world.specs.steps.WholeSteps.{HaveNumbers, of_both}
+use Rattle.dnp_world.specs.steps.WholeSteps.{HaveNumbers, queued_for}
 use Rattle.dnp_world.proofs.CentrePlaces.{centre_view, own_there}
-use Rattle.dnp_world.proofs.EachCentre.{for_both}
 use Rattle.dnp_world.proofs.ListedAt.{set_here}
+use Rattle.dnp_world.proofs.MasterTakes.{still_listed}
+use Rattle.dnp_world.proofs.PerCentre.{at_every, seen_there}
 use Rattle.dnp_world.proofs.SystemPlaces.{is_there, there}
 
 -- ---- to a centre
@@ -82,22 +85,22 @@ comes_above number Beside left old centre lines came =
 
 -- as all see it: no rows are dropped
 pub comes_to_centre : {J B : Type 0} (archive : J → Archive) (orders : B → Ledger) (n : ℕ) → n < CENTRES → (left : LineState → LineState) (rest : Whole)
-    (centres : Two (Centre J B)) (above : Two Channel) (before k : Centre J B) (lines_before lines : Channel) (first second : List Row)
+    (centres : PerCentre (Centre J B)) (above : PerCentre Channel) (before k : Centre J B) (lines_before lines : Channel) (last : PerCentre (List Row))
     → before ≡ at n centres → lines_before ≡ at n above
     → (let was = centre_of archive orders before in let is = centre_of archive orders k in
-    let none = ListsDropped none_dropped rest.history.dropped.first rest.history.dropped.second first second in
+    let none = ListsDropped none_dropped rest.history.dropped last in
     ComesToMaster left was.link.master rest.now (λ t. (is ≡ centre_taken was t) × none) ((is ≡ was) × none) (state_of lines_before) (state_of lines))
-    → ChangesAll (Some n) (ComesUp left (Above n)) (record rest { centres = of_both (centre_of archive orders) centres; above = of_both state_of above })
+    → ChangesAll (Some n) (ComesUp left (Above n)) (record rest { centres = of_each (centre_of archive orders) centres; above = of_each state_of above })
     (record rest {
-      centres = of_both (centre_of archive orders) (with_at n centres k);
-      above = of_both state_of (with_at n above lines);
-      history = record rest.history { dropped = record { first = first; second = second } };
+      centres = of_each (centre_of archive orders) (with_at n centres k);
+      above = of_each state_of (with_at n above lines);
+      history = record rest.history { dropped = last };
     })
-comes_to_centre archive orders n low left rest centres above before k lines_before lines first second there lines_there came =
+comes_to_centre archive orders n low left rest centres above before k lines_before lines last there lines_there came =
     let base : System = centre_view archive orders n rest before lines_before in
-    let Dropped : Type 0 = ListsDropped none_dropped rest.history.dropped.first rest.history.dropped.second first second in
+    let Dropped : Type 0 = ListsDropped none_dropped rest.history.dropped last in
     let none : Dropped = beside_given came.given base.centre.link.master rest.now _ _ Dropped _ (state_of lines) came.came in
-    rw (none.to_first, append-nil, none.to_second, append-nil)
+    rw (still_listed rest.history.dropped last none)
     (own_there archive orders n low (ComesUp left (Above n)) rest centres above before k lines_before lines there lines_there
     (comes_above n Dropped left base (centre_of archive orders k) (state_of lines) came))
 
@@ -223,35 +226,38 @@ comes_mapped left master now Takes Takes' Same Same' old new f g came = record {
   came = given_mapped came.given master now Takes Takes' Same Same' _ new f g came.came;
 }
 
--- the concentrator takes a substation's rows, and both queues drop what they have no room for
-abbrev AllTake : Whole → ℕ → WholeConcentrator → List Row → List Row → Taking → Type 0
-AllTake old substation middle first second t =
+-- the concentrator takes a substation's rows, and each queue drops what it has no room for
+abbrev AllTake : Whole → ℕ → WholeConcentrator → PerCentre (List Row) → Taking → Type 0
+AllTake old substation middle last t =
     (HaveNumbers old.concentrator substation t × (middle ≡ all.concentrator_taken old.concentrator substation t))
-    × ListsDropped (all.dropped_for old.concentrator substation t) old.history.dropped.first old.history.dropped.second first second
+    × ListsDropped (all.dropped_for old.concentrator substation t) old.history.dropped last
 
-abbrev AllSame : Whole → WholeConcentrator → List Row → List Row → Type 0
-AllSame old middle first second =
-    (middle ≡ old.concentrator) × ListsDropped none_dropped old.history.dropped.first old.history.dropped.second first second
+abbrev AllSame : Whole → WholeConcentrator → PerCentre (List Row) → Type 0
+AllSame old middle last = (middle ≡ old.concentrator) × ListsDropped none_dropped old.history.dropped last
+
+-- the concentrator of this whole as a centre sees it
+abbrev seen_middle : ℕ → Whole → WholeConcentrator → ConcentratorState
+seen_middle n old c = (seen_by n (record old { concentrator = c })).concentrator
+
+taken_seen : (old : Whole) (substation : ℕ) (t : Taking) → ForEach (λ n. seen_middle n old (all.concentrator_taken old.concentrator substation t)
+    ≡ concentrator_taken (seen_middle n old old.concentrator) substation t)
+taken_seen old substation t = at_every _ refl refl
 
 pub comes_to_concentrator : (left : LineState → LineState) (old : Whole) (substation i : ℕ) (xs : List Substation) (was : Substation)
-    (middle : WholeConcentrator) (lines : Channel) (first second : List Row) → old.substations ≡ map substation_of xs → i ≡ substation
+    (middle : WholeConcentrator) (lines : Channel) (last : PerCentre (List Row)) → old.substations ≡ map substation_of xs → i ≡ substation
     → has_link old (Below substation) ≡ true → was ≡ get_or xs i was
-    → ComesToMaster left (link_in old.concentrator.links substation).master old.now (AllTake old substation middle first second)
-    (AllSame old middle first second) (state_of was.channel) (state_of lines)
+    → ComesToMaster left (link_in old.concentrator.links substation).master old.now (AllTake old substation middle last)
+    (AllSame old middle last) (state_of was.channel) (state_of lines)
     → ChangesAll None (ComesUp left (Below substation)) old (record old {
       substations = map substation_of (slice_set xs i (record was { channel = lines }));
       concentrator = middle;
-      history = record old.history { dropped = record { first = first; second = second } };
+      history = record old.history { dropped = last };
     })
-comes_to_concentrator left old substation i xs was middle lines first second list same has at came =
-    let master : MasterState = (link_in old.concentrator.links substation).master in
-    let seen : ℕ → WholeConcentrator → ConcentratorState = λ n c. (seen_by n (record old { concentrator = c })).concentrator in
-    for_both _
-    (comes_below left (seen_by 0 old) substation i xs was (seen 0 middle) lines first list same has at
-    (comes_mapped left master old.now _ _ _ _ (state_of was.channel) (state_of lines)
-    (λ t took. ((λ some. took.0.0 some 0 (omega arith), ap (seen 0) took.0.1), took.1.to_first))
-    (λ kept. (ap (seen 0) kept.0, kept.1.to_first ∙ append-nil old.history.dropped.first)) came))
-    (comes_below left (seen_by 1 old) substation i xs was (seen 1 middle) lines second list same has at
-    (comes_mapped left master old.now _ _ _ _ (state_of was.channel) (state_of lines)
-    (λ t took. ((λ some. took.0.0 some 1 (omega arith), ap (seen 1) took.0.1), took.1.to_second))
-    (λ kept. (ap (seen 1) kept.0, kept.1.to_second ∙ append-nil old.history.dropped.second)) came))
+comes_to_concentrator left old substation i xs was middle lines last list same has at_place came n low =
+    comes_below left (seen_by n old) substation i xs was (seen_middle n old middle) lines (at n last) list same has at_place
+    (comes_mapped left (link_in old.concentrator.links substation).master old.now _ _ _ _ (state_of was.channel) (state_of lines)
+    (λ t took. (
+      (λ some. took.0.0 some n low, ap (seen_middle n old) took.0.1 ∙ taken_seen old substation t n low),
+      took.1 n low ∙ ap (λ (rows : List Row). at n old.history.dropped ++ rows)
+          (seen_there (λ (s : EventBuffer). dropped_by s (queued_for old.concentrator substation t)) n old.concentrator.queues),
+    )) (λ kept. (ap (seen_middle n old) kept.0, ap (λ (lists : PerCentre (List Row)). at n lists) (still_listed old.history.dropped last kept.1))) came)

@@ -1,5 +1,5 @@
 -- What comes to the concentrator from above.
-use Rattle.std.proofs.Common.{◌≡◌, ℕ, zero, suc, ◌<◌, Bool, List, [], ◌∷◌, Some, refl, sym, ap, ◌∙◌, subst, arith}
+use Rattle.std.proofs.Common.{◌≡◌, ℕ, ◌<◌, Bool, List, [], ◌∷◌, Some, refl, sym, ap, ◌∙◌, subst}
 use Rattle.dnp_objects.specs.declared.command.Command.{Command}
 use Rattle.dnp_controls.specs.Book.{Ledger}
 use Rattle.dnp_eventbuf.specs.Sides.{other_than}
@@ -10,10 +10,10 @@ use Rattle.dnp_outstation.specs.Calls.{performed_in}
 use Rattle.dnp_pointdb.specs.Plan as points
 use Rattle.dnp_concentrator.specs.BookOutputs.{Performs, all_added, book_in, map_in}
 use Rattle.dnp_concentrator.specs.Concentrator.{above_of, core_of, links_of, outputs_of, panel_above, plan_above, queue_of}
-use Rattle.dnp_concentrator.specs.Two.{at, with_at}
+use Rattle.dnp_concentrator.specs.PerCentre.{at, for_each, of_each, with_at}
 use Rattle.dnp_concentrator.specs.declared.book_outputs.BookOutputs.{BookOutputs}
 use Rattle.dnp_concentrator.specs.declared.concentrator.Concentrator.{Concentrator}
-use Rattle.dnp_concentrator.specs.declared.two.Two.{Two}
+use Rattle.dnp_concentrator.specs.declared.per_centre.PerCentre.{PerCentre}
 use Rattle.dnp_line.specs.Lines.{LineState}
 use Rattle.dnp_line.specs.Ports.{PortState}
 use Rattle.dnp_world.specs.Centres.{ChangesAll}
@@ -23,9 +23,9 @@ use Rattle.dnp_world.specs.SystemParts.{concentrator_of}
 use Rattle.dnp_world.specs.Systems.{ConcentratorState, System}
 use Rattle.dnp_world.specs.Wholes.{Whole, seen_by}
 use Rattle.dnp_world.specs.declared.channel.Channel.{Channel}
-use Rattle.dnp_world.specs.steps.WholeSteps.{KeepsOtherCentre, of_both}
+use Rattle.dnp_world.specs.steps.WholeSteps.{KeepsOtherCentre}
 use Rattle.dnp_world.proofs.CentrePlaces.{StaysApart, middle_there, middle_view}
-use Rattle.dnp_world.proofs.CentreReads.{same_there}
+use Rattle.dnp_world.proofs.PerCentre.{for_others, made_alike, own_and_others, same_there}
 
 -- what went up with another line down
 pub relined : (fragments : List (List ℕ)) (old new : ChannelState) (line : LineState) → GoUp fragments old new
@@ -61,14 +61,15 @@ abbrev pub Follows : {Q A : Type 0} → (Q → Type 0) → (Q → ℕ → EventB
 Follows honest buffer ledger n c d commands =
     HavePerformed (Performs ledger) commands (outputs_of c) (outputs_of d) × KeepsOtherCentre honest buffer n c d
 
--- the other centre sees no more than the commands
-pub stays_apart : {Q A : Type 0} (honest : Q → Type 0) (buffer : Q → ℕ → EventBuffer) (ledger : A → Ledger) (n : ℕ) (c d : Concentrator Q A)
-    (commands : List Command) → honest (queue_of d) → Follows honest buffer ledger n c d commands → StaysApart buffer ledger n commands c d
-stays_apart honest buffer ledger n c d commands is (performs, keeps) =
+-- another centre sees no more than the commands
+pub stays_apart : {Q A : Type 0} (honest : Q → Type 0) (buffer : Q → ℕ → EventBuffer) (ledger : A → Ledger) (n : ℕ) → n < CENTRES
+    → (c d : Concentrator Q A) (commands : List Command) → honest (queue_of d) → Follows honest buffer ledger n c d commands
+    → StaysApart buffer ledger n commands c d
+stays_apart honest buffer ledger n low c d commands is (performs, keeps) =
     let both = all_in ledger commands (outputs_of c) (outputs_of d) performs in
     record {
-      core = keeps.core;
-      queue = keeps.side is;
+      cores = for_others (λ m. core_of m d ≡ core_of m c) n low keeps.core;
+      queues = for_others (λ m. buffer (queue_of d) m ≡ buffer (queue_of c) m) n low (keeps.side is);
       indices = both.0;
       points = keeps.plan;
       controls = both.1;
@@ -127,17 +128,17 @@ commands_come honest buffer ledger n now c d does answered old new (fragment ∷
 
 -- what comes to the concentrator from a centre, as all see it
 pub comes_from : {Q A : Type 0} (honest : Q → Type 0) (buffer : Q → ℕ → EventBuffer) (ledger : A → Ledger) (n : ℕ) → n < CENTRES → (rest : Whole)
-    (c d : Concentrator Q A) → honest (queue_of d) → (does : Actions) (answered repeats : Bool) (above : Two Channel)
+    (c d : Concentrator Q A) → honest (queue_of d) → (does : Actions) (answered repeats : Bool) (above : PerCentre Channel)
     (before lines last : Channel) → before ≡ at n above → (state_of last ≡ (let l = state_of lines in record l { down = left_by repeats l.down }))
     → ComesToOutstation (Follows honest buffer ledger n c d) (panel_above ledger n rest.now c) rest.now (above_of buffer ledger n c)
     (above_of buffer ledger n d) does answered (state_of before) (state_of lines)
-    → ChangesAll (Some n) (ComesDownAbove (left_by repeats)) (record rest { concentrator = concentrator_of buffer ledger c; above = of_both state_of above })
-    (record rest { concentrator = concentrator_of buffer ledger d; above = of_both state_of (with_at n above last) })
+    → ChangesAll (Some n) (ComesDownAbove (left_by repeats)) (record rest { concentrator = concentrator_of buffer ledger c; above = of_each state_of above })
+    (record rest { concentrator = concentrator_of buffer ledger d; above = of_each state_of (with_at n above last) })
 comes_from honest buffer ledger n low rest c d is does answered repeats above before lines last there settled came =
     let base : System = record (seen_by n rest) { above = state_of before } in
     let some = commands_come honest buffer ledger n rest.now c d does answered _ (state_of lines) came.given came.came in
-    middle_there buffer ledger n low (ComesDownAbove (left_by repeats)) rest c d some.0 (stays_apart honest buffer ledger n c d some.0 is some.1) above before
-    last there
+    middle_there buffer ledger n low (ComesDownAbove (left_by repeats)) rest c d some.0 (stays_apart honest buffer ledger n low c d some.0 is some.1) above
+    before last there
     (subst (λ (l : ChannelState). ComesDownAbove (left_by repeats) (with_concentrator buffer ledger n base c)
     (record (with_concentrator buffer ledger n base d) { above = l })) (sym settled)
     (comes_above honest buffer ledger n c d base does answered repeats (state_of lines) came))
@@ -149,29 +150,32 @@ concentrator_stays : {Q A : Type 0} (honest : Q → Type 0) (buffer : Q → ℕ 
     → honest (queue_of d) → map_in (outputs_of d) ≡ map_in (outputs_of c) → ledger (book_in (outputs_of d)) ≡ ledger (book_in (outputs_of c))
     → KeepsOtherCentre honest buffer n c d → above_of buffer ledger n d ≡ above_of buffer ledger n c
     → concentrator_of buffer ledger d ≡ concentrator_of buffer ledger c
-concentrator_stays honest buffer ledger zero low c d is indices controls keeps same =
-    cc (ap (λ (s : State). s.core) same, keeps.core, ap (λ (s : State). s.lanes) same, keeps.side is, keeps.plan, keeps.links)
-concentrator_stays honest buffer ledger (suc zero) low c d is indices controls keeps same =
-    cc (keeps.core, ap (λ (s : State). s.core) same, keeps.side is, ap (λ (s : State). s.lanes) same, keeps.plan, keeps.links)
-concentrator_stays honest buffer ledger (suc (suc n)) low c d is indices controls keeps same = absurd (omega (arith, low))
+concentrator_stays {Q} {A} honest buffer ledger n low c d is indices controls keeps same =
+    let cores : for_each (λ m. core_of m d) ≡ for_each (λ m. core_of m c) =
+    made_alike (λ m. core_of m d) (λ m. core_of m c)
+    (own_and_others _ n (ap (λ (s : State). s.core) same) (for_others (λ m. core_of m d ≡ core_of m c) n low keeps.core)) in
+    let queues : for_each (buffer (queue_of d)) ≡ for_each (buffer (queue_of c)) =
+    made_alike (buffer (queue_of d)) (buffer (queue_of c))
+    (own_and_others _ n (ap (λ (s : State). s.lanes) same) (for_others (λ m. buffer (queue_of d) m ≡ buffer (queue_of c) m) n low (keeps.side is))) in
+    cc (cores, queues, indices, controls, keeps.plan, keeps.links)
 
 -- so the whole stays
 pub all_stays : {Q A : Type 0} (honest : Q → Type 0) (buffer : Q → ℕ → EventBuffer) (ledger : A → Ledger) (n : ℕ) → n < CENTRES → (rest : Whole)
     (c d : Concentrator Q A) → honest (queue_of d) → map_in (outputs_of d) ≡ map_in (outputs_of c)
     → ledger (book_in (outputs_of d)) ≡ ledger (book_in (outputs_of c)) → KeepsOtherCentre honest buffer n c d
-    → above_of buffer ledger n d ≡ above_of buffer ledger n c → (above : Two Channel) (before lines : Channel) → before ≡ at n above
+    → above_of buffer ledger n d ≡ above_of buffer ledger n c → (above : PerCentre Channel) (before lines : Channel) → before ≡ at n above
     → state_of lines ≡ state_of before
-    → record rest { concentrator = concentrator_of buffer ledger d; above = of_both state_of (with_at n above lines) }
-    ≡ record rest { concentrator = concentrator_of buffer ledger c; above = of_both state_of above }
+    → record rest { concentrator = concentrator_of buffer ledger d; above = of_each state_of (with_at n above lines) }
+    ≡ record rest { concentrator = concentrator_of buffer ledger c; above = of_each state_of above }
 all_stays honest buffer ledger n low rest c d is indices controls keeps same above before lines there lines_same =
     cc (concentrator_stays honest buffer ledger n low c d is indices controls keeps same, same_there state_of n above before lines there lines_same)
 
 -- also where nothing was performed
 pub all_stays_idle : {Q A : Type 0} (honest : Q → Type 0) (buffer : Q → ℕ → EventBuffer) (ledger : A → Ledger) (n : ℕ) → n < CENTRES → (rest : Whole)
     (c d : Concentrator Q A) → honest (queue_of d) → Follows honest buffer ledger n c d [] → above_of buffer ledger n d ≡ above_of buffer ledger n c
-    → (above : Two Channel) (before lines : Channel) → before ≡ at n above → state_of lines ≡ state_of before
-    → record rest { concentrator = concentrator_of buffer ledger d; above = of_both state_of (with_at n above lines) }
-    ≡ record rest { concentrator = concentrator_of buffer ledger c; above = of_both state_of above }
+    → (above : PerCentre Channel) (before lines : Channel) → before ≡ at n above → state_of lines ≡ state_of before
+    → record rest { concentrator = concentrator_of buffer ledger d; above = of_each state_of (with_at n above lines) }
+    ≡ record rest { concentrator = concentrator_of buffer ledger c; above = of_each state_of above }
 all_stays_idle honest buffer ledger n low rest c d is (performs, keeps) same =
     let both = all_in ledger [] (outputs_of c) (outputs_of d) performs in
     all_stays honest buffer ledger n low rest c d is both.0 both.1 keeps same

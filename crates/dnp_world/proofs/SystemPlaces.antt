@@ -7,13 +7,13 @@ use Rattle.std.proofs.lemmas.List.{map-set, length-map, set-get_or, get_or-map}
 use Rattle.std.proofs.lemmas.Option.{slice_get-get_or, slice_get-map}
 use Rattle.std.specs.Option.{option_map}
 use Rattle.dnp_controls.specs.Book.{Ledger}
+use Rattle.dnp_eventbuf.specs.Sides.{ForEach}
 use Rattle.dnp_eventbuf.specs.EventBuffer.{EventBuffer}
 use Rattle.dnp_outstation.specs.State.{Core}
 use Rattle.dnp_concentrator.specs.Concentrator.{core_of, links_of, KeepsStores}
 use Rattle.dnp_concentrator.specs.Below.{link_in}
 use Rattle.dnp_concentrator.specs.Relaying.{Relaying, hung_up}
 use Rattle.dnp_concentrator.specs.declared.concentrator.Concentrator.{Concentrator}
-use Rattle.dnp_concentrator.specs.declared.two.Two.{Two}
 use Rattle.dnp_world.specs.Centres.{ChangesAll, has_link}
 use Rattle.dnp_world.specs.Channels.{ChannelState, GoDown, state_of}
 use Rattle.dnp_concentrator.specs.Concentrator.{without_link}
@@ -25,8 +25,8 @@ use Rattle.dnp_world.specs.declared.channel.Channel.{Channel}
 use Rattle.dnp_world.specs.declared.event.Link.TheVariants.{Below}
 use Rattle.dnp_world.specs.declared.link_event.End.TheVariants.{Master}
 use Rattle.dnp_world.specs.declared.substation.Substation.{Substation}
-use Rattle.dnp_world.specs.steps.WholeSteps.{of_both}
-use Rattle.dnp_world.proofs.EachCentre.{for_both}
+use Rattle.dnp_concentrator.specs.PerCentre.{of_each}
+use Rattle.dnp_world.proofs.PerCentre.{at_every, made_alike}
 
 pub there : {A B : Type 0} (f : A → B) (xs : List A) (i : ℕ) (x d : A) → i < length xs → x ≡ get_or xs i d → slice_get (map f xs) i ≡ Some (f x)
 there f xs i x d low is = slice_get-map f xs i ∙ ap (option_map f) (slice_get-get_or xs i d low ∙ ap Some (sym is))
@@ -64,13 +64,12 @@ is_there s xs substation list has =
 
 -- ---- the concentrator
 
--- its readings above and its links become others
-pub concentrator_with : {Q A : Type 0} (buffer : Q → ℕ → EventBuffer) (ledger : A → Ledger) (old new : Concentrator Q A) (cores : Two Core)
-    (links : List Relaying)
-    → core_of 0 new ≡ cores.first → core_of 1 new ≡ cores.second → links_of new ≡ links → KeepsStores old new
-    → concentrator_of buffer ledger new ≡ record (concentrator_of buffer ledger old) { cores = cores; links = links }
-concentrator_with buffer ledger old new cores links first_is second_is links_is stores =
-    rw (first_is, second_is) (cc (stores.queue, stores.outputs, stores.plan))
+-- its outstations above and its links become others
+pub concentrator_with : {Q A : Type 0} (buffer : Q → ℕ → EventBuffer) (ledger : A → Ledger) (old new : Concentrator Q A) (next : Core → Core)
+    (links : List Relaying) → ForEach (λ n. core_of n new ≡ next (core_of n old)) → links_of new ≡ links → KeepsStores old new
+    → concentrator_of buffer ledger new ≡ (let was = concentrator_of buffer ledger old in record was { cores = of_each next was.cores; links = links })
+concentrator_with buffer ledger old new next links cores links_is stores =
+    cc (made_alike (λ n. core_of n new) (λ n. next (core_of n old)) cores, links_is, stores.queue, stores.outputs, stores.plan)
 
 -- ---- lines
 
@@ -115,20 +114,31 @@ sends_at substation i fragments first middle xs was lines list same_middle same 
 pub down_from : (fragments : List (List ℕ)) (old mid new : ChannelState) → mid ≡ old → GoDown fragments mid new → GoDown fragments old new
 down_from fragments old mid new same down = subst (λ (c : ChannelState). GoDown fragments c new) same down
 
+-- the concentrator once its master of a substation hung up
+abbrev pub without_below : Whole → ℕ → WholeConcentrator
+without_below old substation = record old.concentrator {
+  cores = of_each (λ core. without_link core substation) old.concentrator.cores;
+  links = slice_set old.concentrator.links substation (hung_up (link_in old.concentrator.links substation));
+}
+
 -- the master's end of a substation's link hung up
 pub hangs_up_below : (old : Whole) (substation i : ℕ) (xs : List Substation) (was is : Substation) (middle : WholeConcentrator)
     → old.substations ≡ map substation_of xs → i ≡ substation → has_link old (Below substation) ≡ true → was ≡ get_or xs i was
     → substation_of is ≡ master_gone (substation_of was)
-    → middle ≡ record old.concentrator {
-      cores = of_both (λ core. without_link core substation) old.concentrator.cores;
-      links = slice_set old.concentrator.links substation (hung_up (link_in old.concentrator.links substation));
-    }
+    → middle ≡ without_below old substation
     → ChangesAll None (HangsUpOn (Below substation) Master) old (record old { substations = map substation_of (slice_set xs i is); concentrator = middle })
 hangs_up_below old substation i xs was is middle list same has at gone middle_is =
     let low : i < length xs = rw same (is_there (seen_by 0 old) xs substation list has) in
     let hung : ℕ → System = λ n. let s = seen_by n old in with_lost (with_link s substation (hung_up (link_at s.concentrator substation))) substation in
     let new : ℕ → WholeConcentrator → System = λ n c. seen_by n (record old { substations = map substation_of (slice_set xs i is); concentrator = c }) in
     let Gone : SubstationState → SubstationState → Type 0 = λ before after. after ≡ master_gone before in
-    for_both _
-    (changes_at substation i Gone same_rest (hung 0) (new 0 middle) xs was is list same low at gone (ap (new 0) middle_is))
-    (changes_at substation i Gone same_rest (hung 1) (new 1 middle) xs was is list same low at gone (ap (new 1) middle_is))
+    λ n few.
+    changes_at substation i Gone same_rest (hung n) (new n middle) xs was is list same low at gone (ap (new n) middle_is ∙ as_hung n few)
+  where
+    as_hung : ForEach (λ n. seen_by n (record old {
+      substations = map substation_of (slice_set xs i is);
+      concentrator = without_below old substation;
+    }) ≡ (let s = seen_by n old in record (with_lost (with_link s substation (hung_up (link_at s.concentrator substation))) substation) {
+      substations = map substation_of (slice_set xs i is);
+    }))
+    as_hung = at_every _ refl refl

@@ -1,8 +1,11 @@
--- Definition: a steady system with two centres: to each of them it is steady, beside what stands at the other one; and what happens to
+-- Definition: a steady system with all its centres: to each of them it is steady, beside what stands at the others; and what happens to
 -- it while a list of events is done (own rule: IEEE Std 1815-2012 speaks of one link at a time).
-use Rattle.std.specs.Prelude.{◌≡◌, ℕ, if◌then◌else◌, List, [], ◌++◌}
+use Rattle.std.specs.Prelude.{◌≡◌, ◌==◌, ℕ, zero, suc, if◌then◌else◌, List, [], ◌++◌}
 use Rattle.std.specs.List.{flat_map}
+use Rattle.dnp_concentrator.specs.PerCentre.{at}
+use Rattle.dnp_concentrator.specs.declared.per_centre.PerCentre.{PerCentre}
 use Rattle.dnp_eventbuf.specs.Sides.{ForEach}
+use Rattle.dnp_eventbuf.specs.declared.pair.TheConstants.{CENTRES}
 use Rattle.dnp_objects.specs.declared.command.Command.{Command}
 use Rattle.dnp_objects.specs.declared.row.Row.{Row}
 use Rattle.dnp_world.specs.Behind.{Elsewhere, Links}
@@ -17,19 +20,32 @@ use Rattle.dnp_world.specs.Systems.{System}
 use Rattle.dnp_world.specs.Wholes.{Whole, seen_by}
 use Rattle.dnp_world.specs.declared.event.Event.{Event}
 
--- what stands at a centre, for the other one: what its link performed, and its book
+-- what stands at a centre, for the others: what its link performed, and its book
 abbrev pub side_of : Links → KeptLists → Elsewhere
 side_of links k = record { performed = links.above.performed; orders = k.orders }
 
--- each centre's links stand behind what it sees, beside the other's
+-- of a list for each of the first centres, so many, all but that of this one
+abbrev pub all_but : {A : Type 0} → ℕ → (ℕ → List A) → ℕ → List A
+all_but centre lists zero = []
+all_but centre lists (suc n) = all_but centre lists n ++ (if centre == n then [] else lists n)
+
+-- what stands at all others together
+abbrev pub beside : ℕ → PerCentre Elsewhere → Elsewhere
+beside centre sides = record {
+  performed = all_but centre (λ n. (at n sides).performed) CENTRES;
+  orders = all_but centre (λ n. (at n sides).orders) CENTRES;
+}
+
+-- the links of a centre stand behind what it sees, beside what stands at the others
+pub record IsSteadyAmong (sides : PerCentre Elsewhere) (centre : ℕ) (s : System) : Type 0 where
+  pub steady : IsSteadyBeside (beside centre sides) s
+  pub side : at centre sides ≡ side_of steady.standing.links (kept_in s)
+
+-- to each centre it is steady, beside what stands at the others
 pub record AreSteady (w : Whole) : Type 0 where
-  -- what stands elsewhere to the first centre, and to the second
-  pub first : Elsewhere
-  pub second : Elsewhere
-  pub here : IsSteadyBeside first (seen_by 0 w)
-  pub there : IsSteadyBeside second (seen_by 1 w)
-  pub first_is : first ≡ side_of there.standing.links (kept_in (seen_by 1 w))
-  pub second_is : second ≡ side_of here.standing.links (kept_in (seen_by 0 w))
+  -- what stands at each
+  pub sides : PerCentre Elsewhere
+  pub among : ForEach (λ centre. IsSteadyAmong sides centre (seen_by centre w))
 
 -- the links, and what stands elsewhere, have performed what the concentrator's book has
 abbrev pub RelaysAs : Elsewhere → Links → System → Type 0
@@ -59,7 +75,7 @@ pub record LeavesBooks (old new : System) : Type 0 where
 abbrev pub IsFateOfAll : (ℕ → List Row) → Whole → Whole → Type 0
 IsFateOfAll made old new = ForEach (λ centre. IsFate made (report_of (seen_by centre old)) (report_of (seen_by centre new)))
 
--- What happened at each substation is what had happened, and the rows that these events make: both centres see the same substations.
+-- What happened at each substation is what had happened, and the rows that these events make: all centres see the same substations.
 abbrev pub Lasts : List Event → Whole → Whole → Type 0
 Lasts events old new = IsFateOfAll (rows_made_at (seen_by 0 old) events) old new
 

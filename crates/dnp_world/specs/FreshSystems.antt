@@ -1,15 +1,17 @@
 -- Definition: a system of a plan in which nothing has happened yet, over the stores that it is given: the whole, and as one centre
 -- sees it (own rule: IEEE Std 1815-2012 speaks of one link at a time).
-use Rattle.std.specs.Prelude.{ℕ, suc, List, [], ◌∷◌, None}
+use Rattle.std.specs.Prelude.{ℕ, suc, List, [], ◌∷◌}
 use Rattle.dnp_concentrator.specs.Addresses.{centre_address, outstation_address}
 use Rattle.dnp_concentrator.specs.Below.{new_links}
 use Rattle.dnp_concentrator.specs.Plan.{map_of}
 use Rattle.dnp_concentrator.specs.PointsAbove.{points_above, points_at}
 use Rattle.dnp_concentrator.specs.Relaying.{new_relaying}
+use Rattle.dnp_concentrator.specs.Reserving.{none_reserved}
 use Rattle.dnp_concentrator.specs.declared.addresses.TheConstants.{CONCENTRATOR_ABOVE, MASTER_BELOW}
 use Rattle.dnp_concentrator.specs.declared.plan.Plan.{Plan}
 use Rattle.dnp_concentrator.specs.declared.plan.SubPlan.{SubPlan}
-use Rattle.dnp_concentrator.specs.declared.two.Two.{Two}
+use Rattle.dnp_concentrator.specs.PerCentre.{at, for_each}
+use Rattle.dnp_concentrator.specs.declared.per_centre.PerCentre.{PerCentre}
 use Rattle.dnp_controls.specs.Book.{Ledger}
 use Rattle.dnp_eventbuf.specs.Archive.{Archive}
 use Rattle.dnp_eventbuf.specs.EventBuffer.{EventBuffer, empty_buffer}
@@ -66,7 +68,7 @@ fresh_system plan centre queue journal controls orders = record {
     indices = map_of plan;
     points = points_above plan;
     controls = controls;
-    reserved = (λ now. None);
+    reserved = (λ now. none_reserved);
     links = new_links plan;
   };
   centre = fresh_centre plan journal orders;
@@ -76,23 +78,20 @@ fresh_system plan centre queue journal controls orders = record {
 }
 
 -- the whole, over these queues, these journals, and these books of concentrator and centres
-abbrev pub fresh_whole : Plan → Two EventBuffer → Two Archive → Ledger → Two Ledger → Whole
+abbrev pub fresh_whole : Plan → PerCentre EventBuffer → PerCentre Archive → Ledger → PerCentre Ledger → Whole
 fresh_whole plan queues journals controls orders = record {
   indices = map_of plan;
   substations = fresh_substations plan.times 0 plan.substations;
   concentrator = record {
-    cores = record { first = fresh_core plan; second = fresh_core plan };
+    cores = for_each (λ centre. fresh_core plan);
     queues = queues;
     indices = map_of plan;
     points = points_above plan;
     controls = controls;
     links = new_links plan;
   };
-  centres = record { first = fresh_centre plan journals.first orders.first; second = fresh_centre plan journals.second orders.second };
-  above = record {
-    first = fresh_channel CONCENTRATOR_ABOVE (centre_address 0);
-    second = fresh_channel CONCENTRATOR_ABOVE (centre_address 1);
-  };
+  centres = for_each (λ centre. fresh_centre plan (at centre journals) (at centre orders));
+  above = for_each (λ centre. fresh_channel CONCENTRATOR_ABOVE (centre_address centre));
   now = 0;
-  history = record { confirmed = []; overwritten = []; gone = []; dropped = record { first = []; second = [] }; issued = []; operated = [] };
+  history = record { confirmed = []; overwritten = []; gone = []; dropped = for_each (λ centre. []); issued = []; operated = [] };
 }

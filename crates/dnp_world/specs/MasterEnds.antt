@@ -1,7 +1,9 @@
 -- Definition: what comes up the lines of a link to the master there, and what the master's station does with it (IEEE Std
 -- 1815-2012: application layer, transport function and data link layer together).
-use Rattle.std.specs.Prelude.{◌≡◌, ◌⊎◌, ◌≤◌, ℕ, List, [], ◌∷◌, ◌++◌, length, Result, Ok, Err, IfOk, IfErr, OnErr, option_to_list}
-use Rattle.dnp_concentrator.specs.declared.two.Two.{Two}
+use Rattle.std.specs.Prelude.{Vec, ◌≡◌, ◌⊎◌, ◌≤◌, ℕ, List, [], ◌∷◌, ◌++◌, length, Result, Ok, Err, IfOk, IfErr, OnErr, option_to_list}
+use Rattle.dnp_concentrator.specs.PerCentre.{at, for_each, of_each}
+use Rattle.dnp_concentrator.specs.declared.per_centre.PerCentre.{PerCentre}
+use Rattle.dnp_eventbuf.specs.Sides.{ForEach}
 use Rattle.dnp_objects.specs.declared.row.Row.{Row}
 use Rattle.dnp_line.specs.Lines.{LineState, front_of}
 use Rattle.dnp_line.specs.Ports.{PortState}
@@ -14,13 +16,13 @@ use Rattle.dnp_master.specs.State.{State}
 use Rattle.dnp_world.specs.Channels.{ChannelState, GoDown}
 
 -- at most so many rows for each centre
-abbrev pub AreFew : ℕ → Two (List Row) → Type 0
-AreFew most rows = (length rows.first ≤ most) × (length rows.second ≤ most)
+abbrev pub AreFew : ℕ → PerCentre (List Row) → Type 0
+AreFew most rows = ForEach (λ centre. length (at centre rows) ≤ most)
 
 -- A call of the station at the master's end with octets of which its master makes this, by the station before and after it
 -- and its answer: it takes them, and its stores drop these rows for them, to the first centre and to the second. A refusal changes
 -- nothing.
-pub record TakesIn {Station : Type 0} (honest : Station → Type 0) (takes : Taking → Type 0) (drops : Taking → Two (List Row)) (keeps stays : Type 0)
+pub record TakesIn {Station : Type 0} (honest : Station → Type 0) (takes : Taking → Type 0) (drops : Taking → PerCentre (List Row)) (keeps stays : Type 0)
     (made : Result Taking MasterFault) (old new : Station) (answer : Result (MasterActions × List Row) MasterFault) : Type 0 where
   pub held : honest new → honest old
   pub taken : honest new → IfOk answer (λ a. IfOk made (λ t. (a.0 ≡ actions_of t (drops t).first) × (a.1 ≡ (drops t).second) × takes t))
@@ -52,10 +54,13 @@ pub record ComesToMaster (left : LineState → LineState) (master : State) (now 
 
 -- ---- rows that stores drop
 
-abbrev pub none_dropped : Two (List Row)
-none_dropped = record { first = []; second = [] }
+abbrev pub none_dropped : PerCentre (List Row)
+none_dropped = for_each (λ centre. [])
 
--- they are put after the lists for the first centre and for the second
-pub record ListsDropped (dropped : Two (List Row)) (first second first' second' : List Row) : Type 0 where
-  pub to_first : first' ≡ first ++ dropped.first
-  pub to_second : second' ≡ second ++ dropped.second
+-- the rows that are listed for each centre
+abbrev pub lists_in : {Memory : Type 0} → PerCentre (Vec Row Memory) → PerCentre (List Row)
+lists_in lists = of_each (λ rows. rows.items) lists
+
+-- they are put after the list for each centre
+abbrev pub ListsDropped : PerCentre (List Row) → PerCentre (List Row) → PerCentre (List Row) → Type 0
+ListsDropped dropped old new = ForEach (λ centre. at centre new ≡ at centre old ++ at centre dropped)

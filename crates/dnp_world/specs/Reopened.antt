@@ -7,7 +7,8 @@ use Rattle.dnp_concentrator.specs.PointsAbove.{points_above}
 use Rattle.dnp_concentrator.specs.Relaying.{hung_up}
 use Rattle.dnp_concentrator.specs.Restarting.{LinkRestartsAsNew, RestartsAsNew}
 use Rattle.dnp_concentrator.specs.declared.plan.Plan.{Plan}
-use Rattle.dnp_concentrator.specs.declared.two.Two.{Two}
+use Rattle.dnp_concentrator.specs.PerCentre.{for_each}
+use Rattle.dnp_concentrator.specs.declared.per_centre.PerCentre.{PerCentre}
 use Rattle.dnp_controls.specs.Book.{Ledger}
 use Rattle.dnp_eventbuf.specs.Archive.{Archive}
 use Rattle.dnp_eventbuf.specs.Sides.{ForEach}
@@ -24,9 +25,9 @@ use Rattle.dnp_world.specs.declared.event.Place.{Place}
 
 -- ---- what is made of a plan over stores
 
-abbrev pub new_concentrator : Plan → Two EventBuffer → Ledger → WholeConcentrator
+abbrev pub new_concentrator : Plan → PerCentre EventBuffer → Ledger → WholeConcentrator
 new_concentrator plan queues controls = record {
-  cores = record { first = fresh_core plan; second = fresh_core plan };
+  cores = for_each (λ centre. fresh_core plan);
   queues = queues;
   indices = map_of plan;
   points = points_above plan;

@@ -3,7 +3,7 @@
 use Rattle.std.specs.Prelude.{◌≡◌, ℕ, ◌^◌, ◌-◌, min, List, length, map, take}
 use Rattle.std.specs.List.{flat_map}
 use Rattle.std.specs.List.Sorted.{IsPermutation, IsNonDecreasingBy}
-use Rattle.dnp_eventbuf.specs.Sides.{at}
+use Rattle.dnp_concentrator.specs.PerCentre.{at, per_centre}
 use Rattle.dnp_eventbuf.specs.declared.numbered.Numbered.{Numbered}
 use Rattle.dnp_objects.specs.declared.row.Row.{Row}
 use Rattle.dnp_eventbuf.specs.EventBuffer.{EventBuffer, lost_in, row_of, rows_in}
@@ -58,14 +58,14 @@ pub record ListsAll (s : System) (r : Report) : Type 0 where
 -- the lists of a report that are of a centre, or shared
 abbrev pub lists_of : ℕ → told.Report → Report
 lists_of centre r = record {
-  journal = at centre r.journal.0 r.journal.1;
-  queue = at centre r.queue.0 r.queue.1;
-  dropped = at centre r.dropped.0 r.dropped.1;
+  journal = at centre (per_centre r.journal);
+  queue = at centre (per_centre r.queue);
+  dropped = at centre (per_centre r.dropped);
   confirmed = r.confirmed;
   buffered = r.buffered;
   overwritten = r.overwritten;
   gone = r.gone;
   issued = r.issued;
   operated = r.operated;
-  lost = at centre r.lost.0 r.lost.1;
+  lost = at centre (per_centre r.lost);
 }

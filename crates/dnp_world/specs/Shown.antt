@@ -1,6 +1,8 @@
 -- Definition: what contracts see of a whole system: what it holds, by what its stores say of themselves, and the stores; and what
 -- holds of it at every moment (own rule: IEEE Std 1815-2012 speaks of one link at a time).
 use Rattle.std.specs.Prelude.{◌≡◌, Bool, false, ◌||◌}
+use Rattle.dnp_concentrator.specs.PerCentre.{at, for_each, is_any, per_centre}
+use Rattle.dnp_eventbuf.specs.Sides.{ForEach}
 use Rattle.dnp_world.specs.BothSteady.{AreSteady}
 use Rattle.dnp_world.specs.Wholes.{Whole}
 
@@ -24,17 +26,15 @@ pub record IsBookWell {B : Type 0} (honest : B → Type 0) (is_stopped : B → B
 pub record StoresAreWell {Q J A B : Type 0} (queues : Q → Type 0) (journal : J → Type 0) (controls : A → Type 0) (controls_stopped : A → Bool)
     (orders : B → Type 0) (orders_stopped : B → Bool) (stores : Stores Q J A B) : Type 0 where
   pub queues_are : queues stores.queues
-  pub first_journal : journal stores.journals.0
-  pub second_journal : journal stores.journals.1
+  pub journals_are : ForEach (λ centre. journal (at centre (per_centre stores.journals)))
   pub controls_are : IsBookWell controls controls_stopped stores.controls
-  pub first_orders : IsBookWell orders orders_stopped stores.orders.0
-  pub second_orders : IsBookWell orders orders_stopped stores.orders.1
+  pub orders_are : ForEach (λ centre. IsBookWell orders orders_stopped (at centre (per_centre stores.orders)))
 
 -- one of them has answered Device
 abbrev pub is_one_stopped : {Q J A B : Type 0} → (Q → Bool) → (J → Bool) → (A → Bool) → (B → Bool) → Stores Q J A B → Bool
 is_one_stopped queues journal controls orders stores =
     (queues stores.queues || controls stores.controls)
-    || ((journal stores.journals.0 || orders stores.orders.0) || (journal stores.journals.1 || orders stores.orders.1))
+    || is_any (for_each (λ centre. journal (at centre (per_centre stores.journals)) || orders (at centre (per_centre stores.orders))))
 
 -- At every moment a system whose stores are well is steady, as each centre sees it.
 abbrev pub IsSteadyWhileWell : {Q J A B : Type 0} → (Q → Type 0) → (J → Type 0) → (A → Type 0) → (A → Bool) → (B → Type 0) → (B → Bool)

@@ -30,6 +30,7 @@ use Rattle.dnp_outstation.specs.Station.{with_points}
 use Rattle.dnp_concentrator.specs.Below.{readings_set}
 use Rattle.dnp_concentrator.specs.BookOutputs.{all_added}
 use Rattle.dnp_concentrator.specs.Concentrator.{without_link}
+use Rattle.dnp_concentrator.specs.Reserving.{none_reserved}
 use Rattle.dnp_concentrator.specs.Mapped.{queued_rows}
 use Rattle.dnp_appfragment.specs.Fragments.{request_octets}
 use Rattle.dnp_master.specs.Requests.{request_for}
@@ -148,7 +149,7 @@ concentrator_restarted s = record s {
   substations = map master_gone s.substations;
   concentrator = record s.concentrator {
     core = restarted_core s.concentrator.core;
-    reserved = (λ now. None);
+    reserved = (λ now. none_reserved);
     links = map relaying.hung_up s.concentrator.links;
   };
   above = hung_up_at end.Outstation s.above;

@@ -15,7 +15,7 @@ use Rattle.dnp_world.specs.declared.parts.Parts.TheInside.{Inside}
 use Rattle.dnp_world.specs.declared.substation.Substation.{Substation}
 use Rattle.dnp_world.specs.Shown.{Shown, Stores}
 use Rattle.dnp_world.specs.Wholes.{Whole, WholeConcentrator, WholeHistory}
-use Rattle.dnp_world.specs.steps.WholeSteps.{of_both}
+use Rattle.dnp_concentrator.specs.PerCentre.{for_each, of_each, pair_of}
 
 abbrev pub substation_of : Substation → SubstationState
 substation_of s = record {
@@ -27,8 +27,8 @@ substation_of s = record {
 
 abbrev pub concentrator_of : {Q A : Type 0} → (Q → ℕ → EventBuffer) → (A → Ledger) → Concentrator Q A → WholeConcentrator
 concentrator_of buffer ledger c = record {
-  cores = record { first = concentrator.core_of 0 c; second = concentrator.core_of 1 c };
-  queues = record { first = buffer (concentrator.queue_of c) 0; second = buffer (concentrator.queue_of c) 1 };
+  cores = for_each (λ centre. concentrator.core_of centre c);
+  queues = for_each (buffer (concentrator.queue_of c));
   indices = concentrator.indices_of c;
   points = concentrator.plan_above c;
   controls = ledger (concentrator.book_of c);
@@ -48,7 +48,7 @@ history_of h = record {
   confirmed = h.confirmed.items;
   overwritten = h.overwritten.items;
   gone = h.gone.items;
-  dropped = of_both (λ rows. rows.items) h.dropped;
+  dropped = of_each (λ rows. rows.items) h.dropped;
   issued = h.issued.items;
   operated = h.operated.items;
 }
@@ -58,8 +58,8 @@ system_of buffer archive controls orders p = record {
   indices = p.map;
   substations = map substation_of p.substations.items;
   concentrator = concentrator_of buffer controls p.concentrator;
-  centres = of_both (centre_of archive orders) p.centres;
-  above = of_both state_of p.above;
+  centres = of_each (centre_of archive orders) p.centres;
+  above = of_each state_of p.above;
   now = p.moment;
   history = history_of p.history;
 }
@@ -69,9 +69,9 @@ system_of buffer archive controls orders p = record {
 abbrev pub stores_of : {Q J A B : Type 0} → Inside Q J A B → Stores Q J A B
 stores_of p = record {
   queues = concentrator.queue_of p.concentrator;
-  journals = (centre.journal_of p.centres.first, centre.journal_of p.centres.second);
+  journals = pair_of (of_each centre.journal_of p.centres);
   controls = concentrator.book_of p.concentrator;
-  orders = (centre.book_of p.centres.first, centre.book_of p.centres.second);
+  orders = pair_of (of_each centre.book_of p.centres);
 }
 
 -- ---- what contracts see

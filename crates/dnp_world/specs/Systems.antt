@@ -12,6 +12,7 @@ use Rattle.dnp_outstation.specs.State.{Core, State}
 use Rattle.dnp_outstation.specs.Station.{state_of}
 use Rattle.dnp_concentrator.specs.BookOutputs.{book_panel}
 use Rattle.dnp_concentrator.specs.Below.{link_in}
+use Rattle.dnp_concentrator.specs.Reserving.{Reserved}
 use Rattle.dnp_concentrator.specs.Relaying.{Relaying}
 use Rattle.dnp_concentrator.specs.declared.span.Spans.{Spans}
 use Rattle.dnp_line.specs.Lines.{front_of}
@@ -51,7 +52,7 @@ pub record ConcentratorState : Type 0 where
   pub points : points.Plan
   pub controls : Ledger
   -- the command whose point a select of another centre reserves, at each moment
-  pub reserved : ℕ → Option Command
+  pub reserved : ℕ → Reserved
   pub links : List Relaying
 
 -- the concentrator's outputs at a moment

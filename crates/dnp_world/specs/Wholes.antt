@@ -4,12 +4,11 @@ use Rattle.std.specs.Prelude.{ℕ, List}
 use Rattle.dnp_objects.specs.declared.command.Command.{Command}
 use Rattle.dnp_objects.specs.declared.row.Row.{Row}
 use Rattle.dnp_concentrator.specs.Relaying.{Relaying}
-use Rattle.dnp_concentrator.specs.Reserving.{reserved_by}
-use Rattle.dnp_concentrator.specs.Two.{at}
+use Rattle.dnp_concentrator.specs.Reserving.{reserved_beside}
+use Rattle.dnp_concentrator.specs.PerCentre.{at}
 use Rattle.dnp_concentrator.specs.declared.span.Spans.{Spans}
-use Rattle.dnp_concentrator.specs.declared.two.Two.{Two}
+use Rattle.dnp_concentrator.specs.declared.per_centre.PerCentre.{PerCentre}
 use Rattle.dnp_controls.specs.Book.{Ledger}
-use Rattle.dnp_eventbuf.specs.Sides.{other_than}
 use Rattle.dnp_eventbuf.specs.EventBuffer.{EventBuffer}
 use Rattle.dnp_outstation.specs.State.{Core}
 use Rattle.dnp_pointdb.specs.Plan as points
@@ -20,8 +19,8 @@ use Rattle.dnp_world.specs.Systems.{CentreState, SubstationState, System}
 
 -- an outstation and a queue for each centre; the book of controls and the links below are shared
 pub record WholeConcentrator : Type 0 where
-  pub cores : Two Core
-  pub queues : Two EventBuffer
+  pub cores : PerCentre Core
+  pub queues : PerCentre EventBuffer
   pub indices : List Spans
   pub points : points.Plan
   pub controls : Ledger
@@ -32,7 +31,7 @@ pub record WholeHistory : Type 0 where
   pub confirmed : List (ℕ × Row)
   pub overwritten : List (ℕ × Row)
   pub gone : List (ℕ × Row)
-  pub dropped : Two (List Row)
+  pub dropped : PerCentre (List Row)
   pub issued : List (ℕ × Command)
   pub operated : List (ℕ × Command)
 
@@ -40,15 +39,15 @@ pub record Whole : Type 0 where
   pub indices : List Spans
   pub substations : List SubstationState
   pub concentrator : WholeConcentrator
-  pub centres : Two CentreState
+  pub centres : PerCentre CentreState
   -- the lines between the concentrator and each centre
-  pub above : Two ChannelState
+  pub above : PerCentre ChannelState
   pub now : ℕ
   pub history : WholeHistory
 
 -- ---- what a centre sees of it
 
--- all but what is the other centre's alone; of that no more than the point that its select reserves
+-- all but what is another centre's alone; of that no more than the point that its select reserves
 abbrev pub seen_by : ℕ → Whole → System
 seen_by centre w = record {
   indices = w.indices;
@@ -59,7 +58,7 @@ seen_by centre w = record {
     indices = w.concentrator.indices;
     points = w.concentrator.points;
     controls = w.concentrator.controls;
-    reserved = reserved_by (at (other_than centre) w.concentrator.cores);
+    reserved = reserved_beside centre w.concentrator.cores;
     links = w.concentrator.links;
   };
   centre = at centre w.centres;

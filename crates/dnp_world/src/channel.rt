@@ -9,7 +9,7 @@ ghost use Rattle.dnp_outstation.specs.Calls.{connection_after, opened_of, perfor
 ghost use Rattle.dnp_outstation.specs.Station.{actions_of};
 ghost use Rattle.dnp_world.specs.Causes.{TellsDevice};
 ghost use Rattle.dnp_world.specs.Channels.{state_of, are_quiet, cleared, fresh_channel, hung_up_at, left_at, left_by, line_of, lost_at, DamagesAt, GoUp, StepsUp, ComesToOutstation};
-ghost use Rattle.dnp_world.specs.MasterEnds.{ComesToMaster, ListsDropped, TakesBy, none_dropped};
+ghost use Rattle.dnp_world.specs.MasterEnds.{ComesToMaster, ListsDropped, TakesBy, lists_in, none_dropped};
 
 use crate::ends::{MasterEnd, OutstationEnd};
 use crate::event::Damaged;
@@ -18,7 +18,7 @@ use crate::listing::most_dropped;
 use crate::room::reserve_for_events;
 use crate::sending::{FRAGMENT_UNITS, hear, send_all, shows};
 use crate::stopped::stops_for;
-use dnp_concentrator::{Cause, Two};
+use dnp_concentrator::{Cause, PerCentre};
 use dnp_line::{Line, Port};
 use dnp_linkframe::MAX_UNIT;
 use dnp_master::Fragment;
@@ -316,18 +316,18 @@ impl Channel {
         link: u8,
         now: u64,
         end: &mut E,
-        dropped: &mut Two<Vec<Row>>,
+        dropped: &mut PerCentre<Vec<Row>>,
     ) -> Result<(), Cause>
         requires { E.has end.old link }
         ensures held { E.honest end.new → E.honest end.old }
         ensures took { E.honest end.new → OnOk result ((fragment : List ℕ) × IsShown self.old.master_port fragment
             × TakesBy (receive_of (E.master end.old link) now fragment)
-            (λ t. E.takes end.old link t end.new × ListsDropped (E.drops end.old link t) dropped.old.first.items dropped.old.second.items dropped.new.first.items dropped.new.second.items)
-            (E.stays end.old end.new × ListsDropped none_dropped dropped.old.first.items dropped.old.second.items dropped.new.first.items dropped.new.second.items) (state_of self.old) (state_of self.new)) }
+            (λ t. E.takes end.old link t end.new × ListsDropped (E.drops end.old link t) (lists_in dropped.old) (lists_in dropped.new))
+            (E.stays end.old end.new × ListsDropped none_dropped (lists_in dropped.old) (lists_in dropped.new)) (state_of self.old) (state_of self.new)) }
         ensures kept { E.honest end.new → OnErr result (E.keeps end.old end.new) }
         ensures lines { OnErr result (state_of self.new ≡ state_of self.old) }
         ensures device { TellsDevice (E.is_stopped end.old) (E.is_stopped end.new) (result ≡ Err Cause.Device) }
-        ensures unlisted { OnErr result (ListsDropped none_dropped dropped.old.first.items dropped.old.second.items dropped.new.first.items dropped.new.second.items) }
+        ensures unlisted { OnErr result (ListsDropped none_dropped (lists_in dropped.old) (lists_in dropped.new)) }
         ensures before { self.new.before ≡ self.old.before }
     {
         let fragment = self.master_port.fragment();
@@ -353,17 +353,17 @@ impl Channel {
         now: u64,
         repeats: bool,
         end: &mut E,
-        dropped: &mut Two<Vec<Row>>,
+        dropped: &mut PerCentre<Vec<Row>>,
     ) -> Result<(), Cause>
         requires { E.has end.old link }
         ensures held { E.honest end.new → E.honest end.old }
         ensures came { E.honest end.new → OnOk result (ComesToMaster (left_by repeats) (E.master end.old link) now
-            (λ t. E.takes end.old link t end.new × ListsDropped (E.drops end.old link t) dropped.old.first.items dropped.old.second.items dropped.new.first.items dropped.new.second.items)
-            (E.stays end.old end.new × ListsDropped none_dropped dropped.old.first.items dropped.old.second.items dropped.new.first.items dropped.new.second.items) (state_of self.old) (state_of self.new)) }
+            (λ t. E.takes end.old link t end.new × ListsDropped (E.drops end.old link t) (lists_in dropped.old) (lists_in dropped.new))
+            (E.stays end.old end.new × ListsDropped none_dropped (lists_in dropped.old) (lists_in dropped.new)) (state_of self.old) (state_of self.new)) }
         ensures kept { E.honest end.new → OnErr result (E.keeps end.old end.new) }
         ensures lines { OnErr result (state_of self.new ≡ state_of self.old) }
         ensures device { TellsDevice (E.is_stopped end.old) (E.is_stopped end.new) (result ≡ Err Cause.Device) }
-        ensures unlisted { OnErr result (ListsDropped none_dropped dropped.old.first.items dropped.old.second.items dropped.new.first.items dropped.new.second.items) }
+        ensures unlisted { OnErr result (ListsDropped none_dropped (lists_in dropped.old) (lists_in dropped.new)) }
     {
         self.master_port.copy_into(&mut self.before);
         if self.hear_up() {

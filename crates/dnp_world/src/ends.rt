@@ -227,7 +227,7 @@ impl<Q: PairLanes, B: Book> OutstationEnd for Concentrator<Q, B> {
 /// What a call promises holds where the stores under the station are honest as the call ends.
 pub trait MasterEnd {
     ghost use Rattle.std.specs.Prelude.{Bool, ℕ, List};
-    ghost use Rattle.dnp_concentrator.specs.declared.two.Two.{Two};
+    ghost use Rattle.dnp_concentrator.specs.declared.per_centre.PerCentre.{PerCentre};
     ghost use Rattle.dnp_objects.specs.declared.row.Row.{Row};
     ghost use Rattle.dnp_master.specs.Calls.{Taking};
     ghost use Rattle.dnp_master.specs.State.{State as MasterState};
@@ -248,7 +248,7 @@ pub trait MasterEnd {
     ghost takes: { Self → ℕ → Taking → Self → Type 0 };
 
     /// The rows that its stores drop for what it takes on the link, to the first centre and to the second.
-    ghost drops: { Self → ℕ → Taking → Two (List Row) };
+    ghost drops: { Self → ℕ → Taking → PerCentre (List Row) };
 
     /// Its stores hold what they did, and else it is what it was.
     ghost keeps: { Self → Self → Type 0 };

@@ -2,8 +2,8 @@
 
 ghost use Rattle.std.specs.Prelude.{◌≡◌, ◌<◌, ◌^◌, ℕ, List, [], ◌∷◌, ◌++◌, Result, length, take, ⊤};
 ghost use Rattle.dnp_concentrator.specs.declared.plan.Plan.{Plan};
-ghost use Rattle.dnp_concentrator.specs.declared.two.Two.{Two};
-ghost use Rattle.dnp_concentrator.specs.Two.{at};
+ghost use Rattle.dnp_concentrator.specs.declared.per_centre.PerCentre.{PerCentre};
+ghost use Rattle.dnp_concentrator.specs.PerCentre.{at};
 ghost use Rattle.dnp_controls.specs.Book.{Ledger};
 ghost use Rattle.dnp_eventbuf.specs.Archive.{Archive};
 ghost use Rattle.dnp_eventbuf.specs.Sides.{ForEach};
@@ -116,7 +116,7 @@ pub fn steady_systems_stay_steady()
         → Lasts (take done events) old new }
     ensures joined { (old mid new : Whole) (first second : List Event) → RunsTo HappensToAll old first mid → Lasts first old mid
         → Lasts second mid new → Lasts (first ++ second) old new }
-    ensures at_first { (plan : Plan) (queues : Two EventBuffer) (journals : Two Archive) (controls : Ledger) (orders : Two Ledger) → CanBegin plan
+    ensures at_first { (plan : Plan) (queues : PerCentre EventBuffer) (journals : PerCentre Archive) (controls : Ledger) (orders : PerCentre Ledger) → CanBegin plan
         → ForEach (λ centre. AreEmpty (at centre queues) (at centre journals) controls (at centre orders))
         → AreSteady (fresh_whole plan queues journals controls orders) }
     ensures holds { (w : Whole) → ∥ AreSteady w ∥₁ → HoldsForAll w }

@@ -14,7 +14,7 @@ use crate::history::History;
 use crate::link_event::{End, Way};
 use crate::stored::Stored;
 use crate::substation::Substation;
-use dnp_concentrator::{Centre, Concentrator, IndexMap, Two};
+use dnp_concentrator::{Centre, Concentrator, IndexMap, PerCentre};
 use dnp_controls::Book;
 use dnp_eventbuf::{CENTRES, JournalStore, PairLanes};
 use dnp_outstation::Actions;
@@ -37,9 +37,9 @@ pub(crate) struct Parts<Q: PairLanes, J: JournalStore, A: Book, B: Book> {
     pub map: IndexMap,
     pub substations: Vec<Substation>,
     pub concentrator: Concentrator<Q, A>,
-    pub centres: Two<Centre<J, B>>,
+    pub centres: PerCentre<Centre<J, B>>,
     /// The lines between the concentrator and each centre.
-    pub above: Two<Channel>,
+    pub above: PerCentre<Channel>,
     /// The moment, in milliseconds.
     pub moment: u64,
     /// What a station at an outstation's end did last.

@@ -2,10 +2,11 @@
 
 ghost use Rattle.std.specs.Prelude.{◌≡◌, ◌+◌, ◌*◌, ◌≤◌, IfErr, IsOk, OnOk, vec_capacity, vec_len};
 ghost use Rattle.dnp_line.specs.Lines.{room_of};
+ghost use Rattle.dnp_world.specs.MasterEnds.{lists_in};
 
 use crate::sending::FRAGMENT_UNITS;
 use crate::substation_list::SubstationList;
-use dnp_concentrator::{Cause, Two};
+use dnp_concentrator::{Cause, PerCentre};
 use dnp_controls::MAX_COMMANDS;
 use dnp_line::Line;
 use dnp_objects::{Command, Row};
@@ -61,11 +62,10 @@ pub(crate) fn reserve_for_unit(
 pub(crate) fn reserve_for_events(
     down: &mut Line,
     count: usize,
-    dropped: &mut Two<Vec<Row>>,
+    dropped: &mut PerCentre<Vec<Row>>,
 ) -> Result<(), Cause>
     ensures line { down.new.state ≡ down.old.state }
-    ensures first { dropped.new.first.items ≡ dropped.old.first.items }
-    ensures second { dropped.new.second.items ≡ dropped.old.second.items }
+    ensures same { lists_in dropped.new ≡ lists_in dropped.old }
     ensures room { OnOk result (FRAGMENT_UNITS ≤ room_of down.new) }
     ensures to_first { OnOk result (vec_len dropped.new.first + count ≤ vec_capacity dropped.new.first) }
     ensures to_second { OnOk result (vec_len dropped.new.second + count ≤ vec_capacity dropped.new.second) }

@@ -2,9 +2,9 @@
 //! nothing, and its contract is a law.
 
 ghost use Rattle.std.specs.Prelude.{◌≡◌, ◌<◌, ℕ, List};
-ghost use Rattle.dnp_concentrator.specs.Two.{at};
+ghost use Rattle.dnp_concentrator.specs.PerCentre.{at};
 ghost use Rattle.dnp_concentrator.specs.declared.plan.Plan.{Plan};
-ghost use Rattle.dnp_concentrator.specs.declared.two.Two.{Two};
+ghost use Rattle.dnp_concentrator.specs.declared.per_centre.PerCentre.{PerCentre};
 ghost use Rattle.dnp_controls.specs.Book.{Ledger};
 ghost use Rattle.dnp_eventbuf.specs.Archive.{Archive};
 ghost use Rattle.dnp_eventbuf.specs.EventBuffer.{EventBuffer};
@@ -38,7 +38,7 @@ pub fn an_event_writes_one_store()
 pub fn systems_restart_as_new()
     ensures at_first { (plan : Plan) (centre : ℕ) (queue : EventBuffer) (journal : Archive) (controls orders : Ledger)
         → RestartAsNew plan (fresh_system plan centre queue journal controls orders) }
-    ensures whole_at_first { (plan : Plan) (queues : Two EventBuffer) (journals : Two Archive) (controls : Ledger) (orders : Two Ledger)
+    ensures whole_at_first { (plan : Plan) (queues : PerCentre EventBuffer) (journals : PerCentre Archive) (controls : Ledger) (orders : PerCentre Ledger)
         → AllRestartAsNew plan (fresh_whole plan queues journals controls orders) }
     ensures event { (plan : Plan) (old new : Whole) (event : Event) → AllRestartAsNew plan old → HappensToAll old event new
         → AllRestartAsNew plan new }
@@ -52,7 +52,7 @@ pub fn systems_restart_as_new()
 /// the event makes of it, as stores promise of whatever a crash leaves; no third state comes of two stores, since the event
 /// changes one at most.
 pub fn a_place_that_stops_is_restarted()
-    ensures concentrator { (plan : Plan) (old before after : Whole) (events : List Event) (last : Event) (queues : Two EventBuffer)
+    ensures concentrator { (plan : Plan) (old before after : Whole) (events : List Event) (last : Event) (queues : PerCentre EventBuffer)
         (controls : Ledger) → AllRestartAsNew plan old → RunsTo HappensToAll old events before → HappensToAll before last after
         → HoldsEither before.concentrator.queues after.concentrator.queues queues
         → HoldsEither before.concentrator.controls after.concentrator.controls controls

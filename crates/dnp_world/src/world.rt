@@ -1,10 +1,11 @@
 //! A whole system: substations, a concentrator and two centres, with lines between them.
 
 ghost use Rattle.std.specs.Prelude.{option_copied, ℕ, ◌<◌, ◌≡◌, ◌≢◌, ◌↔◌, [], false, take, Err, IfErr, IfOk, OnOk};
+ghost use Rattle.dnp_concentrator.specs.PerCentre.{at, for_each, of_each, per_centre};
 ghost use Rattle.dnp_concentrator.specs.IndexMap.{IsTooWide, Overlaps};
 ghost use Rattle.dnp_concentrator.specs.Plan.{KeepsLimits, map_of};
 ghost use Rattle.dnp_world.specs.Causes.{IsStoppedBy, TellsDevice};
-ghost use Rattle.dnp_eventbuf.specs.Sides.{ForEach, at};
+ghost use Rattle.dnp_eventbuf.specs.Sides.{ForEach};
 ghost use Rattle.dnp_world.specs.BothSteady.{HoldsForAll, IsFateOfAll, Issues, Lasts, ListsAllOfAll};
 ghost use Rattle.dnp_world.specs.Centres.{HappensToAll, centre_of, front_on, is_quiet_on, may_stop, seen_at, standing_on};
 ghost use Rattle.dnp_world.specs.FreshSystems.{fresh_whole};
@@ -35,7 +36,7 @@ use crate::standing_laws::plans_have_all_lanes;
 use crate::stopped::Stopped;
 use crate::stored::Stored;
 use dnp_concentrator::addresses::{CONCENTRATOR_ABOVE, centre_address};
-use dnp_concentrator::{Cause, Centre, Concentrator, IndexMap, MapFault, Plan, Two};
+use dnp_concentrator::{Cause, Centre, Concentrator, IndexMap, MapFault, PerCentre, Plan};
 use dnp_controls::Book;
 use dnp_eventbuf::{CENTRES, JournalStore, PairLanes};
 use dnp_outstation::Actions;
@@ -104,11 +105,9 @@ impl<Q: PairLanes + Drop, J: JournalStore + Drop, A: Book + Drop, B: Book + Drop
     ) -> Result<Self, MapFault>
         requires limits { KeepsLimits plan.now }
         requires empty { J.honest journals.0 → J.honest journals.1 → ForEach (λ centre. AreEmpty (Q.contents queues centre)
-            (J.archive (at centre journals.0 journals.1)) (A.contents controls) (B.contents (at centre orders.0 orders.1))) }
+            (J.archive (at centre (per_centre journals))) (A.contents controls) (B.contents (at centre (per_centre orders)))) }
         ensures fresh { IfOk result (λ w. w.system ≡ fresh_whole plan.now
-            (record { first = Q.contents queues 0; second = Q.contents queues 1 })
-            (record { first = J.archive journals.0; second = J.archive journals.1 })
-            (A.contents controls) (record { first = B.contents orders.0; second = B.contents orders.1 })) }
+            (for_each (Q.contents queues)) (of_each J.archive (per_centre journals)) (A.contents controls) (of_each B.contents (per_centre orders))) }
         ensures stores { IfOk result (λ w. w.stores ≡ record { queues = queues; journals = journals; controls = controls; orders = orders }) }
         ensures too_wide { (result ≡ Err MapFault.TooWide) ↔ IsTooWide (map_of plan.now) }
         ensures overlap { (result ≡ Err MapFault.Overlap) ↔ (Overlaps (map_of plan.now) × (IsTooWide (map_of plan.now) → ⊥)) }
@@ -129,8 +128,8 @@ impl<Q: PairLanes + Drop, J: JournalStore + Drop, A: Book + Drop, B: Book + Drop
                 map,
                 substations,
                 concentrator,
-                centres: Two { first, second },
-                above: Two {
+                centres: PerCentre { first, second },
+                above: PerCentre {
                     first: Channel::new(alloc, CONCENTRATOR_ABOVE, centre_address(0)),
                     second: Channel::new(alloc, CONCENTRATOR_ABOVE, centre_address(1)),
                 },

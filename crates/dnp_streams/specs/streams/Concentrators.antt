@@ -17,17 +17,17 @@ use Rattle.dnp_concentrator.specs.Concentrator.{above_of, book_of, core_of, indi
 use Rattle.dnp_concentrator.specs.Mapped.{queued_rows}
 use Rattle.dnp_concentrator.specs.Relaying.{Relaying, hung_up, opened, received}
 use Rattle.dnp_concentrator.specs.Reserving.{reserved_by}
-use Rattle.dnp_concentrator.specs.Two.{at}
+use Rattle.dnp_concentrator.specs.PerCentre.{at}
 use Rattle.dnp_concentrator.specs.declared.concentrator.Concentrator.{Concentrator}
 use Rattle.dnp_concentrator.specs.declared.span.Spans.{Spans}
-use Rattle.dnp_concentrator.specs.declared.two.Two.{Two}
+use Rattle.dnp_concentrator.specs.declared.per_centre.PerCentre.{PerCentre}
 use Rattle.dnp_streams.specs.declared.stream.station.StationFault.{StationFault}
 use Rattle.dnp_streams.specs.streams.Masters.{RefusesRows, nothing_answered, answer_taking}
 use Rattle.dnp_streams.specs.streams.Outstations.{RefusesFragment, RefusesOpening, Seen, answer_by}
 use Rattle.dnp_streams.specs.streams.Stations.{Answer, Opening, Receiving}
 
 -- the same made of each of two things
-abbrev pub both : {Thing Other : Type 0} → (Thing → Other) → Two Thing → Two Other
+abbrev pub both : {Thing Other : Type 0} → (Thing → Other) → PerCentre Thing → PerCentre Other
 both make two = record { first = make two.first; second = make two.second }
 
 -- ---- the link to one substation
@@ -37,10 +37,10 @@ both make two = record { first = make two.first; second = make two.second }
 pub record BelowSeen : Type 0 where
   pub substation : ℕ
   pub links : List Relaying
-  pub cores : Two Core
+  pub cores : PerCentre Core
   pub indices : List Spans
   pub points : points.Plan
-  pub queues : Two EventBuffer
+  pub queues : PerCentre EventBuffer
   pub controls : Ledger
 
 abbrev pub below_seen : {Q B : Type 0} → (Q → ℕ → EventBuffer) → (B → Ledger) → Concentrator Q B → ℕ → BelowSeen

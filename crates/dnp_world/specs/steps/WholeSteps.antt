@@ -5,8 +5,8 @@ use Rattle.dnp_concentrator.specs.Concentrator.{core_of, links_of, plan_above, q
 use Rattle.dnp_concentrator.specs.Mapped.{queued_rows}
 use Rattle.dnp_concentrator.specs.Relaying as relaying
 use Rattle.dnp_concentrator.specs.declared.concentrator.Concentrator.{Concentrator}
-use Rattle.dnp_concentrator.specs.declared.two.Two.{Two}
-use Rattle.dnp_concentrator.specs.Two.{at}
+use Rattle.dnp_concentrator.specs.declared.per_centre.PerCentre.{PerCentre}
+use Rattle.dnp_concentrator.specs.PerCentre.{at, of_each}
 use Rattle.dnp_eventbuf.specs.Sides.{ForEach, other_than}
 use Rattle.dnp_eventbuf.specs.EventBuffer.{EventBuffer, dropped_by, exhausts, with_rows}
 use Rattle.dnp_master.specs.Calls.{Taking}
@@ -15,11 +15,6 @@ use Rattle.dnp_objects.specs.declared.row.Row.{Row}
 use Rattle.dnp_outstation.specs.State.{Core}
 use Rattle.dnp_outstation.specs.Station.{with_points}
 use Rattle.dnp_world.specs.Wholes.{WholeConcentrator}
-
--- ---- of both centres' things
-
-abbrev pub of_both : {Thing Seen : Type 0} → (Thing → Seen) → Two Thing → Two Seen
-of_both see t = record { first = see t.first; second = see t.second }
 
 -- ---- what comes from a substation
 
@@ -34,13 +29,13 @@ with_readings_of c substation t core =
 
 abbrev pub concentrator_taken : WholeConcentrator → ℕ → Taking → WholeConcentrator
 concentrator_taken c substation t = record c {
-  cores = of_both (with_readings_of c substation t) c.cores;
-  queues = of_both (λ (s : EventBuffer). with_rows s (queued_for c substation t)) c.queues;
+  cores = of_each (with_readings_of c substation t) c.cores;
+  queues = of_each (λ (s : EventBuffer). with_rows s (queued_for c substation t)) c.queues;
   links = slice_set c.links substation (relaying.received (link_in c.links substation) t);
 }
 
-abbrev pub dropped_for : WholeConcentrator → ℕ → Taking → Two (List Row)
-dropped_for c substation t = of_both (λ (s : EventBuffer). dropped_by s (queued_for c substation t)) c.queues
+abbrev pub dropped_for : WholeConcentrator → ℕ → Taking → PerCentre (List Row)
+dropped_for c substation t = of_each (λ (s : EventBuffer). dropped_by s (queued_for c substation t)) c.queues
 
 -- both queues have numbers left for its events
 abbrev pub HaveNumbers : WholeConcentrator → ℕ → Taking → Type 0

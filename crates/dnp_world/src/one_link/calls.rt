@@ -17,7 +17,7 @@ use crate::link_event::{End, Way};
 use crate::listing::rows_waiting;
 use crate::room::reserve_for_left;
 use crate::sending::send_all;
-use dnp_concentrator::{Cause, Two};
+use dnp_concentrator::{Cause, PerCentre};
 use dnp_eventbuf::{Lanes, Sink};
 use dnp_master::Task;
 use dnp_objects::Kind;
@@ -72,7 +72,7 @@ impl<L: Lanes, S: Sink> OneLink<L, S> {
         if self.channel.front(Way::Up).is_none() {
             return Ok(());
         }
-        let mut dropped = Two {
+        let mut dropped = PerCentre {
             first: Vec::new(alloc),
             second: Vec::new(alloc),
         };

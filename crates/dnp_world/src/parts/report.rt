@@ -1,7 +1,8 @@
 //! What became of all rows and commands.
 
 ghost use Rattle.std.specs.Prelude.{◌≡◌, ◌≢◌, ◌++◌, ◌^◌, ◌-◌, ◌<◌, Err, IfOk, OnOk, length, map as all_of, min, take};
-ghost use Rattle.dnp_eventbuf.specs.Sides.{ForEach, at};
+ghost use Rattle.dnp_concentrator.specs.PerCentre.{at, per_centre};
+ghost use Rattle.dnp_eventbuf.specs.Sides.{ForEach};
 ghost use Rattle.dnp_eventbuf.specs.EventBuffer.{lost_in};
 ghost use Rattle.dnp_world.specs.Causes.{TellsDevice};
 ghost use Rattle.dnp_world.specs.Kept.{lane_rows_of};
@@ -25,7 +26,7 @@ use dnp_objects::{Command, Row};
 use std::alloc::{AllocError, Global};
 
 /// A list of rows for each centre.
-type BothRows = (Listed<(u8, Row)>, Listed<(u8, Row)>);
+type RowsForEach = (Listed<(u8, Row)>, Listed<(u8, Row)>);
 
 /// How many substations a report can name: each number is an octet.
 const NUMBERS: usize = 256;
@@ -40,8 +41,8 @@ fn copied<T: Copy>(alloc: Global, list: &[(u8, T)]) -> Result<Listed<(u8, T)>, A
 /// What a report reads of stores and lanes.
 #[derive(Drop)]
 struct StoredRows {
-    journal: BothRows,
-    queue: BothRows,
+    journal: RowsForEach,
+    queue: RowsForEach,
     buffered: Listed<(u8, Row)>,
 }
 
@@ -63,7 +64,7 @@ struct CommandCopies {
 /// What a report reads of what became of rows and commands.
 #[derive(Drop)]
 struct Copies {
-    dropped: BothRows,
+    dropped: RowsForEach,
     rows: RowCopies,
     commands: CommandCopies,
 }
@@ -164,10 +165,10 @@ impl<Q: PairLanes, J: JournalStore, A: Book, B: Book> Parts<Q, J, A, B> {
     }
 
     /// The rows of both centres' journals.
-    fn journals_below(&mut self, alloc: Global) -> Result<BothRows, Cause>
+    fn journals_below(&mut self, alloc: Global) -> Result<RowsForEach, Cause>
         ensures held { ⟦<Self as Stored>⟧.well self.new → ⟦<Self as Stored>⟧.well self.old }
         ensures same { ⟦<Self as Stored>⟧.well self.new → self.new.system ≡ self.old.system }
-        ensures rows { ⟦<Self as Stored>⟧.well self.new → IfOk result (λ lists. ForEach (λ centre. IsJournalOf (seen_by centre self.old.system) (at centre lists.0 lists.1))) }
+        ensures rows { ⟦<Self as Stored>⟧.well self.new → IfOk result (λ lists. ForEach (λ centre. IsJournalOf (seen_by centre self.old.system) (at centre (per_centre lists)))) }
         ensures device { TellsDevice (⟦<Self as Stored>⟧.is_stopped self.old) (⟦<Self as Stored>⟧.is_stopped self.new) (result ≡ Err Cause.Device) }
         ensures named { result ≢ Err Cause.Exhausted }
     {
@@ -177,10 +178,10 @@ impl<Q: PairLanes, J: JournalStore, A: Book, B: Book> Parts<Q, J, A, B> {
     }
 
     /// The rows of the queue for each centre, by their ids.
-    fn queues_below(&mut self, alloc: Global) -> Result<BothRows, Cause>
+    fn queues_below(&mut self, alloc: Global) -> Result<RowsForEach, Cause>
         ensures held { ⟦<Self as Stored>⟧.well self.new → ⟦<Self as Stored>⟧.well self.old }
         ensures same { ⟦<Self as Stored>⟧.well self.new → self.new.system ≡ self.old.system }
-        ensures rows { ⟦<Self as Stored>⟧.well self.new → IfOk result (λ lists. ForEach (λ centre. IsQueueOf (seen_by centre self.old.system) (at centre lists.0 lists.1))) }
+        ensures rows { ⟦<Self as Stored>⟧.well self.new → IfOk result (λ lists. ForEach (λ centre. IsQueueOf (seen_by centre self.old.system) (at centre (per_centre lists)))) }
         ensures device { TellsDevice (⟦<Self as Stored>⟧.is_stopped self.old) (⟦<Self as Stored>⟧.is_stopped self.new) (result ≡ Err Cause.Device) }
         ensures named { result ≢ Err Cause.Exhausted }
     {
@@ -190,9 +191,9 @@ impl<Q: PairLanes, J: JournalStore, A: Book, B: Book> Parts<Q, J, A, B> {
     }
 
     /// The rows that full lanes of the queue for each centre dropped.
-    fn dropped_below(&self, alloc: Global) -> Result<BothRows, AllocError>
-        ensures rows { IfOk result (λ lists. ForEach (λ centre. IsDroppedOf (seen_by centre self.now.system) (at centre lists.0 lists.1))) }
-        ensures counted { IfOk result (λ lists. ForEach (λ centre. length (at centre lists.0 lists.1) < 2 ^ 64)) }
+    fn dropped_below(&self, alloc: Global) -> Result<RowsForEach, AllocError>
+        ensures rows { IfOk result (λ lists. ForEach (λ centre. IsDroppedOf (seen_by centre self.now.system) (at centre (per_centre lists)))) }
+        ensures counted { IfOk result (λ lists. ForEach (λ centre. length (at centre (per_centre lists)) < 2 ^ 64)) }
     {
         let first = rows_below(alloc, &self.map, self.history.dropped.first.as_slice())?;
         let second = rows_below(alloc, &self.map, self.history.dropped.second.as_slice())?;
@@ -200,10 +201,10 @@ impl<Q: PairLanes, J: JournalStore, A: Book, B: Book> Parts<Q, J, A, B> {
     }
 
     /// How many rows the lanes of the queue for each centre count as lost.
-    fn lost_for_both(&mut self) -> (u64, u64)
+    fn lost_for_each(&mut self) -> (u64, u64)
         ensures same { self.new ≡ self.old }
         ensures value { ⟦<Self as Stored>⟧.well self.new → ForEach (λ centre.
-            at centre result.0 result.1 ≡ min (lost_in (seen_by centre self.old.system).concentrator.queue) (2 ^ 64 - 1)) }
+            at centre (per_centre result) ≡ min (lost_in (seen_by centre self.old.system).concentrator.queue) (2 ^ 64 - 1)) }
     {
         (self.lost_for(0), self.lost_for(1))
     }
@@ -223,8 +224,8 @@ impl<Q: PairLanes, J: JournalStore, A: Book, B: Book> Parts<Q, J, A, B> {
     fn stored_below(&mut self, alloc: Global) -> Result<StoredRows, Cause>
         ensures held { ⟦<Self as Stored>⟧.well self.new → ⟦<Self as Stored>⟧.well self.old }
         ensures same { ⟦<Self as Stored>⟧.well self.new → self.new.system ≡ self.old.system }
-        ensures journal { ⟦<Self as Stored>⟧.well self.new → IfOk result (λ stored. ForEach (λ centre. IsJournalOf (seen_by centre self.old.system) (at centre stored.journal.0 stored.journal.1))) }
-        ensures queue { ⟦<Self as Stored>⟧.well self.new → IfOk result (λ stored. ForEach (λ centre. IsQueueOf (seen_by centre self.old.system) (at centre stored.queue.0 stored.queue.1))) }
+        ensures journal { ⟦<Self as Stored>⟧.well self.new → IfOk result (λ stored. ForEach (λ centre. IsJournalOf (seen_by centre self.old.system) (at centre (per_centre stored.journal)))) }
+        ensures queue { ⟦<Self as Stored>⟧.well self.new → IfOk result (λ stored. ForEach (λ centre. IsQueueOf (seen_by centre self.old.system) (at centre (per_centre stored.queue)))) }
         ensures buffered { IfOk result (λ stored. stored.buffered ≡ listed_from lane_rows_of 0 (take NUMBERS self.old.system.substations)) }
         ensures device { TellsDevice (⟦<Self as Stored>⟧.is_stopped self.old) (⟦<Self as Stored>⟧.is_stopped self.new) (result ≡ Err Cause.Device) }
         ensures named { result ≢ Err Cause.Exhausted }
@@ -265,8 +266,8 @@ impl<Q: PairLanes, J: JournalStore, A: Book, B: Book> Parts<Q, J, A, B> {
 
     /// The rows that full lanes of the queue dropped, and copies of the lists of what became of rows and commands.
     fn copies(&self, alloc: Global) -> Result<Copies, AllocError>
-        ensures dropped { IfOk result (λ copies. ForEach (λ centre. IsDroppedOf (seen_by centre self.now.system) (at centre copies.dropped.0 copies.dropped.1))) }
-        ensures counted { IfOk result (λ copies. ForEach (λ centre. length (at centre copies.dropped.0 copies.dropped.1) < 2 ^ 64)) }
+        ensures dropped { IfOk result (λ copies. ForEach (λ centre. IsDroppedOf (seen_by centre self.now.system) (at centre (per_centre copies.dropped)))) }
+        ensures counted { IfOk result (λ copies. ForEach (λ centre. length (at centre (per_centre copies.dropped)) < 2 ^ 64)) }
         ensures confirmed { IfOk result (λ copies. copies.rows.confirmed ≡ self.now.system.history.confirmed) }
         ensures overwritten { IfOk result (λ copies. copies.rows.overwritten ≡ self.now.system.history.overwritten) }
         ensures gone { IfOk result (λ copies. copies.rows.gone ≡ self.now.system.history.gone) }
@@ -294,7 +295,7 @@ impl<Q: PairLanes, J: JournalStore, A: Book, B: Book> Parts<Q, J, A, B> {
     {
         let stored = self.stored_below(alloc)?;
         let copies = self.copies(alloc)?;
-        let lost = self.lost_for_both();
+        let lost = self.lost_for_each();
         let StoredRows {
             journal,
             queue,

@@ -1,6 +1,6 @@
 use Rattle.std.proofs.Common.{refl}
 use Rattle.dnp_daemons.proofs.ScriptReporting.{never_exhausted, told_device}
-use Rattle.dnp_daemons.proofs.Simulating.{on_new}
+use Rattle.dnp_daemons.proofs.Simulating.{at_every, on_new}
 use Rattle.dnp_daemons.proofs.sim.simulate_plain.Goals as goal
 
 pub returns-in-Ok-clause-ends : goal.returns-in-Ok-clause-ends
@@ -9,11 +9,9 @@ returns-in-Ok-clause-ends g c = λ lines says.
     (c.run_to_report.ensures.ends
     (record {
       queues_are = tt;
-      first_journal = tt;
-      second_journal = tt;
+      journals_are = at_every _ tt tt;
       controls_are = record { is = tt; runs = refl };
-      first_orders = record { is = tt; runs = refl };
-      second_orders = record { is = tt; runs = refl };
+      orders_are = at_every _ (record { is = tt; runs = refl }) (record { is = tt; runs = refl });
     }) lines says)
 
 pub returns-in-Ok-clause-named : goal.returns-in-Ok-clause-named

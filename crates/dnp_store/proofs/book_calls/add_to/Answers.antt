@@ -15,10 +15,12 @@ use Rattle.dnp_store.proofs.Writing.{refused_first, refused_write, was_written}
 use Rattle.dnp_store.proofs.book_calls.add_to.Goals as goal
 
 -- the entries afterwards
-added_is : (g : _) (c : goal.After-push-room g) → added (record { entries = c.args.entries.now.items; last_id = c.args.last_id.now }) c.args.target c.args.command.now
+added_is : (g : _) (c : goal.After-push-room g)
+    → added (record { entries = c.args.entries.now.items; last_id = c.args.last_id.now }) c.args.target c.args.command.now
     ≡ record { entries = c.push-room.new.self.items; last_id = c.args.last_id.now + 1 }
 added_is g c =
-    let items : c.push-room.new.self.items ≡ (added (record { entries = c.args.entries.now.items; last_id = c.args.last_id.now }) c.args.target c.args.command.now).entries = search rules in
+    let items : c.push-room.new.self.items
+    ≡ (added (record { entries = c.args.entries.now.items; last_id = c.args.last_id.now }) c.args.target c.args.command.now).entries = search rules in
     ap (λ es. record { entries = es; last_id = c.args.last_id.now + 1 }) (sym items)
 
 written : (g : _) (c : goal.After-push-room g) → HasCleanDisk (state g.S.Store c.write_added.new.conn)

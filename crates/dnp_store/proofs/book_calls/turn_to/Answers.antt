@@ -17,7 +17,11 @@ pub write_turned-requires-clause-id : goal.write_turned-requires-clause-id
 write_turned-requires-clause-id g c =
     let items = c.args.entries.now.items in
     let has = subst (λ es. Has es c.args.id (λ from. may_turn from c.args.control.now)) c.deref.ensures.value c.in_ok-granted.ensures.granted in
-    omega (arith, id_low (record { entries = items; last_id = c.args.last_id }) c.args.id c.requires.sound (granted_there items c.args.id _ has), c.requires.range)
+    omega (
+      arith,
+      id_low (record { entries = items; last_id = c.args.last_id }) c.args.id c.requires.sound (granted_there items c.args.id _ has),
+      c.requires.range,
+    )
 
 -- the control may come into the state
 has : (g : _) (c : goal.After-entries-1 g) → Has c.args.entries.now.items c.args.id (λ from. may_turn from c.args.control.now)
@@ -75,7 +79,8 @@ returns-in-Err-clause-written g c =
     let asked = c.is_lost-lost.ensures in
     refused_write g.S.Store Book fault.Device IsBook HoldsBook holding _ _ c.args.conn.now c.write_turned.new.conn c.is_lost-lost.new.conn _
     c.is_lost-lost.result c.book_fault.result _ (g.met.S.Store.settled c.args.conn.now.store)
-    (λ _ stood db commits. commits (record { entries = items; last_id = c.args.last_id }) c.requires.sound (granted_there items id _ has) stood) wrote.survives
+    (λ _ stood db commits. commits (record { entries = items; last_id = c.args.last_id }) c.requires.sound (granted_there items id _ has) stood)
+    wrote.survives
     c.in-Err.ensures.err c.in-Err.ensures.refused asked.survives asked.idle asked.same asked.serves asked.lost c.book_fault.ensures.stopped
     (λ serves told. absurd (let is = c.book_fault.ensures.serves serves in cc))
 

@@ -33,20 +33,24 @@ write_both-requires-clause-few_too g c =
 
 pub returns-in_err-dropped-clause-written : goal.returns-in_err-dropped-clause-written
 returns-in_err-dropped-clause-written g c =
-    refused_too g.S.Store Queue store.Device IsPair HoldsPair holding _ _ c.args.conn.now _ c.from_residual.result c.from_residual.ensures c.in_err-dropped.ensures.named
+    refused_too g.S.Store Queue store.Device IsPair HoldsPair holding _ _ c.args.conn.now _ c.from_residual.result c.from_residual.ensures
+    c.in_err-dropped.ensures.named
     (g.met.S.Store.settled c.args.conn.now.store) c.requires.idle
 
 pub returns-in-Err-clause-written : goal.returns-in-Err-clause-written
 returns-in-Err-clause-written g c =
     let wrote = c.write_both.ensures in
     let asked = c.is_lost-lost.ensures in
-    refused_write g.S.Store Queue store.Device IsPair HoldsPair holding _ _ c.args.conn.now c.write_both.new.conn c.is_lost-lost.new.conn _ c.is_lost-lost.result c.fault.result _
+    refused_write g.S.Store Queue store.Device IsPair HoldsPair holding _ _ c.args.conn.now c.write_both.new.conn c.is_lost-lost.new.conn _
+    c.is_lost-lost.result c.fault.result _
     (g.met.S.Store.settled c.args.conn.now.store) (λ _ stood db made. made stood) wrote.survives c.in-Err.ensures.err c.in-Err.ensures.refused
     asked.survives asked.idle asked.same asked.serves asked.lost (device_is c.is_lost-lost.result c.fault.result c.fault.ensures)
     (device_not c.is_lost-lost.result c.fault.result c.fault.ensures)
 
 pub returns-clause-written : goal.returns-clause-written
 returns-clause-written g c =
-    was_written g.S.Store Queue store.Device IsPair HoldsPair holding _ _ _ c.args.conn.now c.write_both.new.conn _ _ (g.met.S.Store.settled c.write_both.new.conn.store)
-    (λ _. ap₂ (λ (a b : EventBuffer). record { first = a; second = b }) (sym c.put_all.ensures.with) (sym c.put_all-2.ensures.with)) c.write_both.ensures.idle
+    was_written g.S.Store Queue store.Device IsPair HoldsPair holding _ _ _ c.args.conn.now c.write_both.new.conn _ _
+    (g.met.S.Store.settled c.write_both.new.conn.store)
+    (λ _. ap₂ (λ (a b : EventBuffer). record { first = a; second = b }) (sym c.put_all.ensures.with) (sym c.put_all-2.ensures.with))
+    c.write_both.ensures.idle
     c.write_both.ensures.survives (λ clean _ stood. c.in_default.ensures.ok clean stood)

@@ -28,21 +28,25 @@ written g c clean others stood =
 
 pub returns-in_default-clause-written : goal.returns-in_default-clause-written
 returns-in_default-clause-written g c =
-    refused_first g.S.Store Queue store.Device IsPair HoldsPair holding _ _ c.args.conn.now _ (λ told. absurd cc) (g.met.S.Store.settled c.args.conn.now.store) c.requires.idle
+    refused_first g.S.Store Queue store.Device IsPair HoldsPair holding _ _ c.args.conn.now _ (λ told. absurd cc)
+    (g.met.S.Store.settled c.args.conn.now.store) c.requires.idle
 
 pub returns-in-Err-clause-written : goal.returns-in-Err-clause-written
 returns-in-Err-clause-written g c =
     let wrote = c.write_release.ensures in
     let asked = c.is_lost-lost.ensures in
-    refused_write g.S.Store Queue store.Device IsPair HoldsPair holding _ _ c.args.conn.now c.write_release.new.conn c.is_lost-lost.new.conn _ c.is_lost-lost.result c.fault.result _
+    refused_write g.S.Store Queue store.Device IsPair HoldsPair holding _ _ c.args.conn.now c.write_release.new.conn c.is_lost-lost.new.conn _
+    c.is_lost-lost.result c.fault.result _
     (g.met.S.Store.settled c.args.conn.now.store) (λ others stood db made.
     all_left_in c.a_release_is_lane_by_lane.ensures c.args.side others db c.args.lanes.now nine_most c.requires.sound refl all_most
-    (subst (λ x. HoldsPair db (sides_of c.args.side (released c.args.lanes.now nine_most x) others)) c.has_overflow-lower.ensures (made others stood))) wrote.survives c.in-Err.ensures.err c.in-Err.ensures.refused
+    (subst (λ x. HoldsPair db (sides_of c.args.side (released c.args.lanes.now nine_most x) others)) c.has_overflow-lower.ensures
+    (made others stood))) wrote.survives c.in-Err.ensures.err c.in-Err.ensures.refused
     asked.survives asked.idle asked.same asked.serves asked.lost (device_is c.is_lost-lost.result c.fault.result c.fault.ensures)
     (device_not c.is_lost-lost.result c.fault.result c.fault.ensures)
 
 pub returns-clause-written : goal.returns-clause-written
 returns-clause-written g c =
-    was_written g.S.Store Queue store.Device IsPair HoldsPair holding _ _ _ c.args.conn.now c.write_release.new.conn _ _ (g.met.S.Store.settled c.write_release.new.conn.store)
+    was_written g.S.Store Queue store.Device IsPair HoldsPair holding _ _ _ c.args.conn.now c.write_release.new.conn _ _
+    (g.met.S.Store.settled c.write_release.new.conn.store)
     (λ others. ap (λ (t : EventBuffer). sides_of c.args.side t others) (sym c.clear.ensures.without)) c.write_release.ensures.idle
     c.write_release.ensures.survives (written g c)

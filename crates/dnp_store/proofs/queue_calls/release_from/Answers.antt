@@ -27,7 +27,8 @@ returns-in-Err-clause-written g c =
 
 pub returns-clause-written : goal.returns-clause-written
 returns-clause-written g c =
-    was_written g.S.Store Queue store.Device IsPair HoldsPair holding _ _ _ c.args.conn.now c.write_release.new.conn _ _ (g.met.S.Store.settled c.write_release.new.conn.store)
+    was_written g.S.Store Queue store.Device IsPair HoldsPair holding _ _ _ c.args.conn.now c.write_release.new.conn _ _
+    (g.met.S.Store.settled c.write_release.new.conn.store)
     (λ others. ap (λ (t : EventBuffer). sides_of c.args.side t others) (sym c.cut.ensures.without)) c.write_release.ensures.idle
     c.write_release.ensures.survives (λ clean others stood.
     subst (λ (t : EventBuffer). QueueStands (state g.S.Store c.write_release.new.conn) (sides_of c.args.side t others)) c.lowers-lower.ensures

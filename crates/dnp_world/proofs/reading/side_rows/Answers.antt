@@ -5,7 +5,7 @@ use Rattle.std.specs.Prelude.{IfOk}
 use Rattle.dnp_eventbuf.specs.Sides.{centre_in, pair_in}
 use Rattle.dnp_eventbuf.specs.EventBuffer.{EventBuffer}
 use Rattle.dnp_world.specs.ReportShown.{AreById, all_in}
-use Rattle.dnp_world.proofs.CentreReads.{both_sides, centre_low}
+use Rattle.dnp_world.proofs.CentreReads.{all_sides, centre_low}
 use Rattle.dnp_world.proofs.reading.side_rows.Goals as goal
 
 pub returns-clause-lent : goal.returns-clause-lent
@@ -15,7 +15,7 @@ pub returns-clause-same : goal.returns-clause-same
 returns-clause-same g c = λ honest.
     let old = c.args.side.now in
     let read = c.rows_by_id.ensures in
-    both_sides g.Q.PairLanes.contents (centre_in old) (pair_in old) old c.rows_by_id.new.lanes refl refl (ap (λ (p : GName × ℕ). p.1) read.place)
+    all_sides g.Q.PairLanes.contents (centre_in old) (pair_in old) old c.rows_by_id.new.lanes refl refl (ap (λ (p : GName × ℕ). p.1) read.place)
     (centre_low old) (read.same honest) (read.beside honest)
 
 pub returns-clause-rows : goal.returns-clause-rows

@@ -1,10 +1,11 @@
 -- By what an event leaves.
-use Rattle.std.proofs.Common.{◌∙◌, refl}
+use Rattle.std.proofs.Common.{◌∙◌, refl, sym, subst}
+use Rattle.dnp_concentrator.specs.PerCentre.{at}
 use Rattle.dnp_concentrator.specs.declared.plan.Plan.{Plan}
 use Rattle.dnp_world.specs.Reopened.{RestartAsNew, WriteOne}
 use Rattle.dnp_world.specs.Systems.{System}
 use Rattle.dnp_world.specs.Wholes.{seen_by}
-use Rattle.dnp_world.proofs.EachCentre.{for_both}
+use Rattle.dnp_world.proofs.NewWholes.{fresh_seen}
 use Rattle.dnp_world.proofs.stopped_laws.systems_restart_as_new.Goals as goal
 
 pub returns-clause-at_first : goal.returns-clause-at_first
@@ -17,9 +18,9 @@ returns-clause-at_first c = λ plan centre queue journal controls orders. record
 }
 
 pub returns-clause-whole_at_first : goal.returns-clause-whole_at_first
-returns-clause-whole_at_first c = λ plan queues journals controls orders. for_both _
-    (returns-clause-at_first c plan 0 queues.first journals.first controls orders.first)
-    (returns-clause-at_first c plan 1 queues.second journals.second controls orders.second)
+returns-clause-whole_at_first c = λ plan queues journals controls orders n low.
+    subst (RestartAsNew plan) (sym (fresh_seen plan queues journals controls orders n low))
+    (returns-clause-at_first c plan n (at n queues) (at n journals) controls (at n orders))
 
 one : goal.After-a_restart_leaves_what_is_new → (plan : Plan) (old new : System) → RestartAsNew plan old → WriteOne old new → RestartAsNew plan new
 one c plan old new h w = record {

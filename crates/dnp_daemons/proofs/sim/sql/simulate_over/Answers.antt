@@ -1,5 +1,5 @@
 use Rattle.dnp_daemons.proofs.ScriptReporting.{never_exhausted}
-use Rattle.dnp_daemons.proofs.Simulating.{new_stores, on_new}
+use Rattle.dnp_daemons.proofs.Simulating.{at_every, new_stores, on_new}
 use Rattle.dnp_daemons.proofs.sim.sql.simulate_over.Goals as goal
 
 pub new-made-requires-clause-empty : goal.new-made-requires-clause-empty
@@ -18,11 +18,9 @@ returns-then-are_well-clause-ends g c = λ spoken lines says.
     (c.run_to_report-result.ensures.ends
     (record {
       queues_are = well.queues;
-      first_journal = well.journal;
-      second_journal = well.journal2;
+      journals_are = at_every _ well.journal well.journal2;
       controls_are = record { is = well.controls; runs = well.controls.1 };
-      first_orders = record { is = well.orders; runs = well.orders.1 };
-      second_orders = record { is = well.orders2; runs = well.orders2.1 };
+      orders_are = at_every _ (record { is = well.orders; runs = well.orders.1 }) (record { is = well.orders2; runs = well.orders2.1 });
     }) lines says)
 
 pub returns-then-are_well-clause-named : goal.returns-then-are_well-clause-named

@@ -1,32 +1,19 @@
-use Rattle.std.proofs.Common.{rules, ◌≡◌, Some, Result, Err, refl, ap, sym, ◌∙◌}
-use Rattle.std.specs.Result.{result_err}
+use Rattle.std.proofs.Common.{rules, ◌⊎◌, Bool, IsTrue, inl, inr, refl}
 use Rattle.dnp_objects.specs.declared.store.StoreFault.{StoreFault}
 use Rattle.dnp_objects.specs.declared.store.StoreFault.TheVariants as store
-use Rattle.dnp_outstation.specs.declared.fault.Fault.{Fault}
 use Rattle.dnp_outstation.specs.declared.fault.Fault.TheVariants as fault
-use Rattle.dnp_outstation.specs.Station.{fault_of}
+use Rattle.dnp_outstation.specs.Station.{fault_of, may_tell, IsStoreFault}
+use Rattle.dnp_outstation.proofs.Faults.{asks_answered, err_told, is_stores, is_told, lanes_answered, lanes_told, may_told, not_answered, on_err, outputs_answered, outputs_told, told_apart}
 use Rattle.dnp_outstation.proofs.outstation.Outstation.receive_into.Goals as goal
 
-told_memory : (e : StoreFault) → Some (fault_of e) ≡ Some fault.Memory → e ≡ store.Memory
-told_memory store.Exhausted is = cc
-told_memory store.Memory is = refl
-told_memory store.Device is = cc
-
--- the store's fault is passed on
-memory_of : {A B : Type 0} (e : StoreFault) (r : Result A Fault) → result_err r ≡ Some (fault_of e) → r ≡ Err fault.Memory
-    → (let told : Result B StoreFault = Err e in told) ≡ Err store.Memory
-memory_of e r told failed = let is : e ≡ store.Memory = told_memory e (sym told ∙ ap result_err failed) in cc
+-- a fault that one store or the other may answer is told as one of these
+either_told : (may also : StoreFault → Bool) (e : StoreFault) → IsTrue (may e) ⊎ IsTrue (also e)
+    → IsTrue (may_tell may (fault_of e)) ⊎ IsTrue (may_tell also (fault_of e))
+either_told may also e (inl is) = inl (may_told may e is)
+either_told may also e (inr is) = inr (may_told also e is)
 
 pub returns-clause-asks : goal.returns-clause-asks
-returns-clause-asks g c = record {
-  looked_at = λ e. absurd (cc);
-  unsolicited = λ e. absurd (cc);
-  announced = λ e. absurd (cc);
-  stray = λ e. absurd (cc);
-  again = λ e. absurd (cc);
-  held = λ e. absurd (cc);
-  inside = λ e. absurd (cc);
-}
+returns-clause-asks g c = asks_answered _ _ _ _ _
 
 pub returns-in_err-receive-clause-asks : goal.returns-in_err-receive-clause-asks
 returns-in_err-receive-clause-asks g c = record {
@@ -41,10 +28,52 @@ returns-in_err-receive-clause-asks g c = record {
 
 pub returns-in_err-receive-clause-memory : goal.returns-in_err-receive-clause-memory
 returns-in_err-receive-clause-memory g c = λ honest failed spares.
-    let told = memory_of c.in_err-receive.field-0.0 c.from_residual.result (search rules) failed in
+    let told = is_told store.Memory c.in_err-receive.field-0.0 c.from_residual.result (search rules) failed in
     record {
       idle = c.in_err-receive.ensures.memory_idle honest told spares;
       some = c.in_err-receive.ensures.memory honest told spares;
       named = c.in_err-receive.ensures.memory_named honest told spares;
       exhausted_first = λ outputs_honest. c.in_err-receive.ensures.exhausted_first honest outputs_honest told spares;
     }
+
+pub returns-clause-lanes : goal.returns-clause-lanes
+returns-clause-lanes g c = lanes_answered _ _ _ _ c.in_ok-receive.ensures.lanes
+
+pub returns-clause-outputs : goal.returns-clause-outputs
+returns-clause-outputs g c = outputs_answered _ _ _ _ _ _ c.in_ok-receive.ensures.outputs
+
+pub returns-in_err-receive-clause-lanes : goal.returns-in_err-receive-clause-lanes
+returns-in_err-receive-clause-lanes g c =
+    lanes_told fault_of store.Device c.in_err-receive.field-0.0 c.from_residual.result (search rules) c.in_err-receive.ensures.lanes
+
+pub returns-in_err-receive-clause-outputs : goal.returns-in_err-receive-clause-outputs
+returns-in_err-receive-clause-outputs g c =
+    outputs_told fault_of store.Exhausted store.Device c.in_err-receive.field-0.0 c.from_residual.result (told_apart c.in_err-receive.field-0.0) (search rules)
+    c.in_err-receive.ensures.outputs
+
+pub returns-in_err-receive-clause-received : goal.returns-in_err-receive-clause-received
+returns-in_err-receive-clause-received g c = λ _ _. not_answered (fault_of c.in_err-receive.field-0.0) c.from_residual.result _ (search rules)
+
+pub returns-in_err-receive-clause-whole : goal.returns-in_err-receive-clause-whole
+returns-in_err-receive-clause-whole g c = not_answered (fault_of c.in_err-receive.field-0.0) c.from_residual.result _ (search rules)
+
+pub returns-in_err-receive-clause-core_unchanged : goal.returns-in_err-receive-clause-core_unchanged
+returns-in_err-receive-clause-core_unchanged g c = on_err c.from_residual.result c.in_err-receive.ensures.unchanged
+
+pub returns-in_err-receive-clause-actions_unchanged : goal.returns-in_err-receive-clause-actions_unchanged
+returns-in_err-receive-clause-actions_unchanged g c = on_err c.from_residual.result c.in_err-receive.ensures.actions_unchanged
+
+pub returns-in_err-receive-clause-named : goal.returns-in_err-receive-clause-named
+returns-in_err-receive-clause-named g c =
+    err_told (fault_of c.in_err-receive.field-0.0) c.from_residual.result IsStoreFault (search rules) (is_stores c.in_err-receive.field-0.0)
+
+pub returns-in_err-receive-clause-faults : goal.returns-in_err-receive-clause-faults
+returns-in_err-receive-clause-faults g c =
+    let may = g.L.Lanes.may_fault in
+    let also = g.O.Outputs.may_fault in
+    err_told (fault_of c.in_err-receive.field-0.0) c.from_residual.result (λ f. IsTrue (may_tell may f) ⊎ IsTrue (may_tell also f)) (search rules)
+    (either_told may also c.in_err-receive.field-0.0 c.in_err-receive.ensures.faults)
+
+pub returns-in_err-receive-clause-device : goal.returns-in_err-receive-clause-device
+returns-in_err-receive-clause-device g c = λ failed.
+    c.in_err-receive.ensures.device (is_told store.Device c.in_err-receive.field-0.0 c.from_residual.result (search rules) failed)

@@ -1,4 +1,4 @@
-use Rattle.std.proofs.Common.{◌≡◌, ◌≢◌, ◌⊎◌, true, false, [], option_to_list, ap, sym, subst, ◌∙◌, List, Option, Result, Ok, Err}
+use Rattle.std.proofs.Common.{◌≡◌, ◌≢◌, ◌⊎◌, IsTrue, true, false, [], option_to_list, inr, ap, sym, subst, ◌∙◌, List, Option, Result, Ok, Err}
 use Rattle.std.specs.Result.{IfOk}
 use Rattle.dnp_objects.specs.declared.lane.LaneRow.{LaneRow}
 use Rattle.dnp_objects.specs.declared.row.Row.{Row}
@@ -9,10 +9,10 @@ use Rattle.dnp_eventbuf.specs.EventBuffer.{EventBuffer, with_rows, dropped_by}
 use Rattle.dnp_outstation.specs.Calls.{change_of}
 use Rattle.dnp_outstation.specs.Connection.{has_enabled_rows}
 use Rattle.dnp_outstation.specs.State.{Core, State, Step, Actions, nothing, is_ready}
-use Rattle.dnp_outstation.specs.Station.{state_of, actions_of}
+use Rattle.dnp_outstation.specs.Station.{state_of, actions_of, fault_of, may_tell, IsStoreFault}
 use Rattle.dnp_outstation.proofs.Cores.{core_in}
 use Rattle.dnp_outstation.proofs.Endings.{nothing_at_end}
-use Rattle.dnp_outstation.proofs.Faults.{memory_from}
+use Rattle.dnp_outstation.proofs.Faults.{at_answer, err_told, is_stores, is_told, lanes_told, may_told, memory_from, not_answered, not_refused, told_as}
 use Rattle.dnp_outstation.proofs.NoRows.{none_dropped}
 use Rattle.dnp_outstation.proofs.outstation_core.OutstationCore.change.Goals as goal
 
@@ -36,7 +36,8 @@ returns-in_err-change_reported-clause-memory_held g c = λ honest is asks.
     c.in_err-change_reported.ensures.memory_held honest (ap Err memory) asks in
     let answer_is : Ok made ≡ answer_of c.args.self.now.points kind index reading =
     sym c.made-row.ensures.answer ∙ ap (λ (k : Core). answer_of k.points kind index reading) c.self.view_is in
-    subst (λ (r : Result (Option LaneRow) ChangeFault). IfOk r (λ m. (has_enabled_rows (state_of c.args.self.now old panel) ≡ true) ⊎ (dropped_by old (option_to_list m) ≢ [])))
+    subst (λ (r : Result (Option LaneRow) ChangeFault). IfOk r
+    (λ m. (has_enabled_rows (state_of c.args.self.now old panel) ≡ true) ⊎ (dropped_by old (option_to_list m) ≢ [])))
     answer_is why
 
 pub returns-then-is_ready-clause-changed : goal.returns-then-is_ready-clause-changed
@@ -80,10 +81,147 @@ returns-clause-changed g c = λ honest.
     let is : change_of (state_of c.args.self.now old panel) now kind index reading made ≡ last =
     ap (λ (k : Core). change_of (state_of k old panel) now kind index reading made) (sym c.self.view_is)
     ∙ nothing_at_end now step unready
-    ∙ ap (λ (points : Database). let x : Step = record { state = state_of (record core { points = points }) (with_rows old (option_to_list made)) panel; does = does } in x)
+    ∙ ap (λ (points : Database). let x : Step = record {
+      state = state_of (record core { points = points })
+          (with_rows old (option_to_list made)) panel;
+      does = does;
+    } in x)
     (sym c.change_at.ensures.after)
     ∙ ap (λ (l : EventBuffer). let x : Step = record { state = state_of changed l panel; does = does } in x) (sym (c.in_ok-append_made.ensures.appended honest))
     ∙ ap (λ (d : Actions). let x : Step = record { state = state_of changed new panel; does = d } in x) (sym does_is) in
     let answer_is : Ok made ≡ answer_of c.args.self.now.points kind index reading =
     sym c.made-made.ensures.answer ∙ ap (λ (k : Core). answer_of k.points kind index reading) c.self.view_is in
-    subst (λ (r : Result (Option LaneRow) ChangeFault). IfOk r (λ m. change_of (state_of c.args.self.now old panel) now kind index reading m ≡ last)) answer_is is
+    subst (λ (r : Result (Option LaneRow) ChangeFault). IfOk r
+    (λ m. change_of (state_of c.args.self.now old panel) now kind index reading m ≡ last)) answer_is is
+
+-- ---- a fault of the lanes is told
+
+pub returns-in_err-append_made-clause-lanes : goal.returns-in_err-append_made-clause-lanes
+returns-in_err-append_made-clause-lanes g c =
+    lanes_told fault_of store.Device c.in_err-append_made.field-0.0 c.from_residual-in_err-append_made.result
+    (told_as c.in_err-append_made.field-0.0 c.from_residual-in_err-append_made.result c.from_residual-in_err-append_made.ensures.1)
+    c.in_err-append_made.ensures.lanes
+
+pub returns-in_err-append_made-clause-refused : goal.returns-in_err-append_made-clause-refused
+returns-in_err-append_made-clause-refused g c =
+    not_refused c.made-made.result _ _
+    (sym c.made-made.ensures.answer ∙ ap (λ (k : Core). answer_of k.points c.args.kind c.args.index c.args.reading) c.self.view_is)
+
+pub returns-in_err-append_made-clause-changed : goal.returns-in_err-append_made-clause-changed
+returns-in_err-append_made-clause-changed g c = λ _. not_answered (fault_of c.in_err-append_made.field-0.0) c.from_residual-in_err-append_made.result _
+    (told_as c.in_err-append_made.field-0.0 c.from_residual-in_err-append_made.result c.from_residual-in_err-append_made.ensures.1)
+
+pub returns-in_err-append_made-clause-whole : goal.returns-in_err-append_made-clause-whole
+returns-in_err-append_made-clause-whole g c = not_answered (fault_of c.in_err-append_made.field-0.0) c.from_residual-in_err-append_made.result _
+    (told_as c.in_err-append_made.field-0.0 c.from_residual-in_err-append_made.result c.from_residual-in_err-append_made.ensures.1)
+
+pub returns-in_err-append_made-clause-named : goal.returns-in_err-append_made-clause-named
+returns-in_err-append_made-clause-named g c =
+    at_answer c.made-made.result _ _ (sym c.made-made.ensures.answer ∙ ap
+    (λ (k : Core). answer_of k.points c.args.kind c.args.index c.args.reading) c.self.view_is)
+    (err_told (fault_of c.in_err-append_made.field-0.0) c.from_residual-in_err-append_made.result IsStoreFault
+    (told_as c.in_err-append_made.field-0.0 c.from_residual-in_err-append_made.result c.from_residual-in_err-append_made.ensures.1)
+    (is_stores c.in_err-append_made.field-0.0))
+
+pub returns-in_err-append_made-clause-faults : goal.returns-in_err-append_made-clause-faults
+returns-in_err-append_made-clause-faults g c =
+    at_answer c.made-made.result _ _ (sym c.made-made.ensures.answer ∙ ap
+    (λ (k : Core). answer_of k.points c.args.kind c.args.index c.args.reading) c.self.view_is)
+    (err_told (fault_of c.in_err-append_made.field-0.0) c.from_residual-in_err-append_made.result (λ f. IsTrue (may_tell g.L.Lanes.may_fault f))
+    (told_as c.in_err-append_made.field-0.0 c.from_residual-in_err-append_made.result c.from_residual-in_err-append_made.ensures.1)
+    (may_told g.L.Lanes.may_fault c.in_err-append_made.field-0.0 c.in_err-append_made.ensures.faults))
+
+pub returns-in_err-append_made-clause-exhausted : goal.returns-in_err-append_made-clause-exhausted
+returns-in_err-append_made-clause-exhausted g c = λ honest is.
+    at_answer c.made-made.result _ _ (sym c.made-made.ensures.answer ∙ ap
+    (λ (k : Core). answer_of k.points c.args.kind c.args.index c.args.reading) c.self.view_is)
+    (c.in_err-append_made.ensures.exhausted honest (is_told store.Exhausted c.in_err-append_made.field-0.0 c.from_residual-in_err-append_made.result
+    (told_as c.in_err-append_made.field-0.0 c.from_residual-in_err-append_made.result c.from_residual-in_err-append_made.ensures.1) is))
+
+pub returns-in_err-append_made-clause-not_exhausted : goal.returns-in_err-append_made-clause-not_exhausted
+returns-in_err-append_made-clause-not_exhausted g c = λ _. not_answered (fault_of c.in_err-append_made.field-0.0) c.from_residual-in_err-append_made.result _
+    (told_as c.in_err-append_made.field-0.0 c.from_residual-in_err-append_made.result c.from_residual-in_err-append_made.ensures.1)
+
+pub returns-in_err-append_made-clause-device : goal.returns-in_err-append_made-clause-device
+returns-in_err-append_made-clause-device g c = λ is. c.in_err-append_made.ensures.device
+    (is_told store.Device c.in_err-append_made.field-0.0 c.from_residual-in_err-append_made.result
+    (told_as c.in_err-append_made.field-0.0 c.from_residual-in_err-append_made.result c.from_residual-in_err-append_made.ensures.1) is)
+
+pub returns-in_err-append_made-clause-memory_held : goal.returns-in_err-append_made-clause-memory_held
+returns-in_err-append_made-clause-memory_held g c = λ honest is asks.
+    at_answer c.made-made.result _ _ (sym c.made-made.ensures.answer ∙ ap
+    (λ (k : Core). answer_of k.points c.args.kind c.args.index c.args.reading) c.self.view_is)
+    (inr (c.in_err-append_made.ensures.memory (is_told store.Memory c.in_err-append_made.field-0.0 c.from_residual-in_err-append_made.result
+    (told_as c.in_err-append_made.field-0.0 c.from_residual-in_err-append_made.result c.from_residual-in_err-append_made.ensures.1) is) asks))
+
+pub returns-in_err-append_made-clause-memory_unready : goal.returns-in_err-append_made-clause-memory_unready
+returns-in_err-append_made-clause-memory_unready g c = λ unready is asks.
+    at_answer c.made-made.result _ _ (sym c.made-made.ensures.answer ∙ ap
+    (λ (k : Core). answer_of k.points c.args.kind c.args.index c.args.reading) c.self.view_is)
+    (c.in_err-append_made.ensures.memory (is_told store.Memory c.in_err-append_made.field-0.0 c.from_residual-in_err-append_made.result
+    (told_as c.in_err-append_made.field-0.0 c.from_residual-in_err-append_made.result c.from_residual-in_err-append_made.ensures.1) is) asks)
+
+pub returns-in_err-append_made-clause-exhausted_first : goal.returns-in_err-append_made-clause-exhausted_first
+returns-in_err-append_made-clause-exhausted_first g c = λ honest is unready.
+    at_answer c.made-made.result _ _ (sym c.made-made.ensures.answer ∙ ap
+    (λ (k : Core). answer_of k.points c.args.kind c.args.index c.args.reading) c.self.view_is)
+    (c.in_err-append_made.ensures.exhausted_first honest (is_told store.Memory c.in_err-append_made.field-0.0 c.from_residual-in_err-append_made.result
+    (told_as c.in_err-append_made.field-0.0 c.from_residual-in_err-append_made.result c.from_residual-in_err-append_made.ensures.1) is))
+
+pub returns-in_err-change_reported-clause-lanes : goal.returns-in_err-change_reported-clause-lanes
+returns-in_err-change_reported-clause-lanes g c =
+    lanes_told fault_of store.Device c.in_err-change_reported.field-0.0 c.from_residual-in_err-change_reported.result
+    (told_as c.in_err-change_reported.field-0.0 c.from_residual-in_err-change_reported.result c.from_residual-in_err-change_reported.ensures.1)
+    c.in_err-change_reported.ensures.lanes
+
+pub returns-in_err-change_reported-clause-refused : goal.returns-in_err-change_reported-clause-refused
+returns-in_err-change_reported-clause-refused g c =
+    not_refused c.made-row.result _ _
+    (sym c.made-row.ensures.answer ∙ ap (λ (k : Core). answer_of k.points c.args.kind c.args.index c.args.reading) c.self.view_is)
+
+pub returns-in_err-change_reported-clause-changed : goal.returns-in_err-change_reported-clause-changed
+returns-in_err-change_reported-clause-changed g c = λ _. not_answered
+    (fault_of c.in_err-change_reported.field-0.0) c.from_residual-in_err-change_reported.result _
+    (told_as c.in_err-change_reported.field-0.0 c.from_residual-in_err-change_reported.result c.from_residual-in_err-change_reported.ensures.1)
+
+pub returns-in_err-change_reported-clause-whole : goal.returns-in_err-change_reported-clause-whole
+returns-in_err-change_reported-clause-whole g c = not_answered (fault_of c.in_err-change_reported.field-0.0) c.from_residual-in_err-change_reported.result _
+    (told_as c.in_err-change_reported.field-0.0 c.from_residual-in_err-change_reported.result c.from_residual-in_err-change_reported.ensures.1)
+
+pub returns-in_err-change_reported-clause-named : goal.returns-in_err-change_reported-clause-named
+returns-in_err-change_reported-clause-named g c =
+    at_answer c.made-row.result _ _ (sym c.made-row.ensures.answer ∙ ap
+    (λ (k : Core). answer_of k.points c.args.kind c.args.index c.args.reading) c.self.view_is)
+    (err_told (fault_of c.in_err-change_reported.field-0.0) c.from_residual-in_err-change_reported.result IsStoreFault
+    (told_as c.in_err-change_reported.field-0.0 c.from_residual-in_err-change_reported.result c.from_residual-in_err-change_reported.ensures.1)
+    (is_stores c.in_err-change_reported.field-0.0))
+
+pub returns-in_err-change_reported-clause-faults : goal.returns-in_err-change_reported-clause-faults
+returns-in_err-change_reported-clause-faults g c =
+    at_answer c.made-row.result _ _ (sym c.made-row.ensures.answer ∙ ap
+    (λ (k : Core). answer_of k.points c.args.kind c.args.index c.args.reading) c.self.view_is)
+    (err_told (fault_of c.in_err-change_reported.field-0.0) c.from_residual-in_err-change_reported.result (λ f. IsTrue (may_tell g.L.Lanes.may_fault f))
+    (told_as c.in_err-change_reported.field-0.0 c.from_residual-in_err-change_reported.result c.from_residual-in_err-change_reported.ensures.1)
+    (may_told g.L.Lanes.may_fault c.in_err-change_reported.field-0.0 c.in_err-change_reported.ensures.faults))
+
+pub returns-in_err-change_reported-clause-exhausted : goal.returns-in_err-change_reported-clause-exhausted
+returns-in_err-change_reported-clause-exhausted g c = λ honest is.
+    at_answer c.made-row.result _ _ (sym c.made-row.ensures.answer ∙ ap
+    (λ (k : Core). answer_of k.points c.args.kind c.args.index c.args.reading) c.self.view_is)
+    (c.in_err-change_reported.ensures.exhausted honest (is_told store.Exhausted c.in_err-change_reported.field-0.0 c.from_residual-in_err-change_reported.result
+    (told_as c.in_err-change_reported.field-0.0 c.from_residual-in_err-change_reported.result c.from_residual-in_err-change_reported.ensures.1) is))
+
+pub returns-in_err-change_reported-clause-not_exhausted : goal.returns-in_err-change_reported-clause-not_exhausted
+returns-in_err-change_reported-clause-not_exhausted g c = λ _. not_answered
+    (fault_of c.in_err-change_reported.field-0.0) c.from_residual-in_err-change_reported.result _
+    (told_as c.in_err-change_reported.field-0.0 c.from_residual-in_err-change_reported.result c.from_residual-in_err-change_reported.ensures.1)
+
+pub returns-in_err-change_reported-clause-device : goal.returns-in_err-change_reported-clause-device
+returns-in_err-change_reported-clause-device g c = λ is. c.in_err-change_reported.ensures.device
+    (is_told store.Device c.in_err-change_reported.field-0.0 c.from_residual-in_err-change_reported.result
+    (told_as c.in_err-change_reported.field-0.0 c.from_residual-in_err-change_reported.result c.from_residual-in_err-change_reported.ensures.1) is)
+
+pub returns-in_err-change_reported-clause-memory : goal.returns-in_err-change_reported-clause-memory
+returns-in_err-change_reported-clause-memory g c = λ honest is asks. c.in_err-change_reported.ensures.memory honest
+    (is_told store.Memory c.in_err-change_reported.field-0.0 c.from_residual-in_err-change_reported.result
+    (told_as c.in_err-change_reported.field-0.0 c.from_residual-in_err-change_reported.result c.from_residual-in_err-change_reported.ensures.1) is) asks

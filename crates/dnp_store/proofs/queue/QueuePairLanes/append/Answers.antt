@@ -7,14 +7,16 @@ use Rattle.dnp_store.proofs.queue.QueuePairLanes.append.Goals as goal
 pub returns-then-centre-eq0-clause-either : goal.returns-then-centre-eq0-clause-either
 returns-then-centre-eq0-clause-either g c clean =
     let wrote = c.append_to-answer.ensures.written in
-    either_at (state g.S.Store c.append_to-answer.new.conn) _ c.args.self.now (λ s. with_rows s c.args.rows.now) 0 c.args.centre c.self.view_is c.if-centre-eq0.true
+    either_at (state g.S.Store c.append_to-answer.new.conn) _ c.args.self.now (λ s. with_rows s c.args.rows.now) 0 c.args.centre c.self.view_is
+    c.if-centre-eq0.true
     (λ serves own. wrote.either clean c.self.inside.second (c.self.invariant.stands serves own (wrote.clean clean)))
 
 pub returns-else-centre-eq0-clause-either : goal.returns-else-centre-eq0-clause-either
 returns-else-centre-eq0-clause-either g c clean =
     let wrote = c.append_to-answer-else-centre-eq0.ensures.written in
     let second : c.args.centre ≡ 1 = omega (arith, c.requires.centre, c.if-centre-eq0.false) in
-    either_at (state g.S.Store c.append_to-answer-else-centre-eq0.new.conn) _ c.args.self.now (λ s. with_rows s c.args.rows.now) 1 c.args.centre c.self.view_is second
+    either_at (state g.S.Store c.append_to-answer-else-centre-eq0.new.conn) _ c.args.self.now (λ s. with_rows s c.args.rows.now) 1 c.args.centre
+    c.self.view_is second
     (λ serves own. wrote.either clean c.self.inside.first (c.self.invariant.stands serves own (wrote.clean clean)))
 
 pub returns-then-centre-eq0-clause-after : goal.returns-then-centre-eq0-clause-after
@@ -41,7 +43,8 @@ returns-then-centre-eq0-clause-call g c =
       sides = record { first = c.append_to-answer.new.lanes; second = inside.second };
       stopped = c.is_device-self-inside.result;
       owned = inside.owned;
-    }) c.append_to-answer.result 0 c.args.centre c.self.view_is c.if-centre-eq0.true c.if-self.false refl did.written.clean asked.device asked.other did.sound refl did.kept
+    }) c.append_to-answer.result 0 c.args.centre c.self.view_is c.if-centre-eq0.true c.if-self.false refl did.written.clean asked.device asked.other
+    did.sound refl did.kept
 
 pub returns-else-centre-eq0-clause-call : goal.returns-else-centre-eq0-clause-call
 returns-else-centre-eq0-clause-call g c =
@@ -54,5 +57,6 @@ returns-else-centre-eq0-clause-call g c =
       sides = record { first = inside.first; second = c.append_to-answer-else-centre-eq0.new.lanes };
       stopped = c.is_device-self-inside-else-centre-eq0.result;
       owned = inside.owned;
-    }) c.append_to-answer-else-centre-eq0.result 1 c.args.centre c.self.view_is second c.if-self.false refl did.written.clean asked.device asked.other did.sound refl
+    }) c.append_to-answer-else-centre-eq0.result 1 c.args.centre c.self.view_is second c.if-self.false refl did.written.clean asked.device
+    asked.other did.sound refl
     did.kept

@@ -12,7 +12,8 @@ invariant_of-self g c =
       first = did.first;
       second = did.second;
       stands = λ serves own clean.
-          did.written.stands clean tt (c.self.invariant.stands c.if-self.false own (did.written.clean clean)) (c.is_device-self-inside.ensures.other serves);
+          did.written.stands clean tt (c.self.invariant.stands c.if-self.false own (did.written.clean clean))
+          (c.is_device-self-inside.ensures.other serves);
     }
 
 pub returns-clause-either : goal.returns-clause-either

@@ -41,7 +41,8 @@ returns-then-centre-eq0-clause-call g c =
       sides = record { first = c.empty_of-answer.new.lanes; second = inside.second };
       stopped = c.is_device-self-inside.result;
       owned = inside.owned;
-    }) c.empty_of-answer.result 0 c.args.centre c.self.view_is c.if-centre-eq0.true c.if-self.false refl did.written.clean asked.device asked.other did.sound refl did.kept
+    }) c.empty_of-answer.result 0 c.args.centre c.self.view_is c.if-centre-eq0.true c.if-self.false refl did.written.clean asked.device asked.other
+    did.sound refl did.kept
 
 pub returns-else-centre-eq0-clause-call : goal.returns-else-centre-eq0-clause-call
 returns-else-centre-eq0-clause-call g c =
@@ -54,5 +55,6 @@ returns-else-centre-eq0-clause-call g c =
       sides = record { first = inside.first; second = c.empty_of-answer-else-centre-eq0.new.lanes };
       stopped = c.is_device-self-inside-else-centre-eq0.result;
       owned = inside.owned;
-    }) c.empty_of-answer-else-centre-eq0.result 1 c.args.centre c.self.view_is second c.if-self.false refl did.written.clean asked.device asked.other did.sound refl
+    }) c.empty_of-answer-else-centre-eq0.result 1 c.args.centre c.self.view_is second c.if-self.false refl did.written.clean asked.device asked.other
+    did.sound refl
     did.kept

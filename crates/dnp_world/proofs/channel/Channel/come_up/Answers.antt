@@ -21,5 +21,5 @@ returns-clause-came g c =
           rw (w.end-is, w.dropped-is)
           (λ well. came_part master c.args.now _ _ c.args.repeats c.hear_up.result c.hear_up.ensures.shown.0 old heard (state_of c.settle.new.self)
           c.hear_up.ensures.heard c.hear_up.ensures.rest w.if-hear_up.false c.hear_up.ensures.shown.1
-          (g.met.E.MasterEnd.stays_itself _, none_listed _ _ _ _ refl refl) (rw w.self-is at c.settle.ensures))
+          (g.met.E.MasterEnd.stays_itself _, none_listed _ _ refl) (rw w.self-is at c.settle.ensures))
     ]

@@ -1,5 +1,5 @@
 -- What is asked goes down to the substation, and the concentrator's link to it goes on.
-use Rattle.std.proofs.Common.{ℕ, ◌<◌, refl, ap, arith}
+use Rattle.std.proofs.Common.{ℕ, ◌<◌, refl, ap}
 use Rattle.dnp_eventbuf.specs.declared.pair.TheConstants.{CENTRES}
 use Rattle.dnp_concentrator.specs.Relaying.{asking}
 use Rattle.dnp_master.specs.Calls.{ask_answer}
@@ -31,7 +31,7 @@ returns-clause-done g c = λ well.
     let answer = ask_answer link.master c.args.task in
     let asked = asking link old.now c.args.task in
     let middle = concentrator_with g.Q.PairLanes.contents g.A.Book.contents c.self.inside.concentrator c.ask_below_into-asked.new.self
-    old.concentrator.cores _ (ask.cores 0 (omega arith)) (ask.cores 1 (omega arith)) ask.link ask.stores in
+    (λ core. core) _ ask.cores ask.link ask.stores in
     rw (← c.self.view_is)
     (λ (centre : ℕ) (low : centre < CENTRES). sends_at substation c.from.result (request_of answer) (with_link (seen_by centre old) substation asked) _ xs was
     c.send_asked.new.channel refl (ap (λ (m : WholeConcentrator). (seen_by centre (record old { concentrator = m })).concentrator) middle) c.from.ensures

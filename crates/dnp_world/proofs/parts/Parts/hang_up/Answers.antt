@@ -1,5 +1,5 @@
--- Of a substation's link one substation is written, and for its master's end the concentrator; of a centre's its lines, and one of the two.
-use Rattle.std.proofs.Common.{ℕ, ◌<◌, refl, ap, arith, slice_set}
+-- Of a substation's link one substation is written, and for its master's end the concentrator; of a centre's its lines, and one of its ends.
+use Rattle.std.proofs.Common.{ℕ, ◌<◌, refl, ap, slice_set}
 use Rattle.dnp_concentrator.specs.Below.{link_in}
 use Rattle.dnp_concentrator.specs.Concentrator.{book_of, queue_of, without_link}
 use Rattle.dnp_concentrator.specs.Relaying.{hung_up}
@@ -8,7 +8,6 @@ use Rattle.dnp_world.specs.SystemEvents.{same_rest}
 use Rattle.dnp_world.specs.SystemParts.{substation_of}
 use Rattle.dnp_world.specs.Channels.{ChannelState}
 use Rattle.dnp_world.specs.Wholes.{seen_by}
-use Rattle.dnp_world.specs.steps.WholeSteps.{of_both}
 use Rattle.dnp_world.proofs.CentrePlaces.{low_of}
 use Rattle.dnp_world.proofs.CentreStores.{stores_kept}
 use Rattle.dnp_world.proofs.SystemCalls.{hangs_up_at_centre, hangs_up_at_middle}
@@ -26,10 +25,9 @@ returns-in-Below-Master-clause-done g c =
     let was = c.index_mut.result.now in
     let is = record c.index_mut.result.now { channel = c.hang_up.new.self } in
     let has = rw (← c.self.view_is, c.in-Below-Master.is-0) at c.requires in
-    let cores = of_both (λ core. without_link core substation) old.concentrator.cores in
     let links = slice_set old.concentrator.links substation (hung_up (link_in old.concentrator.links substation)) in
-    let middle = concentrator_with buffer ledger c.self.inside.concentrator c.hung_up_below.new.self cores links
-    (c.hung_up_below.ensures.cores 0 (omega arith)) (c.hung_up_below.ensures.cores 1 (omega arith)) c.hung_up_below.ensures.link
+    let middle = concentrator_with buffer ledger c.self.inside.concentrator c.hung_up_below.new.self
+    (λ core. without_link core substation) links c.hung_up_below.ensures.cores c.hung_up_below.ensures.link
     c.hung_up_below.ensures.stores in
     rw (c.in-Below-Master.is-0, c.in-Below-Master.is-1, ← c.self.view_is)
     (hangs_up_below old substation c.from.result xs was is _ refl c.from.ensures has c.index_mut.ensures.value

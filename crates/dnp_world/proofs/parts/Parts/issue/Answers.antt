@@ -22,7 +22,7 @@ returns-in-Ok-clause-done g c = λ well.
     let issue = c.in-Ok.ensures in
     let middle = c.self.inside.concentrator in
     let own = well_there g.Q.PairLanes.honest g.J.Sink.honest g.A.Book.honest g.A.Book.is_stopped g.B.Book.honest g.B.Book.is_stopped (queue_of middle)
-    (book_of middle) n c.self.inside.centres k well in
+    (book_of middle) n c.requires c.self.inside.centres k well in
     rw (← c.self.view_is)
     (issues_there archive orders n c.requires old c.self.inside.centres c.args.substation c.args.command.now was c.at_mut-to.ensures.value c.at.result.now k
     c.has_output.result c.reserve.new.self.items c.put.new.self.items c.at.ensures c.has_output.ensures c.if-not-has_output.false

@@ -1,5 +1,5 @@
 -- Of a substation's link one substation is written, and the concentrator's link to it; of a centre's both its ends and its lines.
-use Rattle.std.proofs.Common.{ℕ, ◌<◌, refl, ap, arith, map, slice_set}
+use Rattle.std.proofs.Common.{ℕ, ◌<◌, refl, ap, map, slice_set}
 use Rattle.dnp_eventbuf.specs.declared.pair.TheConstants.{CENTRES}
 use Rattle.dnp_concentrator.specs.Relaying.{opened}
 use Rattle.dnp_world.specs.SystemEvents.{same_rest, with_link}
@@ -32,8 +32,8 @@ returns-in_ok-open-in-Below-clause-done g c = λ well.
     let xs = c.self.inside.substations.items in
     let i = c.from.result in
     let has = rw (← c.self.view_is, c.in-Below.is) at c.requires in
-    let middle = concentrator_with buffer ledger c.self.inside.concentrator c.opened_below.new.self old.concentrator.cores _
-    (c.opened_below.ensures.cores 0 (omega arith)) (c.opened_below.ensures.cores 1 (omega arith)) c.opened_below.ensures.link
+    let middle = concentrator_with buffer ledger c.self.inside.concentrator c.opened_below.new.self (λ core. core) _
+    c.opened_below.ensures.cores c.opened_below.ensures.link
     c.opened_below.ensures.stores in
     let first = opened (link_in old.concentrator.links substation) in
     rw (c.in-Below.is, ← c.self.view_is)

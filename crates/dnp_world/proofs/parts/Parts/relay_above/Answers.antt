@@ -26,7 +26,7 @@ returns-clause-done g c = λ well.
     let lines = c.send_relayed.new.channel in
     let middle = c.self.inside.concentrator in
     let own = well_there g.Q.PairLanes.honest g.J.Sink.honest g.A.Book.honest g.A.Book.is_stopped g.B.Book.honest g.B.Book.is_stopped (queue_of middle)
-    (book_of middle) n c.self.inside.centres k well in
+    (book_of middle) n c.requires c.self.inside.centres k well in
     let honest = own.1.is in
     let answer = c.relay_into-relayed.result in
     let relay = c.relay_into-relayed.ensures in

@@ -3,7 +3,7 @@ use Rattle.dnp_world.proofs.parts.Parts.report.Goals as goal
 
 pub returns-clause-shows : goal.returns-clause-shows
 returns-clause-shows g c = λ well centre low.
-    let read = rw (c.lost_for_both-lost.ensures.same) at well in
+    let read = rw (c.lost_for_each-lost.ensures.same) at well in
     let same = c.stored_below.ensures.same read in
     let stored = c.in_ok-stored.ensures in
     let copies = c.in_ok-copies.ensures in
@@ -20,5 +20,5 @@ returns-clause-shows g c = λ well centre low.
       gone = rw same at copies.gone;
       issued = rw same at copies.issued;
       operated = rw same at copies.operated;
-      lost = rw same at (c.lost_for_both-lost.ensures.value well centre low);
+      lost = rw same at (c.lost_for_each-lost.ensures.value well centre low);
     }

@@ -4,6 +4,7 @@ use Rattle.std.proofs.lemmas.List.{take_at}
 use Rattle.dnp_world.specs.SystemEvents.{master_gone}
 use Rattle.dnp_world.specs.SystemParts.{substation_of}
 use Rattle.dnp_world.specs.declared.substation.Substation.{Substation}
+use Rattle.dnp_world.proofs.PerCentre.{at_every}
 use Rattle.dnp_world.proofs.SystemCalls.{restarts_all}
 use Rattle.dnp_world.proofs.SystemPlaces.{viewed}
 use Rattle.dnp_world.proofs.parts.Parts.restart_concentrator.Goals as goal
@@ -20,6 +21,6 @@ returns-clause-done g c = λ well.
     ap (λ (ys : List Substation). map substation_of ys) (take_at new (drop (length new) xs) many size) ∙ c.hang_up_masters.ensures
     ∙ ap (λ (ys : List Substation). map master_gone (map substation_of ys)) c.deref_mut.ensures.value in
     rw (← c.self.view_is)
-    (restarts_all g.Q.PairLanes.contents g.A.Book.contents old c.self.inside.concentrator c.restart.new.self _ c.self.inside.above c.hang_up.new.self
-    c.hang_up-2.new.self (restart.cores 0 (omega arith)) (restart.cores 1 (omega arith)) restart.queue restart.outputs restart.links restart.plan
-    gone c.hang_up.ensures c.hang_up-2.ensures)
+    (restarts_all g.Q.PairLanes.contents g.A.Book.contents old c.self.inside.concentrator c.restart.new.self _ c.self.inside.above
+    (record { first = c.hang_up.new.self; second = c.hang_up-2.new.self }) restart.cores restart.queue restart.outputs restart.links restart.plan gone
+    (at_every _ c.hang_up.ensures c.hang_up-2.ensures))

@@ -1,6 +1,6 @@
 -- One event more happened, or the list stops at it.
 use Rattle.std.proofs.Common.{arith, ◌∙◌}
-use Rattle.dnp_world.proofs.CarriedRuns.{one_over, all_over}
+use Rattle.dnp_world.proofs.CarriedRuns.{one_over, all_over, device_by_cause}
 use Rattle.dnp_world.proofs.SystemRuns.{one_done, all_done, stops_after}
 use Rattle.dnp_world.proofs.parts.Parts.run.Goals as goal
 
@@ -27,6 +27,9 @@ returns-in-Err-clause-stopped g c = λ well.
     stops_after c.args.self.now.system c.loop-done.self.system c.happen_by.new.self.system c.args.events.now c.loop-done.done
     c.index-events-done.result c.loop-done-test.true c.index-events-done.is (c.loop-done.invariant.ran (c.happen_by.ensures.held well)) c.in-Err.ensures.named
     (c.in-Err.ensures.stopped well)
+
+pub returns-in-Err-clause-device : goal.returns-in-Err-clause-device
+returns-in-Err-clause-device g c = device_by_cause c.in-Err.cause c.loop-done.invariant.runs_on c.in-Err.ensures.device
 
 pub returns-clause-done : goal.returns-clause-done
 returns-clause-done g c = λ well.

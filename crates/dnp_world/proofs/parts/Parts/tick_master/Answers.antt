@@ -1,10 +1,9 @@
 -- A master looks at its timer.
-use Rattle.std.proofs.Common.{ap, arith, if◌then◌else◌, slice_set}
+use Rattle.std.proofs.Common.{ap, if◌then◌else◌, slice_set}
 use Rattle.dnp_concentrator.specs.Below.{link_in}
 use Rattle.dnp_concentrator.specs.Concentrator.{book_of, queue_of, without_link}
 use Rattle.dnp_concentrator.specs.Relaying.{ticked}
 use Rattle.dnp_world.specs.SystemParts.{concentrator_of}
-use Rattle.dnp_world.specs.steps.WholeSteps.{of_both}
 use Rattle.dnp_world.proofs.CentrePlaces.{low_of}
 use Rattle.dnp_world.proofs.CentreStores.{stores_kept}
 use Rattle.dnp_world.proofs.SystemCalls.{ticks_at_centre, ticks_below}
@@ -20,12 +19,11 @@ returns-in-Below-clause-done g c =
     let substation = c.in-Below.substation in
     let ticks = c.tick_below.ensures in
     let closes = c.tick_below.result in
-    let cores = of_both (λ core. if closes then without_link core substation else core) old.concentrator.cores in
     let links = slice_set old.concentrator.links substation (ticked (link_in old.concentrator.links substation) old.now) in
     rw (c.in-Below.is, ← c.self.view_is)
     (ticks_below substation old (concentrator_of buffer ledger c.tick_below.new.self) closes ticks.closes
-    (concentrator_with buffer ledger c.self.inside.concentrator c.tick_below.new.self cores links (ticks.cores 0 (omega arith)) (ticks.cores 1 (omega arith))
-    ticks.link ticks.stores))
+    (concentrator_with buffer ledger c.self.inside.concentrator c.tick_below.new.self
+    (λ core. if closes then without_link core substation else core) links ticks.cores ticks.link ticks.stores))
 
 pub returns-in-Above-clause-done : goal.returns-in-Above-clause-done
 returns-in-Above-clause-done g c =

@@ -1,14 +1,15 @@
 -- A new system is the fresh one of its plan, which is steady.
 use Rattle.std.proofs.Common.{rules, ap, ◌∙◌, arith, refl, sym, subst}
+use Rattle.dnp_concentrator.specs.PerCentre.{for_each, of_each, per_centre}
 use Rattle.dnp_concentrator.specs.declared.addresses.TheConstants.{CONCENTRATOR_ABOVE}
-use Rattle.dnp_concentrator.specs.declared.two.Two.{Two}
+use Rattle.dnp_concentrator.specs.declared.per_centre.PerCentre.{PerCentre}
 use Rattle.dnp_controls.specs.Book.{Ledger}
 use Rattle.dnp_eventbuf.specs.Archive.{Archive}
 use Rattle.dnp_eventbuf.specs.EventBuffer.{EventBuffer}
 use Rattle.dnp_world.specs.BothSteady.{AreSteady}
 use Rattle.dnp_world.specs.Channels.{fresh_channel}
 use Rattle.dnp_world.specs.NewSystems.{CanBegin}
-use Rattle.dnp_world.proofs.EachCentre.{for_both}
+use Rattle.dnp_world.proofs.PerCentre.{at_every}
 use Rattle.dnp_world.proofs.NewWholes.{new_whole}
 use Rattle.dnp_world.proofs.world.World.new.Goals as goal
 
@@ -37,20 +38,19 @@ returns-clause-fresh g c =
         queue = c.in_ok-concentrator.ensures.queue;
         book = c.in_ok-concentrator.ensures.book;
       };
-      first = record {
+      centres = at_every _ (record {
         link = c.in_ok-first.ensures.link;
         indices = c.in_ok-first.ensures.indices;
         journal_is = c.in_ok-first.ensures.journal;
         book = c.in_ok-first.ensures.book;
-      };
-      second = record {
+      }) (record {
         link = c.in_ok-second.ensures.link;
         indices = c.in_ok-second.ensures.indices;
         journal_is = c.in_ok-second.ensures.journal;
         book = c.in_ok-second.ensures.book;
-      };
-      first_lines = c.new-5.ensures ∙ ap (fresh_channel CONCENTRATOR_ABOVE) c.centre_address.ensures;
-      second_lines = c.new-6.ensures ∙ ap (fresh_channel CONCENTRATOR_ABOVE) c.centre_address-2.ensures;
+      });
+      lines = at_every _ (c.new-5.ensures ∙ ap (fresh_channel CONCENTRATOR_ABOVE) c.centre_address.ensures)
+          (c.new-6.ensures ∙ ap (fresh_channel CONCENTRATOR_ABOVE) c.centre_address-2.ensures);
       moment = refl;
       history = c.new-7.ensures;
     })
@@ -58,13 +58,13 @@ returns-clause-fresh g c =
 pub invariant_of-result : goal.invariant_of-result
 invariant_of-result g c = λ well.
     let plan = c.args.plan.now in
-    let queues : Two EventBuffer = record { first = g.Q.PairLanes.contents c.args.queues 0; second = g.Q.PairLanes.contents c.args.queues 1 } in
-    let journals : Two Archive = record { first = g.J.JournalStore.archive c.args.journals.0; second = g.J.JournalStore.archive c.args.journals.1 } in
+    let queues : PerCentre EventBuffer = for_each (g.Q.PairLanes.contents c.args.queues) in
+    let journals : PerCentre Archive = of_each g.J.JournalStore.archive (per_centre c.args.journals) in
     let controls = g.A.Book.contents c.args.controls in
-    let orders : Two Ledger = record { first = g.B.Book.contents c.args.orders.0; second = g.B.Book.contents c.args.orders.1 } in
+    let orders : PerCentre Ledger = of_each g.B.Book.contents (per_centre c.args.orders) in
     let begins : CanBegin plan = search rules in
-    let first : g.J.Sink.honest c.args.journals.0 = subst g.J.Sink.honest c.in_ok-first.ensures.journal well.first_journal in
-    let second : g.J.Sink.honest c.args.journals.1 = subst g.J.Sink.honest c.in_ok-second.ensures.journal well.second_journal in
+    let first : g.J.Sink.honest c.args.journals.0 = subst g.J.Sink.honest c.in_ok-first.ensures.journal (well.journals_are 0 (omega arith)) in
+    let second : g.J.Sink.honest c.args.journals.1 = subst g.J.Sink.honest c.in_ok-second.ensures.journal (well.journals_are 1 (omega arith)) in
     let empty = c.requires.empty first second in
     ∣ subst AreSteady (sym (returns-clause-fresh g c))
-    (c.steady_systems_stay_steady.ensures.at_first plan queues journals controls orders begins (for_both _ (empty 0 (omega arith)) (empty 1 (omega arith)))) ∣₁
+    (c.steady_systems_stay_steady.ensures.at_first plan queues journals controls orders begins (at_every _ (empty 0 (omega arith)) (empty 1 (omega arith)))) ∣₁

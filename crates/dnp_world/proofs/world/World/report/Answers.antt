@@ -17,17 +17,17 @@ abbrev AreCounted : Report → Type 0
 AreCounted report = ForEach (λ centre. length (lists_of centre report).dropped < 2 ^ 64)
 
 -- what a report says holds, where two things are said of it
-of_both : {Fault : Type 0} (w : Whole)
+of_each : {Fault : Type 0} (w : Whole)
     → ((report : Report) → ShowsAll w report → AreCounted report → ForEach (λ centre. Holds (lists_of centre report)))
     → (r : Result Report Fault) → IfOk r (ShowsAll w) → IfOk r AreCounted → IfOk r (λ report. ForEach (λ centre. Holds (lists_of centre report)))
-of_both w law (Ok report) shows counted = law report shows counted
-of_both w law (Err fault) shows counted = tt
+of_each w law (Ok report) shows counted = law report shows counted
+of_each w law (Err fault) shows counted = tt
 
 pub returns-clause-holds : goal.returns-clause-holds
 returns-clause-holds g c = λ well.
     let old : Whole = c.self.inside.parts.system in
     let steady : ∥ AreSteady old ∥₁ = c.self.invariant (c.report.ensures.held well) in
-    of_both old (λ report shows counted. c.reports_show_what_holds.ensures.holds old report shows counted steady)
+    of_each old (λ report shows counted. c.reports_show_what_holds.ensures.holds old report shows counted steady)
     c.report.result (c.report.ensures.shows well) c.report.ensures.counted
 
 pub returns-clause-all : goal.returns-clause-all

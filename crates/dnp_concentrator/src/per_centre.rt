@@ -1,31 +1,31 @@
-//! Two things, one for each centre.
+//! A thing for each centre.
 
 ghost use Rattle.std.specs.Prelude.{◌≡◌, ◌<◌};
 ghost use Rattle.std.specs.Borrow.{Lends, sem};
-ghost use Rattle.dnp_concentrator.specs.contracts.two.Two.{the_row};
-ghost use Rattle.dnp_concentrator.specs.Two.{at, with_at};
+ghost use Rattle.dnp_concentrator.specs.contracts.per_centre.PerCentre.{the_row};
+ghost use Rattle.dnp_concentrator.specs.PerCentre.{at, with_at};
 
 use dnp_eventbuf::CENTRES;
 
-/// Two things, one for each centre.
-pub struct Two<Thing> {
+/// A thing for each centre.
+pub struct PerCentre<Thing> {
     /// The first centre's.
     pub first: Thing,
     /// The second centre's.
     pub second: Thing,
 }
 
-impl<Thing: Drop> Drop for Two<Thing> {
+impl<Thing: Drop> Drop for PerCentre<Thing> {
     /// One call for whoever lets it go: its parts are looked at here alone.
     fn drop(self) {
-        let Two {
+        let PerCentre {
             first: _,
             second: _,
         } = self;
     }
 }
 
-impl<Thing> Two<Thing> {
+impl<Thing> PerCentre<Thing> {
     /// The one for this centre.
     pub fn at(&self, centre: u8) -> &Thing
         requires { centre < CENTRES }
@@ -56,7 +56,7 @@ impl<Thing> Two<Thing> {
         ensures first { result.0 ≡ self.first }
         ensures second { result.1 ≡ self.second }
     {
-        let Two { first, second } = self;
+        let PerCentre { first, second } = self;
         (first, second)
     }
 }
