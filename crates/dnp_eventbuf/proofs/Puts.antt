@@ -1,6 +1,6 @@
 -- Rows that are put one by one: what is done and what is left make the whole.
-use Rattle.std.proofs.Common.{◌≡◌, ◌∙◌, ℕ, ◌+◌, ◌≤◌, Bool, false, ◌||◌, List, ◌∷◌, ◌++◌, length, set, ap, ap₂, sym, subst, arith, length-append}
-use Rattle.std.proofs.lemmas.List.{append_assoc}
+use Rattle.std.proofs.Common.{◌≡◌, ◌∙◌, ℕ, ◌+◌, ◌≤◌, Bool, false, ◌||◌, List, [], ◌∷◌, ◌++◌, length, set, ap, ap₂, sym, subst, arith, length-append}
+use Rattle.std.proofs.lemmas.List.{append-nil, append_assoc}
 use Rattle.dnp_objects.specs.Lanes.{lane_number}
 use Rattle.dnp_objects.specs.declared.row.Row.{Row}
 use Rattle.dnp_objects.specs.declared.lane.LaneRow.{LaneRow}
@@ -25,6 +25,13 @@ row_fits begin s rows rest x done fits = is_past-before (with_row s x) rest (ap 
 
 abbrev dropped_for : EventBuffer → LaneRow → List Row
 dropped_for s x = dropped_from (lane_at s (lane_number x.lane))
+
+-- there is room for what the next row drops
+pub next_has_room : (begin : EventBuffer) (rows : List LaneRow) (given : List Row) (s : EventBuffer) (x : LaneRow) (left rest : List LaneRow) (items : List Row)
+    (len capacity : ℕ) → left ≡ x ∷ rest → Goes begin rows given s left items len capacity → len + length (dropped_from (lane_at s (lane_number x.lane))) ≤ capacity
+next_has_room begin rows given s x left rest items len capacity is goes =
+    let all : length (dropped_by s left) ≡ length (dropped_for s x ++ dropped_by (with_row s x) rest) = ap (λ (xs : List LaneRow). length (dropped_by s xs)) is in
+    omega (arith, goes.room, all, length-append (dropped_for s x) (dropped_by (with_row s x) rest))
 
 -- one row is put
 pub goes_on : (begin : EventBuffer) (rows : List LaneRow) (given : List Row) (s new : EventBuffer) (x : LaneRow) (left rest : List LaneRow)
@@ -57,3 +64,11 @@ is_with_row s x lanes overflow last put full next =
       overflow = s.overflow || is_full (lane_at s (lane_number x.lane));
       last_id = n;
     }) next
+
+-- all rows are put
+pub all_put : (begin : EventBuffer) (rows : List LaneRow) (given : List Row) (s : EventBuffer) (left : List LaneRow) (items : List Row) (len capacity : ℕ)
+    → left ≡ [] → Goes begin rows given s left items len capacity → (s ≡ with_rows begin rows) × (items ≡ given ++ dropped_by begin rows)
+all_put begin rows given s left items len capacity none goes = (
+  ap (with_rows s) (sym none) ∙ goes.done,
+  sym (append-nil items) ∙ ap (λ (xs : List LaneRow). items ++ dropped_by s xs) (sym none) ∙ goes.told,
+)

@@ -1,9 +1,11 @@
 //! Nine lanes in memory, however each keeps its rows.
 
 ghost use Rattle.std.specs.Prelude.{◌≡◌, ◌≢◌, ◌<◌, ◌≤◌, ◌+◌, false, IfOk, IfSome, IfNone, OnOk, OnErr, IsTrue, All, length, [], ◌++◌, vec_len, vec_capacity, ⊤};
+ghost use Rattle.std.specs.List.{AllPairs};
+ghost use Rattle.dnp_objects.specs.Lanes.{lane_number};
 ghost use Rattle.dnp_eventbuf.specs.FitsLane.{FitsLane};
 ghost use Rattle.dnp_eventbuf.specs.Sound.{IsSoundBuffer};
-ghost use Rattle.dnp_eventbuf.specs.EventBuffer.{with_rows, dropped_by, exhausts, without, all_up_to, without_all, rows_in};
+ghost use Rattle.dnp_eventbuf.specs.EventBuffer.{lane_at, with_rows, dropped_by, exhausts, without, all_up_to, without_all, rows_in};
 
 use crate::lane_of::LaneOf;
 use crate::lanes::Lanes;
@@ -51,6 +53,16 @@ impl<L: OneLane + Drop> Drop for NineLanes<L> {
 }
 
 impl<L: OneLane + Drop> NineLanes<L> {
+    /// A lane.
+    #[inline(always)]
+    fn lane(&self, lane: Lane) -> &LaneOf<L>
+        ensures sound { IsSoundBuffer self.now }
+        ensures at { result.now ≡ lane_at self.now (lane_number lane) }
+        ensures rising { AllPairs (λ x y. x.id < y.id) result.now.rows }
+    {
+        &self.lanes[lane.number()]
+    }
+
     /// How many rows the lanes would drop for these, or `None` where an id or a count of lost rows
     /// would pass the limit.
     pub fn drops(&self, rows: &[LaneRow]) -> Option<usize>
@@ -215,7 +227,7 @@ impl<L: OneLane + Drop> Lanes for NineLanes<L> {
         most: usize,
         rows: &mut Vec<Numbered>,
     ) -> Result<(), StoreFault> {
-        let lane = &self.lanes[lane.number()];
+        let lane = self.lane(lane);
         lane.offer_into(alloc, after, most, rows).map_err(memory)?;
         Ok(())
     }
@@ -245,18 +257,15 @@ impl<L: OneLane + Drop> Lanes for NineLanes<L> {
     }
 
     fn len(&mut self, lane: Lane) -> u32 {
-        let lane = &self.lanes[lane.number()];
-        lane.len()
+        self.lane(lane).len()
     }
 
     fn last(&mut self, lane: Lane) -> u64 {
-        let lane = &self.lanes[lane.number()];
-        lane.last()
+        self.lane(lane).last()
     }
 
     fn lost(&mut self, lane: Lane) -> u64 {
-        let lane = &self.lanes[lane.number()];
-        lane.lost()
+        self.lane(lane).lost()
     }
 
     fn raised(&mut self) -> bool {
