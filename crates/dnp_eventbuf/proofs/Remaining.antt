@@ -30,3 +30,10 @@ lane_next lanes upto k lane nine nine' low =
     let low' : k < length lanes = omega (arith, nine, low) in
     let low'' : k < length upto = omega (arith, nine', low) in
     rw (add-one, drop-cons lanes k lane, drop-cons upto k 0)
+
+-- so they have room where all that is left has
+pub next_fits : (lanes : List LaneState) (upto : List ℕ) (k : ℕ) (lane : LaneState) → length lanes ≡ LANES → length upto ≡ LANES → k < LANES → (before room : ℕ)
+    → before + length (lanes_up_to (drop k lanes) (drop k upto)) ≤ room → before + length (up_to (get_or upto k 0) (get_or lanes k lane)) ≤ room
+next_fits lanes upto k lane nine nine' low before room fits =
+    let front = up_to (get_or upto k 0) (get_or lanes k lane) in
+    omega (arith, fits, ap length (lane_next lanes upto k lane nine nine' low), length-append front (lanes_up_to (drop (k + 1) lanes) (drop (k + 1) upto)))

@@ -53,7 +53,7 @@ impl<L: OneLane + Drop> Drop for NineLanes<L> {
 }
 
 impl<L: OneLane + Drop> NineLanes<L> {
-    /// A lane.
+    /// One of the lanes, whose rows stand by rising ids.
     #[inline(always)]
     fn lane(&self, lane: Lane) -> &LaneOf<L>
         ensures sound { IsSoundBuffer self.now }

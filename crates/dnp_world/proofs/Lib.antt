@@ -158,3 +158,4 @@ mod CentreStores
 mod NewWholes
 mod SystemCalls
 pub mod OnResults
+pub mod Telling
