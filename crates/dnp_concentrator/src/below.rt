@@ -10,11 +10,9 @@ ghost use Rattle.dnp_concentrator.specs.Concentrator.{core_of, link_at, links_of
 ghost use Rattle.dnp_concentrator.specs.Relaying as spec;
 
 use crate::concentrator::Concentrator;
-use dnp_controls::Book;
-use dnp_eventbuf::PairLanes;
 use dnp_master::{AskFault, Fragment, Task};
 
-impl<Q: PairLanes, B: Book> Concentrator<Q, B> {
+impl<Q, B> Concentrator<Q, B> {
     /// How many substations there are: the numbers below it are those of links below.
     pub fn substations(&self) -> usize
         ensures { result ≡ length (links_of self.now) }
@@ -102,6 +100,7 @@ impl<Q: PairLanes, B: Book> Concentrator<Q, B> {
     {
         self.links[usize::from(substation)].ask(now, task)
     }
+
     /// Asks the substation a task at this moment, as `ask_below` does, but the request, to be sent, is put into the caller's
     /// fragment, in place of what was there. A refusal leaves that as it was.
     pub fn ask_below_into(

@@ -61,7 +61,7 @@ fn fault_of(fault: BookFault) -> StoreFault
     }
 }
 
-impl<B: Book> BookOutputs<B> {
+impl<B> BookOutputs<B> {
     /// Outputs over this book, by this index map. No point is reserved.
     pub fn new(map: IndexMap, book: B) -> Self
         ensures map { map_in result ≡ map }
@@ -134,7 +134,9 @@ impl<B: Book> BookOutputs<B> {
             Status::SUCCESS
         }
     }
+}
 
+impl<B: Book> BookOutputs<B> {
     /// Adds a command to the book for its substation, as it goes there: with the substation's own index.
     fn add(&mut self, alloc: Global, below: Option<(u8, Command)>) -> Result<(), StoreFault>
         requires { IfSome below (λ found. found.0 < MAX_SUBSTATIONS) }

@@ -57,7 +57,7 @@ impl<J: Drop, B: Drop> Drop for Centre<J, B> {
 /// The target of all controls in a centre's book: the station below.
 pub(crate) const STATION: u8 = 0;
 
-impl<J: JournalStore + Drop, B: Book + Drop> Centre<J, B> {
+impl<J: Drop, B: Drop> Centre<J, B> {
     /// A closed centre of a plan that keeps its limits (`Plan::keeps_limits`), over this journal and this book,
     /// as a restart leaves it.
     ///
@@ -88,7 +88,7 @@ impl<J: JournalStore + Drop, B: Book + Drop> Centre<J, B> {
     }
 }
 
-impl<J: JournalStore, B: Book> Centre<J, B> {
+impl<J, B> Centre<J, B> {
     /// The journal and the book, as they stand.
     pub fn into_stores(self) -> (J, B)
         ensures journal { result.0 ≡ journal_of self }
@@ -207,7 +207,9 @@ impl<J: JournalStore, B: Book> Centre<J, B> {
     {
         self.relay.ask_into(request, now, task)
     }
+}
 
+impl<J: JournalStore, B: Book> Centre<J, B> {
     /// Takes in octets that came at this moment, as `Master::receive` does, with the same refusals: the
     /// events of a fragment that is taken are put into the journal by one append, if there are any rows, and
     /// only then it is confirmed.

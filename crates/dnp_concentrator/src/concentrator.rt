@@ -75,7 +75,7 @@ fn new_points(alloc: Global, plan: &PointPlan) -> Result<PointDb, AllocError>
     PointDb::new(alloc, plan.try_clone(alloc)?)
 }
 
-impl<Q: PairLanes + Drop, B: Book + Drop> Concentrator<Q, B> {
+impl<Q: Drop, B: Drop> Concentrator<Q, B> {
     /// A concentrator of a plan that keeps its limits (`Plan::keeps_limits`), over this queue and this book. It is closed
     /// towards both centres, as after a restart.
     ///
@@ -122,7 +122,7 @@ impl<Q: PairLanes + Drop, B: Book + Drop> Concentrator<Q, B> {
     }
 }
 
-impl<Q: PairLanes, B: Book> Concentrator<Q, B> {
+impl<Q, B> Concentrator<Q, B> {
     /// The queue and the book, as they stand.
     pub fn into_stores(self) -> (Q, B)
         ensures queue { result.0 ≡ queue_of self }
@@ -171,6 +171,21 @@ impl<Q: PairLanes, B: Book> Concentrator<Q, B> {
         named_by(self.cores.at(centre).standing(now)?)
     }
 
+    /// The connection to this centre ends: the outstation towards it is closed, and forgets what came.
+    pub fn hung_up_above(&mut self, centre: u8)
+        requires { centre < CENTRES }
+        ensures core { core_of centre self.new ≡ closed (core_of centre self.old) }
+        ensures other { core_of (other_than centre) self.new ≡ core_of (other_than centre) self.old }
+        ensures queue { queue_of self.new ≡ queue_of self.old }
+        ensures outputs { outputs_of self.new ≡ outputs_of self.old }
+        ensures links { links_of self.new ≡ links_of self.old }
+        ensures plan { plan_above self.new ≡ plan_above self.old }
+    {
+        self.cores.at_mut(centre).hung_up();
+    }
+}
+
+impl<Q: PairLanes, B: Book> Concentrator<Q, B> {
     /// A restart of the outstation towards this centre. Its side of the queue stays, as the other does.
     fn restart_above(&mut self, alloc: Global, centre: u8)
         requires { centre < CENTRES }
@@ -200,19 +215,6 @@ impl<Q: PairLanes, B: Book> Concentrator<Q, B> {
         self.restart_above(alloc, 0);
         self.restart_above(alloc, 1);
         hang_up_all(&mut self.links);
-    }
-
-    /// The connection to this centre ends: the outstation towards it is closed, and forgets what came.
-    pub fn hung_up_above(&mut self, centre: u8)
-        requires { centre < CENTRES }
-        ensures core { core_of centre self.new ≡ closed (core_of centre self.old) }
-        ensures other { core_of (other_than centre) self.new ≡ core_of (other_than centre) self.old }
-        ensures queue { queue_of self.new ≡ queue_of self.old }
-        ensures outputs { outputs_of self.new ≡ outputs_of self.old }
-        ensures links { links_of self.new ≡ links_of self.old }
-        ensures plan { plan_above self.new ≡ plan_above self.old }
-    {
-        self.cores.at_mut(centre).hung_up();
     }
 
     /// A connection to this centre begins. What is done is put into the actions, in place of what was there.

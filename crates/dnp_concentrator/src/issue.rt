@@ -50,7 +50,7 @@ fn add<B: Book>(alloc: Global, book: &mut B, command: &Command) -> Result<u64, I
     }
 }
 
-impl<J: JournalStore, B: Book> Centre<J, B> {
+impl<J, B> Centre<J, B> {
     /// Whether the substation has the output or setpoint of a command, whose index is the substation's own: `issue` then
     /// finds it.
     pub fn has_output(&self, substation: u8, command: &Command) -> bool
@@ -58,7 +58,9 @@ impl<J: JournalStore, B: Book> Centre<J, B> {
     {
         self.map.command_above(substation, command).is_some()
     }
+}
 
+impl<J: JournalStore, B: Book> Centre<J, B> {
     /// Issues a command to a substation's output or setpoint, whose index is the substation's own: it stands
     /// in the book, pending, under the id that is answered, with the index above.
     ///
