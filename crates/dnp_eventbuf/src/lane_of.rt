@@ -14,12 +14,12 @@ use std::alloc::{AllocError, Global};
 use std::marker::Model;
 
 /// One lane, however its rows are kept. A clause sees it as its state, so that nine of them are a list of states.
-pub struct LaneOf<L: OneLane + Drop> {
+pub struct LaneOf<L: OneLane> {
     /// The lane.
     pub(crate) one: L,
 }
 
-impl<L: OneLane + Drop> Model for LaneOf<L> {
+impl<L: OneLane> Model for LaneOf<L> {
     ghost use Rattle.dnp_eventbuf.specs.EventBuffer.{LaneState};
 
     ghost Value = { LaneState };
@@ -34,7 +34,7 @@ impl<L: OneLane + Drop> Drop for LaneOf<L> {
     }
 }
 
-impl<L: OneLane + Drop> LaneOf<L> {
+impl<L: OneLane> LaneOf<L> {
     /// An empty lane that takes this many rows.
     pub fn new(alloc: Global, capacity: u32) -> Result<LaneOf<L>, AllocError>
         ensures { IfOk result (λ lane. lane ≡ empty_lane capacity) }

@@ -21,7 +21,7 @@ use std::marker::Model;
 use std::mem;
 
 /// Nine lanes in memory, which take their room as they are made.
-pub struct NineLanes<L: OneLane + Drop> {
+pub struct NineLanes<L: OneLane> {
     /// The lanes, by their numbers.
     pub(crate) lanes: [LaneOf<L>; LANES],
     /// Whether a row was dropped, and some lane has been full since.
@@ -30,7 +30,7 @@ pub struct NineLanes<L: OneLane + Drop> {
     pub(crate) last_id: u64,
 }
 
-impl<L: OneLane + Drop> Model for NineLanes<L> {
+impl<L: OneLane> Model for NineLanes<L> {
     ghost use Rattle.dnp_eventbuf.specs.Sound.{IsSoundBuffer};
     ghost use Rattle.dnp_eventbuf.specs.EventBuffer.{EventBuffer};
 
@@ -52,7 +52,7 @@ impl<L: OneLane + Drop> Drop for NineLanes<L> {
     }
 }
 
-impl<L: OneLane + Drop> NineLanes<L> {
+impl<L: OneLane> NineLanes<L> {
     /// One of the lanes, whose rows stand by rising ids.
     #[inline(always)]
     fn lane(&self, lane: Lane) -> &LaneOf<L>
@@ -167,7 +167,7 @@ pub(crate) fn memory(_: AllocError) -> StoreFault
     StoreFault::Memory
 }
 
-impl<L: OneLane + Drop> Lanes for NineLanes<L> {
+impl<L: OneLane> Lanes for NineLanes<L> {
     ghost use Rattle.dnp_eventbuf.specs.Calls.{without_device};
 
     ghost contents = { λ s. s };

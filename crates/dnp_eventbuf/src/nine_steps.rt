@@ -18,7 +18,7 @@ use dnp_objects::{LANES, LaneRow, MAX_ID, Row};
 use std::alloc::AllocError;
 /// How many rows the lanes drop for these, or `None` where a count of lost rows would pass the limit. Most
 /// appends are of one row, for which one lane is looked at.
-pub fn drops_for<L: OneLane + Drop>(lanes: &[LaneOf<L>; LANES], rows: &[LaneRow]) -> Option<usize>
+pub fn drops_for<L: OneLane>(lanes: &[LaneOf<L>; LANES], rows: &[LaneRow]) -> Option<usize>
     ensures { result ≡ drops_from 0 (map tally_of lanes.now) rows.now }
 {
     if let [x] = rows {
@@ -29,7 +29,7 @@ pub fn drops_for<L: OneLane + Drop>(lanes: &[LaneOf<L>; LANES], rows: &[LaneRow]
 }
 
 /// How many rows a lane drops for one more.
-fn drops_one<L: OneLane + Drop>(lane: &LaneOf<L>) -> Option<usize>
+fn drops_one<L: OneLane>(lane: &LaneOf<L>) -> Option<usize>
     ensures { (tallies : List TallyValue) (x : RowValue) → tally_at tallies (lane_number x.lane) ≡ tally_of lane.now
         → result ≡ drops_from 0 tallies (x ∷ []) }
 {
@@ -44,7 +44,7 @@ fn drops_one<L: OneLane + Drop>(lane: &LaneOf<L>) -> Option<usize>
 }
 
 /// Each lane's tally.
-fn tallies<L: OneLane + Drop>(lanes: &[LaneOf<L>; LANES]) -> [Tally; LANES]
+fn tallies<L: OneLane>(lanes: &[LaneOf<L>; LANES]) -> [Tally; LANES]
     ensures { result ≡ map tally_of lanes.now }
 {
     let mut tallies = [Tally { free: 0, lost: 0 }; LANES];
@@ -55,14 +55,14 @@ fn tallies<L: OneLane + Drop>(lanes: &[LaneOf<L>; LANES]) -> [Tally; LANES]
 }
 
 /// Whether some lane is full.
-pub fn any_full<L: OneLane + Drop>(lanes: &[LaneOf<L>; LANES]) -> bool
+pub fn any_full<L: OneLane>(lanes: &[LaneOf<L>; LANES]) -> bool
     ensures { result ≡ list_any is_full lanes.now }
 {
     lanes.iter().any(|lane| lane.is_full())
 }
 
 /// How many rows there are of each lane with ids up to its number.
-pub fn count_all_up_to<L: OneLane + Drop>(lanes: &[LaneOf<L>; LANES], upto: &Upto) -> usize
+pub fn count_all_up_to<L: OneLane>(lanes: &[LaneOf<L>; LANES], upto: &Upto) -> usize
     requires rising { All (λ lane. AllPairs (λ x y. x.id < y.id) lane.rows) lanes.now }
     ensures { result ≡ length (lanes_up_to lanes.now upto.now) }
 {
@@ -74,11 +74,7 @@ pub fn count_all_up_to<L: OneLane + Drop>(lanes: &[LaneOf<L>; LANES], upto: &Upt
 }
 
 /// Adds the rows of each lane with ids up to its number, for which there is room.
-pub fn push_all_up_to<L: OneLane + Drop>(
-    lanes: &[LaneOf<L>; LANES],
-    upto: &Upto,
-    out: &mut Vec<Row>,
-)
+pub fn push_all_up_to<L: OneLane>(lanes: &[LaneOf<L>; LANES], upto: &Upto, out: &mut Vec<Row>)
     requires rising { All (λ lane. AllPairs (λ x y. x.id < y.id) lane.rows) lanes.now }
     requires room { vec_len out.old + length (lanes_up_to lanes.now upto.now) ≤ vec_capacity out.old }
     ensures { out.new.items ≡ out.old.items ++ lanes_up_to lanes.now upto.now }
@@ -89,7 +85,7 @@ pub fn push_all_up_to<L: OneLane + Drop>(
 }
 
 /// Takes the rows of each lane with ids up to its number out.
-pub fn cut_all<L: OneLane + Drop>(lanes: &mut [LaneOf<L>; LANES], upto: &Upto)
+pub fn cut_all<L: OneLane>(lanes: &mut [LaneOf<L>; LANES], upto: &Upto)
     requires rising { All (λ lane. AllPairs (λ x y. x.id < y.id) lane.rows) lanes.old }
     ensures { lanes.new ≡ lanes_above lanes.old upto.now }
 {
@@ -99,7 +95,7 @@ pub fn cut_all<L: OneLane + Drop>(lanes: &mut [LaneOf<L>; LANES], upto: &Upto)
 }
 
 /// Adds the rows of each lane.
-pub fn push_all<L: OneLane + Drop>(
+pub fn push_all<L: OneLane>(
     lanes: &[LaneOf<L>; LANES],
     out: &mut Vec<Row>,
 ) -> Result<(), AllocError>
@@ -113,7 +109,7 @@ pub fn push_all<L: OneLane + Drop>(
 }
 
 /// Takes all rows out of each lane.
-pub fn clear_all<L: OneLane + Drop>(lanes: &mut [LaneOf<L>; LANES])
+pub fn clear_all<L: OneLane>(lanes: &mut [LaneOf<L>; LANES])
     ensures { lanes.new ≡ map emptied lanes.old }
 {
     for lane in lanes {
@@ -124,7 +120,7 @@ pub fn clear_all<L: OneLane + Drop>(lanes: &mut [LaneOf<L>; LANES])
 /// Puts the rows one by one, each into its lane, under the next id: a full lane drops its oldest row first, which is
 /// counted as an overflow, and for which there is room. It stands in its callers, as what it calls.
 #[inline(always)]
-pub fn put_all<L: OneLane + Drop>(
+pub fn put_all<L: OneLane>(
     lanes: &mut [LaneOf<L>; LANES],
     overflow: &mut bool,
     last_id: &mut u64,

@@ -18,7 +18,7 @@ pub struct Side<'a, P> {
     is_second: bool,
 }
 
-impl<'a, P: PairLanes> Side<'a, P> {
+impl<'a, P> Side<'a, P> {
     /// The lanes for this centre.
     pub fn new(pair: &'a mut P, centre: u8) -> Self
         requires { centre < CENTRES }
@@ -31,9 +31,7 @@ impl<'a, P: PairLanes> Side<'a, P> {
             is_second: centre == 1,
         }
     }
-}
 
-impl<P> Side<'_, P> {
     /// The centre that the lanes are for.
     fn centre(&self) -> u8
         ensures below { result < CENTRES }
