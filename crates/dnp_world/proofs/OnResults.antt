@@ -1,5 +1,5 @@
 -- What follows where a call went well, and where it was refused.
-use Rattle.std.proofs.Common.{Result, Ok, Err, OnOk, OnErr}
+use Rattle.std.proofs.Common.{◌≡◌, Result, Ok, Err, OnOk, OnErr}
 
 pub at_ok : {A E P Q : Type 0} (r : Result A E) → OnOk r P → (P → Q) → OnOk r Q
 at_ok (Ok a) p f = f p
@@ -16,3 +16,6 @@ both_ok P Q (Err e) p q = tt
 pub both_err : {A E : Type 0} (P Q : Type 0) (r : Result A E) → OnErr r P → OnErr r Q → OnErr r (P × Q)
 both_err P Q (Ok a) p q = tt
 both_err P Q (Err e) p q = (p, q)
+
+pub not_both : {A E : Type 0} (r : Result A E) (x : A) (e : E) → r ≡ Ok x → r ≡ Err e → ⊥
+not_both r x e well refused = cc

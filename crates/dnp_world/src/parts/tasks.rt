@@ -1,6 +1,6 @@
 //! The events of a system that ask tasks, and the commands that are issued and relayed.
 
-ghost use Rattle.std.specs.Prelude.{◌≡◌, ◌⊎◌, ◌≤◌, ◌<◌, ◌∷◌, [], ℕ, List, length, true, IfErr, IfOk, IsErr, ◌≢◌, IsTrue, MatchResult, OnErr, OnOk, Result, Ok, Err, ◌&&◌, None, Some, is_ok, is_some, slice_get};
+ghost use Rattle.std.specs.Prelude.{◌≡◌, ◌⊎◌, ◌≤◌, ◌<◌, ◌∷◌, ◌↔◌, [], ℕ, List, length, true, IfErr, IfOk, IsErr, IsOk, ◌≢◌, IsTrue, MatchResult, OnErr, OnOk, Result, Ok, Err, ◌&&◌, None, Some, is_ok, is_some, slice_get};
 ghost use Rattle.dnp_appfragment.specs.Fragments.{Asked, IsRequest};
 ghost use Rattle.dnp_concentrator.specs.Mapped.{command_above};
 ghost use Rattle.dnp_eventbuf.specs.Sides.{at};
@@ -139,6 +139,21 @@ fn send_relayed(
             Some(cause) => Err(cause),
             None => Ok(()),
         },
+    }
+}
+
+/// What stops at a control that isn't issued: nothing where there is no such output.
+fn stop_for(fault: IssueFault) -> Result<(), Cause>
+    ensures nothing { IsOk result ↔ (fault ≡ IssueFault.NoOutput) }
+    ensures exhausted { (result ≡ Err Cause.Exhausted) ↔ (fault ≡ IssueFault.Exhausted) }
+    ensures memory { (result ≡ Err Cause.Memory) ↔ (fault ≡ IssueFault.Memory) }
+    ensures device { (result ≡ Err Cause.Device) ↔ (fault ≡ IssueFault.Device) }
+{
+    match fault {
+        IssueFault::NoOutput => Ok(()),
+        IssueFault::Exhausted => Err(Cause::Exhausted),
+        IssueFault::Memory => Err(Cause::Memory),
+        IssueFault::Device => Err(Cause::Device),
     }
 }
 
@@ -345,10 +360,7 @@ impl<Q: PairLanes, J: JournalStore, A: Book, B: Book> Parts<Q, J, A, B> {
                 self.history.issued.put(substation, *command);
                 Ok(())
             }
-            Err(IssueFault::NoOutput) => Ok(()),
-            Err(IssueFault::Exhausted) => Err(Cause::Exhausted),
-            Err(IssueFault::Memory) => Err(Cause::Memory),
-            Err(IssueFault::Device) => Err(Cause::Device),
+            Err(fault) => stop_for(fault),
         }
     }
 }

@@ -1,6 +1,8 @@
 -- A new system is the fresh one of its plan, which is steady.
-use Rattle.std.proofs.Common.{rules, ap, ◌∙◌, arith, refl, sym, subst}
+use Rattle.std.proofs.Common.{ap, ◌∙◌, arith, refl, sym, subst}
+use Rattle.dnp_concentrator.specs.IndexMap.{IsTooWide}
 use Rattle.dnp_concentrator.specs.PerCentre.{for_each, of_each, per_centre}
+use Rattle.dnp_concentrator.specs.Plan.{map_of}
 use Rattle.dnp_concentrator.specs.declared.addresses.TheConstants.{CONCENTRATOR_ABOVE}
 use Rattle.dnp_concentrator.specs.declared.per_centre.PerCentre.{PerCentre}
 use Rattle.dnp_controls.specs.Book.{Ledger}
@@ -11,6 +13,7 @@ use Rattle.dnp_world.specs.Channels.{fresh_channel}
 use Rattle.dnp_world.specs.NewSystems.{CanBegin}
 use Rattle.dnp_world.proofs.PerCentre.{at_every}
 use Rattle.dnp_world.proofs.NewWholes.{new_whole}
+use Rattle.dnp_world.proofs.OnResults.{not_both}
 use Rattle.dnp_world.proofs.world.World.new.Goals as goal
 
 pub returns-clause-fresh : goal.returns-clause-fresh
@@ -62,7 +65,13 @@ invariant_of-result g c = λ well.
     let journals : PerCentre Archive = of_each g.J.JournalStore.archive (per_centre c.args.journals) in
     let controls = g.A.Book.contents c.args.controls in
     let orders : PerCentre Ledger = of_each g.B.Book.contents (per_centre c.args.orders) in
-    let begins : CanBegin plan = search rules in
+    let narrow : IsTooWide (map_of plan) → ⊥ = λ wide. not_both _ _ _ c.in_ok-map.was (c.new.ensures.too_wide.1 wide) in
+    let begins : CanBegin plan = record {
+      limits = c.requires.limits;
+      lanes = c.plans_have_all_lanes.ensures.substations;
+      narrow = narrow;
+      apart = λ overlaps. not_both _ _ _ c.in_ok-map.was (c.new.ensures.overlap.1 (overlaps, narrow));
+    } in
     let first : g.J.Sink.honest c.args.journals.0 = subst g.J.Sink.honest c.in_ok-first.ensures.journal (well.journals_are 0 (omega arith)) in
     let second : g.J.Sink.honest c.args.journals.1 = subst g.J.Sink.honest c.in_ok-second.ensures.journal (well.journals_are 1 (omega arith)) in
     let empty = c.requires.empty first second in
