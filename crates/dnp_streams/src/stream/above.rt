@@ -27,7 +27,7 @@ pub struct Above<'a, Q, B> {
     pub(super) is_second: bool,
 }
 
-impl<'a, Q: PairLanes, B: Book> Above<'a, Q, B> {
+impl<'a, Q, B> Above<'a, Q, B> {
     /// The outstation of the concentrator towards the centre with this number.
     pub fn new(concentrator: &'a mut Concentrator<Q, B>, centre: u8) -> Self
         requires { centre < CENTRES }

@@ -30,7 +30,7 @@ pub struct Below<'a, Q, B> {
     substation: u8,
 }
 
-impl<'a, Q: PairLanes, B: Book> Below<'a, Q, B> {
+impl<'a, Q, B> Below<'a, Q, B> {
     /// The link of the concentrator to the substation with this number.
     pub fn new(concentrator: &'a mut Concentrator<Q, B>, substation: u8) -> Self
         ensures lent { (lent_below result).now ≡ concentrator.old }
@@ -49,7 +49,9 @@ impl<'a, Q: PairLanes, B: Book> Below<'a, Q, B> {
     {
         usize::from(self.substation) < self.concentrator.substations()
     }
+}
 
+impl<'a, Q: PairLanes, B: Book> Below<'a, Q, B> {
     /// Time has passed for the link, where the plan has the substation. Whether it has closed now.
     pub(super) fn pass(&mut self, now: u64) -> bool
         ensures kept { kept_below self.new ≡ kept_below self.old }

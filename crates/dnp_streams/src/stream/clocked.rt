@@ -26,7 +26,7 @@ pub struct Clocked<'a, S, C> {
     fragments: u64,
 }
 
-impl<'a, S: Station, C: Clock> Clocked<'a, S, C> {
+impl<'a, S, C> Clocked<'a, S, C> {
     /// A station and a clock, of which nothing was asked yet.
     pub fn new(station: &'a mut S, clock: &'a C) -> Self
         ensures lent { (lent_station result).now ≡ station.old }
@@ -49,7 +49,9 @@ impl<'a, S: Station, C: Clock> Clocked<'a, S, C> {
     {
         self.fragments
     }
+}
 
+impl<'a, S, C: Clock> Clocked<'a, S, C> {
     /// The moment of a step that begins, in milliseconds.
     fn moment(&mut self) -> u64
         ensures moved { self.new ≡ record self.old { now = result } }
