@@ -1,8 +1,8 @@
 //! One lane in memory as what it holds.
 
-ghost use Rattle.std.specs.Prelude.{◌≡◌, ◌≢◌, ◌^◌, ◌+◌, ◌<◌, ◌≤◌, ◌++◌, IfOk, OnOk, OnErr, [], length, map, nat_lt, vec_len, vec_capacity, filter, take};
+ghost use Rattle.std.specs.Prelude.{◌≡◌, ◌≢◌, ◌^◌, ◌+◌, ◌<◌, ◌≤◌, ◌++◌, OnOk, OnErr, [], length, map, nat_lt, vec_len, vec_capacity, filter, take};
 ghost use Rattle.std.specs.List.{AllPairs, list_any};
-ghost use Rattle.dnp_eventbuf.specs.EventBuffer.{is_full, put_in, dropped_from, empty_lane, emptied, above, up_to, last_of, row_of};
+ghost use Rattle.dnp_eventbuf.specs.EventBuffer.{is_full, put_in, dropped_from, emptied, above, up_to, last_of, row_of};
 ghost use Rattle.dnp_eventbuf.specs.steps.Tallies.{tally_of};
 
 use crate::in_order::{cut, first_into, push_rows};
@@ -35,19 +35,11 @@ impl<L: OneLane + Drop> Drop for LaneOf<L> {
 }
 
 impl<L: OneLane> LaneOf<L> {
-    /// An empty lane that takes this many rows.
-    pub fn new(alloc: Global, capacity: u32) -> Result<LaneOf<L>, AllocError>
-        ensures { IfOk result (λ lane. lane ≡ empty_lane capacity) }
-    {
-        let one = L::new(alloc, capacity)?;
-        Ok(LaneOf { one })
-    }
-
     /// Whether it has as many rows as it takes.
     pub fn is_full(&self) -> bool
         ensures { result ≡ is_full self.now }
     {
-        self.one.is_full()
+        self.one.tally().free == 0
     }
 
     /// Takes a row at the end. A full lane drops its oldest first, counts it, and adds it to those that were
@@ -129,7 +121,11 @@ impl<L: OneLane> LaneOf<L> {
         ensures rows { OnOk result (out.new.items ≡ out.old.items ++ map row_of self.now.rows) }
         ensures memory { OnErr result (map row_of self.now.rows ≢ []) }
     {
-        self.one.push_all(out)
+        let (front, back) = self.one.runs();
+        out.reserve(self.len() as usize)?;
+        push_rows(front, out);
+        push_rows(back, out);
+        Ok(())
     }
 
     /// Takes the rows with ids up to this out.
@@ -172,7 +168,7 @@ impl<L: OneLane> LaneOf<L> {
     pub fn lost(&self) -> u64
         ensures { result ≡ self.now.lost }
     {
-        self.one.lost()
+        self.one.tally().lost
     }
 
     /// Its free places and its lost rows.

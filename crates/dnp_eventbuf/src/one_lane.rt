@@ -1,27 +1,18 @@
 //! What one lane in memory is, however its rows are kept.
 
-ghost use Rattle.std.specs.Prelude.{◌≡◌, ◌≢◌, ◌+◌, ◌<◌, ◌≤◌, ◌++◌, IfOk, OnOk, OnErr, [], length, map, vec_len, vec_capacity};
+ghost use Rattle.std.specs.Prelude.{◌≡◌, ◌+◌, ◌<◌, ◌≤◌, ◌++◌, length, vec_len, vec_capacity};
 ghost use Rattle.std.specs.List.{AllPairs};
-ghost use Rattle.dnp_eventbuf.specs.EventBuffer.{LaneState, is_full, put_in, dropped_from, empty_lane, emptied, above, last_of, row_of};
+ghost use Rattle.dnp_eventbuf.specs.EventBuffer.{LaneState, put_in, dropped_from, emptied, above, last_of};
 ghost use Rattle.dnp_eventbuf.specs.steps.Tallies.{tally_of};
 
 use crate::numbered::Numbered;
 use crate::tally::Tally;
 use dnp_objects::{MAX_ID, Row};
-use std::alloc::{AllocError, Global};
 
 /// One lane in memory, whose room is taken at once: what differs by how its rows are kept.
 pub trait OneLane {
     /// What the lane holds.
     ghost state: { Self → LaneState };
-
-    /// An empty lane that takes this many rows.
-    fn new(alloc: Global, capacity: u32) -> Result<Self, AllocError>
-        ensures { IfOk result (λ lane. state lane ≡ empty_lane capacity) };
-
-    /// Whether it has as many rows as it takes.
-    fn is_full(&self) -> bool
-        ensures { result ≡ is_full (state self.now) };
 
     /// Takes a row at the end. A full lane drops its oldest first, counts it, and adds it to those that were
     /// dropped, which have room for it. It stands in its callers, so that neither row is moved to it or from it.
@@ -37,11 +28,6 @@ pub trait OneLane {
     /// Its rows, in two runs: those of the second come after those of the first.
     fn runs(&self) -> (&[Numbered], &[Numbered])
         ensures { result.0.now ++ result.1.now ≡ (state self.now).rows };
-
-    /// Adds all rows.
-    fn push_all(&self, out: &mut Vec<Row>) -> Result<(), AllocError>
-        ensures rows { OnOk result (out.new.items ≡ out.old.items ++ map row_of (state self.now).rows) }
-        ensures memory { OnErr result (map row_of (state self.now).rows ≢ []) };
 
     /// Takes the rows with ids up to this out.
     fn cut(&mut self, upto: u64)
@@ -59,10 +45,6 @@ pub trait OneLane {
     /// The id of the last row, or 0.
     fn last(&self) -> u64
         ensures { result ≡ last_of (state self.now).rows };
-
-    /// How many rows it has dropped.
-    fn lost(&self) -> u64
-        ensures { result ≡ (state self.now).lost };
 
     /// Its free places and its lost rows.
     fn tally(&self) -> Tally

@@ -1,9 +1,10 @@
 //! One lane in memory.
 
-ghost use Rattle.std.specs.Prelude.{not, ◌&&◌, false, ◌≡◌, ◌^◌, ◌+◌, ◌-◌, ◌≤◌, slice_get, option_map, length, nat_lt, filter};
+ghost use Rattle.std.specs.Prelude.{not, ◌&&◌, false, ◌≡◌, ◌^◌, ◌+◌, ◌-◌, ◌≤◌, slice_get, option_map, length, nat_lt, filter, IfOk};
 ghost use Rattle.std.specs.VecDeque.{deque_len, deque_capacity};
-ghost use Rattle.dnp_eventbuf.specs.EventBuffer.{is_full, put_in, above, last_of};
+ghost use Rattle.dnp_eventbuf.specs.EventBuffer.{is_full, put_in, above, last_of, empty_lane};
 
+use crate::lane_of::LaneOf;
 use crate::numbered::Numbered;
 use crate::one_lane::OneLane;
 use crate::tally::Tally;
@@ -42,6 +43,22 @@ impl Drop for PlainLane {
             rows: _,
             lost: _,
         } = self;
+    }
+}
+
+impl LaneOf<PlainLane> {
+    /// An empty lane that takes this many rows. An error says that it ran out of memory.
+    pub fn new(alloc: Global, capacity: u32) -> Result<LaneOf<PlainLane>, AllocError>
+        ensures { IfOk result (λ lane. lane ≡ empty_lane capacity) }
+    {
+        let rows = VecDeque::with_capacity(alloc, capacity as usize)?;
+        Ok(LaneOf {
+            one: PlainLane {
+                capacity,
+                rows,
+                lost: 0,
+            },
+        })
     }
 }
 
@@ -90,7 +107,7 @@ impl PlainLane {
         ensures { result ≡ not (is_full self.now) && nat_lt (last_of self.now.rows) id }
     {
         let last = self.last();
-        !self.is_full() && last < id
+        self.rows.len() < self.capacity as usize && last < id
     }
 
     /// Notes how many rows it dropped.
@@ -103,19 +120,6 @@ impl PlainLane {
 
 impl OneLane for PlainLane {
     ghost state = { λ s. s };
-
-    fn new(alloc: Global, capacity: u32) -> Result<PlainLane, AllocError> {
-        let rows = VecDeque::with_capacity(alloc, capacity as usize)?;
-        Ok(PlainLane {
-            capacity,
-            rows,
-            lost: 0,
-        })
-    }
-
-    fn is_full(&self) -> bool {
-        self.rows.len() >= self.capacity as usize
-    }
 
     #[inline(always)]
     fn put(&mut self, x: Numbered, dropped: &mut Vec<Row>) {
@@ -130,13 +134,6 @@ impl OneLane for PlainLane {
 
     fn runs(&self) -> (&[Numbered], &[Numbered]) {
         self.rows.as_slices()
-    }
-
-    fn push_all(&self, out: &mut Vec<Row>) -> Result<(), AllocError> {
-        for x in self.rows.iter() {
-            out.push(x.row)?;
-        }
-        Ok(())
     }
 
     fn cut(&mut self, upto: u64) {
@@ -156,10 +153,6 @@ impl OneLane for PlainLane {
 
     fn last(&self) -> u64 {
         self.rows.back().map_or(0, |x| x.id)
-    }
-
-    fn lost(&self) -> u64 {
-        self.lost
     }
 
     fn tally(&self) -> Tally {

@@ -1,10 +1,11 @@
 //! One lane in a ring of memory.
 
-ghost use Rattle.std.specs.Prelude.{◌≡◌, ◌<◌, length};
+ghost use Rattle.std.specs.Prelude.{◌≡◌, ◌<◌, IfOk, length};
 ghost use Rattle.std.specs.List.{AllPairs};
-ghost use Rattle.dnp_eventbuf.specs.EventBuffer.{above};
+ghost use Rattle.dnp_eventbuf.specs.EventBuffer.{above, empty_lane};
 
-use crate::in_order::{cut, push_rows};
+use crate::in_order::cut;
+use crate::lane_of::LaneOf;
 use crate::numbered::Numbered;
 use crate::one_lane::OneLane;
 use crate::tally::Tally;
@@ -40,6 +41,18 @@ impl Drop for RingLane {
     }
 }
 
+impl LaneOf<RingLane> {
+    /// An empty lane that takes this many rows. An error says that it ran out of memory.
+    pub fn new(alloc: Global, capacity: u32) -> Result<LaneOf<RingLane>, AllocError>
+        ensures { IfOk result (λ lane. lane ≡ empty_lane capacity) }
+    {
+        let rows = HeapCircularBuffer::with_capacity(alloc, capacity as usize)?;
+        Ok(LaneOf {
+            one: RingLane { rows, lost: 0 },
+        })
+    }
+}
+
 impl RingLane {
     /// How many rows have an id over this.
     fn count_over(&self, upto: u64) -> usize
@@ -54,15 +67,6 @@ impl RingLane {
 impl OneLane for RingLane {
     ghost state = { λ s. s };
 
-    fn new(alloc: Global, capacity: u32) -> Result<RingLane, AllocError> {
-        let rows = HeapCircularBuffer::with_capacity(alloc, capacity as usize)?;
-        Ok(RingLane { rows, lost: 0 })
-    }
-
-    fn is_full(&self) -> bool {
-        self.rows.len() >= self.rows.capacity()
-    }
-
     #[inline(always)]
     fn put(&mut self, x: Numbered, dropped: &mut Vec<Row>) {
         if let Some(oldest) = self.rows.push_back(x) {
@@ -73,14 +77,6 @@ impl OneLane for RingLane {
 
     fn runs(&self) -> (&[Numbered], &[Numbered]) {
         self.rows.as_slices()
-    }
-
-    fn push_all(&self, out: &mut Vec<Row>) -> Result<(), AllocError> {
-        let (front, back) = self.rows.as_slices();
-        out.reserve(front.len() + back.len())?;
-        push_rows(front, out);
-        push_rows(back, out);
-        Ok(())
     }
 
     fn cut(&mut self, upto: u64) {
@@ -100,10 +96,6 @@ impl OneLane for RingLane {
 
     fn last(&self) -> u64 {
         self.rows.back().map_or(0, |x| x.id)
-    }
-
-    fn lost(&self) -> u64 {
-        self.lost
     }
 
     fn tally(&self) -> Tally {

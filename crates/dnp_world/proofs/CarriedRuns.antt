@@ -10,8 +10,6 @@ use Rattle.dnp_world.specs.Wholes.{Whole}
 use Rattle.dnp_world.specs.declared.event.Event.{Event}
 use Rattle.dnp_world.specs.declared.event.Link.{Link}
 use Rattle.dnp_world.specs.declared.link_event.Way.{Way}
-use Rattle.dnp_world.specs.declared.round_fault.RoundFault.{RoundFault}
-use Rattle.dnp_world.specs.declared.round_fault.RoundFault.TheVariants.{Fault}
 
 pub over_more : {C : Type 0} (carries : C → Link → Way → List ℕ → C → Type 0) (old mid new : Whole) (events : List Event) (event : Event)
     (before between after : C) → RunsOver carries old events mid before between → HappensToAll mid event new → Crosses carries mid event between after
@@ -57,14 +55,4 @@ pub device_by_cause : {C T : Type 0} {refuses : C → Cause → C → Type 0} {f
 device_by_cause cause ran_on tells = record {
   stopped = λ is. tells.stopped (ap Err is);
   runs_on = λ other. tells.runs_on (λ is. other (cc)) ∙ ran_on;
-}
-
--- as a round's fault
-pub device_as_fault : {C T U : Type 0} {refuses : C → Cause → C → Type 0} {before after : Bool} (cause : Cause) (r : Result U RoundFault)
-    → r ≡ Err (Fault cause)
-    → TellsDeviceOver refuses before after ((let said : Result T Cause = Err cause in said) ≡ Err Device)
-    → TellsDeviceOver refuses before after (r ≡ Err (Fault Device))
-device_as_fault cause r told tells = record {
-  stopped = λ is. tells.stopped (cc);
-  runs_on = λ other. tells.runs_on (λ is. other (cc));
 }

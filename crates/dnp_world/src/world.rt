@@ -1,7 +1,8 @@
 //! A whole system: substations, a concentrator and two centres, with lines between them.
 
 ghost use Rattle.std.specs.Prelude.{option_copied, ℕ, ◌<◌, ◌≡◌, ◌≢◌, ◌↔◌, [], false, take, Err, IfErr, IfOk, OnOk};
-ghost use Rattle.dnp_concentrator.specs.PerCentre.{at, for_each, of_each, per_centre};
+ghost use Rattle.dnp_concentrator.specs.Centre.{book_of, journal_of};
+ghost use Rattle.dnp_concentrator.specs.PerCentre.{at, for_each, of_each, pair_of, per_centre};
 ghost use Rattle.dnp_concentrator.specs.IndexMap.{IsTooWide, Overlaps};
 ghost use Rattle.dnp_concentrator.specs.Plan.{KeepsLimits, map_of};
 ghost use Rattle.dnp_world.specs.Causes.{IsStoppedBy, TellsDevice};
@@ -252,16 +253,9 @@ impl<Q: PairLanes, J: JournalStore, A: Book, B: Book> World<Q, J, A, B> {
             actions: _,
             history: _,
         } = parts;
-        let (first, second) = centres.into_both();
         let (queues, controls) = concentrator.into_stores();
-        let (journal, orders) = first.into_stores();
-        let (other_journal, other_orders) = second.into_stores();
-        (
-            queues,
-            (journal, other_journal),
-            controls,
-            (orders, other_orders),
-        )
+        let (journals, orders) = stores_of_both(centres);
+        (queues, journals, controls, orders)
     }
 
     /// What became of all rows and commands so far. It changes nothing, and what holds at every moment holds of it, to each centre.
@@ -277,4 +271,15 @@ impl<Q: PairLanes, J: JournalStore, A: Book, B: Book> World<Q, J, A, B> {
         reports_show_what_holds();
         self.parts.report(alloc)
     }
+}
+
+/// The stores of both centres, as they stand: the journals, and the books.
+fn stores_of_both<J, B>(centres: PerCentre<Centre<J, B>>) -> ((J, J), (B, B))
+    ensures journals { result.0 ≡ pair_of (of_each journal_of centres) }
+    ensures orders { result.1 ≡ pair_of (of_each book_of centres) }
+{
+    let (first, second) = centres.into_both();
+    let (journal, book) = first.into_stores();
+    let (other_journal, other_book) = second.into_stores();
+    ((journal, other_journal), (book, other_book))
 }

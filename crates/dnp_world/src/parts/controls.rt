@@ -183,15 +183,19 @@ impl<Q: PairLanes, J: JournalStore, A: Book, B: Book> Parts<Q, J, A, B> {
         }
     }
 
-    /// Whether the concentrator has no control pending or in progress for the substation, which is one of the plan.
-    fn is_free(&mut self, alloc: Global, substation: u8) -> Result<bool, Cause>
-        requires { has_link self.old.system (link.Below substation) ≡ true }
+    /// Whether the concentrator has no control pending or in progress for the substation, which is one of the plan; where a
+    /// control is for none, nothing stands in its way there.
+    fn is_free(&mut self, alloc: Global, substation: Option<u8>) -> Result<bool, Cause>
+        requires { IfSome substation (λ s. has_link self.old.system (link.Below s) ≡ true) }
         ensures held { ⟦<Self as Stored>⟧.well self.new → ⟦<Self as Stored>⟧.well self.old }
         ensures same { ⟦<Self as Stored>⟧.well self.new → self.new.system ≡ self.old.system }
-        ensures value { ⟦<Self as Stored>⟧.well self.new → IfOk result (λ free. free ≡ is_free_below (seen_by 0 self.old.system) (Some substation)) }
+        ensures value { ⟦<Self as Stored>⟧.well self.new → IfOk result (λ free. free ≡ is_free_below (seen_by 0 self.old.system) substation) }
         ensures device { TellsDevice (⟦<Self as Stored>⟧.is_stopped self.old) (⟦<Self as Stored>⟧.is_stopped self.new) (result ≡ Err Cause.Device) }
         ensures memory { result ≡ Err Cause.Memory → IsTrue A.asks_memory }
     {
+        let Some(substation) = substation else {
+            return Ok(true);
+        };
         let idle = self.concentrator.in_progress(substation).is_none();
         let next = self.next_below(alloc, substation)?;
         Ok(next.is_none() && idle)
@@ -222,10 +226,7 @@ impl<Q: PairLanes, J: JournalStore, A: Book, B: Book> Parts<Q, J, A, B> {
         ensures device { TellsDevice (⟦<Self as Stored>⟧.is_stopped self.old) (⟦<Self as Stored>⟧.is_stopped self.new) (result ≡ Err Cause.Device) }
         ensures memory { result ≡ Err Cause.Memory → IsTrue A.asks_memory ⊎ IsTrue B.asks_memory }
     {
-        let free = match substation {
-            Some(substation) => self.is_free(alloc, substation)?,
-            None => true,
-        };
+        let free = self.is_free(alloc, substation)?;
         let alone = self.in_progress_above(centre).unwrap_or(id) == id;
         let next = self.next_above(alloc, centre)?;
         Ok(id_of(next) == Some(id) && alone && free)

@@ -1,10 +1,10 @@
 -- A round's fault is that of the event at which it stops.
-use Rattle.std.proofs.Common.{Err, ap, ◌∙◌}
-use Rattle.std.proofs.lemmas.Result.{err_from_is_err_and}
-use Rattle.dnp_world.proofs.CarriedRuns.{device_as_fault}
+use Rattle.dnp_concentrator.specs.declared.cause.Cause.TheVariants.{Device}
+use Rattle.dnp_world.specs.declared.round_fault.RoundFault.TheVariants.{Fault}
+use Rattle.dnp_world.proofs.Telling.{one_round_fault, tells_over}
 use Rattle.dnp_world.proofs.parts.Parts.clean_round.Goals as goal
 
 pub returns-in_err-poll_round-clause-device : goal.returns-in_err-poll_round-clause-device
 returns-in_err-poll_round-clause-device g c =
-    let p = err_from_is_err_and c.from_residual.result c.from_residual.ensures.1 in
-    device_as_fault c.in_err-poll_round.field-0.0 c.from_residual.result (p.1 ∙ ap Err p.2) c.in_err-poll_round.ensures.device
+    tells_over Fault Device _ _ c.poll_round.result c.from_residual.result c.in_err-poll_round.field-0.0 one_round_fault c.in_err-poll_round.was
+    c.from_residual.ensures.1 c.poll_round.ensures.device

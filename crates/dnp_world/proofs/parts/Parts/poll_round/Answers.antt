@@ -2,6 +2,8 @@
 use Rattle.std.proofs.Common.{inl, inr}
 use Rattle.dnp_world.proofs.OneLinkRuns.{any_err}
 use Rattle.dnp_world.proofs.OnResults.{at_err, at_ok}
+use Rattle.dnp_concentrator.specs.declared.cause.Cause.TheVariants.{Device}
+use Rattle.dnp_world.proofs.Telling.{over, over_after, tells_on, tells_over}
 use Rattle.dnp_world.proofs.parts.Parts.poll_round.Goals as goal
 
 pub returns-in_err-happen-clause-stopped : goal.returns-in_err-happen-clause-stopped
@@ -50,3 +52,27 @@ returns-clause-done g c = λ well.
       up = c.in_ok-flush-2.ensures.done before;
       confirms = confirms;
     })
+
+pub returns-in_err-happen-clause-device : goal.returns-in_err-happen-clause-device
+returns-in_err-happen-clause-device g c =
+    over _ _
+    (tells_on _ _ c.happen.result c.from_residual.result c.in_err-happen.field-0.0 c.in_err-happen.was c.from_residual.ensures.1 c.happen.ensures.device)
+
+pub returns-in_err-flush-clause-device : goal.returns-in_err-flush-clause-device
+returns-in_err-flush-clause-device g c =
+    over_after _ _ _ c.happen.result _ c.in_ok-happen.was c.happen.ensures.device.runs_on
+    (tells_over (λ x. x) Device _ _ c.flush.result c.from_residual-in_err-flush.result c.in_err-flush.field-0.0 (λ x same. same) c.in_err-flush.was
+    c.from_residual-in_err-flush.ensures.1 c.flush.ensures.device)
+
+pub returns-in_err-flush-2-clause-device : goal.returns-in_err-flush-2-clause-device
+returns-in_err-flush-2-clause-device g c =
+    over_after _ _ _ c.happen.result _ c.in_ok-happen.was c.happen.ensures.device.runs_on
+    (over_after _ _ _ c.flush.result _ c.in_ok-flush.was c.flush.ensures.device.runs_on
+    (tells_over (λ x. x) Device _ _ c.flush-2.result c.from_residual-in_err-flush-2.result c.in_err-flush-2.field-0.0 (λ x same. same) c.in_err-flush-2.was
+    c.from_residual-in_err-flush-2.ensures.1 c.flush-2.ensures.device))
+
+pub returns-clause-device : goal.returns-clause-device
+returns-clause-device g c =
+    over_after _ _ _ c.happen.result _ c.in_ok-happen.was c.happen.ensures.device.runs_on
+    (over_after _ _ _ c.flush.result _ c.in_ok-flush.was c.flush.ensures.device.runs_on
+    (over_after _ _ _ c.flush-2.result _ c.in_ok-flush-2.was c.flush-2.ensures.device.runs_on c.flush-3.ensures.device))

@@ -7,6 +7,9 @@ use Rattle.dnp_world.specs.Wholes.{Whole, seen_by}
 use Rattle.dnp_world.specs.declared.event.Link.TheVariants.{Above}
 use Rattle.dnp_world.proofs.OnResults.{at_ok}
 use Rattle.dnp_world.proofs.SystemControls.{below_accepted, below_refused, below_stops, ends_of}
+use Rattle.dnp_concentrator.specs.declared.cause.Cause.TheVariants.{Device}
+use Rattle.dnp_world.specs.declared.round_fault.ControlFault.TheVariants.{Fault}
+use Rattle.dnp_world.proofs.Telling.{one_fault, over, over_after, tells_as, tells_over}
 use Rattle.dnp_world.proofs.parts.Parts.relay_all.Goals as goal
 
 -- wherever the control is for
@@ -61,3 +64,19 @@ returns-clause-done g c = λ well.
       c.in_ok-relay_through.ensures.done (c.next_below.ensures.held before),
       rw (is, same) at (below_accepted c.args.centre its queued read new accepted),
     )))
+
+pub returns-in_err-relay_through-clause-device : goal.returns-in_err-relay_through-clause-device
+returns-in_err-relay_through-clause-device g c =
+    tells_over (λ x. x) (Fault Device) _ _ c.relay_through.result c.from_residual.result c.in_err-relay_through.field-0.0 (λ x same. same)
+    c.in_err-relay_through.was c.from_residual.ensures.1 c.relay_through.ensures.device
+
+pub returns-in_err-queued-clause-device : goal.returns-in_err-queued-clause-device
+returns-in_err-queued-clause-device g c =
+    over_after _ _ _ c.relay_through.result _ c.in_ok-relay_through.was c.relay_through.ensures.device.runs_on
+    (over _ _ (tells_as Fault Device _ _ c.next_below.result c.from_residual-in_err-queued.result c.in_err-queued.field-0.0 one_fault
+    c.in_err-queued.was c.from_residual-in_err-queued.ensures.1 c.next_below.ensures.device))
+
+pub returns-clause-device : goal.returns-clause-device
+returns-clause-device g c =
+    over_after _ _ _ c.relay_through.result _ c.in_ok-relay_through.was c.relay_through.ensures.device.runs_on
+    (over_after _ _ _ c.next_below.result _ c.in_ok-queued.was c.next_below.ensures.device.runs_on c.relay_through-2.ensures.device)

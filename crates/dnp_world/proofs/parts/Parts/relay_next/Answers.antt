@@ -4,6 +4,9 @@ use Rattle.std.proofs.lemmas.Result.{err_from_is_err_and}
 use Rattle.dnp_world.specs.Controls.{are_quiet_for, is_next_for}
 use Rattle.dnp_world.specs.Wholes.{seen_by}
 use Rattle.dnp_world.proofs.SystemControls.{control_of, planned}
+use Rattle.dnp_concentrator.specs.declared.cause.Cause.TheVariants.{Device}
+use Rattle.dnp_world.specs.declared.round_fault.ControlFault.TheVariants.{Fault}
+use Rattle.dnp_world.proofs.Telling.{one_fault, over, over_after, tells_as}
 use Rattle.dnp_world.proofs.parts.Parts.relay_next.Goals as goal
 
 pub returns-then-not-are_quiet-clause-ends : goal.returns-then-not-are_quiet-clause-ends
@@ -30,3 +33,12 @@ returns-clause-ends g c = λ well is.
     let next : is_next_for (see old) c.args.id c.args.substation ≡ true = sym (c.in_ok-is_next.ensures.value before) ∙ search rules in
     control_of see c.args.centre c.args.id c.args.substation old c.relay_all.new.self.system c.relay_all.result (rw is at quiet, rw is at next) is
     (rw same at c.relay_all.ensures.done well) (rw same at c.relay_all.ensures.ended well)
+
+pub returns-in_err-is_next-clause-device : goal.returns-in_err-is_next-clause-device
+returns-in_err-is_next-clause-device g c =
+    over _ _ (tells_as Fault Device _ _ c.is_next.result c.from_residual.result c.in_err-is_next.field-0.0 one_fault c.in_err-is_next.was
+    c.from_residual.ensures.1 c.is_next.ensures.device)
+
+pub returns-clause-device : goal.returns-clause-device
+returns-clause-device g c =
+    over_after _ _ _ c.is_next.result _ c.in_ok-is_next.was c.is_next.ensures.device.runs_on c.relay_all.ensures.device

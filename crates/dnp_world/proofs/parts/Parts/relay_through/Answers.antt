@@ -4,6 +4,9 @@ use Rattle.std.proofs.lemmas.Result.{IfErr-weaker, err_from_is_err_and}
 use Rattle.dnp_world.specs.Controls.{First, Second, Third}
 use Rattle.dnp_world.proofs.OnResults.{at_ok}
 use Rattle.dnp_world.proofs.SystemControls.{ends_of}
+use Rattle.dnp_concentrator.specs.declared.cause.Cause.TheVariants.{Device}
+use Rattle.dnp_world.specs.declared.round_fault.ControlFault.TheVariants.{Fault}
+use Rattle.dnp_world.proofs.Telling.{over_after, tells_over}
 use Rattle.dnp_world.proofs.parts.Parts.relay_through.Goals as goal
 
 pub returns-in_err-exchange-clause-ended : goal.returns-in_err-exchange-clause-ended
@@ -40,3 +43,14 @@ returns-clause-done g c = λ well.
       operates = c.in_ok-exchange-2.ensures.done before;
       finishes = finishes;
     })
+
+pub returns-in_err-exchange-clause-device : goal.returns-in_err-exchange-clause-device
+returns-in_err-exchange-clause-device g c =
+    tells_over (λ x. x) (Fault Device) _ _ c.exchange.result c.from_residual.result c.in_err-exchange.field-0.0 (λ x same. same)
+    c.in_err-exchange.was c.from_residual.ensures.1 c.exchange.ensures.device
+
+pub returns-in_err-exchange-2-clause-device : goal.returns-in_err-exchange-2-clause-device
+returns-in_err-exchange-2-clause-device g c =
+    over_after _ _ _ c.exchange.result _ c.in_ok-exchange.was c.exchange.ensures.device.runs_on
+    (tells_over (λ x. x) (Fault Device) _ _ c.exchange-2.result c.from_residual-in_err-exchange-2.result c.in_err-exchange-2.field-0.0 (λ x same. same)
+    c.in_err-exchange-2.was c.from_residual-in_err-exchange-2.ensures.1 c.exchange-2.ensures.device)

@@ -1,6 +1,5 @@
 -- Each list is read of a system that is what it was.
-use Rattle.std.proofs.lemmas.Result.{err_from_is_err_and}
-use Rattle.dnp_world.proofs.Telling.{tells_nothing, tells_on}
+use Rattle.dnp_world.proofs.Telling.{memory_is_no_device, no_fault, tells_nothing, tells_on}
 use Rattle.dnp_world.proofs.parts.Parts.report.Goals as goal
 
 pub returns-clause-shows : goal.returns-clause-shows
@@ -27,12 +26,15 @@ returns-clause-shows g c = λ well centre low.
 
 pub returns-in_err-stored-clause-device : goal.returns-in_err-stored-clause-device
 returns-in_err-stored-clause-device g c =
-    tells_on _ _ c.stored_below.result c.from_residual.result c.in_err-stored.field-0.0 c.in_err-stored.was c.from_residual.ensures.1 c.stored_below.ensures.device
+    tells_on _ _ c.stored_below.result c.from_residual.result c.in_err-stored.field-0.0 c.in_err-stored.was c.from_residual.ensures.1
+    c.stored_below.ensures.device
 
 pub returns-clause-device : goal.returns-clause-device
-returns-clause-device g c = rw (c.lost_for_each-lost.ensures.same) (tells_nothing _ _ c.stored_below.result c.in_ok-stored.stored c.in_ok-stored.was c.stored_below.ensures.device (λ says. cc))
+returns-clause-device g c =
+    rw (c.lost_for_each-lost.ensures.same)
+    (tells_nothing _ _ c.stored_below.result c.in_ok-stored.stored c.in_ok-stored.was c.stored_below.ensures.device (no_fault _ _))
 
 pub returns-in_err-copies-clause-device : goal.returns-in_err-copies-clause-device
 returns-in_err-copies-clause-device g c =
-    let memory = err_from_is_err_and c.from_residual-in_err-copies.result c.from_residual-in_err-copies.ensures.1 in
-    tells_nothing _ _ c.stored_below.result c.in_ok-stored.stored c.in_ok-stored.was c.stored_below.ensures.device (λ says. let told = memory.1 in let of = memory.2 in cc)
+    tells_nothing _ _ c.stored_below.result c.in_ok-stored.stored c.in_ok-stored.was c.stored_below.ensures.device
+    (memory_is_no_device _ c.from_residual-in_err-copies.ensures.1)
