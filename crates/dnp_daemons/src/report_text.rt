@@ -113,7 +113,7 @@ fn write_report<W: Write>(
 
 /// Prints a report: for each list a line of its name and length, and below it a line for each event or command, which
 /// begins with a space; at the end a line of `lost` and its number, and one of `lost2`. What is of the second centre stands
-/// behind the same of the first, with a 2 to its name. An event is its substation, kind, index, value, flags
+/// after the same of the first, with a 2 to its name. An event is its substation, kind, index, value, flags
 /// as two hexadecimal digits, and time or `-`; a command is its substation and the words with which it is issued.
 ///
 /// The lines are written one by one: a writer whose calls are dear belongs behind a buffer.

@@ -1,5 +1,5 @@
 -- What follows where a call went well, and where it was refused.
-use Rattle.std.proofs.Common.{◌≡◌, Result, Ok, Err, OnOk, OnErr}
+use Rattle.std.proofs.Common.{◌≡◌, ◌↔◌, IsErrAnd, Result, Ok, Err, OnOk, OnErr}
 
 pub at_ok : {A E P Q : Type 0} (r : Result A E) → OnOk r P → (P → Q) → OnOk r Q
 at_ok (Ok a) p f = f p
@@ -19,3 +19,14 @@ both_err P Q (Err e) p q = (p, q)
 
 pub not_both : {A E : Type 0} (r : Result A E) (x : A) (e : E) → r ≡ Ok x → r ≡ Err e → ⊥
 not_both r x e well refused = cc
+
+-- A call tells a fault just where P. So does whoever hands on what it answers,
+pub handed_on : {A B E P : Type 0} (r : Result A E) (s : Result B E) (fault told : E) → r ≡ Err fault → IsErrAnd s (λ x. x ≡ fault)
+    → (r ≡ Err told) ↔ P → (s ≡ Err told) ↔ P
+handed_on r (Ok x) fault told here handed when = absurd handed
+handed_on r (Err x) fault told here handed when = (λ says. when.0 (cc), λ p. let its = when.1 p in cc)
+
+-- and whoever does not tell it, once the call went through
+pub went_on : {A B E P : Type 0} (r : Result A E) (x : A) (s : Result B E) (told : E) → r ≡ Ok x → (s ≡ Err told → ⊥)
+    → (r ≡ Err told) ↔ P → (s ≡ Err told) ↔ P
+went_on r x s told well never when = (λ says. absurd (never says), λ p. absurd (not_both r x told well (when.1 p)))

@@ -13,7 +13,8 @@ use Rattle.dnp_world.specs.Channels.{fresh_channel}
 use Rattle.dnp_world.specs.NewSystems.{CanBegin}
 use Rattle.dnp_world.proofs.PerCentre.{at_every}
 use Rattle.dnp_world.proofs.NewWholes.{new_whole}
-use Rattle.dnp_world.proofs.OnResults.{not_both}
+use Rattle.dnp_world.proofs.OnResults.{handed_on, not_both, went_on}
+use Rattle.dnp_world.proofs.Telling.{no_fault}
 use Rattle.dnp_world.proofs.world.World.new.Goals as goal
 
 pub returns-clause-fresh : goal.returns-clause-fresh
@@ -77,3 +78,43 @@ invariant_of-result g c = λ well.
     let empty = c.requires.empty first second in
     ∣ subst AreSteady (sym (returns-clause-fresh g c))
     (c.steady_systems_stay_steady.ensures.at_first plan queues journals controls orders begins (at_every _ (empty 0 (omega arith)) (empty 1 (omega arith)))) ∣₁
+
+-- ---- a plan whose map is refused is told as that, by whichever call comes first
+
+pub returns-in_err-map-clause-too_wide : goal.returns-in_err-map-clause-too_wide
+returns-in_err-map-clause-too_wide g c =
+    handed_on _ c.from_residual.result _ _ c.in_err-map.was c.from_residual.ensures.1 c.new.ensures.too_wide
+
+pub returns-in_err-concentrator-clause-too_wide : goal.returns-in_err-concentrator-clause-too_wide
+returns-in_err-concentrator-clause-too_wide g c =
+    handed_on _ c.from_residual-in_err-concentrator.result _ _ c.in_err-concentrator.was c.from_residual-in_err-concentrator.ensures.1 c.new-2.ensures.too_wide
+
+pub returns-in_err-first-clause-too_wide : goal.returns-in_err-first-clause-too_wide
+returns-in_err-first-clause-too_wide g c =
+    handed_on _ c.from_residual-in_err-first.result _ _ c.in_err-first.was c.from_residual-in_err-first.ensures.1 c.new-3.ensures.too_wide
+
+pub returns-in_err-second-clause-too_wide : goal.returns-in_err-second-clause-too_wide
+returns-in_err-second-clause-too_wide g c =
+    handed_on _ c.from_residual-in_err-second.result _ _ c.in_err-second.was c.from_residual-in_err-second.ensures.1 c.new-4.ensures.too_wide
+
+pub returns-clause-too_wide : goal.returns-clause-too_wide
+returns-clause-too_wide g c = went_on c.new.result c.in_ok-map.map _ _ c.in_ok-map.was (no_fault _ _) c.new.ensures.too_wide
+
+pub returns-in_err-map-clause-overlap : goal.returns-in_err-map-clause-overlap
+returns-in_err-map-clause-overlap g c =
+    handed_on _ c.from_residual.result _ _ c.in_err-map.was c.from_residual.ensures.1 c.new.ensures.overlap
+
+pub returns-in_err-concentrator-clause-overlap : goal.returns-in_err-concentrator-clause-overlap
+returns-in_err-concentrator-clause-overlap g c =
+    handed_on _ c.from_residual-in_err-concentrator.result _ _ c.in_err-concentrator.was c.from_residual-in_err-concentrator.ensures.1 c.new-2.ensures.overlap
+
+pub returns-in_err-first-clause-overlap : goal.returns-in_err-first-clause-overlap
+returns-in_err-first-clause-overlap g c =
+    handed_on _ c.from_residual-in_err-first.result _ _ c.in_err-first.was c.from_residual-in_err-first.ensures.1 c.new-3.ensures.overlap
+
+pub returns-in_err-second-clause-overlap : goal.returns-in_err-second-clause-overlap
+returns-in_err-second-clause-overlap g c =
+    handed_on _ c.from_residual-in_err-second.result _ _ c.in_err-second.was c.from_residual-in_err-second.ensures.1 c.new-4.ensures.overlap
+
+pub returns-clause-overlap : goal.returns-clause-overlap
+returns-clause-overlap g c = went_on c.new.result c.in_ok-map.map _ _ c.in_ok-map.was (no_fault _ _) c.new.ensures.overlap
