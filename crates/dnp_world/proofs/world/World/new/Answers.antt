@@ -97,6 +97,9 @@ pub returns-in_err-second-clause-too_wide : goal.returns-in_err-second-clause-to
 returns-in_err-second-clause-too_wide g c =
     handed_on _ c.from_residual-in_err-second.result _ _ c.in_err-second.was c.from_residual-in_err-second.ensures.1 c.new-4.ensures.too_wide
 
+pub returns-in_default-clause-too_wide : goal.returns-in_default-clause-too_wide
+returns-in_default-clause-too_wide g c = went_on c.new.result c.in_ok-map.map _ _ c.in_ok-map.was (λ says. absurd (cc)) c.new.ensures.too_wide
+
 pub returns-clause-too_wide : goal.returns-clause-too_wide
 returns-clause-too_wide g c = went_on c.new.result c.in_ok-map.map _ _ c.in_ok-map.was (no_fault _ _) c.new.ensures.too_wide
 
@@ -115,6 +118,9 @@ returns-in_err-first-clause-overlap g c =
 pub returns-in_err-second-clause-overlap : goal.returns-in_err-second-clause-overlap
 returns-in_err-second-clause-overlap g c =
     handed_on _ c.from_residual-in_err-second.result _ _ c.in_err-second.was c.from_residual-in_err-second.ensures.1 c.new-4.ensures.overlap
+
+pub returns-in_default-clause-overlap : goal.returns-in_default-clause-overlap
+returns-in_default-clause-overlap g c = went_on c.new.result c.in_ok-map.map _ _ c.in_ok-map.was (λ says. absurd (cc)) c.new.ensures.overlap
 
 pub returns-clause-overlap : goal.returns-clause-overlap
 returns-clause-overlap g c = went_on c.new.result c.in_ok-map.map _ _ c.in_ok-map.was (no_fault _ _) c.new.ensures.overlap
