@@ -31,6 +31,23 @@ fn base_in(number: i64) -> Option<u16>
     u16::try_from(number).ok()
 }
 
+/// The number as one of 8 bits.
+fn class_in(number: i64) -> Option<u8>
+    ensures { result ≡ within 0 255 number }
+{
+    u8::try_from(number).ok()
+}
+
+/// The number, if it is in this range of numbers of 32 bits.
+fn number_in(number: i64, least: u32, most: u32) -> Option<u32>
+    ensures { result ≡ within least most number }
+{
+    match u32::try_from(number) {
+        Ok(number) if least <= number && number <= most => Some(number),
+        _ => None,
+    }
+}
+
 /// The numbers, if each is in this range of numbers of 32 bits.
 fn numbers_within(
     alloc: Global,
@@ -42,10 +59,10 @@ fn numbers_within(
 {
     let mut all = Vec::with_capacity(alloc, numbers.len())?;
     for number in numbers {
-        match u32::try_from(*number) {
-            Ok(number) if least <= number && number <= most => all.extend_from_slice(&[number])?,
-            _ => return Ok(None),
-        }
+        let Some(number) = number_in(*number, least, most) else {
+            return Ok(None);
+        };
+        all.extend_from_slice(&[number])?;
     }
     Ok(Some(all))
 }
@@ -60,7 +77,7 @@ fn classes_in(alloc: Global, numbers: &[i64]) -> Result<Option<Listed<u8>>, Allo
     }
     let mut classes = Vec::with_capacity(alloc, numbers.len())?;
     for number in numbers {
-        let Ok(class) = u8::try_from(*number) else {
+        let Some(class) = class_in(*number) else {
             return Ok(None);
         };
         classes.extend_from_slice(&[class])?;
