@@ -20,7 +20,7 @@ POLLS, BEFORE, INSTEAD = 10, 150, 20
 DRIP, WAITS, MOST = 0.02, 300, 10
 COMMAND, ECHO = "block 1 3 1 0 0", bytes.fromhex("0C 01 28 01 00 01 00 03 01 00 00 00 00 00 00 00 00 00")
 LINE = re.compile(r"(binary|counter|analog|output|setpoint) \d+ -?\d+ [0-9A-F]{2} (-|\d+-\d\d-\d\dT\d\d:\d\d:\d\d\.\d{3}Z) (event|static)( unsolicited)?"
-                  r"|iin [0-9A-F]{2} [0-9A-F]{2}( [a-z0-9-]+)*|(select|operate) 1 [A-Za-z0-9_ ]+")
+                  r"|iin [0-9A-F]{2} [0-9A-F]{2}( [a-z0-9-]+)*|(select|operate) 1 [A-Za-z0-9_ -]+")
 
 
 class Outstation(polling.Concentrator):
@@ -42,16 +42,13 @@ class Answering(Outstation):
         if how < 0.65:
             return wire.spoilt_header(self.r, self.r.choice(base))
         if how < 0.8:
-            # (a frame that was cut after a block is a good one)
-            while wire.spoilt_block(unit := wire.spoilt_user(self.r, self.r.choice(base))) is None:
-                pass
-            return unit
+            return wire.spoilt_user(self.r, self.r.choice(base))
         if how < 0.9:
             to, of = self.r.choice(((to, of + 1), (to + 1, of), (of, to), (to, to), (0xFFFF, of), (0xFFFC, 0)))
             return wire.frame(0x44, to, of, b"\xC0" + wire.fragment(self.r)[:100])
         if how < 0.95:
             return wire.frame(self.r.choice((0x00, 0x01, 0x0B, 0x0F, 0x40, 0x42, 0x49, 0x4B, 0xC0, 0xC9)), to, of)
-        return self.r.choice((b"", b"\x05\x64", b"\x05")) + self.r.randbytes(self.r.randint(1, 30))
+        return wire.noise(self.r)
 
     def serve(self, stream):
         reads = 0

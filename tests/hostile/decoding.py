@@ -111,7 +111,7 @@ def hostile(r, base):
         return wire.header(r.randrange(5), control, dest, source) + r.randbytes(r.randrange(3))
     if how < 0.95:
         return wire.frame(r.randrange(256), dest, source, r.randbytes(r.randrange(40)))
-    return r.choice((b"", b"\x05\x64", b"\x05")) + r.randbytes(r.randint(1, 30))
+    return wire.noise(r)
 
 
 def well_formed(r):

@@ -128,7 +128,7 @@ def hostile(r, base, dest, source, fragment):
     if how < 0.95:
         control = r.randrange(256)
         return wire.frame(control if control % 16 != 9 else 0xC2, dest, source, r.randbytes(r.randrange(3)))
-    return r.choice((b"", b"\x05\x64", b"\x05")) + r.randbytes(r.randint(1, 30))
+    return wire.noise(r)
 
 
 def held(came, asked):

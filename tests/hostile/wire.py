@@ -153,6 +153,14 @@ def fragment(r):
     return mutated(r, r.choice(REQUESTS) if r.random() < 0.5 else r.choice(RESPONSES))
 
 
+def noise(r):
+    """Octets that no header begins: chance makes one of some in a few million."""
+    while True:
+        octets = r.choice((b"", b"\x05\x64", b"\x05")) + r.randbytes(r.randint(1, 30))
+        if not begins(octets, 0):
+            return octets
+
+
 def spoilt_header(r, whole):
     """A frame whose header is wrong: nothing of it is a frame."""
     octets = bytearray(whole)
@@ -179,4 +187,5 @@ def spoilt_user(r, whole):
         octets[place:] = bytes(len(octets) - place)
     else:
         flip(r, octets, range(8 * HEADER, 8 * len(octets)), r.choice((1, 1, 2, 5)))
-    return spoilt_header(r, whole) if octets == whole else bytes(octets)
+    # (where another length ends as a block of the old frame did, all may be right)
+    return spoilt_header(r, whole) if spoilt_block(octets) is None else bytes(octets)
