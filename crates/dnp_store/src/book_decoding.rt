@@ -94,7 +94,7 @@ fn entry_in(row: &Shown) -> Option<(u64, u8, Command, State)>
     Some((id, target, command, state))
 }
 
-/// Puts the entry that the row shows behind the others.
+/// Puts the entry that the row shows after the others.
 fn put_entry(entries: &mut Vec<Entry>, row: &Shown) -> Result<(), Unread>
     ensures { OnOk result ((e : Entry) × ShowsEntry row.now e × (entries.new.items ≡ entries.old.items ++ e ∷ [])) }
 {

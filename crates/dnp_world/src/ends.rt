@@ -131,8 +131,10 @@ impl<L: Lanes, O: Outputs> OutstationEnd for Outstation<L, O> {
         alloc: Global,
         now: u64,
     ) -> Result<(), Cause> {
-        *actions = self.opened(alloc, now)?;
-        Ok(())
+        match self.opened_into(actions, alloc, now) {
+            Ok(()) => Ok(()),
+            Err(fault) => Err(Cause::from(fault)),
+        }
     }
 
     fn receive(
