@@ -36,6 +36,11 @@ pub(crate) fn counted<L: Lanes>(lanes: &mut L) -> [Counts; LANES] {
     counts
 }
 
+/// The counts of each lane in memory. So that these lanes are lanes is shown in one place, and not in each caller.
+pub(crate) fn counted_plain(lanes: &mut PlainLanes) -> [Counts; LANES] {
+    counted(lanes)
+}
+
 /// A number with one more decimal digit.
 pub(crate) fn with_digit(number: u64, digit: u64) -> u64 {
     number.wrapping_mul(10).wrapping_add(digit)
@@ -54,10 +59,10 @@ fn append_two(alloc: Global, lanes: &mut PlainLanes, event: LaneRow) -> Option<u
     if !is_carried(&event) {
         return None;
     }
-    let before = counted(lanes);
+    let before = counted_plain(lanes);
     let dropped = match lanes.append(alloc, &[event, event]) {
         Ok(dropped) => dropped,
-        Err(StoreFault::Memory) if counted(lanes) == before => {
+        Err(StoreFault::Memory) if counted_plain(lanes) == before => {
             lanes.append(alloc, &[event, event]).ok()?
         }
         Err(_) => return None,
@@ -67,10 +72,12 @@ fn append_two(alloc: Global, lanes: &mut PlainLanes, event: LaneRow) -> Option<u
 
 /// Releases the rows up to these ids, and tells how many they are.
 fn release(alloc: Global, lanes: &mut PlainLanes, upto: &Upto) -> Option<u64> {
-    let before = counted(lanes);
+    let before = counted_plain(lanes);
     let released = match lanes.release(alloc, upto) {
         Ok(released) => released,
-        Err(StoreFault::Memory) if counted(lanes) == before => lanes.release(alloc, upto).ok()?,
+        Err(StoreFault::Memory) if counted_plain(lanes) == before => lanes
+            .release(alloc, upto)
+            .ok()?,
         Err(_) => return None,
     };
     Some(released.len() as u64)
@@ -78,10 +85,10 @@ fn release(alloc: Global, lanes: &mut PlainLanes, upto: &Upto) -> Option<u64> {
 
 /// Empties the lanes, and tells how many rows that takes.
 fn empty(alloc: Global, lanes: &mut PlainLanes) -> Option<u64> {
-    let before = counted(lanes);
+    let before = counted_plain(lanes);
     let emptied = match lanes.empty(alloc) {
         Ok(emptied) => emptied,
-        Err(StoreFault::Memory) if counted(lanes) == before => lanes.empty(alloc).ok()?,
+        Err(StoreFault::Memory) if counted_plain(lanes) == before => lanes.empty(alloc).ok()?,
         Err(_) => return None,
     };
     Some(emptied.len() as u64)

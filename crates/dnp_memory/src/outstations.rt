@@ -1,12 +1,12 @@
 //! An outstation that is polled, one that sends unsolicited responses and operates, one whose response has two fragments, and
 //! one on a stream.
 
-use crate::lanes::{Counts, counted};
+use crate::lanes::{Counts, counted_plain};
 use crate::streams;
 use dnp_controls::PlainOutputs;
 use dnp_eventbuf::{Lane, LaneRow, Lanes, PlainLanes, StoreFault, is_carried};
 use dnp_objects::{Kind, LANES, Row};
-use dnp_outstation::{Actions, Fault, Outstation};
+use dnp_outstation::{Actions, Fault, Outstation, Rows};
 use dnp_pointdb::{Block, Point, PointDb, PointPlan, Points, Reading, Times};
 use std::alloc::Global;
 
@@ -50,7 +50,7 @@ struct View {
 /// What can be seen of the outstation.
 fn seen(station: &mut Station) -> View {
     View {
-        lanes: counted(station.lanes()),
+        lanes: counted_plain(station.lanes()),
         operated: station.outputs().operated().len(),
         quiet: station.quiet(),
     }
@@ -106,6 +106,19 @@ fn station(alloc: Global, is_unsolicited: bool) -> Option<Station> {
     Some(Outstation::new(points, lanes, outputs, times))
 }
 
+/// A call of the outstation.
+#[derive(Clone, Copy)]
+enum Call<'a> {
+    /// A connection begins.
+    Opens,
+    /// The binary changes to this value.
+    Changes(i64),
+    /// Octets come at a moment.
+    Gets(u64, &'a [u8]),
+    /// It starts again, and its lanes are emptied.
+    Restarts,
+}
+
 /// What is told of what a call did. So who makes many calls owns nothing at any way out.
 #[derive(Clone, Copy)]
 pub(crate) struct Came {
@@ -115,7 +128,7 @@ pub(crate) struct Came {
     last: Option<u64>,
     /// How many rows were overwritten.
     overwritten: u64,
-    /// How many rows were confirmed.
+    /// How many rows were confirmed, or went with a restart.
     discarded: u64,
 }
 
@@ -133,29 +146,61 @@ fn told(actions: &Actions) -> Came {
     }
 }
 
-/// What is told of a call that was made once more.
-fn told_again(answer: Result<Actions, Fault>) -> Option<Came> {
+/// What is told of what a call answered.
+fn done(answer: Result<Actions, Fault>) -> Result<Came, Fault> {
     match answer {
-        Ok(actions) => Some(told(&actions)),
+        Ok(actions) => Ok(told(&actions)),
+        Err(fault) => Err(fault),
+    }
+}
+
+/// What is told of the rows that went with a restart.
+fn emptied(answer: Result<Rows, Fault>) -> Result<Came, Fault> {
+    match answer {
+        Ok(rows) => Ok(Came {
+            length: None,
+            last: None,
+            overwritten: 0,
+            discarded: rows.as_slice().len() as u64,
+        }),
+        Err(fault) => Err(fault),
+    }
+}
+
+/// Makes a call, over lanes of any kind: so that lanes in memory are lanes is shown for `tried` alone.
+fn make<L: Lanes>(
+    alloc: Global,
+    station: &mut Outstation<L, PlainOutputs>,
+    call: Call<'_>,
+) -> Result<Came, Fault> {
+    match call {
+        Call::Opens => done(station.opened(alloc, 0)),
+        Call::Changes(value) => {
+            let reading = Reading {
+                value,
+                flags: 1,
+                time: Some(1_000),
+            };
+            done(station.change(alloc, 0, Kind::Binary, 0, reading))
+        }
+        Call::Gets(now, octets) => done(station.receive(alloc, now, octets)),
+        Call::Restarts => emptied(station.restart(alloc, false)),
+    }
+}
+
+/// Makes a call, and once more where memory was refused and the outstation is as it was.
+fn tried(alloc: Global, station: &mut Station, call: Call<'_>) -> Option<Came> {
+    let before = seen(station);
+    match make(alloc, station, call) {
+        Ok(came) => Some(came),
+        Err(Fault::Memory) if seen(station) == before => make(alloc, station, call).ok(),
         Err(_) => None,
     }
 }
 
 /// The binary changes.
 pub(crate) fn change(alloc: Global, station: &mut Station, value: i64) -> Option<Came> {
-    let reading = Reading {
-        value,
-        flags: 1,
-        time: Some(1_000),
-    };
-    let before = seen(station);
-    match station.change(alloc, 0, Kind::Binary, 0, reading) {
-        Ok(actions) => Some(told(&actions)),
-        Err(Fault::Memory) if seen(station) == before => {
-            told_again(station.change(alloc, 0, Kind::Binary, 0, reading))
-        }
-        Err(_) => None,
-    }
+    tried(alloc, station, Call::Changes(value))
 }
 
 /// Somebody else appends an event of class 1 of the point of a kind.
@@ -172,10 +217,10 @@ fn append(alloc: Global, lanes: &mut PlainLanes, kind: Kind) -> Option<()> {
     if !is_carried(&event) {
         return None;
     }
-    let before = counted(lanes);
+    let before = counted_plain(lanes);
     match lanes.append(alloc, &[event]) {
         Ok(_) => Some(()),
-        Err(StoreFault::Memory) if counted(lanes) == before => {
+        Err(StoreFault::Memory) if counted_plain(lanes) == before => {
             lanes.append(alloc, &[event]).ok()?;
             Some(())
         }
@@ -183,32 +228,9 @@ fn append(alloc: Global, lanes: &mut PlainLanes, kind: Kind) -> Option<()> {
     }
 }
 
-/// Octets come at a moment.
-fn receive_at(alloc: Global, station: &mut Station, now: u64, octets: &[u8]) -> Option<Came> {
-    let before = seen(station);
-    match station.receive(alloc, now, octets) {
-        Ok(actions) => Some(told(&actions)),
-        Err(Fault::Memory) if seen(station) == before => {
-            told_again(station.receive(alloc, now, octets))
-        }
-        Err(_) => None,
-    }
-}
-
-/// Octets come.
+/// Octets come at the moment 0.
 fn receive(alloc: Global, station: &mut Station, octets: &[u8]) -> Option<Came> {
-    receive_at(alloc, station, 0, octets)
-}
-
-/// A restart that empties the lanes takes so many rows.
-fn restart(alloc: Global, station: &mut Station) -> Option<u64> {
-    let before = seen(station);
-    let rows = match station.restart(alloc, false) {
-        Ok(rows) => rows,
-        Err(Fault::Memory) if seen(station) == before => station.restart(alloc, false).ok()?,
-        Err(_) => return None,
-    };
-    Some(rows.as_slice().len() as u64)
+    tried(alloc, station, Call::Gets(0, octets))
 }
 
 /// A number with `digits` after it, which are two.
@@ -230,7 +252,8 @@ fn poll(alloc: Global, station: &mut Station) -> Option<u64> {
     let confirmed = receive(alloc, station, &[0xC1, 0x00])?;
     number = with_digits(number, confirmed.discarded);
     change(alloc, station, 0)?;
-    Some(with_digits(number, restart(alloc, station)?))
+    let restarted = tried(alloc, station, Call::Restarts)?;
+    Some(with_digits(number, restarted.discarded))
 }
 
 /// Selects the output 5 and operates it twice, once directly. The number has two digits for each: how
@@ -284,22 +307,10 @@ fn command(alloc: Global, station: &mut Station) -> Option<u64> {
     receive(alloc, station, &one_command([0xC6, 0x06]))?;
     number = with_digits(number, station.outputs().operated().len() as u64);
     receive(alloc, station, &one_command([0xC7, 0x03]))?;
-    let late = receive_at(alloc, station, TIMES.select_ms, &one_command([0xC8, 0x04]))?;
+    let operate = one_command([0xC8, 0x04]);
+    let late = tried(alloc, station, Call::Gets(TIMES.select_ms, &operate))?;
     number = with_digits(number, station.outputs().operated().len() as u64);
     Some(with_digits(number, late.last?))
-}
-
-/// Opens the outstation.
-fn open(alloc: Global, station: &mut Station) -> Option<()> {
-    let before = seen(station);
-    match station.opened(alloc, 0) {
-        Ok(_) => Some(()),
-        Err(Fault::Memory) if seen(station) == before => {
-            station.opened(alloc, 0).ok()?;
-            Some(())
-        }
-        Err(_) => None,
-    }
 }
 
 /// Does with the outstation what the case says.
@@ -307,7 +318,7 @@ fn go(alloc: Global, station: &mut Station, case: Case) -> Option<u64> {
     if case == Case::Served {
         return streams::serve(alloc, station);
     }
-    open(alloc, station)?;
+    tried(alloc, station, Call::Opens)?;
     match case {
         Case::Unsolicited => report(alloc, station),
         Case::Long => read_long(alloc, station),
