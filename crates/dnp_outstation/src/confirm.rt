@@ -7,7 +7,6 @@ ghost use Rattle.dnp_appfragment.specs.declared.function.Function.TheVariants as
 ghost use Rattle.dnp_appfragment.specs.Meaning.{request_at};
 ghost use Rattle.dnp_controls.specs.Panel.{Panel};
 ghost use Rattle.dnp_controls.specs.Selecting.{deadline};
-ghost use Rattle.dnp_eventbuf.specs.EventBuffer.{without};
 ghost use Rattle.dnp_outstation.specs.steps.Answering.{goes_on_by, went_on, KeepsWhole, answers_held_by, switched_by};
 ghost use Rattle.dnp_outstation.specs.Calls.{with_that};
 ghost use Rattle.dnp_outstation.specs.Connection.{goes_on, on_confirm, confirmed, at_end, control_in, answers_held, on_unsolicited_confirm};
@@ -19,11 +18,12 @@ ghost use Rattle.dnp_outstation.specs.Items.{last_in};
 
 use crate::actions::Actions;
 use crate::answer::{Answer, Switches};
+use crate::basis::Basis;
 use crate::connection::deadline;
 use crate::ending::write_ending;
-use crate::execute::{execute_after, left};
+use crate::execute::{execute, left};
 use crate::offer::fetched::Fetched;
-use crate::offer::parts::put_parts;
+use crate::offer::parts::{Stand, put_parts};
 use crate::offer::writer::Writer;
 use crate::outstation_core::OutstationCore;
 use crate::sending::asks_confirm;
@@ -31,31 +31,27 @@ use crate::sequence::SequenceNumber;
 use crate::session::Session;
 use dnp_appfragment::Control;
 use dnp_controls::Outputs;
-use dnp_eventbuf::{Lanes, StoreFault, Upto};
-use dnp_pointdb::PointDb;
+use dnp_eventbuf::{Lanes, StoreFault};
 use std::alloc::Global;
 
-/// Writes the fragment that goes on with the response once these rows are released, if there is one.
+/// Writes the fragment that goes on with the response, if there is one, as the lanes are after the release.
 fn write_next<L: Lanes, O: Outputs>(
     writer: &mut Writer,
     alloc: Global,
-    points: &PointDb,
     lanes: &mut L,
     fetched: &mut Fetched,
-    outputs: &O,
-    switches: Switches,
+    from: &Basis<'_, O>,
     session: &Session,
-    released: Upto,
 ) -> Result<Option<Answer>, StoreFault>
     ensures look { IsLook L.honest L.is_stopped L.contents L.beside L.place L.asks_memory L.may_fault lanes.old lanes.new result }
-    ensures written { L.honest lanes.new → IfOk result (λ next. (s : State) (now seq : ℕ) → s.core.points ≡ points.now
-        → s.core.session.request ≡ session.now.request → s.lanes ≡ without (L.contents lanes.old) released
-        → goes_on s (O.panel outputs.now) now seq session.now.last ≡ goes_on_by s now seq writer.new next) }
-    ensures switches { IfOk result (λ next. IfSome next (λ a. a.switches ≡ switches)) }
+    ensures written { L.honest lanes.new → IfOk result (λ next. (s : State) (now seq : ℕ) → s.core.points ≡ from.now.points.now
+        → s.core.session.request ≡ session.now.request → s.lanes ≡ after_release (L.contents lanes.old) from.now.released.now
+        → goes_on s (O.panel from.now.outputs.now) now seq session.now.last ≡ goes_on_by s now seq writer.new next) }
+    ensures switches { IfOk result (λ next. IfSome next (λ a. a.switches ≡ from.now.switches)) }
     ensures none { IfOk result (λ next. IfSome next (λ a. a.bits ≡ 0)) }
     ensures response { IfOk result (λ next. IfSome next (λ a. writer.new.builder.function ≡ function.Response)) }
     ensures asks_next { IsErr result → (s : State) (now seq : ℕ) → s.core.session.request ≡ session.now.request
-        → (goes_on s (O.panel outputs.now) now seq session.now.last).does.send ≢ [] }
+        → (goes_on s (O.panel from.now.outputs.now) now seq session.now.last).does.send ≢ [] }
 {
     let Some(last) = &session.last else {
         return Ok(None);
@@ -67,20 +63,16 @@ fn write_next<L: Lanes, O: Outputs>(
         return Ok(None);
     };
     writer.restart(place);
-    let is_last = put_parts(
-        writer,
-        alloc,
-        points,
-        lanes,
-        fetched,
-        outputs,
-        &Some(released),
-        last.stood,
-        request.headers,
-    )?;
+    let stand = Stand {
+        points: from.points,
+        outputs: from.outputs,
+        stood: last.stood,
+        released: from.released,
+    };
+    let is_last = put_parts(writer, alloc, lanes, fetched, &stand, request.headers)?;
     Ok(Some(Answer {
         bits: 0,
-        switches,
+        switches: from.switches,
         stood: last.stood,
         left: left(is_last, writer.place),
         time: None,
@@ -155,21 +147,24 @@ impl OutstationCore {
             return self.end_only(actions, alloc, lanes, now);
         };
         let switches = self.switches();
+        let released = Some(awaited.upto);
+        let from = Basis {
+            points: &self.points,
+            outputs,
+            switches,
+            released: &released,
+        };
         let next = write_next(
             &mut self.writer,
             alloc,
-            &self.points,
             lanes,
             &mut self.fetched,
-            outputs,
-            switches,
+            &from,
             &self.session,
-            awaited.upto,
         )?;
         let free = self.session.is_free_after(&self.writer, &next);
         let is_due = self.is_due(self.announced, self.is_open, free);
         let enabled = self.enabled;
-        let released = Some(awaited.upto);
         let starts = write_ending(
             &mut self.pushes,
             alloc,
@@ -194,23 +189,21 @@ impl OutstationCore {
     }
 }
 
-/// Writes the answer to the READ that waits, if one does, as the lanes are once these rows are released.
+/// Writes the answer to the READ that waits, if one does, as the lanes are after the release.
 fn write_held<L: Lanes, O: Outputs>(
     writer: &mut Writer,
     alloc: Global,
-    points: &PointDb,
     lanes: &mut L,
     fetched: &mut Fetched,
-    outputs: &O,
-    switches: Switches,
+    from: &Basis<'_, O>,
     session: &Session,
-    released: &Option<Upto>,
 ) -> Result<Option<Answer>, StoreFault>
     ensures look { IsLook L.honest L.is_stopped L.contents L.beside L.place L.asks_memory L.may_fault lanes.old lanes.new result }
-    ensures written { L.honest lanes.new → IfOk result (λ held. (s : State) (now : ℕ) → s.core.points ≡ points.now → s.core.restart ≡ switches.restart → s.core.enabled ≡ switches.enabled
-        → s.core.session.request ≡ session.now.request → s.lanes ≡ after_release (L.contents lanes.old) released.now
-        → answers_held s (O.panel outputs.now) now session.now.last ≡ answers_held_by s now writer.new held) }
-    ensures stood { L.honest lanes.new → IfOk result (λ held. IfSome held (λ a. a.stood ≡ last_in (after_release (L.contents lanes.old) released.now))) }
+    ensures written { L.honest lanes.new → IfOk result (λ held. (s : State) (now : ℕ) → s.core.points ≡ from.now.points.now
+        → s.core.restart ≡ from.now.switches.restart → s.core.enabled ≡ from.now.switches.enabled
+        → s.core.session.request ≡ session.now.request → s.lanes ≡ after_release (L.contents lanes.old) from.now.released.now
+        → answers_held s (O.panel from.now.outputs.now) now session.now.last ≡ answers_held_by s now writer.new held) }
+    ensures stood { L.honest lanes.new → IfOk result (λ held. IfSome held (λ a. a.stood ≡ last_in (after_release (L.contents lanes.old) from.now.released.now))) }
     ensures small { IfOk result (λ held. IfSome held (λ a. a.bits < 8)) }
     ensures goes_on { IfOk result (λ held. IfSome held (λ a. IsSome a.left → IsTrue (is_ok (request_at session.now.request)))) }
     ensures response { IfOk result (λ held. IfSome held (λ a. writer.new.builder.function ≡ function.Response)) }
@@ -219,9 +212,7 @@ fn write_held<L: Lanes, O: Outputs>(
         return Ok(None);
     }
     let octets = session.request.octets();
-    let answer = execute_after(
-        writer, alloc, points, lanes, fetched, outputs, switches, octets, released,
-    )?;
+    let answer = execute(writer, alloc, lanes, fetched, from, octets)?;
     Ok(Some(answer))
 }
 
@@ -318,16 +309,19 @@ impl OutstationCore {
         };
         let released = Some(response.upto);
         let before = self.switches();
+        let from = Basis {
+            points: &self.points,
+            outputs,
+            switches: before,
+            released: &released,
+        };
         let held = write_held(
             &mut self.writer,
             alloc,
-            &self.points,
             lanes,
             &mut self.fetched,
-            outputs,
-            before,
+            &from,
             &self.session,
-            &released,
         )?;
         let after = switched_by(before, &held);
         let free = self.session.is_free_without(&self.writer, &held);

@@ -20,9 +20,10 @@ ghost use Rattle.dnp_outstation.specs.Stores.{IsLook};
 ghost use Rattle.dnp_outstation.specs.Content.{content_of, bits_of, clears_restart, header_bits, write_bits, enabled_after, read_executed, write_executed, switch_executed, delay_executed, time_in, later, time_written};
 
 use crate::answer::{Answer, Switches};
+use crate::basis::Basis;
 use crate::offer::fetched::Fetched;
 use crate::offer::inside::are_inside;
-use crate::offer::parts::put_parts;
+use crate::offer::parts::{Stand, put_parts};
 use crate::offer::place::ReadPlace;
 use crate::offer::writer::Writer;
 use crate::released::last_left;
@@ -31,9 +32,8 @@ use dnp_appfragment::{
     AppFault, Function, Header, Headers, Range, Request, known_request, read_request,
 };
 use dnp_controls::Outputs;
-use dnp_eventbuf::{Lanes, StoreFault, Upto};
+use dnp_eventbuf::{Lanes, StoreFault};
 use dnp_objects::LANES;
-use dnp_pointdb::PointDb;
 use std::alloc::Global;
 
 /// The bit of an unknown function (IIN2.0), of the second octet of indications.
@@ -200,43 +200,39 @@ pub(crate) fn left(is_last: bool, place: ReadPlace) -> Option<ReadPlace>
 fn read<L: Lanes, O: Outputs>(
     writer: &mut Writer,
     alloc: Global,
-    points: &PointDb,
     lanes: &mut L,
     fetched: &mut Fetched,
-    outputs: &O,
-    switches: Switches,
+    from: &Basis<'_, O>,
     headers: &Headers<'_>,
     stood: u64,
-    released: &Option<Upto>,
 ) -> Result<Answer, StoreFault>
     requires empty { writer.old ≡ empty_from first_place }
     requires few { length headers.now.headers < 2 ^ 64 }
-    requires stood { L.honest lanes.old → stood ≡ last_in_buffer (after_release (L.contents lanes.old) released.now) }
+    requires stood { L.honest lanes.old → stood ≡ last_in_buffer (after_release (L.contents lanes.old) from.now.released.now) }
     ensures look { IsLook L.honest L.is_stopped L.contents L.beside L.place L.asks_memory L.may_fault lanes.old lanes.new result }
-    ensures executed { L.honest lanes.new → IfOk result (λ a. (s : State) → s.core.points ≡ points.now → s.core.restart ≡ switches.restart → s.core.enabled ≡ switches.enabled
-        → s.lanes ≡ after_release (L.contents lanes.old) released.now → read_executed s (O.panel outputs.now) headers.now.headers ≡ executed_by s writer.new a) }
+    ensures executed { L.honest lanes.new → IfOk result (λ a. (s : State) → s.core.points ≡ from.now.points.now
+        → s.core.restart ≡ from.now.switches.restart → s.core.enabled ≡ from.now.switches.enabled
+        → s.lanes ≡ after_release (L.contents lanes.old) from.now.released.now
+        → read_executed s (O.panel from.now.outputs.now) headers.now.headers ≡ executed_by s writer.new a) }
     ensures stood { IfOk result (λ a. a.stood ≡ stood) }
     ensures small { IfOk result (λ a. a.bits < 8) }
     ensures response { writer.new.builder.function ≡ function.Response }
-    ensures asks_inside { IsErr result → (s : Source) → s.points ≡ points.now → s.panel ≡ O.panel outputs.now → list_all (is_inside s) headers.now.headers ≡ true }
+    ensures asks_inside { IsErr result → (s : Source) → s.points ≡ from.now.points.now → s.panel ≡ O.panel from.now.outputs.now
+        → list_all (is_inside s) headers.now.headers ≡ true }
 {
-    if !are_inside(points, outputs, headers.after(0)) {
-        return Ok(plain(PARAMETER_ERROR, switches, stood));
+    if !are_inside(from.points, from.outputs, headers.after(0)) {
+        return Ok(plain(PARAMETER_ERROR, from.switches, stood));
     }
-    let is_last = put_parts(
-        writer,
-        alloc,
-        points,
-        lanes,
-        fetched,
-        outputs,
-        released,
+    let stand = Stand {
+        points: from.points,
+        outputs: from.outputs,
         stood,
-        headers.after(0),
-    )?;
+        released: from.released,
+    };
+    let is_last = put_parts(writer, alloc, lanes, fetched, &stand, headers.after(0))?;
     Ok(Answer {
         bits: 0,
-        switches,
+        switches: from.switches,
         stood,
         left: left(is_last, writer.place),
         time: None,
@@ -309,78 +305,40 @@ fn delay(writer: &mut Writer, switches: Switches, stood: u64) -> Answer
 }
 
 /// Executes a request, and writes the first fragment of its response, as the lanes are after the release.
-pub(crate) fn execute_after<L: Lanes, O: Outputs>(
+pub(crate) fn execute<L: Lanes, O: Outputs>(
     writer: &mut Writer,
     alloc: Global,
-    points: &PointDb,
     lanes: &mut L,
     fetched: &mut Fetched,
-    outputs: &O,
-    switches: Switches,
+    from: &Basis<'_, O>,
     octets: &[u8],
-    released: &Option<Upto>,
 ) -> Result<Answer, StoreFault>
     ensures look { IsLook L.honest L.is_stopped L.contents L.beside L.place L.asks_memory L.may_fault lanes.old lanes.new result }
-    ensures executed { L.honest lanes.new → IfOk result (λ a. (s : State) → s.core.points ≡ points.now → s.core.restart ≡ switches.restart → s.core.enabled ≡ switches.enabled
-        → s.lanes ≡ after_release (L.contents lanes.old) released.now → content_of s (O.panel outputs.now) octets.now ≡ executed_by s writer.new a) }
-    ensures stood { L.honest lanes.new → IfOk result (λ a. a.stood ≡ last_in_buffer (after_release (L.contents lanes.old) released.now)) }
+    ensures executed { L.honest lanes.new → IfOk result (λ a. (s : State) → s.core.points ≡ from.now.points.now
+        → s.core.restart ≡ from.now.switches.restart → s.core.enabled ≡ from.now.switches.enabled
+        → s.lanes ≡ after_release (L.contents lanes.old) from.now.released.now
+        → content_of s (O.panel from.now.outputs.now) octets.now ≡ executed_by s writer.new a) }
+    ensures stood { L.honest lanes.new → IfOk result (λ a. a.stood ≡ last_in_buffer (after_release (L.contents lanes.old) from.now.released.now)) }
     ensures small { IfOk result (λ a. a.bits < 8) }
     // What goes on is of a request that was read.
     ensures goes_on { IfOk result (λ a. IsSome a.left → IsTrue (is_ok (request_at octets.now))) }
     ensures response { writer.new.builder.function ≡ function.Response }
     ensures reads { IsErr result → function_in octets.now ≡ function_octet function.Read }
-    ensures asks_inside { IsErr result → (s : State) → s.core.points ≡ points.now → reads_inside s (O.panel outputs.now) octets.now ≡ true }
+    ensures asks_inside { IsErr result → (s : State) → s.core.points ≡ from.now.points.now → reads_inside s (O.panel from.now.outputs.now) octets.now ≡ true }
 {
     writer.restart(FIRST_PLACE);
-    let stood = last_left(lanes, released);
+    let stood = last_left(lanes, from.released);
+    let switches = from.switches;
     let request = match request_in(octets) {
         Ok(request) => request,
         Err(fault) => return Ok(plain(bits_of(fault), switches, stood)),
     };
     match request.function {
-        Function::Read => read(
-            writer,
-            alloc,
-            points,
-            lanes,
-            fetched,
-            outputs,
-            switches,
-            &request.headers,
-            stood,
-            released,
-        ),
+        Function::Read => read(writer, alloc, lanes, fetched, from, &request.headers, stood),
         Function::Write => Ok(write(switches, request.headers, stood)),
         Function::EnableUnsolicited => Ok(switch(switches, true, request.headers, stood)),
         Function::DisableUnsolicited => Ok(switch(switches, false, request.headers, stood)),
         Function::DelayMeasure => Ok(delay(writer, switches, stood)),
         _ => Ok(plain(NO_FUNC_CODE_SUPPORT, switches, stood)),
     }
-}
-
-/// Executes a request, and writes the first fragment of its response.
-pub(crate) fn execute<L: Lanes, O: Outputs>(
-    writer: &mut Writer,
-    alloc: Global,
-    points: &PointDb,
-    lanes: &mut L,
-    fetched: &mut Fetched,
-    outputs: &O,
-    switches: Switches,
-    octets: &[u8],
-) -> Result<Answer, StoreFault>
-    ensures look { IsLook L.honest L.is_stopped L.contents L.beside L.place L.asks_memory L.may_fault lanes.old lanes.new result }
-    ensures executed { L.honest lanes.new → IfOk result (λ a. (s : State) → s.core.points ≡ points.now → s.core.restart ≡ switches.restart → s.core.enabled ≡ switches.enabled
-        → s.lanes ≡ L.contents lanes.old → content_of s (O.panel outputs.now) octets.now ≡ executed_by s writer.new a) }
-    ensures stood { L.honest lanes.new → IfOk result (λ a. a.stood ≡ last_in_buffer (L.contents lanes.old)) }
-    ensures small { IfOk result (λ a. a.bits < 8) }
-    // What goes on is of a request that was read.
-    ensures goes_on { IfOk result (λ a. IsSome a.left → IsTrue (is_ok (request_at octets.now))) }
-    ensures response { writer.new.builder.function ≡ function.Response }
-    ensures reads { IsErr result → function_in octets.now ≡ function_octet function.Read }
-    ensures asks_inside { IsErr result → (s : State) → s.core.points ≡ points.now → reads_inside s (O.panel outputs.now) octets.now ≡ true }
-{
-    execute_after(
-        writer, alloc, points, lanes, fetched, outputs, switches, octets, &None,
-    )
 }

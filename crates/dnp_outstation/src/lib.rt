@@ -3,6 +3,7 @@
 
 mod actions;
 mod answer;
+mod basis;
 mod case;
 mod change;
 mod confirm;

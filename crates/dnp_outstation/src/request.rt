@@ -14,6 +14,7 @@ ghost use Rattle.dnp_outstation.specs.Station.{state_of, actions_of, reads_insid
 ghost use Rattle.dnp_outstation.specs.Stores.{IsLook};
 
 use crate::actions::Actions;
+use crate::basis::Basis;
 use crate::connection::deadline;
 use crate::ending::write_ending;
 use crate::execute::execute;
@@ -51,14 +52,18 @@ impl OutstationCore {
             → (self.old.times.unsolicited ≡ true) ⊎ (reads_inside s (O.panel outputs.now) octets.now ≡ true) }
     {
         let switches = self.switches();
+        let from = Basis {
+            points: &self.points,
+            outputs,
+            switches,
+            released: &None,
+        };
         let answer = execute(
             &mut self.writer,
             alloc,
-            &self.points,
             lanes,
             &mut self.fetched,
-            outputs,
-            switches,
+            &from,
             octets,
         )?;
         let free = self.session.is_free_sent(&self.writer, &answer);

@@ -123,32 +123,24 @@ impl Writer {
 pub(crate) fn put_parts<L: Lanes, O: Outputs>(
     writer: &mut Writer,
     alloc: Global,
-    points: &PointDb,
     lanes: &mut L,
     fetched: &mut Fetched,
-    outputs: &O,
-    released: &Option<Upto>,
-    stood: u64,
+    from: &Stand<'_, O>,
     headers: Headers<'_>,
 ) -> Result<bool, StoreFault>
     requires response { IsTrue (is_response writer.old.builder.function) }
     requires few { length headers.headers < 2 ^ 64 }
     ensures offered { L.honest lanes.new → IfOk result (λ is_last. (place : PlaceValue) → writer.old ≡ empty_from place → ended is_last writer.new
-        ≡ offered (record { points = points.now; panel = O.panel outputs.now; lanes = after_release (L.contents lanes.old) released.now }) stood place headers.entry.headers) }
+        ≡ offered (record { points = from.now.points.now; panel = O.panel from.now.outputs.now; lanes = after_release (L.contents lanes.old) from.now.released.now })
+        from.now.stood place headers.entry.headers) }
     ensures response { writer.new.builder.function ≡ writer.old.builder.function }
     ensures look { IsLook L.honest L.is_stopped L.contents L.beside L.place L.asks_memory L.may_fault lanes.old lanes.new result }
 {
-    let from = Stand {
-        points,
-        outputs,
-        stood,
-        released,
-    };
     let first = writer.place.header;
     let given = writer.place.count;
     let left = headers.after(first);
     let rows = fetched.rows(alloc);
-    if !writer.put_headers(alloc, lanes, rows, &from, first, given, left)? {
+    if !writer.put_headers(alloc, lanes, rows, from, first, given, left)? {
         return Ok(false);
     }
     Ok(writer.settle())

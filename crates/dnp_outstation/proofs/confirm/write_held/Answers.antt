@@ -7,7 +7,7 @@ use Rattle.dnp_outstation.proofs.confirm.write_held.Goals as goal
 
 pub returns-clause-written : goal.returns-clause-written
 returns-clause-written g c = λ honest s now points_is restart_is enabled_is request_is lanes_is.
-    let o = g.O.Outputs.panel c.args.outputs.now in
+    let o = g.O.Outputs.panel c.args.from.now.outputs.now in
     let held : holds_read c.args.session.now.last ≡ true = search rules in
     let octets_is : s.core.session.request ≡ c.octets-octets.result.now = request_is ∙ sym c.octets-octets.ensures.value in
     held_is_answered s o now c.args.session.now.last held

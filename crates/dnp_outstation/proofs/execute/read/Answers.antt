@@ -9,9 +9,9 @@ use Rattle.dnp_outstation.proofs.execute.read.Goals as goal
 
 pub returns-clause-executed : goal.returns-clause-executed
 returns-clause-executed g c = λ honest s points_is restart_is enabled_is lanes_is.
-    let lanes = after_release (g.L.Lanes.contents c.args.lanes.now) c.args.released.now in
-    let source : Source = record { points = c.args.points.now; panel = g.O.Outputs.panel c.args.outputs.now; lanes = lanes } in
-    let a : Answer = record { bits = 0; switches = c.args.switches; stood = c.args.stood; left = c.left.result; time = None } in
+    let lanes = after_release (g.L.Lanes.contents c.args.lanes.now) c.args.from.now.released.now in
+    let source : Source = record { points = c.args.from.now.points.now; panel = g.O.Outputs.panel c.args.from.now.outputs.now; lanes = lanes } in
+    let a : Answer = record { bits = 0; switches = c.args.from.now.switches; stood = c.args.stood; left = c.left.result; time = None } in
     let are : true ≡ c.are_inside.result = search rules in
     let inside : true ≡ list_all (is_inside source) c.args.headers.now.headers =
     are ∙ c.are_inside.ensures source refl refl ∙ ap (λ (hs : List Head). list_all (is_inside source) hs) c.after.ensures.headers in

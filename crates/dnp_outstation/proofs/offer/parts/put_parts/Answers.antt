@@ -10,36 +10,36 @@ use Rattle.dnp_outstation.proofs.offer.parts.put_parts.Goals as goal
 pub returns-then-not-branch-clause-offered : goal.returns-then-not-branch-clause-offered
 returns-then-not-branch-clause-offered g c = λ honest place begun.
     let s : Source = record {
-      points = c.args.points.now;
-      panel = g.O.Outputs.panel c.args.outputs.now;
-      lanes = after_release (g.L.Lanes.contents c.args.lanes.now) c.args.released.now;
+      points = c.args.from.now.points.now;
+      panel = g.O.Outputs.panel c.args.from.now.outputs.now;
+      lanes = after_release (g.L.Lanes.contents c.args.lanes.now) c.args.from.now.released.now;
     } in
     let w = c.args.writer.now in
     let v = c.put_headers.new.self in
     let headers = c.args.headers.headers in
     let left = c.after-left.result.headers in
     let items : List Marked =
-    map (opened (may_in headers)) (items_of s c.args.stood (reached w) w.place.header (parts_left w.place.count (map (part_of s) left))) in
+    map (opened (may_in headers)) (items_of s c.args.from.now.stood (reached w) w.place.header (parts_left w.place.count (map (part_of s) left))) in
     let full : c.in_ok-put_headers.field-0 ≡ false = search rules in
-    filled_offered s c.args.stood place headers left w v false begun c.after-left.ensures.headers
+    filled_offered s c.args.from.now.stood place headers left w v false begun c.after-left.ensures.headers
     (ended_full w v items (subst (λ (fit : Bool). Puts w items fit v) full (c.in_ok-put_headers.ensures.written honest s refl refl refl (may_in headers)
     (left_open headers w.place.header left (sym c.after-left.ensures.headers)))))
 
 pub returns-clause-offered : goal.returns-clause-offered
 returns-clause-offered g c = λ honest place begun.
     let s : Source = record {
-      points = c.args.points.now;
-      panel = g.O.Outputs.panel c.args.outputs.now;
-      lanes = after_release (g.L.Lanes.contents c.args.lanes.now) c.args.released.now;
+      points = c.args.from.now.points.now;
+      panel = g.O.Outputs.panel c.args.from.now.outputs.now;
+      lanes = after_release (g.L.Lanes.contents c.args.lanes.now) c.args.from.now.released.now;
     } in
     let w = c.args.writer.now in
     let v = c.put_headers.new.self in
     let headers = c.args.headers.headers in
     let left = c.after-left.result.headers in
     let items : List Marked =
-    map (opened (may_in headers)) (items_of s c.args.stood (reached w) w.place.header (parts_left w.place.count (map (part_of s) left))) in
+    map (opened (may_in headers)) (items_of s c.args.from.now.stood (reached w) w.place.header (parts_left w.place.count (map (part_of s) left))) in
     let all : c.in_ok-put_headers.field-0 ≡ true = search rules in
-    filled_offered s c.args.stood place headers left w c.settle.new.self c.settle.result begun c.after-left.ensures.headers
+    filled_offered s c.args.from.now.stood place headers left w c.settle.new.self c.settle.result begun c.after-left.ensures.headers
     (ended_last w v c.settle.new.self items c.settle.result
     (subst (λ (fit : Bool). Puts w items fit v) all (c.in_ok-put_headers.ensures.written honest s refl refl refl (may_in headers)
     (left_open headers w.place.header left (sym c.after-left.ensures.headers))))
