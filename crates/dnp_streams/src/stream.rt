@@ -28,6 +28,7 @@ mod outstation;
 mod progress;
 mod serve;
 mod served;
+mod serving;
 mod session;
 mod station;
 mod step;

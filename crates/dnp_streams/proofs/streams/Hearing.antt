@@ -146,16 +146,12 @@ pub record HasHeardPartly {S : Type 0} (receives : Receiving S) (now : ℕ) (old
   pub counted : Counts served output served'
   pub written : ArePartlyWritten held held' output.frames
 
--- what was counted is within the largest number
-abbrev pub IsWithin : Served → Type 0
-IsWithin s = (s.fragments ≤ most) × (s.faults ≤ most)
-
-pub has_heard_none : {S : Type 0} (receives : Receiving S) (now : ℕ) (old : Endpoint S) (served : Served) (held : Option (List ℕ)) → IsWithin served
-    → HasHeard receives now old [] old served served held held
-has_heard_none receives now old served held within = record {
+pub has_heard_none : {S : Type 0} (receives : Receiving S) (now : ℕ) (old : Endpoint S) (s t : Served) (held : Option (List ℕ)) → Counts s no_output t
+    → HasHeard receives now old [] old s t held held
+has_heard_none receives now old s t held counted = record {
   output = no_output;
   hears = (refl, refl);
-  counted = record { fragments = omega (arith, within.0); faults = omega (arith, within.1); closed = sym (or_none served.closed) };
+  counted = counted;
   written = record { octets = []; spelled = spelled_none; appended = Appends-nil held };
 }
 

@@ -12,7 +12,6 @@ ghost use Rattle.dnp_streams.specs.steps.Talking.{AreNoted, IsFresh, Listens, Tu
 use crate::stream::asked::Asked;
 use crate::stream::asker::Asker;
 use crate::stream::asking::{go_to, hear_to, open_to};
-use crate::stream::kept::StreamKept;
 use crate::stream::log::{Log, read_noted, write_noted};
 use crate::stream::progress::Progress;
 use crate::stream::serve::ServeFault;
@@ -29,21 +28,19 @@ pub(super) fn go_on<S: Asker, W: Write>(
     station: &mut S,
     port: &mut Port,
     now: u64,
-    kept: &mut StreamKept,
     out: &mut W,
     progress: &mut Progress<'_>,
-    log: &mut Log,
 ) -> Result<bool, ServeFault>
     requires { progress.old.is_begun ≡ true }
     ensures kept { S.kept station.new ≡ S.kept station.old }
     ensures held { S.honest station.new → S.honest station.old }
-    ensures turns { S.honest station.new → WritesOn S.opens S.receives S.asking now kept.old.octets.items (dialogue_of (S.state station.old) port.old progress.old)
+    ensures turns { S.honest station.new → WritesOn S.opens S.receives S.asking now progress.old.kept.octets.items (dialogue_of (S.state station.old) port.old progress.old)
         result (W.contents out.old) (W.contents out.new) (dialogue_of (S.state station.new) port.new progress.new) }
     ensures listens { result ≡ Ok false → Listens S.asking.is_idle (S.state station.new) progress.new }
-    ensures noted { AreNoted result log.old log.new }
+    ensures noted { AreNoted result progress.old.log progress.new.log }
     ensures named { result ≢ Err ServeFault.Memory }
 {
-    match write_noted(&kept.octets, out, log) {
+    match write_noted(&progress.kept.octets, out, &mut progress.log) {
         Ok(()) => {}
         Err(_) => return Err(ServeFault::WriteFailed),
     }
@@ -54,8 +51,8 @@ pub(super) fn go_on<S: Asker, W: Write>(
         if !station.idle() {
             return Ok(false);
         }
-        go_to(alloc, station, port, now, kept, progress);
-        match write_noted(&kept.octets, out, log) {
+        go_to(alloc, station, port, now, progress);
+        match write_noted(&progress.kept.octets, out, &mut progress.log) {
             Ok(()) => {}
             Err(_) => return Err(ServeFault::WriteFailed),
         }
@@ -69,10 +66,8 @@ pub(super) fn begin<S: Asker, W: Write>(
     station: &mut S,
     port: &mut Port,
     now: u64,
-    kept: &mut StreamKept,
     out: &mut W,
     progress: &mut Progress<'_>,
-    log: &mut Log,
 ) -> Result<bool, ServeFault>
     requires begun { progress.old.is_begun ≡ false }
     requires goes_on { progress.old.is_over ≡ false }
@@ -81,15 +76,15 @@ pub(super) fn begin<S: Asker, W: Write>(
     ensures turns { S.honest station.new → Turns S.opens S.receives S.asking now (dialogue_of (S.state station.old) port.old progress.old) []
         result (W.contents out.old) (W.contents out.new) (dialogue_of (S.state station.new) port.new progress.new) }
     ensures listens { result ≡ Ok false → Listens S.asking.is_idle (S.state station.new) progress.new }
-    ensures noted { AreNoted result log.old log.new }
+    ensures noted { AreNoted result progress.old.log progress.new.log }
     ensures memory { result ≡ Err ServeFault.Memory → vec_capacity progress.old.asked.outcomes < vec_len progress.old.asked.outcomes + 1 }
 {
     match progress.asked.make_room() {
         Ok(()) => {}
         Err(_) => return Err(ServeFault::Memory),
     }
-    open_to(alloc, station, port, now, &mut kept.octets, progress);
-    go_on(alloc, station, port, now, kept, out, progress, log)
+    open_to(alloc, station, port, now, progress);
+    go_on(alloc, station, port, now, out, progress)
 }
 
 /// Hears a frame, writes what that sends, and goes on. Whether the dialogue stops. Memory is asked for only where no outcome more
@@ -100,10 +95,8 @@ pub(super) fn hear_one<S: Asker, W: Write>(
     port: &mut Port,
     now: u64,
     frame: &Frame,
-    kept: &mut StreamKept,
     out: &mut W,
     progress: &mut Progress<'_>,
-    log: &mut Log,
 ) -> Result<bool, ServeFault>
     requires { Listens S.asking.is_idle (S.state station.old) progress.old }
     ensures kept { S.kept station.new ≡ S.kept station.old }
@@ -111,15 +104,15 @@ pub(super) fn hear_one<S: Asker, W: Write>(
     ensures turns { S.honest station.new → Turns S.opens S.receives S.asking now (dialogue_of (S.state station.old) port.old progress.old) (frame.now ∷ [])
         result (W.contents out.old) (W.contents out.new) (dialogue_of (S.state station.new) port.new progress.new) }
     ensures listens { result ≡ Ok false → Listens S.asking.is_idle (S.state station.new) progress.new }
-    ensures noted { AreNoted result log.old log.new }
+    ensures noted { AreNoted result progress.old.log progress.new.log }
     ensures memory { result ≡ Err ServeFault.Memory → vec_capacity progress.old.asked.outcomes < vec_len progress.old.asked.outcomes + 1 }
 {
     match progress.asked.make_room() {
         Ok(()) => {}
         Err(_) => return Err(ServeFault::Memory),
     }
-    hear_to(alloc, station, port, now, frame, kept, progress);
-    go_on(alloc, station, port, now, kept, out, progress, log)
+    hear_to(alloc, station, port, now, frame, progress);
+    go_on(alloc, station, port, now, out, progress)
 }
 
 /// Hears frames, one after the other. Whether the dialogue stops.
@@ -129,10 +122,8 @@ fn hear_each<S: Asker, W: Write>(
     port: &mut Port,
     now: u64,
     frames: &[Frame],
-    kept: &mut StreamKept,
     out: &mut W,
     progress: &mut Progress<'_>,
-    log: &mut Log,
 ) -> Result<bool, ServeFault>
     requires { Listens S.asking.is_idle (S.state station.old) progress.old }
     ensures kept { S.kept station.new ≡ S.kept station.old }
@@ -140,10 +131,10 @@ fn hear_each<S: Asker, W: Write>(
     ensures turns { S.honest station.new → Turns S.opens S.receives S.asking now (dialogue_of (S.state station.old) port.old progress.old) frames.now
         result (W.contents out.old) (W.contents out.new) (dialogue_of (S.state station.new) port.new progress.new) }
     ensures listens { result ≡ Ok false → Listens S.asking.is_idle (S.state station.new) progress.new }
-    ensures noted { AreNoted result log.old log.new }
+    ensures noted { AreNoted result progress.old.log progress.new.log }
 {
     for frame in frames {
-        match hear_one(alloc, station, port, now, frame, kept, out, progress, log) {
+        match hear_one(alloc, station, port, now, frame, out, progress) {
             Ok(false) => {}
             Ok(true) => return Ok(true),
             Err(fault) => return Err(fault),
@@ -162,19 +153,17 @@ fn ask_on<S: Asker, R: Read, W: Write>(
     out: &mut W,
     turns: u64,
     progress: &mut Progress<'_>,
-    log: &mut Log,
 ) -> Result<(), ServeFault>
     requires fresh { IsFresh progress.old }
-    requires log { log.old ≡ new_log }
+    requires log { progress.old.log ≡ new_log }
     ensures kept { S.kept station.new ≡ S.kept station.old }
     ensures held { S.honest station.new → S.honest station.old }
     ensures talks { S.honest station.new → Talks S.opens S.receives S.asking now turns (endpoint (S.state station.old) port.old) progress.old.left.now
         (R.remaining reader.old) (R.remaining reader.new) (W.contents out.old) (W.contents out.new)
         (told_by result progress.new.asked) (endpoint (S.state station.new) port.new) }
-    ensures noted { IsNoted turns result log.new }
+    ensures noted { IsNoted turns result progress.new.log }
 {
-    let mut kept = StreamKept::new(alloc);
-    match begin(alloc, station, port, now, &mut kept, out, progress, log) {
+    match begin(alloc, station, port, now, out, progress) {
         Ok(false) => {}
         Ok(true) => return Ok(()),
         Err(fault) => return Err(fault),
@@ -183,7 +172,7 @@ fn ask_on<S: Asker, R: Read, W: Write>(
     let mut frames = Vec::new(alloc);
     let mut piece = [0; MAX_UNIT];
     for _ in 0..turns {
-        let count = match read_noted(reader, &mut piece, log) {
+        let count = match read_noted(reader, &mut piece, &mut progress.log) {
             Ok(count) => count,
             Err(_) => return Err(ServeFault::ReadFailed),
         };
@@ -195,9 +184,7 @@ fn ask_on<S: Asker, R: Read, W: Write>(
             Ok(()) => {}
             Err(_) => return Err(ServeFault::Memory),
         }
-        match hear_each(
-            alloc, station, port, now, &frames, &mut kept, out, progress, log,
-        ) {
+        match hear_each(alloc, station, port, now, &frames, out, progress) {
             Ok(false) => {}
             Ok(true) => return Ok(()),
             Err(fault) => return Err(fault),
@@ -247,7 +234,7 @@ pub fn ask_noted<S: Asker, R: Read, W: Write>(
         (R.remaining reader.old) (R.remaining reader.new) (W.contents out.old) (W.contents out.new) result (endpoint ended port.new) }
     ensures noted { IsNoted turns result log.new }
 {
-    let mut progress = Progress::new(alloc, tasks);
+    let mut progress = Progress::new(alloc, tasks, *log);
     let ended = ask_on(
         alloc,
         station,
@@ -257,8 +244,8 @@ pub fn ask_noted<S: Asker, R: Read, W: Write>(
         out,
         turns,
         &mut progress,
-        log,
     );
+    *log = progress.log;
     leave(station, ended, progress.asked)
 }
 

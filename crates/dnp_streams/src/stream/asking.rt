@@ -5,8 +5,7 @@ ghost use Rattle.dnp_streams.specs.streams.Dialogues.{Begins, HearsAsking, Goes}
 ghost use Rattle.dnp_streams.specs.steps.Talking.{HasRoom, Puts, dialogue_of};
 
 use crate::stream::asker::Asker;
-use crate::stream::kept::StreamKept;
-use crate::stream::outgoing::{Outgoing, put_fragments, put_reply, put_request};
+use crate::stream::outgoing::{put_fragments, put_reply, put_request};
 use crate::stream::progress::Progress;
 use crate::stream::station::Station;
 use dnp_concentrator::RelayedStep;
@@ -22,21 +21,21 @@ pub(super) fn open_to<S: Station>(
     station: &mut S,
     port: &mut Port,
     now: u64,
-    out: &mut Outgoing,
     progress: &mut Progress<'_>,
 )
     requires { HasRoom progress.old.asked }
     ensures kept { S.kept station.new ≡ S.kept station.old }
     ensures held { S.honest station.new → S.honest station.old }
     ensures begins { S.honest station.new → Puts (λ sent. Begins S.opens now (dialogue_of (S.state station.old) port.old progress.old) sent
-        (dialogue_of (S.state station.new) port.new progress.new)) out.new.items }
+        (dialogue_of (S.state station.new) port.new progress.new)) progress.new.kept.octets.items }
     ensures begun { progress.new.is_begun ≡ true }
+    ensures log { progress.new.log ≡ progress.old.log }
 {
-    out.clear();
+    progress.kept.octets.clear();
     progress.is_begun = true;
     match station.opened(alloc, now) {
         Ok(answer) => {
-            put_fragments(port, &answer.send, out);
+            put_fragments(port, &answer.send, &mut progress.kept.octets);
             progress.asked.count(answer.taken, answer.outcome);
             progress.is_over = answer.close;
         }
@@ -52,25 +51,25 @@ pub(super) fn hear_to<S: Station>(
     port: &mut Port,
     now: u64,
     frame: &Frame,
-    kept: &mut StreamKept,
     progress: &mut Progress<'_>,
 )
     requires { HasRoom progress.old.asked }
     ensures kept { S.kept station.new ≡ S.kept station.old }
     ensures held { S.honest station.new → S.honest station.old }
     ensures hears { S.honest station.new → Puts (λ sent. HearsAsking S.receives now (dialogue_of (S.state station.old) port.old progress.old) frame.now sent
-        (dialogue_of (S.state station.new) port.new progress.new)) kept.new.octets.items }
+        (dialogue_of (S.state station.new) port.new progress.new)) progress.new.kept.octets.items }
     ensures begun { progress.new.is_begun ≡ progress.old.is_begun }
+    ensures log { progress.new.log ≡ progress.old.log }
 {
     let taken = port.take(frame);
-    put_reply(&taken, &mut kept.octets);
+    put_reply(&taken, &mut progress.kept.octets);
     if !taken.whole {
         return;
     }
-    match station.receive_into(&mut kept.answer, alloc, now, port.fragment()) {
+    match station.receive_into(&mut progress.kept.answer, alloc, now, port.fragment()) {
         Ok(()) => {
-            let answer = &kept.answer;
-            put_fragments(port, &answer.actions.send, &mut kept.octets);
+            let answer = &progress.kept.answer;
+            put_fragments(port, &answer.actions.send, &mut progress.kept.octets);
             progress.asked.count(answer.taken, answer.outcome);
             progress.is_over = answer.actions.close;
         }
@@ -84,21 +83,21 @@ fn relay_to<S: Asker>(
     station: &mut S,
     port: &mut Port,
     now: u64,
-    kept: &mut StreamKept,
     progress: &mut Progress<'_>,
 )
     requires { progress.old.left.now ≡ [] }
     ensures kept { S.kept station.new ≡ S.kept station.old }
     ensures held { S.honest station.new → S.honest station.old }
     ensures goes { S.honest station.new → progress.old.is_over ≡ false → Puts (λ sent. Goes S.asking now (dialogue_of (S.state station.old) port.old progress.old) sent
-        (dialogue_of (S.state station.new) port.new progress.new)) kept.new.octets.items }
+        (dialogue_of (S.state station.new) port.new progress.new)) progress.new.kept.octets.items }
     ensures begun { progress.new.is_begun ≡ progress.old.is_begun }
+    ensures log { progress.new.log ≡ progress.old.log }
 {
-    kept.octets.clear();
-    match station.relay_into(&mut kept.request, alloc, now) {
+    progress.kept.octets.clear();
+    match station.relay_into(&mut progress.kept.request, alloc, now) {
         Ok(RelayedStep::Nothing) => progress.is_over = true,
-        Ok(RelayedStep::Selecting(_)) => put_request(port, &kept.request, &mut kept.octets),
-        Ok(RelayedStep::Sent(_)) => put_request(port, &kept.request, &mut kept.octets),
+        Ok(RelayedStep::Selecting(_)) => put_request(port, &progress.kept.request, &mut progress.kept.octets),
+        Ok(RelayedStep::Sent(_)) => put_request(port, &progress.kept.request, &mut progress.kept.octets),
         Ok(RelayedStep::Finished(_, _)) => {}
         Err(_) => {
             progress.asked.refuse();
@@ -114,26 +113,26 @@ pub(super) fn go_to<S: Asker>(
     station: &mut S,
     port: &mut Port,
     now: u64,
-    kept: &mut StreamKept,
     progress: &mut Progress<'_>,
 )
     ensures kept { S.kept station.new ≡ S.kept station.old }
     ensures held { S.honest station.new → S.honest station.old }
     ensures goes { S.honest station.new → progress.old.is_over ≡ false → Puts (λ sent. Goes S.asking now (dialogue_of (S.state station.old) port.old progress.old) sent
-        (dialogue_of (S.state station.new) port.new progress.new)) kept.new.octets.items }
+        (dialogue_of (S.state station.new) port.new progress.new)) progress.new.kept.octets.items }
     ensures begun { progress.new.is_begun ≡ progress.old.is_begun }
+    ensures log { progress.new.log ≡ progress.old.log }
 {
     match progress.left.split_first() {
         Some((task, left)) => {
             progress.left = left;
-            match station.ask_into(&mut kept.request, now, *task) {
-                Ok(()) => put_request(port, &kept.request, &mut kept.octets),
+            match station.ask_into(&mut progress.kept.request, now, *task) {
+                Ok(()) => put_request(port, &progress.kept.request, &mut progress.kept.octets),
                 Err(_) => {
-                    kept.octets.clear();
+                    progress.kept.octets.clear();
                     progress.asked.refuse();
                 }
             }
         }
-        None => relay_to(alloc, station, port, now, kept, progress),
+        None => relay_to(alloc, station, port, now, progress),
     }
 }

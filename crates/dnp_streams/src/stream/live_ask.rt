@@ -10,7 +10,6 @@ ghost use Rattle.dnp_streams.specs.steps.Talking.{IsFresh, told_by};
 use crate::stream::ask::{begin, leave};
 use crate::stream::asked::Asked;
 use crate::stream::asker::Asker;
-use crate::stream::kept::StreamKept;
 use crate::stream::live_ask_turns::take_turn;
 use crate::stream::live_turns::read_frames;
 use crate::stream::living::Living;
@@ -37,20 +36,18 @@ fn ask_on<S: Asker + Living, R: Waiting, W: Write, C: Clock>(
     out: &mut W,
     limits: Limits,
     progress: &mut Progress<'_>,
-    log: &mut Log,
 ) -> Result<(), ServeFault>
     requires fresh { IsFresh progress.old }
-    requires log { log.old ≡ new_log }
+    requires log { progress.old.log ≡ new_log }
     ensures kept { S.kept station.new ≡ S.kept station.old }
     ensures held { S.honest station.new → S.honest station.old }
-    ensures talks { S.honest station.new → TalksLive S.opens S.receives S.asking S.life log.new.reads (endpoint (S.state station.old) port.old) progress.old.left.now
+    ensures talks { S.honest station.new → TalksLive S.opens S.receives S.asking S.life progress.new.log.reads (endpoint (S.state station.old) port.old) progress.old.left.now
         now.old now.new (R.Read.remaining reader.old) (R.Read.remaining reader.new) (W.contents out.old) (W.contents out.new)
         (told_by result progress.new.asked) (endpoint (S.state station.new) port.new) }
-    ensures noted { IsNoted limits.turns result log.new }
+    ensures noted { IsNoted limits.turns result progress.new.log }
 {
-    let mut kept = StreamKept::new(alloc);
     *now = moment(clock, *now);
-    match begin(alloc, station, port, *now, &mut kept, out, progress, log) {
+    match begin(alloc, station, port, *now, out, progress) {
         Ok(false) => {}
         Ok(true) => return Ok(()),
         Err(fault) => return Err(fault),
@@ -59,14 +56,12 @@ fn ask_on<S: Asker + Living, R: Waiting, W: Write, C: Clock>(
     let mut frames = Vec::new(alloc);
     let wait_ms = limits.wait_ms.max(1);
     for _ in 0..limits.turns {
-        match read_frames(reader, wait_ms, &mut stream, &mut frames, log) {
+        match read_frames(reader, wait_ms, &mut stream, &mut frames, &mut progress.log) {
             Ok(true) => {}
             Ok(false) => return Ok(()),
             Err(fault) => return Err(fault),
         }
-        match take_turn(
-            alloc, station, port, clock, now, &frames, &mut kept, out, progress, log,
-        ) {
+        match take_turn(alloc, station, port, clock, now, &frames, out, progress) {
             Ok(false) => {}
             Ok(true) => return Ok(()),
             Err(fault) => return Err(fault),
@@ -109,7 +104,7 @@ pub fn ask_live<S: Asker + Living, R: Waiting, W: Write, C: Clock>(
         (R.Read.remaining reader.old) (R.Read.remaining reader.new) (W.contents out.old) (W.contents out.new) result (endpoint ended port.new) }
     ensures noted { IsNoted limits.turns result log.new }
 {
-    let mut progress = Progress::new(alloc, tasks);
+    let mut progress = Progress::new(alloc, tasks, *log);
     let ended = ask_on(
         alloc,
         station,
@@ -120,7 +115,7 @@ pub fn ask_live<S: Asker + Living, R: Waiting, W: Write, C: Clock>(
         out,
         limits,
         &mut progress,
-        log,
     );
+    *log = progress.log;
     leave(station, ended, progress.asked)
 }

@@ -8,9 +8,7 @@ ghost use Rattle.dnp_streams.specs.steps.Talking.{AreNoted, HasRoom, Listens, Pu
 
 use crate::stream::ask::{go_on, hear_one};
 use crate::stream::asker::Asker;
-use crate::stream::kept::StreamKept;
 use crate::stream::living::Living;
-use crate::stream::log::Log;
 use crate::stream::outgoing::put_fragments;
 use crate::stream::progress::Progress;
 use crate::stream::serve::ServeFault;
@@ -27,7 +25,6 @@ fn tick_to<S: Living>(
     station: &mut S,
     port: &mut Port,
     now: u64,
-    kept: &mut StreamKept,
     progress: &mut Progress<'_>,
 )
     requires room { HasRoom progress.old.asked }
@@ -35,14 +32,15 @@ fn tick_to<S: Living>(
     ensures kept { S.kept station.new ≡ S.kept station.old }
     ensures held { S.honest station.new → S.honest station.old }
     ensures ticks { S.honest station.new → Puts (λ sent. Begins S.life.ticks now (dialogue_of (S.state station.old) port.old progress.old) sent
-        (dialogue_of (S.state station.new) port.new progress.new)) kept.new.octets.items }
+        (dialogue_of (S.state station.new) port.new progress.new)) progress.new.kept.octets.items }
     ensures begun { progress.new.is_begun ≡ true }
+    ensures log { progress.new.log ≡ progress.old.log }
 {
-    kept.octets.clear();
-    match station.tick_into(&mut kept.confirmed, alloc, now) {
+    progress.kept.octets.clear();
+    match station.tick_into(&mut progress.kept.confirmed, alloc, now) {
         Ok(()) => {
-            let answer = &kept.confirmed;
-            put_fragments(port, &answer.actions.send, &mut kept.octets);
+            let answer = &progress.kept.confirmed;
+            put_fragments(port, &answer.actions.send, &mut progress.kept.octets);
             progress.asked.count(answer.taken, answer.outcome);
             progress.is_over = answer.actions.close;
         }
@@ -57,10 +55,8 @@ fn pass_time<S: Asker + Living, W: Write>(
     station: &mut S,
     port: &mut Port,
     now: u64,
-    kept: &mut StreamKept,
     out: &mut W,
     progress: &mut Progress<'_>,
-    log: &mut Log,
 ) -> Result<bool, ServeFault>
     requires { Listens S.asking.is_idle (S.state station.old) progress.old }
     ensures kept { S.kept station.new ≡ S.kept station.old }
@@ -69,14 +65,14 @@ fn pass_time<S: Asker + Living, W: Write>(
         (standing (Owing []) now) result (W.contents out.old) (W.contents out.new)
         (dialogue_of (S.state station.new) port.new progress.new) (standing Settled now) }
     ensures listens { result ≡ Ok false → Listens S.asking.is_idle (S.state station.new) progress.new }
-    ensures noted { AreNoted result log.old log.new }
+    ensures noted { AreNoted result progress.old.log progress.new.log }
 {
     match progress.asked.make_room() {
         Ok(()) => {}
         Err(_) => return Err(ServeFault::Memory),
     }
-    tick_to(alloc, station, port, now, kept, progress);
-    go_on(alloc, station, port, now, kept, out, progress, log)
+    tick_to(alloc, station, port, now, progress);
+    go_on(alloc, station, port, now, out, progress)
 }
 
 /// Hears what a read brought, which may be nothing, each frame at the moment that the clock shows then; then time has passed. Whether
@@ -88,10 +84,8 @@ pub(super) fn take_turn<S: Asker + Living, W: Write, C: Clock>(
     clock: &C,
     now: &mut u64,
     frames: &[Frame],
-    kept: &mut StreamKept,
     out: &mut W,
     progress: &mut Progress<'_>,
-    log: &mut Log,
 ) -> Result<bool, ServeFault>
     requires { Listens S.asking.is_idle (S.state station.old) progress.old }
     ensures kept { S.kept station.new ≡ S.kept station.old }
@@ -100,16 +94,16 @@ pub(super) fn take_turn<S: Asker + Living, W: Write, C: Clock>(
         (standing Settled now.old) result (W.contents out.old) (W.contents out.new)
         (dialogue_of (S.state station.new) port.new progress.new) (standing Settled now.new) }
     ensures listens { result ≡ Ok false → Listens S.asking.is_idle (S.state station.new) progress.new }
-    ensures noted { AreNoted result log.old log.new }
+    ensures noted { AreNoted result progress.old.log progress.new.log }
 {
     *now = moment(clock, *now);
     for frame in frames {
         *now = moment(clock, *now);
-        match hear_one(alloc, station, port, *now, frame, kept, out, progress, log) {
+        match hear_one(alloc, station, port, *now, frame, out, progress) {
             Ok(false) => {}
             Ok(true) => return Ok(true),
             Err(fault) => return Err(fault),
         }
     }
-    pass_time(alloc, station, port, *now, kept, out, progress, log)
+    pass_time(alloc, station, port, *now, out, progress)
 }

@@ -1,16 +1,16 @@
 //! A stream, served to its end.
 
 ghost use Rattle.std.specs.Prelude.{◌≡◌, [], false, MatchResult};
+ghost use Rattle.dnp_streams.specs.streams.Counts.{none_served};
 ghost use Rattle.dnp_streams.specs.streams.Logs.{new_log};
 ghost use Rattle.dnp_streams.specs.streams.Stations.{endpoint};
 ghost use Rattle.dnp_streams.specs.streams.Serving.{Serves, IsLeft, IsNoted};
 ghost use Rattle.dnp_streams.specs.steps.Hearing.{Greets, HearsSome, AreWritten, ArePartlyWritten};
 ghost use Rattle.dnp_streams.specs.steps.Living.{IsWriteNoted};
 
-use crate::stream::kept::StreamKept;
 use crate::stream::log::{Log, read_noted, write_noted};
-use crate::stream::outgoing::Outgoing;
 use crate::stream::served::Served;
+use crate::stream::serving::Serving;
 use crate::stream::station::Station;
 use crate::stream::step::{hear, open};
 use crate::writing::NotWritten;
@@ -48,28 +48,27 @@ impl From<NotWritten> for ServeFault {
     }
 }
 
-/// Opens the station, and writes what that brings. It stands apart with its room, which a stream needs once.
-#[inline(never)]
+/// Opens the station, and writes what that brings, in the room that is kept.
 fn greet<S: Station, W: Write>(
     alloc: Global,
     station: &mut S,
     port: &mut Port,
     now: u64,
     out: &mut W,
-    served: &mut Served,
-    log: &mut Log,
+    serving: &mut Serving,
 ) -> Result<(), NotWritten>
     ensures kept { S.kept station.new ≡ S.kept station.old }
     ensures held { S.honest station.new → S.honest station.old }
     ensures greeted { S.honest station.new →
-        (greets : Greets S.opens now (endpoint (S.state station.old) port.old) (endpoint (S.state station.new) port.new) served.old served.new)
+        (greets : Greets S.opens now (endpoint (S.state station.old) port.old) (endpoint (S.state station.new) port.new) serving.old.served serving.new.served)
         × MatchResult result (λ _. AreWritten (W.contents out.old) (W.contents out.new) greets.output.frames)
         (λ _. ArePartlyWritten (W.contents out.old) (W.contents out.new) greets.output.frames) }
-    ensures noted { IsWriteNoted result log.old log.new }
+    ensures noted { IsWriteNoted result serving.old.log serving.new.log }
 {
-    let mut octets = Outgoing::new();
-    served.add(open(alloc, station, port, now, &mut octets));
-    write_noted(&octets, out, log)
+    serving
+        .served
+        .add(open(alloc, station, port, now, &mut serving.kept.octets));
+    write_noted(&serving.kept.octets, out, &mut serving.log)
 }
 
 /// Hears frames, up to one that closes the connection, and writes what each of them brings, in the room that is kept.
@@ -79,27 +78,28 @@ fn hear_all<S: Station, W: Write>(
     port: &mut Port,
     now: u64,
     frames: &[Frame],
-    kept: &mut StreamKept,
     out: &mut W,
-    served: &mut Served,
-    log: &mut Log,
+    serving: &mut Serving,
 ) -> Result<(), NotWritten>
-    requires { served.old.closed ≡ false }
+    requires { serving.old.served.closed ≡ false }
     ensures kept { S.kept station.new ≡ S.kept station.old }
     ensures held { S.honest station.new → S.honest station.old }
     ensures heard { S.honest station.new →
-        (some : HearsSome S.receives now (endpoint (S.state station.old) port.old) frames.now (endpoint (S.state station.new) port.new) served.old served.new)
-        × MatchResult result (λ _. AreWritten (W.contents out.old) (W.contents out.new) some.output.frames × (served.new.closed ≡ false → some.unheard ≡ []))
+        (some : HearsSome S.receives now (endpoint (S.state station.old) port.old) frames.now (endpoint (S.state station.new) port.new) serving.old.served serving.new.served)
+        × MatchResult result (λ _. AreWritten (W.contents out.old) (W.contents out.new) some.output.frames × (serving.new.served.closed ≡ false → some.unheard ≡ []))
         (λ _. ArePartlyWritten (W.contents out.old) (W.contents out.new) some.output.frames) }
-    ensures noted { IsWriteNoted result log.old log.new }
+    ensures noted { IsWriteNoted result serving.old.log serving.new.log }
 {
+    serving.served.count_nothing();
     for frame in frames {
-        served.add(hear(alloc, station, port, now, frame, kept));
-        match write_noted(&kept.octets, out, log) {
+        serving
+            .served
+            .add(hear(alloc, station, port, now, frame, &mut serving.kept));
+        match write_noted(&serving.kept.octets, out, &mut serving.log) {
             Ok(()) => {}
             Err(fault) => return Err(fault),
         }
-        if served.closed {
+        if serving.served.closed {
             return Ok(());
         }
     }
@@ -112,57 +112,46 @@ fn serve<S: Station, R: Read, W: Write>(
     station: &mut S,
     port: &mut Port,
     now: u64,
-    kept: &mut StreamKept,
     reader: &mut R,
     out: &mut W,
     turns: u64,
-    log: &mut Log,
+    serving: &mut Serving,
 ) -> Result<Served, ServeFault>
-    requires { log.old ≡ new_log }
+    requires none { serving.old.served ≡ none_served }
+    requires log { serving.old.log ≡ new_log }
     ensures kept { S.kept station.new ≡ S.kept station.old }
     ensures held { S.honest station.new → S.honest station.old }
     ensures serves { S.honest station.new → Serves S.opens S.receives now turns (endpoint (S.state station.old) port.old)
         (R.remaining reader.old) (R.remaining reader.new)
         (W.contents out.old) (W.contents out.new) result (endpoint (S.state station.new) port.new) }
-    ensures noted { IsNoted turns result log.new }
+    ensures noted { IsNoted turns result serving.new.log }
 {
-    let mut served = Served::of(0, 0, false);
-    greet(alloc, station, port, now, out, &mut served, log)?;
-    if served.closed {
-        return Ok(served);
+    greet(alloc, station, port, now, out, serving)?;
+    if serving.served.closed {
+        return Ok(serving.served);
     }
     let mut stream = FrameReader::new();
     let mut frames = Vec::new(alloc);
     let mut piece = [0; MAX_UNIT];
     for _ in 0..turns {
-        let count = match read_noted(reader, &mut piece, log) {
+        let count = match read_noted(reader, &mut piece, &mut serving.log) {
             Ok(count) => count,
             Err(_) => return Err(ServeFault::ReadFailed),
         };
         if count == 0 {
-            return Ok(served);
+            return Ok(serving.served);
         }
         frames.clear();
         match stream.feed(&piece[..count], &mut frames) {
             Ok(()) => {}
             Err(_) => return Err(ServeFault::Memory),
         }
-        match hear_all(
-            alloc,
-            station,
-            port,
-            now,
-            &frames,
-            kept,
-            out,
-            &mut served,
-            log,
-        ) {
+        match hear_all(alloc, station, port, now, &frames, out, serving) {
             Ok(()) => {}
             Err(_) => return Err(ServeFault::WriteFailed),
         }
-        if served.closed {
-            return Ok(served);
+        if serving.served.closed {
+            return Ok(serving.served);
         }
     }
     Err(ServeFault::TurnsSpent)
@@ -188,10 +177,18 @@ pub fn serve_noted<S: Station, R: Read, W: Write>(
         (W.contents out.old) (W.contents out.new) result (endpoint ended port.new) }
     ensures noted { IsNoted turns result log.new }
 {
-    let mut kept = StreamKept::new(alloc);
+    let mut serving = Serving::new(alloc, *log);
     let result = serve(
-        alloc, station, port, now, &mut kept, reader, out, turns, log,
+        alloc,
+        station,
+        port,
+        now,
+        reader,
+        out,
+        turns,
+        &mut serving,
     );
+    *log = serving.log;
     if result.is_err() {
         station.hung_up();
     }

@@ -8,7 +8,7 @@ use Rattle.dnp_streams.proofs.stream.ask.ask_on.Given as goal
 abbrev pub invariant-loop : goal.invariant-loop
 invariant-loop g l =
     Listens g.S.Station.asking.is_idle (g.S.Station.state l.station) l.progress
-    × (l.log ≡ record { reads = l.counter; read_failed = false; write_failed = false })
+    × (l.progress.log ≡ record { reads = l.counter; read_failed = false; write_failed = false })
     × (g.S.Station.honest l.station → g.S.Station.honest l.fn.station)
     × (g.S.Station.honest l.station →
     GoesOn g.S.Station.opens g.S.Station.receives g.S.Station.asking l.now l.counter

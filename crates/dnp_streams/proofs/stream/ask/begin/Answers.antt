@@ -16,6 +16,6 @@ returns-clause-turns g c honest =
     let told = c.make_room.ensures in
     subst (λ (d : Dialogue S.State). Turns S.opens S.receives S.asking c.args.now d [] c.go_on.result (W.contents c.args.out.now) (W.contents c.go_on.new.out) new)
     (dialogue_is station station port port old.left.now old.left.now _ _ _ _ _ _ _ _ _ _ refl refl refl told.rows told.outcomes told.faults refl refl)
-    (turns_on S.opens S.receives S.asking c.args.now roomy _ new Beginning c.open_to.new.out.items c.go_on.result _ _ c.requires.goes_on
-    (begin_puts S.opens S.receives S.asking c.args.now roomy _ c.open_to.new.out.items c.requires.begun (c.open_to.ensures.begins (c.go_on.ensures.held honest)))
+    (turns_on S.opens S.receives S.asking c.args.now roomy _ new Beginning c.open_to.new.progress.kept.octets.items c.go_on.result _ _ c.requires.goes_on
+    (begin_puts S.opens S.receives S.asking c.args.now roomy _ c.open_to.new.progress.kept.octets.items c.requires.begun (c.open_to.ensures.begins (c.go_on.ensures.held honest)))
     (c.go_on.ensures.turns honest))

@@ -45,13 +45,13 @@ returns-in-Err-write_noted-clause-turns g c honest =
     let puts = go_puts S.opens S.receives S.asking c.args.now _ _ _ c.loop.invariant.0 idle (c.go_to.ensures.goes honest c.if-progress.false) in
     let (part, rest, split, appended) = c.in-Err-write_noted.ensures.part in
     Whole between written (turns_then _ _ _ _ _ _ _ [] [] [] _ _ _ _ turns
-    (turns_cut S.opens S.receives S.asking c.args.now _ _ Going c.go_to.new.kept.octets.items c.deref-in-loop.result.now part rest _ _ c.if-progress.false puts
+    (turns_cut S.opens S.receives S.asking c.args.now _ _ Going c.go_to.new.progress.kept.octets.items c.deref-in-loop.result.now part rest _ _ c.if-progress.false puts
     c.deref-in-loop.ensures.0 split appended) refl)
 
 pub loop-preserved : goal.loop-preserved
 loop-preserved g c = (
   c.go_to.ensures.begun ∙ c.loop.invariant.0,
-  c.in-Ok-write_noted.ensures.noted ∙ c.loop.invariant.1,
+  c.in-Ok-write_noted.ensures.noted ∙ c.go_to.ensures.log ∙ c.loop.invariant.1,
   λ honest. c.loop.invariant.2 (c.go_to.ensures.held honest),
   λ honest.
       let S = g.S.Station in
@@ -61,7 +61,7 @@ loop-preserved g c = (
         between,
         written,
         turns_then _ _ _ _ _ _ _ [] [] [] _ _ _ _ turns
-            (turns_one S.opens S.receives S.asking c.args.now _ _ Going c.go_to.new.kept.octets.items c.deref-in-loop.result.now _ _ c.if-progress.false puts
+            (turns_one S.opens S.receives S.asking c.args.now _ _ Going c.go_to.new.progress.kept.octets.items c.deref-in-loop.result.now _ _ c.if-progress.false puts
             c.deref-in-loop.ensures.0 c.in-Ok-write_noted.ensures.whole) refl,
         omega (arith, many, length-append turns.steps (Going ∷ [])),
       ),

@@ -14,7 +14,7 @@ returns-clause-talks g c honest =
     let W = g.W.Write in
     let ended = S.state c.ask_on-ended.new.station in
     let Told : List Task → Result Asked ServeFault → Type 0 = λ tasks told.
-    TalksLive S.opens S.receives S.asking S.life c.ask_on-ended.new.log.reads (endpoint (S.state c.args.station.now) c.args.port.now) tasks c.args.now.now c.ask_on-ended.new.now
+    TalksLive S.opens S.receives S.asking S.life c.ask_on-ended.new.progress.log.reads (endpoint (S.state c.args.station.now) c.args.port.now) tasks c.args.now.now c.ask_on-ended.new.now
     (R.remaining c.args.reader.now) (R.remaining c.ask_on-ended.new.reader) (W.contents c.args.out.now) (W.contents c.ask_on-ended.new.out) told (endpoint ended c.ask_on-ended.new.port) in (
       ended,
       c.leave.ensures.left honest,

@@ -11,8 +11,8 @@ pub returns-in-Ok-true-clause-talks : goal.returns-in-Ok-true-clause-talks
 returns-in-Ok-true-clause-talks g c honest =
     let S = g.S.Station in
     let begun = rw c.in-Ok-true.field-0-test at (c.in-Ok-true.ensures.turns honest) in
-    let none : c.begin.new.log.reads ≡ 0 = ap (λ (l : Log). l.reads) c.in-Ok-true.ensures.noted ∙ ap (λ (l : Log). l.reads) c.requires.log in
-    live_stops S.opens S.receives S.asking S.life 0 c.begin.new.log.reads _ _ c.args.now.now c.moment.result _ _ c.begin.new.progress _ _ _ _ []
+    let none : c.begin.new.progress.log.reads ≡ 0 = ap (λ (l : Log). l.reads) c.in-Ok-true.ensures.noted ∙ ap (λ (l : Log). l.reads) c.requires.log in
+    live_stops S.opens S.receives S.asking S.life 0 c.begin.new.progress.log.reads _ _ c.args.now.now c.moment.result _ _ c.begin.new.progress _ _ _ _ []
     (has_begun S.opens S.receives S.asking S.life _ _ c.args.now.now c.moment.result (g.R.Read.remaining c.args.reader.now) _ _ [] _
     (from_unbegun S.opens S.receives S.asking S.life [] 0 _ _ c.args.progress.now _ _ _ _ _ _ c.requires.fresh
     (live_begins S.opens S.receives S.asking S.life c.args.now.now c.moment.result _ _ _ _ _ c.moment.ensures begun c.requires.fresh.begun (λ on. absurd (cc))))
@@ -22,8 +22,8 @@ pub returns-in-Err-clause-talks : goal.returns-in-Err-clause-talks
 returns-in-Err-clause-talks g c honest =
     let S = g.S.Station in
     let fault = c.in-Err.fault in
-    let few : c.begin.new.log.reads ≤ 0 + 1 = few_begun fault c.args.log.now c.begin.new.log c.requires.log c.in-Err.ensures.noted in
-    live_faults S.opens S.receives S.asking S.life 0 c.begin.new.log.reads _ _ c.args.now.now c.moment.result _ _ c.begin.new.progress _ _ _ _ [] fault
+    let few : c.begin.new.progress.log.reads ≤ 0 + 1 = few_begun fault c.args.progress.now.log c.begin.new.progress.log c.requires.log c.in-Err.ensures.noted in
+    live_faults S.opens S.receives S.asking S.life 0 c.begin.new.progress.log.reads _ _ c.args.now.now c.moment.result _ _ c.begin.new.progress _ _ _ _ [] fault
     (has_begun S.opens S.receives S.asking S.life _ _ c.args.now.now c.moment.result (g.R.Read.remaining c.args.reader.now) _ _ [] _
     (from_unbegun S.opens S.receives S.asking S.life [] 0 _ _ c.args.progress.now _ _ _ _ _ _ c.requires.fresh
     (live_begins S.opens S.receives S.asking S.life c.args.now.now c.moment.result _ _ _ _ _ c.moment.ensures (c.in-Err.ensures.turns honest) c.requires.fresh.begun
@@ -67,7 +67,7 @@ returns-in-Err-read_frames-clause-talks g c honest =
     let i = c.loop.invariant.3 honest in
     let fault = c.in-Err-read_frames.fault in
     let once : c.read_frames.new.log.reads ≡ c.loop.counter + 1 =
-    noted_once fault c.loop.log c.read_frames.new.log c.in-Err-read_frames.ensures.noted ∙ ap (λ (l : Log). l.reads + 1) c.loop.invariant.1 in
+    noted_once fault c.loop.progress.log c.read_frames.new.log c.in-Err-read_frames.ensures.noted ∙ ap (λ (l : Log). l.reads + 1) c.loop.invariant.1 in
     let few : c.read_frames.new.log.reads ≤ c.loop.counter + 1 = omega (arith, once) in
     live_unread S.opens S.receives S.asking S.life c.loop.counter c.read_frames.new.log.reads _ _ _ c.loop.now _ _ c.loop.progress _ _ _ _ _ c.loop.stream
     c.read_frames.new.stream c.read_frames.new.frames.items fault i c.loop.invariant.0 c.in-Err-read_frames.ensures.read few
@@ -81,10 +81,10 @@ returns-in-Ok-true-take_turn-clause-talks g c honest =
     let read =
     subst (λ (b : Bool). HasRead left left' c.loop.stream c.read_frames.new.stream c.read_frames.new.frames.items (Ok b)) c.in-Ok-true-read_frames.field-0-test
     c.in-Ok-true-read_frames.ensures.read in
-    let once : c.take_turn.new.log.reads ≡ c.loop.counter + 1 =
+    let once : c.take_turn.new.progress.log.reads ≡ c.loop.counter + 1 =
     ap (λ (l : Log). l.reads) c.in-Ok-true-take_turn.ensures.noted ∙ ap (λ (l : Log). l.reads) c.in-Ok-true-read_frames.ensures.noted
     ∙ ap (λ (l : Log). l.reads + 1) c.loop.invariant.1 in
-    live_stops S.opens S.receives S.asking S.life (c.loop.counter + 1) c.take_turn.new.log.reads _ _ _ c.take_turn.new.now _ _ c.take_turn.new.progress _ _ _ _ _
+    live_stops S.opens S.receives S.asking S.life (c.loop.counter + 1) c.take_turn.new.progress.log.reads _ _ _ c.take_turn.new.now _ _ c.take_turn.new.progress _ _ _ _ _
     (has_more S.opens S.receives S.asking S.life c.loop.counter _ _ _ _ c.loop.now c.take_turn.new.now _ _ _ _ _ _ _ _ c.read_frames.new.frames.items c.deref.result.now _
     i read c.deref.ensures.value (rw c.in-Ok-true-take_turn.field-0-test at (c.in-Ok-true-take_turn.ensures.turns honest)))
     (omega (arith, once))
@@ -99,10 +99,10 @@ returns-in-Err-take_turn-clause-talks g c honest =
     subst (λ (b : Bool). HasRead left left' c.loop.stream c.read_frames.new.stream c.read_frames.new.frames.items (Ok b)) c.in-Ok-true-read_frames.field-0-test
     c.in-Ok-true-read_frames.ensures.read in
     let fault = c.in-Err-take_turn.fault in
-    let once : c.take_turn.new.log.reads ≡ c.loop.counter + 1 =
-    reads_same fault c.read_frames.new.log c.take_turn.new.log c.in-Err-take_turn.ensures.noted ∙ ap (λ (l : Log). l.reads) c.in-Ok-true-read_frames.ensures.noted
+    let once : c.take_turn.new.progress.log.reads ≡ c.loop.counter + 1 =
+    reads_same fault c.read_frames.new.log c.take_turn.new.progress.log c.in-Err-take_turn.ensures.noted ∙ ap (λ (l : Log). l.reads) c.in-Ok-true-read_frames.ensures.noted
     ∙ ap (λ (l : Log). l.reads + 1) c.loop.invariant.1 in
-    live_faults S.opens S.receives S.asking S.life (c.loop.counter + 1) c.take_turn.new.log.reads _ _ _ c.take_turn.new.now _ _ c.take_turn.new.progress _ _ _ _ _ fault
+    live_faults S.opens S.receives S.asking S.life (c.loop.counter + 1) c.take_turn.new.progress.log.reads _ _ _ c.take_turn.new.now _ _ c.take_turn.new.progress _ _ _ _ _ fault
     (has_more S.opens S.receives S.asking S.life c.loop.counter _ _ _ _ c.loop.now c.take_turn.new.now _ _ _ _ _ _ _ _ c.read_frames.new.frames.items c.deref.result.now _
     i read c.deref.ensures.value (c.in-Err-take_turn.ensures.turns honest))
     (omega (arith, once))
@@ -129,6 +129,6 @@ loop-preserved g c =
 pub returns-clause-talks : goal.returns-clause-talks
 returns-clause-talks g c honest =
     let S = g.S.Station in
-    let once : c.loop.log.reads ≡ c.loop.counter = ap (λ (l : Log). l.reads) c.loop.invariant.1 in
-    live_spent S.opens S.receives S.asking S.life c.loop.counter c.loop.log.reads _ _ _ c.loop.now _ _ c.loop.progress _ _ _ _ _ (c.loop.invariant.3 honest) c.loop.invariant.0
+    let once : c.loop.progress.log.reads ≡ c.loop.counter = ap (λ (l : Log). l.reads) c.loop.invariant.1 in
+    live_spent S.opens S.receives S.asking S.life c.loop.counter c.loop.progress.log.reads _ _ _ c.loop.now _ _ c.loop.progress _ _ _ _ _ (c.loop.invariant.3 honest) c.loop.invariant.0
     (omega (arith, once))

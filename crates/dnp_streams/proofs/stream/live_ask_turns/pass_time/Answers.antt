@@ -28,5 +28,5 @@ returns-clause-turns g c honest =
     subst (λ (d : Dialogue S.State). LiveTurns S.opens S.receives S.asking S.life [] 0 d (standing (Owing []) c.args.now) c.go_on.result (W.contents c.args.out.now)
     (W.contents c.go_on.new.out) new (standing Settled c.args.now))
     (dialogue_is station station port port old.left.now old.left.now _ _ _ _ _ _ _ _ _ _ refl refl refl told.rows told.outcomes told.faults refl refl)
-    (live_on S.opens S.receives S.asking S.life c.args.now roomy _ new c.tick_to.new.kept.octets.items c.go_on.result _ _
+    (live_on S.opens S.receives S.asking S.life c.args.now roomy _ new c.tick_to.new.progress.kept.octets.items c.go_on.result _ _
     c.requires.begun c.requires.goes_on c.requires.busy (c.tick_to.ensures.ticks (c.go_on.ensures.held honest)) (c.go_on.ensures.turns honest))

@@ -7,7 +7,7 @@ use Rattle.dnp_streams.proofs.stream.live_ask_turns.take_turn.Given as goal
 abbrev pub invariant-loop-frame : goal.invariant-loop-frame
 invariant-loop-frame g l =
     Listens g.S.Station.asking.is_idle (g.S.Station.state l.station) l.progress
-    × (l.log ≡ l.fn.log)
+    × (l.progress.log ≡ l.fn.progress.log)
     × (g.S.Station.honest l.station → g.S.Station.honest l.fn.station)
     × (g.S.Station.honest l.station →
     LiveTurns g.S.Station.opens g.S.Station.receives g.S.Station.asking g.S.Station.life l.frames 1 (dialogue_of (g.S.Station.state l.fn.station) l.fn.port l.fn.progress)

@@ -4,6 +4,7 @@ use Rattle.std.proofs.lemmas.List.{take_all, take_more}
 use Rattle.std.specs.Io.KnownBytes.{Appends}
 use Rattle.dnp_linkframe.specs.declared.frame.Frame.{Frame}
 use Rattle.dnp_streams.proofs.streams.Hearing.{has_heard_none, has_heard_more, has_heard_part}
+use Rattle.dnp_streams.proofs.streams.Living.{open_as_before}
 use Rattle.dnp_streams.proofs.stream.serve.hear_all.Goals as goal
 
 next_is : (xs : List Frame) (n : ℕ) (x : Frame) → n < length xs → x ≡ get_or xs n x → take (n + 1) xs ≡ take n xs ++ x ∷ []
@@ -11,14 +12,15 @@ next_is xs n x low is = take_more xs n x low ∙ ap (λ (y : Frame). take n xs +
 
 pub loop-frame-init : goal.loop-frame-init
 loop-frame-init g c =
-    (c.requires, refl, λ honest. honest, λ honest. has_heard_none _ _ _ _ _ (search rules, search rules), refl)
+    let counted = c.count_nothing.ensures in
+    (open_as_before _ _ counted c.requires, refl, λ honest. honest, λ honest. has_heard_none _ _ _ _ _ _ counted, refl)
 
 pub loop-frame-preserved : goal.loop-frame-preserved
 loop-frame-preserved g c =
     let before = c.loop-frame.invariant in
     let n = c.loop-frame.frame-index in
     let xs = c.args.frames.now in (
-      c.if-served.false,
+      c.if-serving.false,
       c.in-Ok.ensures.noted ∙ before.1,
       λ honest. before.2 (c.hear.ensures.held honest),
       λ honest.
@@ -29,8 +31,8 @@ loop-frame-preserved g c =
       c.hear.ensures.kept ∙ before.4,
     )
 
-pub returns-then-served-clause-heard : goal.returns-then-served-clause-heard
-returns-then-served-clause-heard g c honest =
+pub returns-then-serving-clause-heard : goal.returns-then-serving-clause-heard
+returns-then-serving-clause-heard g c honest =
     let before = c.loop-frame.invariant in
     let n = c.loop-frame.frame-index in
     let xs = c.args.frames.now in
@@ -47,7 +49,7 @@ returns-then-served-clause-heard g c honest =
         hears = now.hears;
         counted = now.counted;
       },
-      (now.written, λ open_still. absurd (false≢true (sym open_still ∙ c.if-served.true))),
+      (now.written, λ open_still. absurd (false≢true (sym open_still ∙ c.if-serving.true))),
     )
 
 pub returns-in-Err-clause-heard : goal.returns-in-Err-clause-heard

@@ -12,21 +12,21 @@ pub returns-in_err-greet-clause-serves : goal.returns-in_err-greet-clause-serves
 returns-in_err-greet-clause-serves g c honest =
     let (greets, written) = c.in_err-greet.ensures.greeted honest in
     let p = err_from_is_err_and c.from_residual.result c.from_residual.ensures.1 in
-    rw (p.1, p.2) (failed_first _ _ _ _ _ _ _ _ _ _ (greets_first _ _ _ _ c.of-served.result _ c.of-served.ensures greets) written)
+    rw (p.1, p.2) (failed_first _ _ _ _ _ _ _ _ _ _ (greets_first _ _ _ _ c.args.serving.now.served _ c.requires.none greets) written)
 
-pub returns-then-served-clause-serves : goal.returns-then-served-clause-serves
-returns-then-served-clause-serves g c honest =
+pub returns-then-serving-clause-serves : goal.returns-then-serving-clause-serves
+returns-then-serving-clause-serves g c honest =
     let (greets, written) = c.in_ok-greet.ensures.greeted honest in
-    closed_first _ _ _ _ _ _ _ _ _ _ (greets_first _ _ _ _ c.of-served.result _ c.of-served.ensures greets) written c.if-served.true
+    closed_first _ _ _ _ _ _ _ _ _ _ (greets_first _ _ _ _ c.args.serving.now.served _ c.requires.none greets) written c.if-serving.true
 
 pub loop-init : goal.loop-init
 loop-init g c = (
-  c.if-served.false,
-  c.in_ok-greet.ensures.noted ∙ c.requires,
+  c.if-serving.false,
+  c.in_ok-greet.ensures.noted ∙ c.requires.log,
   c.greet.ensures.held,
   λ honest.
       let (greets, written) = c.in_ok-greet.ensures.greeted honest in
-      going_first _ _ _ _ _ _ _ _ c.new-stream.result _ (greets_first _ _ _ _ c.of-served.result _ c.of-served.ensures greets)
+      going_first _ _ _ _ _ _ _ _ c.new-stream.result _ (greets_first _ _ _ _ c.args.serving.now.served _ c.requires.none greets)
       written c.new-stream.ensures.gives,
   c.greet.ensures.kept,
 )
@@ -68,19 +68,19 @@ returns-in-Err-hear_all-clause-serves g c honest =
     let (some, written) = c.in-Err-hear_all.ensures.heard honest in
     going_write_fails _ _ _ _ _ _ _ _ _ _ _ _ _ _ _ c.feed.new.self piece frames _ _ i c.loop.invariant.0 c.in-Ok.ensures.octets.0 gives some written
 
-pub returns-then-served-2-clause-serves : goal.returns-then-served-2-clause-serves
-returns-then-served-2-clause-serves g c honest =
+pub returns-then-serving-2-clause-serves : goal.returns-then-serving-2-clause-serves
+returns-then-serving-2-clause-serves g c honest =
     let i = c.loop.invariant.3 (c.hear_all.ensures.held honest) in
     let piece = take c.in-Ok.count c.read_noted.new.piece in
     let frames = c.deref.result.now in
     let gives = c.in-Ok-feed.ensures.carried i.octets i.frames frames i.gives (given_to _ _ _ c.deref.ensures.value c.clear.ensures.items) in
     let (some, both) = c.in-Ok-hear_all.ensures.heard honest in
     going_closes _ _ _ _ _ _ _ _ _ _ _ _ _ _ _ c.feed.new.self piece frames _ _ i c.loop.invariant.0 c.in-Ok.ensures.octets.0
-    gives some both.0 c.if-served-2.true
+    gives some both.0 c.if-serving-2.true
 
 pub loop-preserved : goal.loop-preserved
 loop-preserved g c = (
-  c.if-served-2.false,
+  c.if-serving-2.false,
   c.in-Ok-hear_all.ensures.noted ∙ c.in-Ok.ensures.noted
       ∙ ap (λ (l : Log). record l { reads = l.reads + 1 }) c.loop.invariant.1,
   λ honest. c.loop.invariant.2 (c.hear_all.ensures.held honest),
@@ -94,7 +94,7 @@ loop-preserved g c = (
       let long : 0 < length piece = search rules in
       going_on _ _ _ c.loop.counter _ _ _ _ _ _ _ _ _ _ c.feed.new.self piece frames _ _ i c.loop.invariant.0 c.in-Ok.ensures.octets.0
       long gives some both.0
-      (both.1 c.if-served-2.false),
+      (both.1 c.if-serving-2.false),
   c.hear_all.ensures.kept ∙ c.loop.invariant.4,
 )
 
