@@ -235,16 +235,7 @@ pub fn ask_noted<S: Asker, R: Read, W: Write>(
     ensures noted { IsNoted turns result log.new }
 {
     let mut progress = Progress::new(alloc, tasks, *log);
-    let ended = ask_on(
-        alloc,
-        station,
-        port,
-        now,
-        reader,
-        out,
-        turns,
-        &mut progress,
-    );
+    let ended = ask_on(alloc, station, port, now, reader, out, turns, &mut progress);
     *log = progress.log;
     leave(station, ended, progress.asked)
 }

@@ -96,8 +96,16 @@ fn relay_to<S: Asker>(
     progress.kept.octets.clear();
     match station.relay_into(&mut progress.kept.request, alloc, now) {
         Ok(RelayedStep::Nothing) => progress.is_over = true,
-        Ok(RelayedStep::Selecting(_)) => put_request(port, &progress.kept.request, &mut progress.kept.octets),
-        Ok(RelayedStep::Sent(_)) => put_request(port, &progress.kept.request, &mut progress.kept.octets),
+        Ok(RelayedStep::Selecting(_)) => put_request(
+            port,
+            &progress.kept.request,
+            &mut progress.kept.octets,
+        ),
+        Ok(RelayedStep::Sent(_)) => put_request(
+            port,
+            &progress.kept.request,
+            &mut progress.kept.octets,
+        ),
         Ok(RelayedStep::Finished(_, _)) => {}
         Err(_) => {
             progress.asked.refuse();

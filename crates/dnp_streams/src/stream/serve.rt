@@ -178,16 +178,7 @@ pub fn serve_noted<S: Station, R: Read, W: Write>(
     ensures noted { IsNoted turns result log.new }
 {
     let mut serving = Serving::new(alloc, *log);
-    let result = serve(
-        alloc,
-        station,
-        port,
-        now,
-        reader,
-        out,
-        turns,
-        &mut serving,
-    );
+    let result = serve(alloc, station, port, now, reader, out, turns, &mut serving);
     *log = serving.log;
     if result.is_err() {
         station.hung_up();
