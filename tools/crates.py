@@ -8,6 +8,7 @@ TOP = Path(__file__).resolve().parents[1]
 CRATES = TOP / "crates"
 # Sources stand here as texts, as src/lib.rt.txt.
 BENCH = TOP / "bench/crates"
+COSTS = TOP / "tools/costs"
 # Where copies of crates are made: on the disk of their libraries, which are linked and not copied, and where no source is
 # looked for.
 ROOMS = CRATES / "dnp/out/side"
@@ -35,6 +36,12 @@ def below(crate, stands_on):
     for name in (it for it in stands_on[crate] if it in stands_on):
         found += [it for it in [*below(name, stands_on), name] if it not in found]
     return found
+
+
+def costs():
+    """The processor seconds that each crate's proof and builds take, by tools/costs."""
+    rows = [line.split() for line in COSTS.read_text(encoding="utf-8").splitlines() if line and not line.startswith("#")]
+    return {name: int(proof) + int(builds) for name, proof, builds, _ in rows}
 
 
 def side_by_side():

@@ -1,5 +1,6 @@
 //! `dnp centre`: one of the two centres of a plan over files, which polls the concentrator by TCP.
 
+use crate::build::note_start;
 use crate::numbers::{MAX_EVERY, number_given};
 use crate::options::{HINT, defaulted, flag, plan, required, subcommand, valued};
 use crate::plan_file::plan_given;
@@ -58,6 +59,10 @@ CONTROLS
   --issue: to give --issue again would issue it once more. One that was sent, and whose answer is
   not known, is not sent again. A status of 0 says that the concentrator took it; the substation
   gets it in the concentrator's next round.
+
+LOG
+  On standard error first which build this is, with the time in UTC, as '2026-11-26T03:12:40.000Z
+  started: dnp VERSION (proved, ..)'.
 
 OUTPUT
   On standard output 'rows R' for each poll whose connection could be had: R is how many events the
@@ -202,5 +207,6 @@ pub(crate) fn run(rt: &HostRuntime, given: &ArgMatches<'_>) -> anyhow::Result<Ex
         no_control(rt, text, "the plan has no such output");
         return Ok(ExitCode::from(exit::USAGE));
     }
+    note_start(rt);
     Ok(run_centre(rt, &words.run, plan))
 }

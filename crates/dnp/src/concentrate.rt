@@ -1,6 +1,7 @@
 //! `dnp concentrate`: a concentrator of a plan over files, which polls substations and serves one or two centres by TCP.
 
 use crate::addresses::{bind, bind_given};
+use crate::build::note_start;
 use crate::numbers::{MAX_EVERY, MAX_IDLE, number_given};
 use crate::options::{HINT, defaulted, flag, plan, required, subcommand, valued};
 use crate::plan_file::plan_given;
@@ -80,11 +81,12 @@ CONTROLS
   that centre, or its connection ends, or for the plan's select_ms.
 
 LOG
-  With --every a line on standard error for each connection of a centre that begins or ends, with
-  the time in UTC and the centre's address, as '2026-11-26T03:12:44.120Z 127.0.0.1:51234 centre 1
-  connected', and 'centre 1 ended, served N' with the cause: the master, which is the centre, or the
-  station closed it, it was idle, it was taken over by another, whose address is told, all rounds
-  are done, or it failed, and why. N is how many fragments came whole on it.
+  On standard error first which build this is, with the time in UTC, as '2026-11-26T03:12:40.000Z
+  started: dnp VERSION (proved, ..)'. Then, with --every, a line for each connection of a centre
+  that begins or ends, with the centre's address, as '2026-11-26T03:12:44.120Z 127.0.0.1:51234
+  centre 1 connected', and 'centre 1 ended, served N' with the cause: the master, which is the
+  centre, or the station closed it, it was idle, it was taken over by another, whose address is
+  told, all rounds are done, or it failed, and why. N is how many fragments came whole on it.
 
 OUTPUT
   On standard output a line for each round, 'round K rows R': K counts them from 1, and R is how
@@ -215,7 +217,10 @@ pub(crate) fn run(rt: &HostRuntime, given: &ArgMatches<'_>) -> anyhow::Result<Ex
         return Ok(ExitCode::from(exit::USAGE));
     };
     Ok(match plan_given(rt, words.plan) {
-        Ok(plan) if has_ports(rt, &words.run, &plan) => run_concentrator(rt, &words.run, &plan),
+        Ok(plan) if has_ports(rt, &words.run, &plan) => {
+            note_start(rt);
+            run_concentrator(rt, &words.run, &plan)
+        }
         Ok(_) => ExitCode::from(exit::USAGE),
         Err(status) => status,
     })

@@ -5,6 +5,7 @@
 
 mod addresses;
 mod answer;
+mod build;
 mod centre;
 mod concentrate;
 mod decode;
@@ -23,12 +24,14 @@ mod texts;
 mod watched;
 mod wire;
 
+use crate::build::print_version;
 use crate::options::HINT;
 use clap::error::ErrorKind;
 use clap::{ArgMatches, Command};
 use dnp_tcp::{exit, unwritten};
 use std::alloc::{AllocError, Global};
 use std::process::ExitCode;
+use std::rt::Files;
 use std::{env, io};
 
 /// What the program is, in a line.
@@ -41,8 +44,8 @@ Each subcommand has a help text of its own, such as 'dnp answer --help'.
 Exit status: 2 where the command line is wrong, and 3 where the program itself failed,
 as when it is out of memory. The others are each subcommand's own.";
 
-/// What `dnp --version` prints after the program's name.
-const VERSION: &str = "0.1.0";
+/// What `dnp --version` prints after the program's name. It stands here alone: scripts read it off this line.
+pub(crate) const VERSION: &str = "0.2.0";
 
 /// How many subcommands there are.
 const SUBCOMMANDS: u8 = 9;
@@ -138,10 +141,17 @@ fn dispatch(rt: &HostRuntime, matches: &ArgMatches<'_>) -> anyhow::Result<ExitCo
     }
 }
 
-/// Prints what `clap` has to say in place of matches: a help text on standard output, or what is wrong
+/// Prints what `clap` has to say in place of matches: a help text or the version on standard output, or what is wrong
 /// with the command line on standard error.
-fn refuse<R: Print + Eprint>(rt: &R, error: &clap::Error) -> anyhow::Result<ExitCode> {
-    if let Err(cause) = error.print(rt)
+fn refuse<R: AllocGlobal + Print + Eprint + Files>(
+    rt: &R,
+    error: &clap::Error,
+) -> anyhow::Result<ExitCode> {
+    let printed = match error.kind() {
+        ErrorKind::DisplayVersion => print_version(rt),
+        _ => error.print(rt),
+    };
+    if let Err(cause) = printed
         && !error.use_stderr()
     {
         return Ok(unwritten(rt, &cause));

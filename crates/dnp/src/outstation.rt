@@ -1,6 +1,7 @@
 //! `dnp outstation`: an outstation of a plan, for masters that connect by TCP.
 
 use crate::addresses::{bind, bind_given};
+use crate::build::note_start;
 use crate::numbers::{MAX_IDLE, number_given};
 use crate::options::{HINT, defaulted, flag, plan, required, subcommand, valued};
 use crate::plan_file::{plan_text, refused};
@@ -61,7 +62,8 @@ CONNECTIONS
   connection. It closes it at the first of these times where a READ waits for that confirm.
 
 LOG
-  On standard error a line for each connection that begins or ends, with the time in UTC and the
+  On standard error first which build this is, with the time in UTC, as '2026-11-26T03:12:40.000Z
+  started: dnp VERSION (proved, ..)'. Then a line for each connection that begins or ends, with the
   master's address, as '2026-11-26T03:12:44.120Z 127.0.0.1:51234 connected', and 'ended, served N'
   with the cause: the master or the station closed it, it was idle, it was taken over by another,
   whose address is told, or it failed, and why. With --verbose a line for each fragment that came
@@ -224,6 +226,7 @@ where
         idle: words.idle,
         is_said: words.is_said,
     };
+    note_start(rt);
     Ok(live_on_connections(rt, station, &listening, replay))
 }
 
