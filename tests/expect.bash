@@ -2,7 +2,7 @@
 # failed, what was expected and what came. The program runs in a folder of its own, outside the repository.
 set -u
 top=$(cd "$(dirname "${BASH_SOURCE[0]}")/.." && pwd)
-dnp=$top/dnp
+. "$top/tests/scale.bash"
 room=$(mktemp -d)
 trap 'rm -rf "$room"' EXIT
 cd "$room" || exit 1
@@ -40,6 +40,21 @@ says() {
     fi
     echo "FAILED $1"
     printf '    expected on standard error  %q\n    came                        %q\n' "$(cat want)" "$(head -c 500 err)"
+}
+
+# logs NAME STDERR: the same of a program that begins its log with which build it is.
+started="started: $("$dnp" --version)"
+logs() {
+    local first
+    first=$(head -n 1 err)
+    if [[ $first =~ ^[0-9]{4}-[0-9]{2}-[0-9]{2}T[0-9]{2}:[0-9]{2}:[0-9]{2}\.[0-9]{3}Z\ (.*)$ && ${BASH_REMATCH[1]} = "$started" ]]; then
+        tail -n +2 err >rest
+        mv rest err
+        says "$@"
+    else
+        echo "FAILED $1"
+        printf '    expected first on standard error  TIME %q\n    came                              %q\n' "$started" "$first"
+    fi
 }
 
 # Frames of tests, whose check words are made here, bit by bit.

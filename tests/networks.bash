@@ -1,6 +1,8 @@
 # What the tests of `dnp concentrate` and `dnp centre` share, beside expect.bash: plans, and substations to be polled.
 programs=$top/tests/programs
 lf=$'\n'
+# how long a plan's stations wait for an answer, in milliseconds
+response=$((1000 * slower))
 
 free() { python3 -c 'import socket; s = socket.socket(); s.bind(("127.0.0.1", 0)); print(s.getsockname()[1])'; }
 
@@ -9,7 +11,7 @@ free() { python3 -c 'import socket; s = socket.socket(); s.bind(("127.0.0.1", 0)
 plan() {
     local file=$1 analogs=$2 count=$3 pair number
     local lanes='[100, 100, 100, 100, 100, 100, 100, 100, 100]' ones='' zeros=''
-    local -A keys=([confirm_ms]=5000 [response_ms]=1000 [select_ms]=5000 [retries]=0 [unsolicited]=false [queue]=$lanes [queue2]=$lanes)
+    local -A keys=([confirm_ms]=5000 [response_ms]=$response [select_ms]=5000 [retries]=0 [unsolicited]=false [queue]=$lanes [queue2]=$lanes)
     shift 3
     for pair; do keys[${pair%%=*}]=${pair#*=}; done
     for ((number = 0; number < analogs; number++)); do ones+='1, ' zeros+='0, '; done
@@ -37,7 +39,7 @@ substation() {
 # listens PORT: waits until somebody listens there
 listens() {
     local try
-    for ((try = 0; try < 400; try++)); do
+    for ((try = 0; try < 400 * slower; try++)); do
         grep -qi ":$(printf '%04X' "$1") [0-9A-F]*:0000 0A" /proc/net/tcp && return
         sleep 0.02
     done
@@ -47,7 +49,7 @@ listens() {
 # connects PORT: waits until somebody has connected there
 connects() {
     local try
-    for ((try = 0; try < 400; try++)); do
+    for ((try = 0; try < 400 * slower; try++)); do
         grep -qi ":$(printf '%04X' "$1") [0-9A-F]*:[0-9A-F]* 01" /proc/net/tcp && return
         sleep 0.02
     done
@@ -70,7 +72,7 @@ concentrates() {
 # ended NAME STATUS STDOUT: holds what it printed against what was expected, once it has ended, in a minute at most
 ended() {
     local got=0 try
-    for ((try = 0; try < 600; try++)); do
+    for ((try = 0; try < 600 * slower; try++)); do
         kill -0 "$concentrating" 2>/dev/null || break
         sleep 0.1
     done

@@ -15,9 +15,9 @@ plan() {
     echo '[[substation]]' >>"$file"
     for pair in "${!own[@]}"; do echo "$pair = ${own[$pair]}"; done >>"$file"
 }
-# serve ARGS..: begins to serve station 0 of plan.toml, for two minutes at most
+# serve ARGS..: begins to serve station 0 of plan.toml, for two minutes at most, a checked one for four
 serve() {
-    timeout 120 "$dnp" outstation --plan plan.toml --station 0 --port "$port" "$@" >out 2>err </dev/null &
+    timeout $((120 * slower)) "$dnp" outstation --plan plan.toml --station 0 --port "$port" "$@" >out 2>err </dev/null &
     served=$!
 }
 # talks NAME: the master does what standard input says, and all comes out so
@@ -35,11 +35,12 @@ ended() {
     wait "$served" || got=$?
     judge "$1" 0 "$2" "$got"
 }
-# tells NAME LINE..: the log has these lines, each with TIME for its time and PEER for the address of a master
+# tells NAME LINE..: the log begins with the line of the start, and has these, each with TIME for its time and PEER for the
+# address of a master
 tells() {
     local name=$1
     shift
-    printf '%s\n' "$@" >want
+    printf '%s\n' "TIME $started" "$@" >want
     sed -E 's/^[0-9]{4}-[0-9]{2}-[0-9]{2}T[0-9]{2}:[0-9]{2}:[0-9]{2}\.[0-9]{3}Z /TIME /; s/127\.0\.0\.1:[0-9]+/PEER/g' err >log
     if cmp -s want log; then
         echo "ok $name"

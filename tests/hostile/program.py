@@ -1,16 +1,21 @@
 """Runs the programs of tests/hostile, and holds how they end against what is documented of all of them."""
 import os
+import re
 import subprocess
+import sys
 import tempfile
 import threading
 from pathlib import Path
 
 TOP = Path(__file__).resolve().parents[2]
-DNP = os.environ.get("DNP", str(TOP / "crates/dnp/out/dnp"))
-STORES = os.environ.get("STORES", str(TOP / "crates/dnp_store_files/out/dnp_store_files"))
+sys.path.insert(0, str(TOP / "tests"))
+from scale import DNP, STORES, scaled  # noqa: E402
+
 DONE, REFUSED, USAGE, FAULT = range(4)
+# the line with which outstation, concentrate and centre begin their log: which build the program is
+STARTED = re.compile(r"\d{4}-\d\d-\d\dT\d\d:\d\d:\d\d\.\d{3}Z started: dnp [\d.]+ \((?:proved.*|built without proof|build unknown)\)")
 # so many seconds for one run
-PATIENCE = 60
+PATIENCE = scaled(60, 180)
 
 
 class Broken(Exception):

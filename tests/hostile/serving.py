@@ -8,7 +8,7 @@ import threading
 import time
 
 import wire
-from program import DNP, DONE, PATIENCE, Broken
+from program import DNP, DONE, PATIENCE, STARTED, Broken
 
 SIZE = 20_000
 CONNECTIONS = 4
@@ -194,7 +194,7 @@ def outstation(r, size, room, bounded):
     lines = (room / "out").read_text(encoding="ascii").split("\n")
     told = (room / "err").read_text(encoding="utf-8").split("\n")
     log = [" connected", ": the master closed the connection"] * (2 * CONNECTIONS) + [""]
-    if (len(lines) != 2 * CONNECTIONS + 1 or any(not line.startswith("served ") for line in lines[:-1]) or len(told) != len(log)
-            or any(not line.endswith(end) for line, end in zip(told, log))):
+    if (len(lines) != 2 * CONNECTIONS + 1 or any(not line.startswith("served ") for line in lines[:-1]) or not STARTED.fullmatch(told[0])
+            or len(told) != 1 + len(log) or any(not line.endswith(end) for line, end in zip(told[1:], log))):
         raise Broken(f"it printed {lines}, and said {(room / 'err').read_bytes()[-200:]!r}", **given)
     return size

@@ -9,7 +9,7 @@ import sqlite3
 import tempfile
 from pathlib import Path
 
-from program import DNP, DONE, FAULT, REFUSED, STORES, TOP, Broken, Run
+from program import DNP, DONE, FAULT, REFUSED, STARTED, STORES, TOP, Broken, Run
 
 SIZE = 30
 PAGE = 1024
@@ -123,8 +123,11 @@ def read_beside(room, name, octets, place, wanted):
 
 
 def is_documented(run, name):
-    """Whether the centre ended as it may, having named the file that it refused, or found nobody."""
-    said = [line for line in run.err.split("\n")[:-1] if line != f"dnp: {name}.db: {OTHERS}"]
+    """Whether the centre said which build it is, and ended as it may, having named the file that it refused, or found nobody."""
+    begun, *said = run.err.split("\n")[:-1] or [""]
+    if not STARTED.fullmatch(begun):
+        return False
+    said = [line for line in said if line != f"dnp: {name}.db: {OTHERS}"]
     if run.status == FAULT and len(said) == 1 and said[0].endswith("Connection refused (os error 111)"):
         return True
     wanted = next((words for status, words in SAID if status == run.status), "")

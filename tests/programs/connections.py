@@ -12,6 +12,7 @@ import threading
 import time
 from pathlib import Path
 
+from network import kilobytes
 from operates import MASTER, OUTPUTS, OUTSTATION, Station, frame, judge, tried, whole
 
 sys.path.insert(0, str(Path(__file__).resolve().parents[1] / "hostile"))
@@ -19,7 +20,7 @@ sys.dont_write_bytecode = True
 import serving  # noqa: E402
 
 # how far the resident memory may grow, in kilobytes, and after how many connections at most it is looked at first
-KILOBYTES, FIRST = 1024, 1000
+KILOBYTES, FIRST = kilobytes(1024), 1000
 SLAB, CONNECTIONS = 100_000, 10
 STATUS, IS_STATUS = frame(0xC9, OUTSTATION, MASTER, b""), frame(0x0B, MASTER, OUTSTATION, b"")
 # a READ of all binary outputs, which are off until somebody operates them

@@ -3,6 +3,7 @@
 of which is silent, sends half a frame, reads nothing, or does not confirm: rounds go on, each centre is served by itself, and what
 the one doesn't take stands in the queue. And `dnp centre --every`, whose concentrator comes late. Prints a line 'ok CASE' or
 'FAILED CASE' for each case."""
+import re
 import socket
 import sqlite3
 import subprocess
@@ -13,13 +14,18 @@ from pathlib import Path
 
 from network import DNP, HERE, free_port, is_listening
 from operates import frame
+from scale import scaled
 
-CONCENTRATOR, SECOND, POINTS, SILENCE = 9, 3, 40, 4
+CONCENTRATOR, SECOND, POINTS = 9, 3, 40
+# a checked program takes so often as long: how long is waited for what is to come, and who is silent is hung up, in seconds; and
+# how long the concentrator waits for an answer, in milliseconds
+SLOWER = scaled(1, 3)
+PATIENCE, SILENCE, RESPONSE = 5.0 * SLOWER, 4 * SLOWER, 800 * SLOWER
 # how long a program may take to begin, in seconds: one that checks each access makes its stores slowly
 BEGIN = 60
 LANES = "[" + ", ".join(["4096"] * 9) + "]"
 PLAN = """confirm_ms = {confirm_ms}
-response_ms = 800
+response_ms = {response_ms}
 select_ms = 5000
 retries = 1
 unsolicited = {unsolicited}
@@ -40,6 +46,8 @@ base = [0, 0, {first}, {number}, 0]
 REPLAY = "".join(f"{500 * k} change analog 0 {k} 01 now\n" for k in range(1, 6))
 # a READ of class 0, which is answered with all points, and the beginning of it
 READ = frame(0xC4, CONCENTRATOR, SECOND, bytes([0xC0, 0xC0, 1, 60, 1, 6]))
+# The line with which a program begins its log: which build it is.
+STARTED = re.compile(r"\d{4}-\d\d-\d\dT\d\d:\d\d:\d\d\.\d{3}Z started: dnp [\d.]+ \((?:proved.*|built without proof|build unknown)\)\n")
 QUIET = {"stdin": subprocess.DEVNULL, "stdout": subprocess.DEVNULL, "stderr": subprocess.DEVNULL}
 
 
@@ -49,7 +57,7 @@ def judge(name, *faults):
     return not faults
 
 
-def awaited(what, seconds=5.0):
+def awaited(what, seconds=PATIENCE):
     """Whether something comes to be so in time."""
     end = time.monotonic() + seconds
     while time.monotonic() < end:
@@ -66,7 +74,7 @@ class Living:
         self.room = Path(room)
         texts = [SUBSTATION.format(lanes=LANES, classes=[1] * POINTS, deadbands=[0] * POINTS, first=100 * number, number=number)
                  for number in range(2)]
-        head = PLAN.format(unsolicited=unsolicited, confirm_ms=confirm_ms, lanes=LANES)
+        head = PLAN.format(unsolicited=unsolicited, confirm_ms=confirm_ms, response_ms=RESPONSE, lanes=LANES)
         (self.room / "plan.toml").write_text(head + "".join(texts), encoding="ascii")
         (self.room / "replay").write_text(REPLAY, encoding="ascii")
         self.ports = [free_port(), free_port()]
@@ -116,7 +124,7 @@ class Living:
     def rounds(self):
         return self.text("rounds").count("\n")
 
-    def says(self, text, seconds=5.0):
+    def says(self, text, seconds=PATIENCE):
         """Nothing, or that it isn't said in the log."""
         return "" if awaited(lambda: text in self.text("said"), seconds) else f"not said: {text}; {self.text('said')!r}"
 
@@ -135,7 +143,8 @@ def polled(program, polls):
     """What a centre came to: how many rows, and nothing or what was wrong. Each poll brought a line."""
     out, err = (octets.decode() for octets in program.communicate(timeout=60))
     rows = [int(line.split()[1]) for line in out.splitlines()]
-    wrong = "" if (program.returncode, err, len(rows)) == (0, "", polls) else f"status {program.returncode}, {rows}, {err!r}"
+    good = program.returncode == 0 and len(rows) == polls and STARTED.fullmatch(err)
+    wrong = "" if good else f"status {program.returncode}, {rows}, {err!r}"
     return sum(rows), wrong
 
 
@@ -199,7 +208,7 @@ def unread_centre(living):
             asked += unread.send(READ * 50)
         except BlockingIOError:
             time.sleep(0.01)
-    wrong = living.goes_on(4, 5)
+    wrong = living.goes_on(4, PATIENCE)
     rows, fault = polled(living.centre("--every", "100", "--polls", "3"), 3)
     held = "" if awaited(lambda: living.text("said").count("idle,") == 2, SILENCE + 3) else "it was not hung up"
     unread.close()
@@ -212,10 +221,10 @@ def lost_substation(living, first):
     first.wait()
     wrong = living.says(f"dnp: substation 0: port {living.below}: Connection refused")
     before = count_of(living, 100)
-    rounds = living.goes_on(4, 5)
+    rounds = living.goes_on(4, PATIENCE)
     silent = living.substation(0, "silent")
-    late = living.says("dnp: substation 0: no answer in 800 ms")
-    slower = living.goes_on(3, 6)
+    late = living.says(f"dnp: substation 0: no answer in {RESPONSE} ms")
+    slower = living.goes_on(3, 6 * SLOWER)
     rows, fault = polled(living.centre("--every", "100", "--polls", "2"), 2)
     after = count_of(living, 100)
     silent.kill()
@@ -267,11 +276,11 @@ def unsolicited(room):
             octets += piece
         took = time.monotonic() - begun
         units = octets.count(b"\x05\x64")
-        good = judge("an-unsolicited-response-is-repeated-and-given-up", "" if units == 2 and 0.5 < took < 2 else f"{units} units in {took:.2f} s",
+        good = judge("an-unsolicited-response-is-repeated-and-given-up", "" if units == 2 and 0.5 < took < 2 * SLOWER else f"{units} units in {took:.2f} s",
                      living.says("centre 2 ended, served 0: the station closed the connection"))
         awaited(lambda: living.text("polls").count("rows ") >= 2)
         try:
-            concentrator.wait(timeout=10)
+            concentrator.wait(timeout=10 * SLOWER)
         except subprocess.TimeoutExpired:
             pass
         ended = "" if (concentrator.returncode, living.rounds()) == (0, 30) else f"status {concentrator.returncode}, {living.rounds()} rounds"
@@ -280,7 +289,8 @@ def unsolicited(room):
         late.terminate()
         late.wait()
         came, said = living.text("polls"), living.text("refused")
-        whole = on and late.returncode == -15 and came.count("rows ") >= 2 and said.startswith(line * 2)
+        begun = STARTED.match(said)
+        whole = on and late.returncode == -15 and came.count("rows ") >= 2 and begun and said[begun.end():].startswith(line * 2)
         return judge("a-centre-goes-on-where-polls-fail", "" if whole else f"status {late.returncode}, {came!r}, {said!r}") and good
     finally:
         living.end()

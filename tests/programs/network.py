@@ -13,7 +13,9 @@ import counting
 from counting import CENTRES, FILES
 
 HERE = Path(__file__).resolve().parent
-DNP = os.environ.get("DNP", str(HERE.parents[1] / "crates/dnp/out/dnp"))
+sys.path.insert(0, str(HERE.parent))
+from scale import DNP, kilobytes  # noqa: E402
+
 LANES = "[" + ", ".join(["4096"] * 9) + "]"
 PLAN = f"""confirm_ms = 5000
 response_ms = 10000

@@ -12,7 +12,7 @@ import tempfile
 import time
 from pathlib import Path
 
-from network import DNP, free_port, is_listening
+from network import DNP, free_port, is_listening, kilobytes
 
 OUTSTATION, MASTER = 10, 2
 OUTPUTS, SETPOINTS = 6, 3
@@ -37,7 +37,7 @@ base = [0, 0, 0, 0, 0]
 # so many requests are on their way at once; so many requests, and connections, come before the memory is looked at first
 ROUND, FIRST, FIRST_CONNECTIONS = 16, 512, 100
 # how far the resident memory may grow, in kilobytes: 100,000 commands would be 1,600
-KILOBYTES = 256
+KILOBYTES = kilobytes(256)
 LATCH_ON, LATCH_OFF = 3, 4
 
 

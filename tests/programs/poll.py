@@ -17,8 +17,10 @@ import threading
 import time
 from pathlib import Path
 
-HERE = Path(__file__).resolve().parent
-DNP = sys.argv[1] if len(sys.argv) > 1 else os.environ.get("DNP", str(HERE.parents[1] / "crates/dnp/out/dnp"))
+sys.path.insert(0, str(Path(__file__).resolve().parents[1]))
+import scale  # noqa: E402
+
+DNP = sys.argv[1] if len(sys.argv) > 1 else scale.DNP
 MASTER, OUTSTATION = 2, 10
 CON, UNS = 0x20, 0x10
 TIME = 1_795_575_601_000  # 2026-11-25T03:00:01.000Z

@@ -1,6 +1,6 @@
 #!/usr/bin/env python3
 """soak.py ROUNDS EVENTS: a concentrator over files polls so often, with so many new events each time, and two centres take them into
-their journals. In the last round the concentrator may need hardly more memory than in round 50, and its files may have grown by
+their journals. In the last round the concentrator may need hardly more memory than in round 50, or after an eighth of them, and its files may have grown by
 their logs alone, each of which is copied back at some 1,000 pages; no event may be lost or stand twice. A run of the centre
 reads the whole journal, so its peak may grow only with that: by OCTETS for each event."""
 import os
@@ -8,9 +8,9 @@ import shutil
 import sys
 import tempfile
 
-from network import Network
+from network import Network, kilobytes
 
-FIRST, KILOBYTES, LOGS, OCTETS = 50, 1024, 2 * 4300, 400
+FIRST, KILOBYTES, LOGS, OCTETS = 50, kilobytes(1024), 2 * 4300, 400
 FILES = ("queue.db", "queue.db-wal", "below.db", "below.db-wal")
 
 
@@ -33,6 +33,7 @@ def centre(network, new):
 
 def main():
     rounds, events = (int(word) for word in sys.argv[1:])
+    early = min(FIRST, rounds // 8)
     room = tempfile.mkdtemp(prefix="soak-")
     network = Network(room, events)
     faults, told = [], ""
@@ -44,7 +45,7 @@ def main():
             if (status, others) != (0, 0):
                 faults.append(f"round {number}: the centres ended with {status} and {others}")
                 break
-            if number == FIRST:
+            if number == early:
                 first, first_peak = size(network), peak
         if not faults:
             last = size(network)
@@ -53,7 +54,7 @@ def main():
                 faults.append(f"the concentrator's memory grew: {told}")
             if last[1] > first[1] + LOGS:
                 faults.append(f"the concentrator's files grew: {told}")
-            if peak > first_peak + KILOBYTES + (rounds - FIRST) * events * OCTETS // 1024:
+            if peak > first_peak + KILOBYTES + (rounds - early) * events * OCTETS // 1024:
                 faults.append(f"the centre's memory grew: {told}")
         network.end()
         more, counted = network.count()

@@ -145,22 +145,24 @@ expect takes-no-argument-that-is-no-text 2 '' "$asked$lf" answer --own $'\xff'
 expect takes-the-last-address 0 'no answer' "$asked$lf" answer --own 65519 --peer 65519
 
 # Help: what the program prints is what ./dnp prints where it is not built
-for words in '--help' 'answer --help' 'decode --help' 'outstation --help' 'help' 'help answer' 'help decode' 'help outstation' '--version'; do
+for words in '--help' 'answer --help' 'decode --help' 'outstation --help' 'help' 'help answer' 'help decode' 'help outstation'; do
     got=0
     "$dnp" $words >out 2>err </dev/null || got=$?
     case $words in
     *answer*) file=answer ;;
     *decode*) file=decode ;;
     *outstation*) file=outstation ;;
-    *version*) file=version ;;
     *) file=dnp ;;
     esac
     judge "helps:dnp $words" 0 "$(cat "$top/crates/dnp/help/$file")" "$got"
 done
-mkdir -p unbuilt/crates/dnp
-cp "$dnp" unbuilt/dnp
+mkdir -p unbuilt/crates/dnp/src
+cp "$top/dnp" unbuilt/dnp
+cp -r "$top/tools" unbuilt/tools
 cp -r "$top/crates/dnp/help" unbuilt/crates/dnp/help
-for words in --help:dnp -h:dnp help:dnp --version:version -V:version {answer,centre,concentrate,decode,loopback,outstation,poll,sim}' --help:' \
+cp "$top/crates/dnp/src/main.rt" unbuilt/crates/dnp/src
+cp "$top/crates.txt" unbuilt
+for words in --help:dnp -h:dnp help:dnp {answer,centre,concentrate,decode,loopback,outstation,poll,sim}' --help:' \
     {answer,centre,concentrate,decode,loopback,outstation,poll,sim}' -h:' 'help '{answer,centre,concentrate,decode,loopback,outstation,poll,sim}:; do
     case $words in
     *' '*) words=$words$(tr ' ' '\n' <<<"${words%:}" | grep -v -e help -e -h) ;;
@@ -169,6 +171,25 @@ for words in --help:dnp -h:dnp help:dnp --version:version -V:version {answer,cen
     PATH=/usr/bin:/bin unbuilt/dnp ${words%:*} >out 2>err </dev/null || got=$?
     judge "helps-without-a-build:dnp ${words%:*}" 0 "$(cat "$top/crates/dnp/help/${words#*:}")" "$got"
 done
+
+# The version, and which build it is, by what stands beside the program: without that it says nothing of it
+. "$top/tools/program.bash"
+for word in --version -V; do
+    expect "says-its-version-and-build:$word" 0 "dnp $(version) ($(said_of "$program"))" '' "$word"
+done
+cp "$program" alone
+got=0
+./alone --version >out 2>err </dev/null || got=$?
+judge says-its-version-where-nothing-is-beside-it 0 "dnp $(version)" "$got"
+printf 'proved, by a test\nand more\n' >alone.build
+./alone --version >out 2>err </dev/null || got=$?
+judge says-the-first-line-alone 0 "dnp $(version) (proved, by a test)" "$got"
+for said in '' '\n' 'a\tb\n' '\xff\n'; do
+    printf "$said" >alone.build
+    ./alone --version >out 2>err </dev/null || got=$?
+    judge "says-nothing-of:$said" 0 "dnp $(version)" "$got"
+done
+rm alone alone.build
 
 # Words that are refused: what ./dnp says of them where it is not built is what the program says
 for words in '' foo help\ foo -x answer\ extra 'answer --own=3 y' sim 'sim extra' loopback 'loopback extra' \

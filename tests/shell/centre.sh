@@ -36,36 +36,36 @@ For more information, try '--help'."
 done
 [ ! -e journal.db ] && [ ! -e above.db ] && echo ok makes-no-file-for-no-output || echo FAILED makes-no-file-for-no-output
 expect has-no-journal 3 '' '' centre --plan plan.toml $words
-says tells-that-it-has-no-journal 'dnp: journal.db: No such file or directory (os error 2)'
+logs tells-that-it-has-no-journal 'dnp: journal.db: No such file or directory (os error 2)'
 : >empty.db
 expect takes-no-empty-journal 1 '' '' centre --plan plan.toml --journal empty.db --controls above.db --port "$port"
-says tells-that-no-journal-was-made "dnp: empty.db: no journal was made there: remove the file, and let '--new' make one"
+logs tells-that-no-journal-was-made "dnp: empty.db: no journal was made there: remove the file, and let '--new' make one"
 echo 'no database, but longer than the head of one is, which has a hundred octets, and so a text of some length' >text.db
 expect takes-no-text-for-a-journal 1 '' '' centre --plan plan.toml --journal text.db --controls above.db --port "$port"
-says tells-that-a-text-is-no-journal 'dnp: text.db: no journal: file is not a database that obeys its schema'
+logs tells-that-a-text-is-no-journal 'dnp: text.db: no journal: file is not a database that obeys its schema'
 mkdir folder.db
 expect takes-no-folder 3 '' '' centre --plan plan.toml --journal folder.db --controls above.db --port "$port"
 expect takes-no-file-twice 3 '' '' centre --plan plan.toml --journal twice.db --controls twice.db --port "$port" --new
 
 # Nobody listens: a control stands in the book, and the next run sends it
 polls finds-nobody 3 '' --new --issue '0 set16 0 -7'
-says tells-that-nobody-is-there "dnp: issued as control 1
+logs tells-that-nobody-is-there "dnp: issued as control 1
 dnp: the concentrator: port $port: Connection refused (os error 111)
 dnp: control 1 is pending: the next run sends it, and to issue it again would double it"
 holds keeps-the-control above.db 'SELECT id, kind, point, value, state FROM control' '1|1|0|-7|0'
 polls makes-no-second-journal 1 '' --new
-says tells-of-a-journal-that-is-there "dnp: journal.db: a journal is there already, or tables of its names: leave '--new' away, or remove the file"
+logs tells-of-a-journal-that-is-there "dnp: journal.db: a journal is there already, or tables of its names: leave '--new' away, or remove the file"
 expect has-no-book 3 '' '' centre --plan plan.toml --journal journal.db --controls none.db --port "$port"
-says tells-that-it-has-no-book 'dnp: none.db: No such file or directory (os error 2)'
+logs tells-that-it-has-no-book 'dnp: none.db: No such file or directory (os error 2)'
 [ ! -e none.db ] && echo ok makes-no-book || echo FAILED makes-no-book
 expect takes-no-book-for-a-journal 1 '' '' centre --plan plan.toml --journal above.db --controls journal.db --port "$port"
-says tells-that-a-book-is-no-journal 'dnp: above.db: no journal, or not whole'
+logs tells-that-a-book-is-no-journal 'dnp: above.db: no journal, or not whole'
 sqlite3 above.db '.backup altered.db' && sqlite3 altered.db 'DROP TABLE form'
 expect takes-no-altered-book 1 '' '' centre --plan plan.toml --journal journal.db --controls altered.db --port "$port"
-says tells-that-a-book-is-altered 'dnp: altered.db: no book of controls, or not whole'
+logs tells-that-a-book-is-altered 'dnp: altered.db: no book of controls, or not whole'
 sqlite3 beside.db 'CREATE TABLE beside (x INTEGER)'
 expect works-beside-other-tables 3 '' '' centre --plan plan.toml --journal beside.db --controls next.db --port "$port" --new
-says tells-of-other-tables "dnp: beside.db: other tables stand there too: nothing is promised of what is stored beside them
+logs tells-of-other-tables "dnp: beside.db: other tables stand there too: nothing is promised of what is stored beside them
 dnp: the concentrator: port $port: Connection refused (os error 111)"
 
 substation 0 2
@@ -73,19 +73,19 @@ substation 1 none
 concentrates --new --rounds 5
 listens "$port"
 polls sends-what-is-pending 0 'rows 2'
-says says-nothing-of-a-good-run ''
+logs says-nothing-of-a-good-run ''
 polls issues-another 0 'rows 2' --issue '0 block 0 1 1 33 0'
-says tells-what-became-of-it 'dnp: issued as control 2
+logs tells-what-became-of-it 'dnp: issued as control 2
 dnp: control 2 was answered with status 0'
 polls issues-what-is-no-code 0 'rows 2' --issue '0 block 0 0 1 34 0'
-says tells-of-a-refusal 'dnp: issued as control 3
+logs tells-of-a-refusal 'dnp: issued as control 3
 dnp: control 3 was answered with status 4'
 polls polls-on 0 'rows 2'
 got=0
 "$dnp" centre --plan plan.toml $words >/dev/full 2>err </dev/null || got=$?
 : >out
 judge fails-without-an-output 3 '' "$got"
-says tells-that-its-output-is-full 'dnp: standard output: No space left on device (os error 28)'
+logs tells-that-its-output-is-full 'dnp: standard output: No space left on device (os error 28)'
 ended counts-rounds 0 'round 1 rows 2
 round 2 rows 2
 round 3 rows 2
@@ -94,7 +94,7 @@ round 5 rows 2'
 concentrates
 listens "$port"
 polls is-no-other-centre 3 'rows 0' --number 2
-says tells-that-another-centre-is-not-answered 'dnp: the concentrator: no answer in 3000 ms'
+logs tells-that-another-centre-is-not-answered "dnp: the concentrator: no answer in $((3 * response)) ms"
 ended answers-no-other-centre 0 'round 1 rows 2'
 grep operated log-0 >out
 judge operates-in-the-next-round 0 'operated -7
@@ -126,22 +126,22 @@ listens "$port"
 waiting=$!
 connects "$port"
 polls takes-no-file-in-use 3 ''
-says tells-that-a-file-is-in-use 'dnp: journal.db: in use by another program, or given for two stores'
+logs tells-that-a-file-is-in-use 'dnp: journal.db: in use by another program, or given for two stores'
 got=0
 wait "$waiting" || got=$?
 mv waited out
 mv said err
 judge waits-for-a-silent-one 3 'rows 0' "$got"
-says tells-of-silence 'dnp: the concentrator: no answer in 3000 ms'
+logs tells-of-silence "dnp: the concentrator: no answer in $((3 * response)) ms"
 took=$(<held)
-if ((took >= 2990 && took <= 4000)); then echo ok waits-for-each-in-turn; else echo "FAILED waits-for-each-in-turn: $took ms"; fi
+if ((took >= 3 * response - 10 && took <= 4 * response)); then echo ok waits-for-each-in-turn; else echo "FAILED waits-for-each-in-turn: $took ms"; fi
 polls fails-with-one-that-leaves 3 'rows 0'
 gone
 
 # A plan that has changed under what is stored
 plan plan.toml 0 2
 polls takes-no-row-that-is-not-planned 1 ''
-says names-the-row-that-is-not-planned 'dnp: journal.db: row 1, analog 0 1 01 -: the plan has no such point'
+logs names-the-row-that-is-not-planned 'dnp: journal.db: row 1, analog 0 1 01 -: the plan has no such point'
 sed -i 's/^setpoints = 1/setpoints = 0/; s/^analog = .*/analog = [1]/; s/^deadband = .*/deadband = [0]/' plan.toml
 polls takes-no-control-that-is-not-planned 1 ''
-says names-the-control-that-is-not-planned 'dnp: above.db: control 1, 0 set16 0 -7: the plan has no such output'
+logs names-the-control-that-is-not-planned 'dnp: above.db: control 1, 0 set16 0 -7: the plan has no such output'

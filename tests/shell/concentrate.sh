@@ -28,7 +28,7 @@ expect looks-at-ports-before-files 2 '' '' concentrate --plan plan.toml --queue 
 
 # Files: what is there, or isn't
 expect has-no-queue 3 '' '' concentrate --plan plan.toml $words
-says tells-that-it-has-no-queue 'dnp: queue.db: No such file or directory (os error 2)'
+logs tells-that-it-has-no-queue 'dnp: queue.db: No such file or directory (os error 2)'
 [ ! -e queue.db ] && [ ! -e below.db ] && echo ok makes-no-file || echo FAILED makes-no-file
 refused="--plan plan.toml --port $port --below $below"
 echo 'no database, but longer than the head of one is, which has a hundred octets, and so a text of some length' >text.db
@@ -36,16 +36,16 @@ echo 'no database, but longer than the head of one is, which has a hundred octet
 sqlite3 other.db 'CREATE TABLE form (number INTEGER NOT NULL); INSERT INTO form VALUES (1)'
 mkdir folder.db
 expect takes-no-text-for-a-queue 1 '' '' concentrate $refused --queue text.db --controls below.db
-says tells-that-a-text-is-no-queue 'dnp: text.db: no queue: file is not a database that obeys its schema'
+logs tells-that-a-text-is-no-queue 'dnp: text.db: no queue: file is not a database that obeys its schema'
 expect takes-no-empty-file 1 '' '' concentrate $refused --queue empty.db --controls below.db
-says tells-that-no-queue-was-made "dnp: empty.db: no queue was made there: remove the file, and let '--new' make one"
+logs tells-that-no-queue-was-made "dnp: empty.db: no queue was made there: remove the file, and let '--new' make one"
 expect takes-no-other-tables-for-a-queue 1 '' '' concentrate $refused --queue other.db --controls below.db
-says tells-that-other-tables-are-no-queue 'dnp: other.db: no queue, or not whole'
+logs tells-that-other-tables-are-no-queue 'dnp: other.db: no queue, or not whole'
 expect makes-no-queue-over-a-name-of-its-own 1 '' '' concentrate $refused --queue other.db --controls below.db --new
-says tells-what-is-there-already "dnp: other.db: a queue is there already, or tables of its names: leave '--new' away, or remove the file"
+logs tells-what-is-there-already "dnp: other.db: a queue is there already, or tables of its names: leave '--new' away, or remove the file"
 expect takes-no-folder 3 '' '' concentrate $refused --queue folder.db --controls below.db
 expect takes-no-file-twice 3 '' '' concentrate $refused --queue twice.db --controls twice.db --new
-says tells-that-a-file-is-given-twice 'dnp: twice.db: in use by another program, or given for two stores'
+logs tells-that-a-file-is-given-twice 'dnp: twice.db: in use by another program, or given for two stores'
 rm -f twice.db*
 
 # A round: the events of one substation, and none of one of ours
@@ -59,7 +59,7 @@ polls takes-a-control 0 'rows 3' --issue '1 block 0 3 1 250 0'
 ended prints-each-round 0 'round 1 rows 3
 round 2 rows 3
 round 3 rows 3'
-says says-nothing-of-good-rounds ''
+logs says-nothing-of-good-rounds ''
 holds has-let-the-confirmed-go queue.db 'SELECT count(*) FROM queue' 0
 holds keeps-them-for-the-second-centre queue.db 'SELECT group_concat(value) FROM queue_b' '1,2,3,4,5,6,7,8,9'
 holds has-the-control below.db 'SELECT target, point, code, on_ms, state FROM control' '1|0|3|250|0'
@@ -69,13 +69,13 @@ for store in queue below; do
 done
 expect makes-no-second-queue 1 '' '' concentrate $refused --queue queue.db --controls below.db --new
 expect takes-no-book-for-a-queue 1 '' '' concentrate $refused --queue below.db --controls queue.db
-says tells-that-a-book-is-no-queue 'dnp: below.db: no queue, or not whole'
+logs tells-that-a-book-is-no-queue 'dnp: below.db: no queue, or not whole'
 expect has-no-book 3 '' '' concentrate $refused --queue queue.db --controls none.db
-says tells-that-it-has-no-book 'dnp: none.db: No such file or directory (os error 2)'
+logs tells-that-it-has-no-book 'dnp: none.db: No such file or directory (os error 2)'
 [ ! -e none.db ] && echo ok makes-no-book || echo FAILED makes-no-book
 sqlite3 queue.db '.backup altered.db' && sqlite3 altered.db 'DROP TABLE lanes'
 expect takes-no-altered-queue 1 '' '' concentrate $refused --queue altered.db --controls below.db
-says tells-that-a-queue-is-altered 'dnp: altered.db: no queue, or not whole'
+logs tells-that-a-queue-is-altered 'dnp: altered.db: no queue, or not whole'
 
 # The next run sends the control, and goes on with what stands
 concentrates
@@ -109,7 +109,7 @@ both() {
     mv err2 err
     judge "serves-the-second-after:$1" 0 "rows $2" "$got"
     ended "serves-both-in-a-round:$1" 0 'round 1 rows 3'
-    says "says-nothing-of-both:$1" ''
+    logs "says-nothing-of-both:$1" ''
 }
 expect makes-the-second-centre 3 '' '' centre --plan plan.toml --number 2 --journal journal2.db --controls above2.db --port "$port2" --new
 both behind 18
@@ -122,13 +122,13 @@ holds has-the-same-events-in-the-second journal2.db 'SELECT group_concat(value) 
 concentrates
 listens "$port"
 expect takes-no-file-in-use 3 '' '' concentrate $refused --queue queue.db --controls below.db
-says tells-that-a-file-is-in-use 'dnp: queue.db: in use by another program, or given for two stores'
+logs tells-that-a-file-is-in-use 'dnp: queue.db: in use by another program, or given for two stores'
 expect takes-no-port-in-use 3 '' '' concentrate $refused --queue second.db --controls third.db --new
-says tells-that-a-port-is-in-use "dnp: port $port: Address already in use (os error 98)"
+logs tells-that-a-port-is-in-use "dnp: port $port: Address already in use (os error 98)"
 polls is-served-all-the-same 0 'rows 3'
 ended serves-all-the-same 0 'round 1 rows 3'
 expect takes-no-port-twice 3 '' '' concentrate $refused --port2 "$port" --queue fourth.db --controls fifth.db --new
-says tells-that-a-port-is-given-twice "dnp: port $port: Address already in use (os error 98)"
+logs tells-that-a-port-is-given-twice "dnp: port $port: Address already in use (os error 98)"
 
 # A plan that has changed under what is stored
 concentrates
@@ -142,17 +142,17 @@ for _ in {1..100}; do
     sleep 0.05
 done
 expect takes-no-row-that-is-not-planned 1 '' '' concentrate --plan changed.toml $words
-says names-the-row-that-is-not-planned 'dnp: queue.db: row 25, analog 0 25 01 -: the plan has no such point with a class'
+logs names-the-row-that-is-not-planned 'dnp: queue.db: row 25, analog 0 25 01 -: the plan has no such point with a class'
 plan changed.toml 1 1
 expect takes-no-control-that-is-not-planned 1 '' '' concentrate --plan changed.toml $words
-says names-the-control-that-is-not-planned 'dnp: below.db: control 1, 1 block 0 3 1 250 0: the plan has no such output'
+logs names-the-control-that-is-not-planned 'dnp: below.db: control 1, 1 block 0 3 1 250 0: the plan has no such output'
 
 # A round that can't be printed
 got=0
 "$dnp" concentrate --plan plan.toml $words >/dev/full 2>err </dev/null || got=$?
 : >out
 judge fails-without-an-output 3 '' "$got"
-says tells-that-its-output-is-full 'dnp: standard output: No space left on device (os error 28)'
+logs tells-that-its-output-is-full 'dnp: standard output: No space left on device (os error 28)'
 
 # Other tables beside the queue's: it works
 sqlite3 beside.db 'CREATE TABLE beside (x INTEGER)'
@@ -161,12 +161,12 @@ concentrating=$!
 listens "$port"
 polls polls-over-other-tables 0 'rows 3'
 ended works-beside-other-tables 0 'round 1 rows 3'
-says tells-of-other-tables 'dnp: beside.db: other tables stand there too: nothing is promised of what is stored beside them'
+logs tells-of-other-tables 'dnp: beside.db: other tables stand there too: nothing is promised of what is stored beside them'
 
 # A queue of an earlier release, for one centre, whose last row had the id 28
 grep -v '^INSERT INTO queue ' "$top/tests/files/old.sql" | sqlite3 old.db
 expect takes-no-old-queue 1 '' '' concentrate $refused --queue old.db --controls next.db
-says tells-that-a-queue-is-old "dnp: old.db: a queue of an earlier release, for one centre: let '--migrate' bring it to the form for two"
+logs tells-that-a-queue-is-old "dnp: old.db: a queue of an earlier release, for one centre: let '--migrate' bring it to the form for two"
 expect takes-no-migration-of-a-new-one 2 '' '' concentrate $refused --queue old.db --controls next.db --migrate --new
 holds leaves-an-old-queue old.db 'SELECT number FROM form' 1
 for said in 'dnp: old.db: the queue was for one centre, and has the form for two now' ''; do
@@ -175,7 +175,7 @@ for said in 'dnp: old.db: the queue was for one centre, and has the form for two
     listens "$port"
     polls "goes-on-from-an-old-queue:${said:+first}" 0 'rows 3'
     ended "works-after-a-migration:${said:+first}" 0 'round 1 rows 3'
-    says "tells-of-a-migration:${said:+first}" "$said"
+    logs "tells-of-a-migration:${said:+first}" "$said"
 done
 holds has-migrated old.db "SELECT number, seq FROM form, sqlite_sequence WHERE name = 'queue'" '2|34'
 holds keeps-its-places old.db 'SELECT sum(cap) FROM lanes' 36
@@ -216,7 +216,7 @@ fails() {
     ended=$(ms)
     polls "is-served-again-after-$1" 0 'rows 2'
     ended "goes-on-after-$1" 0 $'round 1 rows 2\nround 2 rows 2'
-    says "tells-of-$1" "dnp: substation 0: $5${lf}dnp: substation 0: $5"
+    logs "tells-of-$1" "dnp: substation 0: $5${lf}dnp: substation 0: $5"
     if ((ended - before >= $3 && ended - after <= $4)); then
         echo "ok waits-in-time-for-$1"
     else
@@ -224,7 +224,7 @@ fails() {
     fi
     gone
 }
-fails one-that-is-not-there none 0 1000 "port $below: Connection refused (os error 111)"
-fails a-silent-one silent 1000 2000 'no answer in 1000 ms'
-fails noise noise 1000 2000 'no answer in 1000 ms'
-fails rows-that-are-not-planned stranger 1000 2000 'no answer in 1000 ms'
+fails one-that-is-not-there none 0 "$response" "port $below: Connection refused (os error 111)"
+fails a-silent-one silent "$response" $((2 * response)) "no answer in $response ms"
+fails noise noise "$response" $((2 * response)) "no answer in $response ms"
+fails rows-that-are-not-planned stranger "$response" $((2 * response)) "no answer in $response ms"

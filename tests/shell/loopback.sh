@@ -45,6 +45,6 @@ expect tells-how-to-use-it 0 "$(<"$top/crates/dnp/help/loopback")" '' loopback -
 
 # With room for the listener and one end alone
 got=0
-printf '%s' "$fits" | (ulimit -n 5 && exec "$top/crates/dnp/out/dnp" loopback --plan "$plan") >out 2>err || got=$?
+printf '%s' "$fits" | (ulimit -n 5 && exec "$program" loopback --plan "$plan") >out 2>err || got=$?
 judge fails-with-no-connection 3 '' "$got"
 says says-that-there-is-no-connection 'dnp: the connection to this program itself: Too many open files (os error 24)'

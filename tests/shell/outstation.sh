@@ -157,7 +157,15 @@ mv out first
 got=0
 "$dnp" outstation --plan plan.toml --station 0 --port "$port" >out 2>err </dev/null || got=$?
 judge stops-where-the-port-is-in-use 3 '' "$got"
-says tells-that-the-port-is-in-use "dnp: port $port: Address already in use (os error 98)"
+logs tells-that-the-port-is-in-use "dnp: port $port: Address already in use (os error 98)"
+# (where nothing says which build a program is, it claims nothing)
+cp "$program" alone
+got=0
+./alone outstation --plan plan.toml --station 0 --port "$port" >out 2>err </dev/null || got=$?
+judge stops-where-nothing-is-beside-it 3 '' "$got"
+started="started: dnp $("$dnp" --version | cut -d ' ' -f 2) (build unknown)" \
+    logs tells-that-its-build-is-unknown "dnp: port $port: Address already in use (os error 98)"
+rm alone
 echo | talks serves-on-after-another-call
 mv first out
 ended serves-nothing-twice $'served 0\nserved 0'

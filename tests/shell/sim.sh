@@ -164,9 +164,12 @@ limited wants-a-limit 2 '' 0
 says says-what-a-limit-is "error: invalid value '0' for '--limit <OCTETS>': not a decimal number from 1 to 1099511627776
 
 For more information, try '--help'."
-got=0 && head -c 67108865 /dev/zero | "$dnp" sim --plan "$plan" >out 2>err || got=$?
-judge refuses-a-script-over-64-MB 3 '' "$got"
-says says-that-it-is-over-64-MB "dnp: standard input: over the 67108864 octets that '--limit' allows"
+# (over the checked program a limit that is given)
+limit=67108864 size=64-MB given=()
+[ -z "$quick" ] || limit=1048576 size=1-MB given=(--limit "$limit")
+got=0 && head -c $((limit + 1)) /dev/zero | "$dnp" sim --plan "$plan" "${given[@]}" >out 2>err || got=$?
+judge "refuses-a-script-over-$size" 3 '' "$got"
+says "says-that-it-is-over-$size" "dnp: standard input: over the $limit octets that '--limit' allows"
 
 # takes_under NAME OCTETS: at no moment has the run of the script 'script' more memory
 takes_under() {
@@ -178,13 +181,17 @@ P
     judge "$1" 0 True 0
 }
 
-# The text is held once: 60,000,000 octets of it take less than half as much again
-head -c 60000000 /dev/zero | tr '\0' x >script
-takes_under holds-a-script-once 90000000
+if [ -z "$quick" ]; then
+    # The text is held once: 60,000,000 octets of it take less than half as much again
+    head -c 60000000 /dev/zero | tr '\0' x >script
+    takes_under holds-a-script-once 90000000
 
-# No list of its lines is held: a million changes, a text of 30,000,000 octets, leave two lists of a million rows
-seq 1 1000000 | awk '{ print "change 0 binary 0 " $1 % 2 " 01 " $1 }' >script
-takes_under holds-no-list-of-lines 126000000
+    # No list of its lines is held: a million changes, a text of 30,000,000 octets, leave two lists of a million rows
+    seq 1 1000000 | awk '{ print "change 0 binary 0 " $1 % 2 " 01 " $1 }' >script
+    takes_under holds-no-list-of-lines 126000000
+else
+    left_out holds-a-script-once holds-no-list-of-lines
+fi
 
 # A reader that goes away is no fault that is told of
 seq 1 20000 | awk '{ print "change 0 binary 0 " $1 % 2 " 01 " $1 }' >script
@@ -246,8 +253,10 @@ got=0 && "$dnp" sim --plan "$plan" </dev/null >/dev/full 2>err || got=$?
 judge tells-that-the-output-is-lost 3 '' "$got"
 expect tells-how-to-use-it 0 "$(<"$top/crates/dnp/help/sim")" '' sim --help
 
-# A million lines: a point that goes on and off at each, into a lane of 100 rows, and no link that carries it away
-seq 1 1000000 | awk '{ print "change 0 binary 0 " $1 % 2 " 01 " $1 }' >script
+# Many lines: a point that goes on and off at each, into a lane of 100 rows, and no link that carries it away
+count=1000000 name=a-million-changes
+[ -z "$quick" ] || count=20000 name=20000-changes
+seq 1 "$count" | awk '{ print "change 0 binary 0 " $1 % 2 " 01 " $1 }' >script
 # rows FROM TO: what of them stands in the report
 rows() {
     echo "$3 $(($2 - $1 + 1))"
@@ -255,34 +264,39 @@ rows() {
 }
 {
     printf '%s 0\n' journal journal2 queue queue2 dropped dropped2 confirmed
-    rows 999901 1000000 buffered
-    rows 1 999900 overwritten
+    rows $((count - 99)) "$count" buffered
+    rows 1 $((count - 100)) overwritten
     printf '%s 0\n' gone issued operated lost lost2
 } >want
 got=0 && "$dnp" sim --plan "$plan" <script >out 2>err || got=$?
 if [ "$got" = 0 ] && cmp -s want out; then
-    echo "ok runs-a-million-changes"
+    echo "ok runs-$name"
 else
-    echo "FAILED runs-a-million-changes, with exit status $got: $(head -c 500 err)"
+    echo "FAILED runs-$name, with exit status $got: $(head -c 500 err)"
 fi
 # The same in less memory than it takes: of these limits one lets the script begin, and not end
-told=''
-for limit in 50000 60000 70000 80000 90000; do
-    got=0 && (ulimit -v $limit && exec "$top/crates/dnp/out/dnp" sim --plan "$plan") <script >out 2>err || got=$?
-    read -r word lines <out || true
-    [ "$got $word" = '3 stopped' ] && told="$(<err)" && break
-done
-if [ "$told" = "dnp: stopped after $lines lines of the script: out of memory" ]; then
-    echo "ok says-why-a-script-stopped"
-else
-    echo "FAILED says-why-a-script-stopped: $told"
-fi
+stopped() {
+    local limit got told='' word lines
+    for limit in 50000 60000 70000 80000 90000; do
+        got=0 && (ulimit -v $limit && exec "$program" sim --plan "$plan") <script >out 2>err || got=$?
+        read -r word lines <out || true
+        [ "$got $word" = '3 stopped' ] && told="$(<err)" && break
+    done
+    if [ "$told" = "dnp: stopped after $lines lines of the script: out of memory" ]; then
+        echo "ok says-why-a-script-stopped"
+    else
+        echo "FAILED says-why-a-script-stopped: $told"
+    fi
+}
+if [ -z "$quick" ]; then stopped; else left_out says-why-a-script-stopped; fi
 # Rounds, each of which is printed: fewer, since each is a poll with its response
-{ echo 'open 0' && yes 'round 0' | head -n 99999; } >script
-{ yes 'round 0 ok' | head -n 99999 && nothing; } >want
+count=99999 name=a-hundred-thousand-rounds
+[ -z "$quick" ] || count=1999 name=two-thousand-rounds
+{ echo 'open 0' && yes 'round 0' | head -n "$count"; } >script
+{ yes 'round 0 ok' | head -n "$count" && nothing; } >want
 got=0 && "$dnp" sim --plan "$plan" <script >out 2>err || got=$?
 if [ "$got" = 0 ] && cmp -s want out; then
-    echo "ok runs-a-hundred-thousand-rounds"
+    echo "ok runs-$name"
 else
-    echo "FAILED runs-a-hundred-thousand-rounds, with exit status $got: $(head -c 500 err)"
+    echo "FAILED runs-$name, with exit status $got: $(head -c 500 err)"
 fi

@@ -1,0 +1,15 @@
+# Which programs the tests run from the shell, as scale.py says it to those in Python: the proved ones, or the checked ones, where
+# `./test --quick` says so by DNP_QUICK=1. Of a checked program each access to memory is checked while it runs. It is slower
+# and takes more memory: so what is long is scaled, as a case says by its name, and what measures memory is left out.
+# dnp: what a call is made by; program: `dnp` by itself, where its process matters; stores_program: dnp_store_files
+quick=${DNP_QUICK:-}
+dnp=$top/dnp program=$top/crates/dnp/out/dnp stores_program=$top/crates/dnp_store_files/out/dnp_store_files
+# How often as long the times of plans are by which a program waits
+slower=1
+[ -z "$quick" ] || dnp=$top/out/checked/dnp program=$top/out/checked/dnp stores_program=$top/out/checked/dnp_store_files slower=2
+
+# left_out CASE..: says that these are left out
+left_out() {
+    local name
+    for name; do echo "left out: $name, over a program that checks each access to memory"; done
+}
