@@ -1,5 +1,6 @@
 # What the files of tests/shell share. Each case prints one line, 'ok NAME' or 'FAILED NAME', and where it
-# failed, what was expected and what came. The program runs in a folder of its own, outside the repository.
+# failed, what was expected and what came, of long texts the part where they differ. The program runs in a folder of its own,
+# outside the repository; with DNP=FILE it is another build of it.
 set -u
 top=$(cd "$(dirname "${BASH_SOURCE[0]}")/.." && pwd)
 . "$top/tests/scale.bash"
@@ -9,17 +10,37 @@ cd "$room" || exit 1
 # (built once here, and not by each case in turn)
 "$dnp" --help </dev/null >/dev/null || { echo "FAILED to-build-dnp" && exit 1; }
 
+# part FILE FROM: the octets of a file from a place on, 1 for its begin, at most so many that a reader sees what differs
+part() {
+    local size
+    size=$(wc -c <"$1")
+    printf '%q' "$(tail -c "+$2" "$1" | head -c 1000)"
+    [ "$size" -le 1000 ] || printf ' (from octet %s of %s)' "$2" "$size"
+}
+
+# differs FILE OTHER: a place shortly before the first octet in which they differ; 1 where none of them is long
+differs() {
+    local at=1
+    if [ "$(cat "$1" "$2" | wc -c)" -gt 2000 ]; then
+        at=$(cmp "$1" "$2" 2>&1 | sed -En 's/.* byte ([0-9]+),.*/\1/p')
+        at=$((${at:-1} > 200 ? at - 200 : 1))
+    fi
+    echo "$at"
+}
+
 # judge NAME STATUS STDOUT GOT: holds the exit status GOT and the file `out` against what was expected. A
 # STDOUT that is not empty stands without its last line feed.
 judge() {
+    local at
     printf '%s' "${3:+$3$'\n'}" >want
     if [ "$4" = "$2" ] && cmp -s want out; then
         echo "ok $1"
         return
     fi
+    at=$(differs want out)
     echo "FAILED $1"
-    printf '    expected  status %s, standard output %q\n' "$2" "$(cat want)"
-    printf '    came      status %s, standard output %q\n' "$4" "$(cat out)"
+    printf '    expected  status %s, standard output %s\n' "$2" "$(part want "$at")"
+    printf '    came      status %s, standard output %s\n' "$4" "$(part out "$at")"
     printf '    standard error: %s\n' "$(head -c 500 err)"
 }
 
@@ -39,7 +60,7 @@ says() {
         return
     fi
     echo "FAILED $1"
-    printf '    expected on standard error  %q\n    came                        %q\n' "$(cat want)" "$(head -c 500 err)"
+    printf '    expected on standard error  %s\n    came                        %s\n' "$(part want 1)" "$(part err 1)"
 }
 
 # logs NAME STDERR: the same of a program that begins its log with which build it is.

@@ -62,6 +62,8 @@ done
 expect takes-no-folder 3 '' '' rows --journal folder.db
 cp journal.db odd.db && sqlite3 odd.db "INSERT INTO journal VALUES (15,0,0,1,'x',NULL)"
 expect takes-no-word-for-a-value 1 '' '' rows --journal odd.db
+cp journal.db odd.db && sqlite3 odd.db 'PRAGMA ignore_check_constraints = ON; UPDATE journal SET time = 281474976710656 WHERE id = 4'
+expect takes-no-time-past-the-last 1 '' '' rows --journal odd.db
 head -c 6000 journal.db >cut.db
 expect takes-no-cut-file 1 '' '' rows --journal cut.db
 
@@ -102,6 +104,20 @@ DELETE FROM journal WHERE id BETWEEN 3000 AND 18000 AND id % 2 = 0; UPDATE journ
         expect "many-rows:pages-of-$size-after-$after" 0 "$(as_text many.db $after)" '' rows --journal many.db --after $after
     done
 done
+
+# All rows change while they are read: those that are printed are of one moment
+if command -v gcc >/dev/null; then
+    gcc -shared -fPIC -O1 -o tear.so "$top/tests/programs/tear.c" -ldl
+    sqlite3 torn.db 'PRAGMA page_size = 512' ".read $files/journal.sql"
+    sqlite3 torn.db "WITH RECURSIVE n(i) AS (SELECT 20 UNION ALL SELECT i + 1 FROM n WHERE i < 900) INSERT INTO journal SELECT i, i % 3, i, 1, i, i FROM n"
+    cp torn.db changed.db && sqlite3 changed.db 'UPDATE journal SET value = -value'
+    for at in 30 45 60; do
+        cp torn.db torn-$at.db
+        got=0
+        TEAR_AT=$at TEAR_BY="sqlite3 torn-$at.db 'UPDATE journal SET value = -value'" LD_PRELOAD=$PWD/tear.so "$dnp" rows --journal torn-$at.db >out 2>err </dev/null || got=$?
+        judge "reads-again-what-changed-before-read:$at" 0 "$(as_text changed.db 0)" "$got"
+    done
+fi
 
 # A file and its log that may not be written, or are read by one who may not
 chmod 444 many.db*; before=$(cat many.db* | cksum; ls | cksum)

@@ -1,8 +1,11 @@
 //! What the values of a stored row say.
 
-ghost use Rattle.std.specs.Prelude.{◌≡◌, ◌∷◌, ◌++◌, pos, IfSome, IsSome, option_map, None};
+ghost use Rattle.std.specs.Prelude.{◌≡◌, ◌<◌, ◌^◌, ◌∷◌, ◌++◌, ℕ, Option, pos, IfSome, IsSome, option_map, None};
 ghost use Rattle.dnp_rows.specs.Pages.{id_of};
-ghost use Rattle.dnp_rows.specs.Cells.{whole, point_cells, journal_cells, queue_cells, command_cells, state_cells};
+ghost use Rattle.dnp_objects.specs.declared.row.Row.{Row as RowValue};
+ghost use Rattle.dnp_objects.specs.declared.command.Command.{Command as CommandValue};
+ghost use Rattle.dnp_controls.specs.declared.book.State.{State as StateValue};
+ghost use Rattle.dnp_rows.specs.Cells.{IsCommand, IsRow, IsState, IsTime, whole, point_cells, journal_cells, queue_cells, command_cells, state_cells};
 
 use crate::item::{Event, Item, Queued, Store};
 use dnp_controls::{Entry, State};
@@ -13,28 +16,33 @@ pub(crate) type Cell = Option<i64>;
 
 /// The octet that a cell holds.
 fn octet(cell: Cell) -> Option<u8>
-    ensures { IfSome result (λ n. cell ≡ whole n) }
+    ensures value { IfSome result (λ n. cell ≡ whole n) }
+    ensures found { (n : ℕ) → n < 2 ^ 8 → cell ≡ whole n → result ≡ Some n }
 {
     u8::try_from(cell?).ok()
 }
 
 /// The number of 16 bits that a cell holds.
 fn short(cell: Cell) -> Option<u16>
-    ensures { IfSome result (λ n. cell ≡ whole n) }
+    ensures value { IfSome result (λ n. cell ≡ whole n) }
+    ensures found { (n : ℕ) → n < 2 ^ 16 → cell ≡ whole n → result ≡ Some n }
 {
     u16::try_from(cell?).ok()
 }
 
 /// The number of 32 bits that a cell holds.
 fn word(cell: Cell) -> Option<u32>
-    ensures { IfSome result (λ n. cell ≡ whole n) }
+    ensures value { IfSome result (λ n. cell ≡ whole n) }
+    ensures found { (n : ℕ) → n < 2 ^ 32 → cell ≡ whole n → result ≡ Some n }
 {
     u32::try_from(cell?).ok()
 }
 
 /// The time that a cell holds, or none where it is NULL.
 fn time(cell: Cell) -> Option<Option<u64>>
-    ensures { IfSome result (λ time. cell ≡ option_map (λ t. pos t) time) }
+    ensures value { IfSome result (λ time. cell ≡ option_map (λ t. pos t) time) }
+    ensures in_range { IfSome result IsTime }
+    ensures found { (time : Option ℕ) → IsTime time → cell ≡ option_map (λ t. pos t) time → result ≡ Some time }
 {
     let Some(time) = cell else {
         return Some(None);
@@ -60,7 +68,8 @@ fn six(cells: &[Cell]) -> Option<(Cell, [Cell; 4])>
 
 /// The row of a point of this kind that cells hold.
 fn point(kind: Kind, cells: &[Cell; 4]) -> Option<Row>
-    ensures { IfSome result (λ row. (row.kind ≡ kind) × (cells.now ≡ point_cells row)) }
+    ensures value { IfSome result (λ row. (row.kind ≡ kind) × (cells.now ≡ point_cells row)) }
+    ensures found { (row : RowValue) → row.kind ≡ kind → IsRow row → cells.now ≡ point_cells row → result ≡ Some row }
 {
     Some(Row {
         kind,
@@ -104,7 +113,8 @@ pub(crate) fn queued(id: u64, centre: u8, cells: &[Cell]) -> Option<Event>
 
 /// The command that cells hold.
 fn command(cells: &[Cell; 7]) -> Option<Command>
-    ensures { IfSome result (λ command. cells.now ≡ command_cells command) }
+    ensures value { IfSome result (λ command. cells.now ≡ command_cells command) }
+    ensures found { (command : CommandValue) → IsCommand command → cells.now ≡ command_cells command → result ≡ Some command }
 {
     let [kind, index, code, count, on, off, value] = *cells;
     let index = short(index)?;
@@ -131,7 +141,8 @@ fn command(cells: &[Cell; 7]) -> Option<Command>
 
 /// How far a control is, by the cells that say it.
 fn state(cells: [Cell; 2]) -> Option<State>
-    ensures { IfSome result (λ state. cells ≡ state_cells state) }
+    ensures value { IfSome result (λ state. cells ≡ state_cells state) }
+    ensures found { (state : StateValue) → IsState state → cells ≡ state_cells state → result ≡ Some state }
 {
     let status = Status::new(octet(cells[1])?)?;
     match cells[0] {

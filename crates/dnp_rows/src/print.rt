@@ -1,6 +1,6 @@
 //! Rows as they are printed, page by page.
 
-ghost use Rattle.std.specs.Prelude.{◌≡◌, List, ℕ, OnOk, IfOk, IfSome};
+ghost use Rattle.std.specs.Prelude.{◌≡◌, List, ℕ, OnOk, IfOk, IfErr, IfSome, IsSome};
 ghost use Rattle.std.specs.Io.KnownBytes.{Appends};
 ghost use Rattle.dnp_rows.specs.Lines.{AreLines};
 ghost use Rattle.dnp_rows.specs.Pages.{over, last_id, AreRising};
@@ -19,6 +19,7 @@ const PAGE: usize = 1_000;
 fn last_in_order(items: &[Item], from: u64) -> Option<u64>
     ensures rising { IfSome result (λ last. AreRising from items.now) }
     ensures last { IfSome result (λ last. last ≡ last_id from items.now) }
+    ensures found { AreRising from items.now → IsSome result }
 {
     let mut last = from;
     for item in items {
@@ -40,6 +41,7 @@ fn print_page<W: Write>(
     out: &mut W,
 ) -> Result<u64, PrintFault>
     ensures rising { OnOk result (AreRising from items.now) }
+    ensures out_of_order { IfErr result (λ fault. fault ≡ PrintFault.OutOfOrder → ¬ AreRising from items.now) }
     ensures last { IfOk result (λ last. last ≡ last_id from items.now) }
     ensures lines { OnOk result ((lines : List ℕ) × AreLines form items.now lines × Appends (W.contents out.old) (W.contents out.new) lines) }
 {
