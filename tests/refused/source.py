@@ -194,6 +194,24 @@ class Crate:
         return lambda name: here + ["".join(words), name]
 
 
+# What calls a function of this name without naming it.
+IMPLIED = {
+    "from": r"\?|\binto\b", "from_residual": r"\?", "fmt": r"\b(?:e?println|e?print|format|write|writeln)!|\bto_string\b", "next": r"\bfor\b",
+    "into_iter": r"\bfor\b", "eq": r"[=!]=|\bmatches!", "ne": r"[=!]=", "partial_cmp": r"[<>]", "cmp": r"[<>]", "deref": r"[&*.]", "deref_mut": r"[&*.]",
+    "index": r"\[", "index_mut": r"\[",
+}
+
+
+def may_call(text, names):
+    """Whether a function with this text may call one of these, by their last names: one that it names, or that a sign of the
+    language stands for."""
+    words = text.decode("utf-8")
+    for last in {name.split("::")[-1] for name in names}:
+        if re.search(rf"\b{last}\b", words) or last in IMPLIED and re.search(IMPLIED[last], words):
+            return True
+    return False
+
+
 def replace(crate, texts):
     """Writes these texts of functions, by their names, over those of a copy of the crate on the disk."""
     for function in reversed(crate.functions):
