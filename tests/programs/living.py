@@ -1,14 +1,15 @@
 #!/usr/bin/env python3
 """A concentrator that lives: `dnp concentrate --every` over two substations, one of which goes away and is silent, and two centres, one
-of which is silent, sends half a frame, reads nothing, or does not confirm: rounds go on, each centre is served by itself, and what
-the one doesn't take stands in the queue. And `dnp centre --every`, whose concentrator comes late. Prints a line 'ok CASE' or
-'FAILED CASE' for each case."""
+of which is silent, sends half a frame, reads nothing, asks without a pause, or does not confirm: rounds go on, each centre is served
+by itself, and what the one doesn't take stands in the queue. And `dnp centre --every`, whose concentrator comes late. Prints a line
+'ok CASE' or 'FAILED CASE' for each case."""
 import re
 import socket
 import sqlite3
 import subprocess
 import sys
 import tempfile
+import threading
 import time
 from pathlib import Path
 
@@ -215,6 +216,39 @@ def unread_centre(living):
     return judge("a-centre-that-does-not-read-holds-nobody-up", wrong, fault, held, "" if rows else "no rows", "" if asked else "not asked")
 
 
+def busy_centre(living):
+    """The second centre asks without a pause, and reads all that is sent."""
+    busy, is_done, read = living.connect(2), threading.Event(), 0
+
+    def ask():
+        try:
+            while not is_done.is_set():
+                busy.sendall(READ)
+        except OSError:
+            pass
+
+    def take():
+        nonlocal read
+        try:
+            while octets := busy.recv(65536):
+                read += len(octets)
+        except OSError:
+            pass
+
+    threads = [threading.Thread(target=work, daemon=True) for work in (ask, take)]
+    for thread in threads:
+        thread.start()
+    time.sleep(0.5)
+    wrong = living.goes_on(4, 5)
+    rows, fault = polled(living.centre("--every", "100", "--polls", "3"), 3)
+    is_done.set()
+    busy.shutdown(socket.SHUT_RDWR)
+    for thread in threads:
+        thread.join()
+    busy.close()
+    return judge("a-centre-that-asks-without-a-pause-holds-nobody-up", wrong, fault, "" if rows else "no rows", "" if read > 100 * POINTS else f"{read} octets read")
+
+
 def lost_substation(living, first):
     """A substation is gone, and then silent: the other one's events come all the same."""
     first.kill()
@@ -254,6 +288,7 @@ def over_substations(room):
         good = silent_centre(living)
         good = newest_centre(living) and good
         good = unread_centre(living) and good
+        good = busy_centre(living) and good
         good = lost_substation(living, first) and good
         return stands(living, concentrator) and good
     finally:

@@ -146,6 +146,13 @@ logs names-the-row-that-is-not-planned 'dnp: queue.db: row 25, analog 0 25 01 -:
 plan changed.toml 1 1
 expect takes-no-control-that-is-not-planned 1 '' '' concentrate --plan changed.toml $words
 logs names-the-control-that-is-not-planned 'dnp: below.db: control 1, 1 block 0 3 1 250 0: the plan has no such output'
+# (nor one that was not sent yet, or was not answered)
+sqlite3 below.db '.backup unplanned.db'
+for state in 0 1; do
+    sqlite3 unplanned.db "UPDATE control SET state = $state, status = 0"
+    expect "takes-no-control-that-is-not-planned:state-$state" 1 '' '' concentrate --plan changed.toml ${words/below.db/unplanned.db}
+    logs "names-the-control-that-is-not-planned:state-$state" 'dnp: unplanned.db: control 1, 1 block 0 3 1 250 0: the plan has no such output'
+done
 
 # A round that can't be printed
 got=0

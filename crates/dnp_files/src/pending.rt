@@ -1,5 +1,7 @@
 //! Octets that wait to be given or sent.
 
+ghost use Rattle.std.specs.Prelude.{◌≡◌, ◌+◌, ◌≤◌, [], drop, length};
+
 use std::alloc::{AllocError, Global};
 
 /// Octets that wait, in the order in which they came.
@@ -21,7 +23,10 @@ impl Pending {
     }
 
     /// Those that wait.
-    pub(crate) fn rest(&self) -> &[u8] {
+    #[tactic(auto, using(std::proofs::lemmas::List::drop_all))]
+    pub(crate) fn rest(&self) -> &[u8]
+        ensures { result.now ≡ drop self.now.done self.now.octets.items }
+    {
         self.octets.get(self.done..).unwrap_or(&[])
     }
 
@@ -35,8 +40,12 @@ impl Pending {
         self.octets.extend_from_slice(octets)
     }
 
-    /// So many of the first are done with.
-    pub(crate) fn take(&mut self, count: usize) {
+    /// So many of the first are done with. Where none waits any more, none is kept.
+    #[tactic(auto, using(std::proofs::lemmas::List::drop_all))]
+    pub(crate) fn take(&mut self, count: usize)
+        ensures left { drop self.new.done self.new.octets.items ≡ drop (self.old.done + count) self.old.octets.items }
+        ensures freed { length self.old.octets.items ≤ self.old.done + count → self.new.octets.items ≡ [] }
+    {
         self.done = self.done.saturating_add(count);
         if self.done >= self.octets.len() {
             self.octets.clear();

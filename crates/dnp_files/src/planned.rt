@@ -1,6 +1,6 @@
 //! What a plan has, by what stores hold of it: events and commands that files kept from an earlier run.
 
-ghost use Rattle.std.specs.Prelude.{◌≡◌, ◌<◌, is_some};
+ghost use Rattle.std.specs.Prelude.{◌≡◌, ◌<◌, false, is_some, IsTrue, true};
 ghost use Rattle.dnp_concentrator.specs.IndexKinds.{kind_of_command};
 ghost use Rattle.dnp_concentrator.specs.IndexMap.{span_of};
 ghost use Rattle.dnp_concentrator.specs.Mapped.{command_above};
@@ -186,8 +186,11 @@ pub(crate) fn look_at_book<B: Book, R: AllocGlobal + Eprint>(
     Ok(())
 }
 
-/// Whether a control is for an output or a setpoint of the plan.
-fn is_planned(plan: &Plan, entry: &Entry, above: bool) -> bool {
+/// Whether a control is for an output or a setpoint of the plan, however far it is.
+fn is_planned(plan: &Plan, entry: &Entry, above: bool) -> bool
+    ensures below { above ≡ false → result ≡ is_some (command_above (map_of plan.now) entry.now.target entry.now.command) }
+    ensures above { above ≡ true → IsTrue result → entry.now.target ≡ 0 }
+{
     if above {
         entry.target == 0 && has_output_above(plan, &entry.command)
     } else {

@@ -1,7 +1,8 @@
 //! A turn of a centre: for a while, or until nothing comes, a station lives on its connection. What has begun stands over to
 //! the next turn, so that no turn waits for it: a frame that is not whole yet, and what can't be sent yet.
 
-ghost use Rattle.std.specs.Prelude.{◌<◌};
+ghost use Rattle.std.specs.Prelude.{◌≡◌, ◌↔◌, ◌<◌, ◌≤◌, IsTrue};
+ghost use Rattle.dnp_concentrator.specs.declared.addresses.TheConstants as addresses;
 
 use crate::pending::Pending;
 use dnp_concentrator::addresses::{CONCENTRATOR_ABOVE, centre_address};
@@ -29,6 +30,15 @@ pub(crate) struct Span {
     pub until: u64,
 }
 
+impl Span {
+    /// Whether the turn is over at this moment, though octets come.
+    fn is_past(&self, now: u64) -> bool
+        ensures { IsTrue result ↔ (self.now.until ≤ now) }
+    {
+        now >= self.until
+    }
+}
+
 /// What ended on a connection in a turn.
 #[derive(Clone, Copy)]
 pub(crate) enum Over {
@@ -53,6 +63,13 @@ pub(crate) struct Heard {
     whole: u64,
     /// How long a read of the connection waits now, in milliseconds.
     wait: u64,
+}
+
+/// Whether a frame is for the station, and of the centre with this address.
+fn is_of(frame: &Frame, centre: u16) -> bool
+    ensures { IsTrue result ↔ (frame.now.dest ≡ addresses.CONCENTRATOR_ABOVE) × (frame.now.source ≡ centre) }
+{
+    frame.dest == CONCENTRATOR_ABOVE && frame.source == centre
 }
 
 impl Heard {
@@ -85,7 +102,7 @@ impl Heard {
             if self.units.add(write_frame(frame).as_slice()).is_err() {
                 return Err(ErrorKind::OutOfMemory.into());
             }
-            if frame.dest == CONCENTRATOR_ABOVE && frame.source == self.of {
+            if is_of(frame, self.of) {
                 self.whole = now;
             }
         }
@@ -147,7 +164,7 @@ impl<'l, 'h, 't, 'c, C: Clock> TurnReader<'l, 'h, 't, 'c, C> {
             }
             Ok(count) => {
                 let now = moment(self.turn.clock, self.heard.whole);
-                self.turn.is_over.set(now >= self.turn.span.until);
+                self.turn.is_over.set(self.turn.span.is_past(now));
                 self.heard.hear(piece.get(..count).unwrap_or(&[]), now)?;
                 Ok(true)
             }
