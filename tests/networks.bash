@@ -24,13 +24,13 @@ plan() {
 
 running=()
 # substation NUMBER EVENTS: begins a substation of another make, which logs to log-NUMBER; with 'outstation' for EVENTS, one
-# of `dnp`
+# of `dnp`. It is ended by `gone`, and by itself only where the test was ended before.
 substation() {
     local port=$((below + $1))
     if [ "$2" = outstation ]; then
-        timeout 300 "$dnp" outstation --plan plan.toml --station "$1" --port "$port" --connections 1000 >/dev/null 2>&1 </dev/null &
+        timeout 1800 "$dnp" outstation --plan plan.toml --station "$1" --port "$port" --connections 1000 >/dev/null 2>&1 </dev/null &
     else
-        timeout 300 python3 "$programs/substation.py" "$port" "$1" "$2" "log-$1" >/dev/null 2>&1 </dev/null &
+        timeout 1800 python3 "$programs/substation.py" "$port" "$1" "$2" "log-$1" >/dev/null 2>&1 </dev/null &
     fi
     running+=($!)
     listens "$port"

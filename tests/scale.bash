@@ -4,9 +4,10 @@
 # dnp: what a call is made by; program: `dnp` by itself, where its process matters; stores_program: dnp_store_files
 quick=${DNP_QUICK:-}
 dnp=$top/dnp program=$top/crates/dnp/out/dnp stores_program=$top/crates/dnp_store_files/out/dnp_store_files
-# How often as long the times of plans are by which a program waits
+# How often as long the times of plans are by which a program waits: a checked one takes seconds to open its stores, since the
+# cache of their pages is blanked octet by octet
 slower=1
-[ -z "$quick" ] || dnp=$top/out/checked/dnp program=$top/out/checked/dnp stores_program=$top/out/checked/dnp_store_files slower=2
+[ -z "$quick" ] || dnp=$top/out/checked/dnp program=$top/out/checked/dnp stores_program=$top/out/checked/dnp_store_files slower=4
 
 # left_out CASE..: says that these are left out
 left_out() {

@@ -211,7 +211,7 @@ def unread_centre(living):
             time.sleep(0.01)
     wrong = living.goes_on(4, PATIENCE)
     rows, fault = polled(living.centre("--every", "100", "--polls", "3"), 3)
-    held = "" if awaited(lambda: living.text("said").count("idle,") == 2, SILENCE + 3) else "it was not hung up"
+    held = "" if awaited(lambda: living.text("said").count("idle,") == 2, SILENCE + PATIENCE) else "it was not hung up"
     unread.close()
     return judge("a-centre-that-does-not-read-holds-nobody-up", wrong, fault, held, "" if rows else "no rows", "" if asked else "not asked")
 

@@ -133,14 +133,14 @@ expect reads-files-that-may-not-be-written 0 "$(as_text journal.db 14)" '' rows 
 
 # Rows that come later, while a reader follows: each row once, in the order of their ids, and none from another file
 sql follow.db journal 'PRAGMA journal_mode = wal' >/dev/null
-timeout 60 "$dnp" rows --journal follow.db --follow --every 20 --after 4 >followed 2>err &
+timeout 120 "$dnp" rows --journal follow.db --follow --every 20 --after 4 >followed 2>err &
 reader=$!
 for number in 1 2 3 4 5; do
     sqlite3 follow.db ".filectrl persist_wal 1" "WITH RECURSIVE n(i) AS (SELECT 1 UNION ALL SELECT i + 1 FROM n WHERE i < 1500)
 INSERT INTO journal SELECT (SELECT max(id) FROM journal) + i * 2, 2, 5, 1, $number * i, i FROM n" >/dev/null
     sleep 0.1
 done
-for ((try = 0; try < 100; try++)); do
+for ((try = 0; try < 600; try++)); do
     [ "$(wc -l <followed)" -ge 7505 ] && break
     sleep 0.1
 done
