@@ -69,7 +69,7 @@ is() {
 
 lf=$'\n'
 words='sim --plan p'
-how='building it without proof, which takes two to four minutes on two cores'
+how='building it without proof, which takes two to five minutes on two cores'
 built='dnp: built without proof, in TIME; each memory access is checked at run time, so it is slower. ./build makes the proved program, in about an hour'
 first="dnp: the program is not built yet: $how"
 changed="dnp: the program is older than the sources: $how"
