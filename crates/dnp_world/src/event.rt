@@ -82,8 +82,8 @@ pub enum Event {
     Repeat(Link, Way),
     /// The front unit of this way of this link is lost.
     Lose(Link, Way),
-    /// The octets of the front unit of this way of this link become these. Where they read as no frame, the unit is
-    /// lost.
+    /// The octets of the front unit of this way of this link become these, so that it reads as no frame, and it is lost.
+    /// Octets that read as a frame are no damage, and change nothing.
     Damage(Link, Way, Damaged),
     /// A substation reads a point.
     Change {

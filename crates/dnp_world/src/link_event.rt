@@ -37,7 +37,8 @@ pub enum LinkEvent {
     Repeat(Way),
     /// The front unit of this way is lost.
     Lose(Way),
-    /// The octets of the front unit of this way become these. Where they read as no frame, the unit is lost.
+    /// The octets of the front unit of this way become these, so that it reads as no frame, and it is lost. Octets that
+    /// read as a frame are no damage, and change nothing.
     Damage(Way, ArrayVec<u8, MAX_UNIT>),
     /// The outstation reads a point.
     Change {
