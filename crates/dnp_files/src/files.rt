@@ -145,7 +145,7 @@ fn migrated<S: Alter + Drop, R: AllocGlobal + Eprint>(
     requires { All (λ capacity. (1 ≤ capacity) × (capacity ≤ MAX_CAPACITY)) second }
 {
     match Queue::open(rt.alloc(), conn) {
-        Err((OpenFault::OldForm | OpenFault::WrongForm, conn)) => {
+        Err((OpenFault::OldForm, conn)) => {
             let begun = Queue::migrate(rt.alloc(), conn, second);
             if begun.is_ok() {
                 place.say(

@@ -1,5 +1,5 @@
 -- How a store begins: what each way out of such a call leaves.
-use Rattle.std.proofs.Common.{◌≡◌, ◌↔◌, cond, Bool, true, false, Ok, Err, Result, IsTrue, inl, inr, arith, refl, sym, subst, ◌∙◌}
+use Rattle.std.proofs.Common.{◌≡◌, ◌↔◌, List, cond, Bool, true, false, Ok, Err, Result, IsTrue, inl, inr, arith, refl, sym, subst, ◌∙◌}
 use Rattle.std.specs.Prelude.{◌≢◌, IfErr, IfOk, IsOk, OnErr, OnOk}
 use Rattle.sqlite_trees.specs.declared.store.Store.{Ghosts}
 use Rattle.sqlite.specs.Held.{Held, state}
@@ -11,6 +11,7 @@ use Rattle.dnp_store.specs.declared.fault.Unread.{Unread}
 use Rattle.dnp_store.specs.declared.open.OpenFault.{OpenFault}
 use Rattle.dnp_store.specs.declared.open.OpenFault.TheVariants.{Device, Memory, OldForm, WrongForm}
 use Rattle.dnp_store.specs.declared.store_kind.StoreKind.{StoreKind}
+use Rattle.dnp_store.specs.Added.{LeavesMade, MakeAll, Statement}
 use Rattle.dnp_store.specs.Refusals.{IsRefused}
 use Rattle.dnp_store.specs.steps.Beginning.{Begins, IsFound, IsMade, IsServed, IsTold}
 use Rattle.dnp_store.specs.Tables.{no_schema}
@@ -109,19 +110,21 @@ module _ {S A : Type 0} (g : Ghosts S) (Finds : Database → State → A → Typ
 
 -- ---- where tables are made
 
-module _ {S A : Type 0} (g : Ghosts S) (kind : StoreKind) (Fresh : Trees → Type 0) (Made : State → Type 0) (owned : A → Bool) where
-  pub made_inside : (old : Held S) → IsTrue old.in_transaction → IsMade g kind Fresh Made owned old old (Err WrongForm)
+module _ {S A : Type 0} (g : Ghosts S) (kind : StoreKind) (its : List Statement) (Fresh : Trees → Type 0) (Made : State → Type 0) (owned : A → Bool) where
+  pub made_inside : (old : Held S) → IsTrue old.in_transaction → IsMade g kind its Fresh Made owned old old (Err WrongForm)
   made_inside old inside = record {
     begins = begins_inside g _ old inside;
+    added = λ clean. tt;
     alone = tt;
     made = λ clean bare. tt;
     device = λ clean told. absurd (let no = told in cc);
     taken = λ clean told. inl inside;
   }
 
-  pub made_memory : (old : Held S) → old.in_transaction ≡ false → IsMade g kind Fresh Made owned old old (Err Memory)
+  pub made_memory : (old : Held S) → old.in_transaction ≡ false → IsMade g kind its Fresh Made owned old old (Err Memory)
   made_memory old idle = record {
     begins = begins_before g _ old Memory idle;
+    added = λ clean. tt;
     alone = tt;
     made = λ clean bare. tt;
     device = λ clean told. absurd (let no = told in cc);
@@ -132,16 +135,17 @@ module _ {S A : Type 0} (g : Ghosts S) (kind : StoreKind) (Fresh : Trees → Typ
       (err : HasCleanDisk (state g mid) → IsTrue (state g mid).is_open
       → OnErr done (IsTrue (state g old).is_open × ((state g mid).committed ≡ (state g old).committed)))
       (refused : HasCleanDisk (state g mid) → IfErr done (IsRefused g kind old mid))
-      (made : Survives (state g old) (state g mid) (λ db. (state g old).now.schema ≡ no_schema → Fresh db)) where
+      (made : Survives (state g old) (state g mid) (LeavesMade g its Fresh (state g old).now)) where
     pub made_not : (told : Result (Unit {0}) OpenFault) (fault : OpenFault) → told ≡ Err fault → IsTold g mid new done told
-        → IsMade g kind Fresh Made owned old new (Err fault)
+        → IsMade g kind its Fresh Made owned old new (Err fault)
     made_not (Ok _) fault is told = absurd cc
-    made_not (Err f) fault is told = subst (λ x. IsMade g kind Fresh Made owned old new (Err x)) (same_err is) (record {
+    made_not (Err f) fault is told = subst (λ x. IsMade g kind its Fresh Made owned old new (Err x)) (same_err is) (record {
       begins = begins_refused g _ old new f idle told.idle
           (λ clean opened.
           let back = told.same clean opened in
           back.1 ∙ (on_err (err (early clean) back.0)).1)
           (survives_on (state g old) (state g mid) (state g new) _ made told.survives);
+      added = λ clean. tt;
       alone = tt;
       made = λ clean bare. tt;
       device = λ clean is_device. record {
@@ -169,9 +173,11 @@ module _ {S A : Type 0} (g : Ghosts S) (kind : StoreKind) (Fresh : Trees → Typ
         if_err h = subst (λ r. IfErr r (IsRefused g kind old mid)) told.err.failed h
 
     pub made_well : (found : A) → (IsTrue (owned found) ↔ ((state g old).now.schema ≡ no_schema)) → IsTold g mid new done (Ok tt)
-        → (HasCleanDisk (state g mid) → (state g old).now.schema ≡ no_schema → OnOk done (Made (state g mid))) → IsMade g kind Fresh Made owned old new (Ok found)
-    made_well found alone told makes = subst (λ h. IsMade g kind Fresh Made owned old h (Ok found)) (sym told.ok.1) (record {
+        → (HasCleanDisk (state g mid) → OnOk done (MakeAll g its (state g old).now (state g mid).committed))
+        → (HasCleanDisk (state g mid) → (state g old).now.schema ≡ no_schema → OnOk done (Made (state g mid))) → IsMade g kind its Fresh Made owned old new (Ok found)
+    made_well found alone told adds makes = subst (λ h. IsMade g kind its Fresh Made owned old h (Ok found)) (sym told.ok.1) (record {
       begins = begins_well g _ old mid found idle (subst (λ h. h.in_transaction ≡ false) told.ok.1 told.idle) made;
+      added = λ clean. ok_of _ done told.ok.0 (adds clean);
       alone = alone;
       made = λ clean bare. ok_of _ done told.ok.0 (makes clean bare);
       device = λ clean is. absurd (let no = is in cc);

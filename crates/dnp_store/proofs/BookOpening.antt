@@ -34,22 +34,22 @@ use Rattle.dnp_store.proofs.Opening.{query, listed, shown_by, unchanged}
 abbrev pub control_query : List ℕ
 control_query = codes "SELECT id, target, kind, point, code, count, on_ms, off_ms, value, state, status FROM control ORDER BY id"
 
-abbrev control_terms : List Term
+abbrev pub control_terms : List Term
 control_terms = col 1 0 ∷ col 1 2 ∷ col 1 3 ∷ col 1 4 ∷ col 1 5 ∷ col 1 6 ∷ col 1 7 ∷ col 1 8 ∷ col 1 9 ∷ col 1 10 ∷ col 1 11 ∷ []
 
-control_is : (f c : List Term) → (command_of (understood (book_schema f c) control_query) ≡ Select (record { lets = []; body = query 1 control_terms })
+pub control_is : (f c : List Term) → (command_of (understood (book_schema f c) control_query) ≡ Select (record { lets = []; body = query 1 control_terms })
     (codes "id" ∷ codes "target" ∷ codes "kind" ∷ codes "point" ∷ codes "code" ∷ codes "count" ∷ codes "on_ms" ∷ codes "off_ms" ∷ codes "value" ∷ codes "state"
     ∷ codes "status" ∷ [])) × (reads_listing (book_schema f c) control_query ≡ false)
 unfolding understood everything
 control_is f c = (refl, refl)
 
-control_plain : (f c : List Term) → IsPlain (understood (book_schema f c) control_query)
+pub control_plain : (f c : List Term) → IsPlain (understood (book_schema f c) control_query)
 unfolding understood everything
 control_plain f c = (refl, refl)
 
 -- ---- entries of rows
 
-abbrev shown : Row → Row
+abbrev pub shown : Row → Row
 shown = shown_by control_terms
 
 -- a row that has its last value is whole

@@ -77,9 +77,10 @@ pub record Ordered (before last : ℕ) (xs : List Queued) : Type 0 where
   pub rise : IsAscending (λ x y. x.id < y.id) xs
   pub over : AllByRecursion (λ (x : Queued). before < x.id) xs
   pub in_range : AllByRecursion (IsLogged last) xs
+  pub top : (n : ℕ) → before ≤ n → AllByRecursion (λ (x : Queued). x.id ≤ n) xs → last ≤ n
 
 pub ordered : (before last : ℕ) (xs : List Queued) → AreInOrder before last (map event_of xs) → AllByRecursion (λ (x : Queued). x.lane < 3) xs → Ordered before last xs
-ordered before last [] h kinds = record { rise = tt; over = tt; in_range = tt }
+ordered before last [] h kinds = record { rise = tt; over = tt; in_range = tt; top = λ n low all. omega (arith, h, low) }
 ordered before last (x ∷ xs) h kinds =
     let rest = ordered x.id last xs h.2 kinds.1 in
     let less = h.0 in
@@ -87,6 +88,7 @@ ordered before last (x ∷ xs) h kinds =
       rise = (rest.over, rest.rise);
       over = (less, all_weaker (λ (y : Queued). x.id < y.id) (λ (y : Queued). before < y.id) (λ y more. omega arith) xs rest.over);
       in_range = (record { from_1 = omega arith; up_to_last = h.1; kind = kinds.0 }, rest.in_range);
+      top = λ n low all. rest.top n all.0 all.1;
     }
 
 pub few_in_order : (before last : ℕ) (es : List Numbered) → AreInOrder before last es → before ≤ last → before + length es ≤ last

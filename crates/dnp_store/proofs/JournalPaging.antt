@@ -28,6 +28,7 @@ use Rattle.dnp_eventbuf.specs.declared.numbered.Numbered.{Numbered}
 use Rattle.dnp_store.specs.QueueTables.{queue_columns, Queued, queued_row, event_of}
 use Rattle.dnp_store.specs.JournalTables.{journal_schema, IsLogged}
 use Rattle.dnp_store.specs.steps.JournalShown.{ShowEvents, AreInOrder, Gathers, HasCount, LogsMany}
+use Rattle.dnp_store.specs.steps.JournalPages.{ShowsNumber}
 use Rattle.dnp_store.specs.declared.store_kind.StoreKind.TheVariants.{Journal}
 use Rattle.dnp_store.specs.steps.Stores.{Reads}
 use Rattle.dnp_store.proofs.Rows.{IsTyped}
@@ -50,6 +51,15 @@ below : (from : ℕ) (xs ys : List Queued) → AllByRecursion (IsLogged from) xs
 below from [] ys h k = tt
 below from (x ∷ xs) ys h k =
     (all_weaker (λ (y : Queued). from < y.id) (λ (y : Queued). x.id < y.id) (λ y over. (let low = h.0.up_to_last in omega arith)) ys k, below from xs ys h.1 k)
+
+-- what holds of two lists in a row holds of each of them
+pub front_of : {X : Type 0} (P : X → Type 0) (xs ys : List X) → AllByRecursion P (xs ++ ys) → AllByRecursion P xs
+front_of P [] ys h = tt
+front_of P (x ∷ xs) ys h = (h.0, front_of P xs ys h.1)
+
+rest_of : {X : Type 0} (P : X → Type 0) (xs ys : List X) → AllByRecursion P (xs ++ ys) → AllByRecursion P ys
+rest_of P [] ys h = h
+rest_of P (x ∷ xs) ys h = rest_of P xs ys h.1
 
 -- ---- a page more
 
@@ -82,6 +92,7 @@ gathered_more t from last count first others split order low g =
           (all_weaker (IsLogged from) (IsLogged last) (λ x h. (let up = h.up_to_last in record { from_1 = h.from_1; up_to_last = omega arith; kind = h.kind })) g.logged
           g.in_range) order.in_range;
       many = length-append g.logged first ∙ ap (λ (n : ℕ). n + length first) g.many;
+      top = λ n all. order.top n (g.top n (front_of (λ (x : Queued). x.id ≤ n) g.logged first all)) (rest_of (λ (x : Queued). x.id ≤ n) g.logged first all);
     }
 
 module _ (old new : State) (from most : ℕ) (rows : List Row) where
@@ -97,17 +108,13 @@ module _ (old new : State) (from most : ℕ) (rows : List Row) where
       (all-filter (IsTyped (Some 0) queue_columns) (is_over from) t (typed_journal old.now f j m has sound))) in (
         (unchanged_by over_text (over_params from most) old new (journal_schema f j) rows has (over_plain f j) shows).0.now_is,
         λ events last count each rises low so_far.
-            let did = logged front events (before front (drop most got.0) types) (subst (λ (xs : List Row). ShowEvents xs events) got.2 each) in
+            let did = logged front events (front_of (IsTyped (Some 0) queue_columns) front (drop most got.0) types) (subst (λ (xs : List Row). ShowEvents xs events) got.2 each) in
             let order = ordered from last did.queued (subst (AreInOrder from last) did.events_are rises) did.kinds in
             let long : length did.queued ≡ length events = sym (length-map did.queued event_of) ∙ ap length (sym did.events_are) in
             subst (λ (n : ℕ). Gathers t last (count + n)) long (gathered_more t from last count did.queued (drop most got.0)
             (subst (λ (xs : List Row). IsPermutation (filter (is_over from) t) xs)
             (sym (take-append-drop most got.0) ∙ ap (λ (xs : List Row). xs ++ drop most got.0) did.rows_are) got.1) order low so_far),
       )
-    where
-      before : (xs ys : List Row) → AllByRecursion (IsTyped (Some 0) queue_columns) (xs ++ ys) → AllByRecursion (IsTyped (Some 0) queue_columns) xs
-      before [] ys h = tt
-      before (x ∷ xs) ys h = (h.0, before xs ys h.1)
 
 module _ {E : Type 0} (old new : State) (from most : ℕ) (ps : Row) (given : ps ≡ over_params from most) where
   pub page_if : (r : Result (Vec (List Value) Global) E) → IfOk r (λ rows. Shown over_text ps old new rows.items)
@@ -143,7 +150,7 @@ logs_all db last count top g many low =
 
 -- at first none was looked at
 pub none_yet : (t : List Row) → Gathers t 0 0
-none_yet t = record { logged = []; others = t; all = IsPermutation-refl t; rise = tt; in_range = tt; many = refl }
+none_yet t = record { logged = []; others = t; all = IsPermutation-refl t; rise = tt; in_range = tt; many = refl; top = λ n all. omega arith }
 
 -- ---- how many there are
 
@@ -174,7 +181,7 @@ many_is : (f j : List Term) → (command_of (understood (journal_schema f j) man
 unfolding understood everything
 many_is f j = (refl, refl)
 
-many_plain : (f j : List Term) → IsPlain (understood (journal_schema f j) many_text)
+pub many_plain : (f j : List Term) → IsPlain (understood (journal_schema f j) many_text)
 unfolding understood everything
 many_plain f j = (refl, refl)
 
@@ -197,29 +204,60 @@ one_sum order (row ∷ more ∷ rows) h = absurd h.1
 small : (a n : ℕ) → min a 9223372036854775807 ≡ n → n ≤ MAX_ID → a ≡ n
 small a n h low = omega (arith, h)
 
+told_whole : (a n : ℕ) → a ≡ n → n ≤ MAX_ID → min a 9223372036854775807 ≡ n
+told_whole a n h low = omega (arith, h, low)
+
+-- one row is shown, with the number of rows
+pub record Sums (rows t : List Row) : Type 0 where
+  pub order : List Env
+  pub shown : rows ≡ (told order ∷ []) ∷ []
+  pub matched : length order ≡ length t
+
+sums_up : (old new : State) (rows : List Row) (f j : List Term) → old.now.schema ≡ journal_schema f j → Shown many_text [] old new rows
+    → Sums rows (old.now.trees 1)
+sums_up old new rows f j has shows =
+    let t = old.now.trees 1 in
+    let got = reads_as many_text [] old new (journal_schema f j) has _ (many_is f j).0 (many_plain f j) (many_is f j).1 rows shows in
+    let a : IsAnswer many_query (overlay old.now.trees []) [] rows = got.answer Null in
+    let s = a.grouped in
+    let order = s.grouping.0 in
+    let sums : s.rows ≡ (told order ∷ []) ∷ [] =
+    one_sum order s.rows (subst (λ (gs : List (List Env)). AllZip (IsSummary all_rows) gs s.rows) s.grouping.2 s.summaries) in
+    let staged : a.staged ≡ ([] ∷ (told order ∷ []) ∷ []) ∷ [] =
+    s.having ∙ ap (λ (rs : List Row). filter (λ (env : Env). list_all (holds env) []) (map (λ (r : Row). [] ∷ r ∷ []) rs)) sums in
+    let kept : a.kept ≡ ([], told order ∷ []) ∷ [] = a.distinct ∙ ap (map (output many_query)) staged in
+    let ordered : a.ordered ≡ ([], told order ∷ []) ∷ [] =
+    one_permutation ([], told order ∷ []) a.ordered (subst (λ (k : List Output). IsPermutation k a.ordered) kept a.same) in
+    record {
+      order = order;
+      shown = a.shown ∙ ap (λ all. page many_query [] (map (λ (o : Output). o.1) all)) ordered;
+      matched = length_permutation _ order s.grouping.1 ∙ ap length (each_one (λ (r : Row). [] ∷ r ∷ []) t) ∙ length-map t (λ (r : Row). [] ∷ r ∷ []);
+    }
+
 module _ (old new : State) (rows : List Row) where
   pub reads_many : Shown many_text [] old new rows → Reads Journal old new (λ db. (n : ℕ) → column (get_or rows 0 []) 0 ≡ Int (pos n) → HasCount (db 1) n)
   reads_many shows f j m sound has =
-      let t = old.now.trees 1 in
-      let got = reads_as many_text [] old new (journal_schema f j) has _ (many_is f j).0 (many_plain f j) (many_is f j).1 rows shows in
-      let a : IsAnswer many_query (overlay old.now.trees []) [] rows = got.answer Null in
-      let s = a.grouped in
-      let order = s.grouping.0 in
-      let sums : s.rows ≡ (told order ∷ []) ∷ [] =
-      one_sum order s.rows (subst (λ (gs : List (List Env)). AllZip (IsSummary all_rows) gs s.rows) s.grouping.2 s.summaries) in
-      let staged : a.staged ≡ ([] ∷ (told order ∷ []) ∷ []) ∷ [] =
-      s.having ∙ ap (λ (rs : List Row). filter (λ (env : Env). list_all (holds env) []) (map (λ (r : Row). [] ∷ r ∷ []) rs)) sums in
-      let kept : a.kept ≡ ([], told order ∷ []) ∷ [] = a.distinct ∙ ap (map (output many_query)) staged in
-      let ordered : a.ordered ≡ ([], told order ∷ []) ∷ [] =
-      one_permutation ([], told order ∷ []) a.ordered (subst (λ (k : List Output). IsPermutation k a.ordered) kept a.same) in
-      let shown : rows ≡ (told order ∷ []) ∷ [] = a.shown ∙ ap (λ all. page many_query [] (map (λ (o : Output). o.1) all)) ordered in
-      let matched : length order ≡ length t =
-      length_permutation _ order s.grouping.1 ∙ ap length (each_one (λ (r : Row). [] ∷ r ∷ []) t) ∙ length-map t (λ (r : Row). [] ∷ r ∷ []) in (
+      let sums = sums_up old new rows f j has shows in
+      let order = sums.order in (
         unchanged many_text old new (journal_schema f j) rows has (many_plain f j) shows,
         λ n is low.
-            let first : told order ≡ Int (pos n) = ap (λ (rs : List Row). column (get_or rs 0 []) 0) (sym shown) ∙ is in
+            let first : told order ≡ Int (pos n) = ap (λ (rs : List Row). column (get_or rs 0 []) 0) (sym sums.shown) ∙ is in
             let few : min (length (map (eval (lit Null)) order)) 9223372036854775807 ≡ n = cc in
-            sym (length-map order (eval (lit Null)) ∙ matched) ∙ small _ n few low,
+            sym (length-map order (eval (lit Null)) ∙ sums.matched) ∙ small _ n few low,
+      )
+
+  pub shows_many : Shown many_text [] old new rows → Reads Journal old new (λ db. length (db 1) ≤ MAX_ID → ShowsNumber rows (length (db 1)))
+  shows_many shows f j m sound has =
+      let sums = sums_up old new rows f j has shows in
+      let order = sums.order in
+      let many = length (old.now.trees 1) in (
+        unchanged many_text old new (journal_schema f j) rows has (many_plain f j) shows,
+        λ low.
+            let is : min (length (map (eval (lit Null)) order)) 9223372036854775807 ≡ many = told_whole _ many (length-map order (eval (lit Null)) ∙ sums.matched) low in
+            record {
+              one = ap length sums.shown;
+              number = ap (λ (rs : List Row). column (get_or rs 0 []) 0) sums.shown ∙ ap (λ (n : ℕ). Int (pos n)) is;
+            },
       )
 
 module _ {E : Type 0} (old new : State) where
@@ -227,3 +265,8 @@ module _ {E : Type 0} (old new : State) where
       → IfOk r (λ rows. Reads Journal old new (λ db. (n : ℕ) → column (get_or rows.items 0 []) 0 ≡ Int (pos n) → HasCount (db 1) n))
   many_if (Ok rows) shows = reads_many old new rows.items shows
   many_if (Err e) shows = tt
+
+  pub number_if : (r : Result (Vec (List Value) Global) E) → IfOk r (λ rows. Shown many_text [] old new rows.items)
+      → IfOk r (λ rows. Reads Journal old new (λ db. length (db 1) ≤ MAX_ID → ShowsNumber rows.items (length (db 1))))
+  number_if (Ok rows) shows = shows_many old new rows.items shows
+  number_if (Err e) shows = tt

@@ -52,7 +52,7 @@ use Rattle.dnp_store.proofs.JournalHolding.{kind_is, told}
 abbrev pub shown_row : Row → Row
 shown_row r = column r 0 ∷ column r 2 ∷ column r 3 ∷ column r 4 ∷ column r 5 ∷ column r 6 ∷ []
 
-moment_is : (t : Option ℕ) → moment (or_null t) ≡ t
+pub moment_is : (t : Option ℕ) → moment (or_null t) ≡ t
 moment_is None = refl
 moment_is (Some t) = refl
 
@@ -118,7 +118,7 @@ over_holds from x = go (is_true (binary (Compare Gt Binary) (Int (pos x.id)) (In
     go true h = h
     go false h = h
 
-overs : (from : ℕ) (xs : List Queued) → filter (is_over from) (map queued_row xs) ≡ map queued_row (filter (λ (x : Queued). nat_lt from x.id) xs)
+pub overs : (from : ℕ) (xs : List Queued) → filter (is_over from) (map queued_row xs) ≡ map queued_row (filter (λ (x : Queued). nat_lt from x.id) xs)
 overs from [] = refl
 overs from (x ∷ xs) = rw (over_holds from x) (go (nat_lt from x.id) (overs from xs))
   where

@@ -1,6 +1,6 @@
 -- A database holds one content: its rows stand in no order, and are told by their ids, which rise.
 use Rattle.std.proofs.Common.{◌≡◌, ◌⊎◌, ℕ, zero, suc, ◌+◌, ◌<◌, ◌==◌, pos, Bool, true, false, cond, List, [], ◌∷◌, map, length, codes, refl, sym, ap, ap₂, ◌∙◌}
-use Rattle.std.proofs.Common.{arith, inl, inr}
+use Rattle.std.proofs.Common.{arith, inl, inr, IsPermutation}
 use Rattle.std.specs.Prelude.{AllPairs, filter, slice_index_or}
 use Rattle.std.specs.List.{AllByRecursion}
 use Rattle.std.proofs.lemmas.List.Elements.{recursion_from_All}
@@ -94,7 +94,7 @@ entries_are : (es : List Entry) → map entry_in (map entry_row es) ≡ es
 entries_are [] = refl
 entries_are (e ∷ es) = ap₂ (λ (x : Entry) xs. x ∷ xs) (entry_is e) (entries_are es)
 
-ascending : (es : List Entry) → AllPairs (λ (x y : Entry). x.id < y.id) es → IsAscending (λ (x y : Entry). x.id < y.id) es
+pub ascending : (es : List Entry) → AllPairs (λ (x y : Entry). x.id < y.id) es → IsAscending (λ (x y : Entry). x.id < y.id) es
 ascending [] h = tt
 ascending (e ∷ es) h = (
   recursion_from_All (λ (f : Entry). e.id < f.id) es (λ j d within. h 0 (suc j) d (omega arith) (omega arith)),
@@ -160,6 +160,13 @@ figures_rise : (number : ℕ) (fs : List Figures) → Rise id_in (figures_rows n
 figures_rise number [] = tt
 figures_rise number (f ∷ fs) = (over number (number + 1) fs (omega arith), figures_rise (number + 1) fs)
 
+-- figures are told by their rows
+pub one_figures : (numbers : List SqlRow) (fs gs : List Figures) → IsPermutation (figures_rows 0 fs) numbers → IsPermutation (figures_rows 0 gs) numbers → fs ≡ gs
+one_figures numbers fs gs one other =
+    sym (figures_are 0 fs)
+    ∙ ap (map figures_in) (once id_in numbers (figures_rows 0 fs) (figures_rows 0 gs) one other (figures_rise 0 fs) (figures_rise 0 gs))
+    ∙ figures_are 0 gs
+
 -- ---- all of it
 
 abbrev lane_with : List Numbered → Figures → LaneState
@@ -179,10 +186,7 @@ pub one_lanes : (name : List ℕ) (events counts numbers : List SqlRow) (one oth
 one_lanes name events counts numbers one other fs gs sound sounds a b overflow overflows =
     let rows : map queued_row a.queued ≡ map queued_row b.queued =
     once id_in events (map queued_row a.queued) (map queued_row b.queued) a.queue_is b.queue_is (queued_rise a.queued a.rise) (queued_rise b.queued b.rise) in
-    let figures : fs ≡ gs =
-    sym (figures_are 0 fs)
-    ∙ ap (map figures_in) (once id_in numbers (figures_rows 0 fs) (figures_rows 0 gs) a.lanes_is b.lanes_is (figures_rise 0 fs) (figures_rise 0 gs))
-    ∙ figures_are 0 gs in
+    let figures : fs ≡ gs = one_figures numbers fs gs a.lanes_is b.lanes_is in
     let lane : (number : ℕ) → in_lane number a.queued ≡ in_lane number b.queued =
     λ number. sym (lane_told number a.queued) ∙ ap (λ rs. map event_in (lane_in number rs)) rows ∙ lane_told number b.queued in
     let lanes : (number : ℕ) → number < LANES → lane_at one number ≡ lane_at other number =

@@ -1,6 +1,6 @@
 -- What the queries of an open show of every store's tables, and of a queue's lanes.
 use Rattle.std.proofs.Common.{◌≡◌, inl, inr, ℕ, ◌+◌, ℤ, pos, negsuc, false, List, [], ◌∷◌, map, flat_map, length, codes, get_or, Some, None, Ok, Err, Result, IfOk, refl, sym, ap, subst, subst₂, ◌∙◌, arith, IsPermutation}
-use Rattle.std.specs.Prelude.{Vec}
+use Rattle.std.specs.Prelude.{Vec, ◌↔◌}
 use Rattle.std.specs.declared.alloc.Global.{Global}
 use Rattle.std.specs.List.{AllByRecursion}
 use Rattle.std.proofs.lemmas.Simd.{map-map}
@@ -23,7 +23,7 @@ use Rattle.sqlite.specs.Listing.{understood, reads_listing}
 use Rattle.sqlite.specs.State.{State, Shown, ShowsRows}
 use Rattle.sqlite.specs.Clock.{timed}
 use Rattle.sqlite.proofs.Callers.{command_of, reads_as, one_permutation}
-use Rattle.dnp_store.specs.Tables.{sequence, IsCounted}
+use Rattle.dnp_store.specs.Tables.{count_row, sequence, IsCounted}
 use Rattle.dnp_store.specs.QueueTables.{queue_schema, lanes_columns, Figures, no_figures, figures_rows, IsForm1}
 use Rattle.dnp_store.specs.PairTables.{IsForm}
 use Rattle.dnp_store.specs.steps.Shown.{ShowsForm, ShowsForm1, ShowsFigures, ShowNine, AreNine, ShowsCount}
@@ -94,26 +94,26 @@ count_terms = col 1 0 ∷ col 1 1 ∷ col 1 2 ∷ []
 abbrev pub queue_terms : List Term
 queue_terms = col 1 0 ∷ col 1 2 ∷ col 1 3 ∷ col 1 4 ∷ col 1 5 ∷ col 1 6 ∷ []
 
-form_is : (kind : StoreKind) (f r m : List Term)
+pub form_is : (kind : StoreKind) (f r m : List Term)
     → (command_of (understood (schema_for kind f r m) form_query) ≡ Select (record { lets = []; body = query 0 form_terms })
     (codes "rowid" ∷ codes "number" ∷ [])) × (reads_listing (schema_for kind f r m) form_query ≡ false)
 unfolding understood everything
 form_is kind f r m = (refl, refl)
 
-form_plain : (kind : StoreKind) (f r m : List Term) → IsPlain (understood (schema_for kind f r m) form_query)
+pub form_plain : (kind : StoreKind) (f r m : List Term) → IsPlain (understood (schema_for kind f r m) form_query)
 unfolding understood everything
 form_plain kind f r m = (refl, refl)
 
-lanes_is : (f q l : List Term) → (command_of (understood (queue_schema f q l) lanes_query) ≡ Select (record { lets = []; body = query 3 lanes_terms })
+pub lanes_is : (f q l : List Term) → (command_of (understood (queue_schema f q l) lanes_query) ≡ Select (record { lets = []; body = query 3 lanes_terms })
     (codes "lane" ∷ codes "cap" ∷ codes "lost" ∷ codes "raised" ∷ [])) × (reads_listing (queue_schema f q l) lanes_query ≡ false)
 unfolding understood everything
 lanes_is f q l = (refl, refl)
 
-lanes_plain : (f q l : List Term) → IsPlain (understood (queue_schema f q l) lanes_query)
+pub lanes_plain : (f q l : List Term) → IsPlain (understood (queue_schema f q l) lanes_query)
 unfolding understood everything
 lanes_plain f q l = (refl, refl)
 
-count_is : (kind : StoreKind) (f r m : List Term)
+pub count_is : (kind : StoreKind) (f r m : List Term)
     → (command_of (understood (schema_for kind f r m) count_query) ≡ Select (record { lets = []; body = query 2 count_terms })
     (codes "rowid" ∷ codes "name" ∷ codes "seq" ∷ [])) × (reads_listing (schema_for kind f r m) count_query ≡ false)
 unfolding understood everything
@@ -121,7 +121,7 @@ count_is Queue f r m = (refl, refl)
 count_is Journal f r m = (refl, refl)
 count_is Book f r m = (refl, refl)
 
-count_plain : (kind : StoreKind) (f r m : List Term) → IsPlain (understood (schema_for kind f r m) count_query)
+pub count_plain : (kind : StoreKind) (f r m : List Term) → IsPlain (understood (schema_for kind f r m) count_query)
 unfolding understood everything
 count_plain Queue f r m = (refl, refl)
 count_plain Journal f r m = (refl, refl)
@@ -226,12 +226,12 @@ module _ (old new : State) (rows : List Row) where
       reads_lanes_in (queue_schema f q l) 3 lanes_query figures (lanes_is f q l) (lanes_plain f q l) refl (typed_lanes old.now f q l has sound) shown nine shows has
 
   pub reads_counts : Shown count_query [] old new rows → (kind : StoreKind)
-      → Reads kind old new (λ db. (table : List ℕ) (n : ℕ) → ShowsCount table rows n → IsCounted table (db 2) n)
+      → Reads kind old new (λ db. (table : List ℕ) (n : ℕ) → ShowsCount table rows n ↔ IsCounted table (db 2) n)
   reads_counts shown kind f r m sound has =
       let read = reads_as count_query [] old new (schema_for kind f r m) has _ (count_is kind f r m).0
       (count_plain kind f r m) (count_is kind f r m).1 rows shown in
       let got = listed 2 count_terms old.now.trees rows refl (read.answer Null) in
-      (unchanged count_query old new (schema_for kind f r m) rows has (count_plain kind f r m) shown, λ table n shows. go got table n shows)
+      (unchanged count_query old new (schema_for kind f r m) rows has (count_plain kind f r m) shown, λ table n. (go got table n, back got table n))
     where
       go : ((rs : List Row) × IsPermutation (old.now.trees 2) rs × (rows ≡ map (shown_by count_terms) rs)) → (table : List ℕ) (n : ℕ)
           → ShowsCount table rows n → IsCounted table (old.now.trees 2) n
@@ -240,12 +240,23 @@ module _ (old new : State) (rows : List Row) where
       go got table n (inr one) =
           let at = alone (shown_by count_terms) (old.now.trees 2) got.0 rows got.1 got.2 one.1 in
           let typed = subst (AllByRecursion (IsTyped None sequence.columns)) at.1 (typed_counts kind old.now f r m has sound) in
-          let id_is : column at.0 0 ≡ Int (pos one.0) = ap (λ r. column r 0) (sym at.2) ∙ one.2.id_is in
+          let id_is : column at.0 0 ≡ Int one.0 = ap (λ r. column r 0) (sym at.2) ∙ one.2.id_is in
           let name : column at.0 1 ≡ Text table = ap (λ r. column r 1) (sym at.2) ∙ one.2.name in
           let count : column at.0 2 ≡ Int (pos n) = ap (λ r. column r 2) (sym at.2) ∙ one.2.count in
-          inr (pos one.0, at.1 ∙ ap (λ r. r ∷ []) (count_row_is at.0 (pos one.0) (pos n) table typed.0 id_is name count))
+          inr (one.0, at.1 ∙ ap (λ r. r ∷ []) (count_row_is at.0 one.0 (pos n) table typed.0 id_is name count))
+
+      back : ((rs : List Row) × IsPermutation (old.now.trees 2) rs × (rows ≡ map (shown_by count_terms) rs)) → (table : List ℕ) (n : ℕ)
+          → IsCounted table (old.now.trees 2) n → ShowsCount table rows n
+      back got table n (inl none) =
+          let many = length_permutation (old.now.trees 2) got.0 got.1 in
+          inl (omega (arith, many, ap length got.2, length-map got.0 (shown_by count_terms), ap length none.0), none.1)
+      back got table n (inr one) =
+          let all : got.0 ≡ count_row table one.0 n ∷ [] =
+          one_permutation (count_row table one.0 n) got.0 (subst (λ xs. IsPermutation xs got.0) one.1 got.1) in
+          subst (λ xs. ShowsCount table xs n) (sym (got.2 ∙ ap (map (shown_by count_terms)) all))
+          (inr (one.0, refl, record { id_is = refl; name = refl; count = refl }))
 
 pub counts_if : {E : Type 0} (old new : State) (r : Result (Vec (List Value) Global) E) → IfOk r (λ rows. Shown count_query [] old new rows.items)
-    → IfOk r (λ rows. (kind : StoreKind) → Reads kind old new (λ db. (table : List ℕ) (n : ℕ) → ShowsCount table rows.items n → IsCounted table (db 2) n))
+    → IfOk r (λ rows. (kind : StoreKind) → Reads kind old new (λ db. (table : List ℕ) (n : ℕ) → ShowsCount table rows.items n ↔ IsCounted table (db 2) n))
 counts_if old new (Ok rows) shown = reads_counts old new rows.items shown
 counts_if old new (Err e) shown = tt

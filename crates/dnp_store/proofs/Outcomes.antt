@@ -1,5 +1,5 @@
 -- What follows of an answer, by several facts of it.
-use Rattle.std.proofs.Common.{◌≡◌, subst, Ok, Err, Result, IfOk}
+use Rattle.std.proofs.Common.{◌≡◌, refl, subst, Ok, Err, Result, IfOk}
 use Rattle.std.specs.Prelude.{OnErr, OnOk}
 
 pub if_both : {A E : Type 0} (P Q R : A → Type 0) (result : Result A E) → ((a : A) → P a → Q a → R a) → IfOk result P → IfOk result Q → IfOk result R
@@ -15,6 +15,11 @@ if_both_on P Q R (Err e) follows one two = tt
 pub at_ok : {A E : Type 0} (P : A → Type 0) (result : Result A E) (a : A) → result ≡ Ok a → IfOk result P → P a
 at_ok P (Ok b) a is holds = subst P (let e : b ≡ a = cc in e) holds
 at_ok P (Err e) a is holds = absurd cc
+
+-- it is itself
+pub ok_itself : {A E : Type 0} (result : Result A E) → IfOk result (λ a. result ≡ Ok a)
+ok_itself (Ok a) = refl
+ok_itself (Err e) = tt
 
 pub at_ok_on : {A E : Type 0} (P : Type 0) (result : Result A E) (a : A) → result ≡ Ok a → OnOk result P → P
 at_ok_on P (Ok b) a is holds = holds

@@ -1,12 +1,13 @@
 -- What an open finds in a queue's database.
+use Rattle.sqlite_trees.specs.declared.store.Store.{Ghosts}
 use Rattle.sqlite.specs.State.{State, HasCleanDisk, Survives}
+use Rattle.sqlite.specs.Tree.{Trees}
+use Rattle.dnp_store.specs.Added.{AreMadeBy, LeavesSecond, making_second}
 use Rattle.sqlite.proofs.StateLemmas.{survives_then}
 use Rattle.dnp_eventbuf.specs.Sound.{IsSoundBuffer}
-use Rattle.dnp_store.specs.declared.open.OpenFault.{OpenFault}
-use Rattle.dnp_store.specs.declared.open.OpenFault.TheVariants.{OldForm, WrongForm}
 use Rattle.dnp_store.specs.steps.Seconds.{Opens}
 use Rattle.dnp_store.proofs.Once.{one_buffer}
-use Rattle.std.proofs.Common.{cond, drop, slice_index_or, ◌≡◌, ◌&&◌, ◌||◌, not, ℕ, ℤ, pos, Bool, true, false, IsTrue, List, [], ◌∷◌, length, inl, inr, arith, refl, sym, ap, ap₂, subst, ◌∙◌}
+use Rattle.std.proofs.Common.{drop, slice_index_or, ◌≡◌, ◌&&◌, ℕ, ℤ, pos, Bool, true, false, IsTrue, List, [], ◌∷◌, length, inl, inr, arith, refl, sym, ap, ap₂, subst, ◌∙◌}
 use Rattle.sqlite.specs.declared.types.Value.TheVariants.{Int}
 use Rattle.sqlite.specs.Order.{Row}
 use Rattle.sqlite.specs.Term.{Term}
@@ -17,11 +18,11 @@ use Rattle.dnp_eventbuf.specs.EventBuffer.{EventBuffer, empty_buffer}
 use Rattle.dnp_store.specs.declared.queue_opening.Stored.{Stored}
 use Rattle.dnp_store.specs.declared.queue_opening.Stored.TheVariants.{One, Pair}
 use Rattle.dnp_store.specs.declared.queue_side.QueueSide.TheVariants.{First}
-use Rattle.dnp_store.specs.steps.Pairs.{HoldsAmong}
-use Rattle.dnp_store.specs.steps.Stored.{IsShown, IsStored, owned_by}
+use Rattle.dnp_store.specs.steps.Pairs.{HoldsAmong, checks_among}
+use Rattle.dnp_store.specs.steps.Stored.{AreCounted, IsOwned, IsShown, IsStored, number_of, owned_by}
 use Rattle.dnp_store.specs.Tables.{checks_at}
-use Rattle.dnp_store.specs.QueueTables.{IsQueue, queue_schema}
-use Rattle.dnp_store.specs.PairTables.{lanes_b_with, queue_b_with, Checks, HoldsMigrated, HoldsPair, IsForm, IsPair, Sides, migrated, pair_schema}
+use Rattle.dnp_store.specs.QueueTables.{IsQueue, IsUncounted, queue_schema}
+use Rattle.dnp_store.specs.PairTables.{lanes_b_with, queue_b_with, Checks, HoldsPair, IsForm, IsPair, Sides, migrated, pair_schema}
 
 both_of : (a b : Bool) → IsTrue (a && b) → IsTrue a × IsTrue b
 both_of true true is = (refl, refl)
@@ -45,28 +46,65 @@ shown_one db f q l s has form held = record {
   holds = record { figures = held.figures; form = form; lanes = held.lanes; overflow = held.overflow };
 }
 
+-- whatever is counted
+pub uncounted_one : (db : Database) (f q l : List Term) (s : EventBuffer) → db.schema ≡ queue_schema f q l → IsForm 1 (db.trees 0)
+    → ((noting : List Row) × HoldsAmong First db.trees noting s) → IsUncounted db s
+uncounted_one db f q l s has form held = record {
+  form_checks = f;
+  queue_checks = q;
+  lanes_checks = l;
+  schema = has;
+  form = form;
+  counts = held.0;
+  figures = held.1.figures;
+  lanes = held.1.lanes;
+  overflow = held.1.overflow;
+}
+
+-- and back
+pub among_queue : (db : Database) (s : EventBuffer) → IsQueue db s → HoldsAmong First db.trees (db.trees 2) s
+among_queue db s is = record { figures = is.holds.figures; lanes = is.holds.lanes; overflow = is.holds.overflow }
+
 -- the CHECKs of a queue's tables stand in their places
 by_places : (s : Schema) (f q l : List Term) → s ≡ queue_schema f q l → s ≡ queue_schema (checks_at s.tables 0) (checks_at s.tables 1) (checks_at s.tables 3)
 by_places s f q l is = subst (λ (x : Schema). x ≡ queue_schema (checks_at x.tables 0) (checks_at x.tables 1) (checks_at x.tables 3)) (sym is) refl
 
-none_other : (one : Bool) → IsTrue (not one) → IsTrue one → ⊥
-none_other true other is = absurd cc
-none_other false other is = absurd cc
+pairs_by_places : (s : Schema) (c : Checks) → s ≡ pair_schema c → s ≡ pair_schema (checks_among s.tables)
+pairs_by_places s c is = subst (λ (x : Schema). x ≡ pair_schema (checks_among x.tables)) (sym is) refl
 
 pub stored_is : (db : Database) (stored : Stored) (one pair : Bool) (c : Checks) → IsDatabase db
     → (IsTrue one → db.schema ≡ queue_schema (checks_at db.schema.tables 0) (checks_at db.schema.tables 1) (checks_at db.schema.tables 3))
-    → (db.schema ≡ queue_schema (checks_at db.schema.tables 0) (checks_at db.schema.tables 1) (checks_at db.schema.tables 3) → IsTrue one)
     → (IsTrue pair → db.schema ≡ pair_schema c) → IsShown db stored → IsStored db (owned_by stored one pair)
-stored_is db (One lanes counted others) one pair c sound ours found theirs shown = (
-  λ owned.
+stored_is db (One lanes counted) one pair c sound ours theirs shown = record {
+  held = λ owned.
       let parts = both_of one counted owned in
-      shown.0 parts.1 _ _ _ sound (ours parts.0),
-  shown.1 sound,
-  λ other f q l is. none_other one other (found (by_places db.schema f q l is)),
-)
-stored_is db (Pair first second counted) one pair c sound ours found theirs shown = λ owned.
+      shown.held parts.1 _ _ _ sound (ours parts.0);
+  stands = λ f q l is. shown.stands f q l sound is;
+  no_pair = shown.no_pair sound;
+}
+stored_is db (Pair first second counted) one pair c sound ours theirs shown = λ owned.
     let parts = both_of pair counted owned in
     shown parts.1 c sound (theirs parts.0)
+
+both_true : (a b : Bool) → IsTrue a → IsTrue b → IsTrue (a && b)
+both_true true b here there = there
+both_true false b here there = absurd cc
+
+-- where the database holds lanes, it is their own
+pub owned_is : (db : Database) (stored : Stored) (one pair : Bool) → IsDatabase db
+    → (db.schema ≡ queue_schema (checks_at db.schema.tables 0) (checks_at db.schema.tables 1) (checks_at db.schema.tables 3) → IsTrue one)
+    → (db.schema ≡ pair_schema (checks_among db.schema.tables) → IsTrue pair) → AreCounted db stored → IsOwned db (owned_by stored one pair)
+owned_is db (One lanes counted) one pair sound ours theirs are = λ s is.
+    both_true one counted (ours (by_places db.schema is.form_checks is.queue_checks is.lanes_checks is.schema)) (are sound s is)
+owned_is db (Pair first second counted) one pair sound ours theirs are = (
+  λ sides is. both_true pair counted (theirs (pairs_by_places db.schema is.checks is.schema)) (are.0 sound sides is),
+  are.1 sound,
+)
+
+-- its number is the one that was read
+pub numbered_by : (stored : Stored) (one pair : Bool) → number_of (owned_by stored one pair) ≡ number_of stored
+numbered_by (One lanes counted) one pair = refl
+numbered_by (Pair first second counted) one pair = refl
 
 -- the last two of six tables
 pub two_last : (ts : List Table) (d a b : Table) → length ts ≡ 6 → a ≡ slice_index_or ts 4 a → b ≡ slice_index_or ts 5 b → a ≡ queue_b_with a.checks
@@ -81,33 +119,32 @@ two_last (t ∷ u ∷ v ∷ w ∷ x ∷ y ∷ []) d a b long = λ rows lanes row
     ap₂ (λ (p q : Table). p ∷ q ∷ []) (subst (λ (p : Table). p ≡ queue_b_with p.checks) rows rows_is) (subst (λ (p : Table). p ≡ lanes_b_with p.checks) lanes lanes_is)
 two_last (t ∷ u ∷ v ∷ w ∷ x ∷ y ∷ z ∷ ts) d a b long = absurd (omega (arith, long))
 
--- where OldForm is answered and no other tables stand there, nothing else stands in the database
-pub owned_if : (owned others : Bool) (fault : OpenFault) → fault ≡ cond (owned || others) OldForm WrongForm → fault ≡ OldForm → (IsTrue others → ⊥)
-    → IsTrue owned
-owned_if true others fault is told none = refl
-owned_if false true fault is told none = absurd (none refl)
-owned_if false false fault is told none = absurd (let so = sym told ∙ is in cc)
-
 -- ---- what is made of it
 
-module _ (old mid new : State) (capacities : List ℕ) (same : HasCleanDisk mid → IsTrue mid.is_open → mid.committed ≡ old.committed)
-    (opens : HasCleanDisk mid → IsTrue mid.is_open) (found : Survives old mid (λ _. ⊥))
-    (made : Survives mid new (λ db. (s : EventBuffer) → Opens mid s → HoldsPair db (migrated s capacities))) where
+module _ {S : Type 0} (g : Ghosts S) (old mid new : State) (capacities : List ℕ) (same : HasCleanDisk mid → IsTrue mid.is_open → mid.committed ≡ old.committed)
+    (opens : HasCleanDisk mid → IsTrue mid.is_open) (settled : IsTrue mid.is_open → mid.now ≡ mid.committed) (found : Survives old mid (λ _. ⊥))
+    (made : Survives mid new (λ db. ((s : EventBuffer) → Opens mid s → HoldsPair db (migrated s capacities)) × AreMadeBy g (making_second capacities) mid.now db)) where
   early : HasCleanDisk new → HasCleanDisk mid
   early clean = omega (arith, clean, made.clean)
 
   opens_by : HasCleanDisk new → (s : EventBuffer) → IsQueue old.committed s → Opens mid s
   opens_by clean s is = record { is_open = opens (early clean); holds = subst (λ (d : Database). IsQueue d s) (sym (same (early clean) (opens (early clean)))) is }
 
-  pub survives_made : Survives old new (HoldsMigrated old.committed capacities)
+  -- what was read is what the transaction began with
+  pub begins_with : HasCleanDisk new → mid.now ≡ old.committed
+  begins_with clean = settled (opens (early clean)) ∙ same (early clean) (opens (early clean))
+
+  abbrev Commits : Trees → Type 0
+  Commits db = ((s : EventBuffer) → Opens mid s → HoldsPair db (migrated s capacities)) × AreMadeBy g (making_second capacities) mid.now db
+
+  pub survives_made : Survives old new (LeavesSecond g old.committed capacities)
   survives_made =
-      survives_then old mid new (λ _. ⊥) (λ db. (s : EventBuffer) → Opens mid s → HoldsPair db (migrated s capacities)) (HoldsMigrated old.committed capacities)
-      (λ _ db none. absurd none) (λ clean db holds s is. holds s (opens_by clean s is)) found made
+      survives_then old mid new (λ _. ⊥) Commits (LeavesSecond g old.committed capacities) (λ _ db none. absurd none)
+      (λ clean db holds. (λ s is. holds.0 s (opens_by clean s is), subst (λ d. AreMadeBy g (making_second capacities) d db) (begins_with clean) holds.1)) found made
 
   pub survives_unmade : (HasCleanDisk mid → ⊥) → Survives old new (λ _. ⊥)
   survives_unmade none =
-      survives_then old mid new (λ _. ⊥) (λ db. (s : EventBuffer) → Opens mid s → HoldsPair db (migrated s capacities)) (λ _. ⊥)
-      (λ _ db no. no) (λ clean db holds. none (early clean)) found made
+      survives_then old mid new (λ _. ⊥) Commits (λ _. ⊥) (λ _ db no. no) (λ clean db holds. none (early clean)) found made
 
 -- the lanes of a queue for one centre are those that were read
 pub moved : (db : Database) (lanes : EventBuffer) (capacities : List ℕ) → IsSoundBuffer lanes → IsQueue db lanes → (buffer : EventBuffer)

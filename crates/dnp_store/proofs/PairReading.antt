@@ -1,5 +1,5 @@
 -- What queries show of the tables of one side.
-use Rattle.std.proofs.Common.{◌≡◌, ℕ, pos, List, [], ◌∷◌, codes, Bool, false, IsTrue, Some, None, Ok, Err, Result, IfOk, inl, inr, refl, sym, ap, subst, ◌∙◌, IsPermutation}
+use Rattle.std.proofs.Common.{◌≡◌, ℕ, zero, suc, map, arith, pos, List, [], ◌∷◌, codes, Bool, false, IsTrue, Some, None, Ok, Err, Result, IfOk, inl, inr, refl, sym, ap, subst, ◌∙◌, IsPermutation}
 use Rattle.std.specs.Prelude.{Vec}
 use Rattle.std.specs.declared.alloc.Global.{Global}
 use Rattle.std.specs.List.{AllByRecursion}
@@ -13,18 +13,22 @@ use Rattle.sqlite.specs.Effect.{Database, IsDatabase}
 use Rattle.sqlite.specs.Given.{IsPlain}
 use Rattle.sqlite.specs.Listing.{understood, reads_listing}
 use Rattle.sqlite.specs.State.{State, Shown}
-use Rattle.sqlite.proofs.Callers.{command_of}
+use Rattle.sqlite.proofs.Callers.{command_of, reads_as}
+use Rattle.sqlite.specs.Program.{overlay}
+use Rattle.sqlite_trees.proofs.ListLemmas.{all-permutation}
+use Rattle.sqlite.specs.declared.types.Value.TheVariants.{Null}
 use Rattle.dnp_store.specs.declared.queue_side.QueueSide.{QueueSide}
 use Rattle.dnp_store.specs.declared.queue_side.QueueSide.TheVariants.{First, Second}
 use Rattle.dnp_eventbuf.specs.EventBuffer.{LaneState, EventBuffer}
 use Rattle.sqlite.specs.Tree.{Trees}
 use Rattle.dnp_store.specs.Texts.{lanes_select, rows_select}
-use Rattle.dnp_store.specs.Tables.{IsCounted, counts_of, form_with, sequence}
-use Rattle.dnp_store.specs.QueueTables.{Figures, figures_rows, lanes_columns, queue_columns}
+use Rattle.dnp_store.specs.Tables.{IsCounted, count_row, counts_of, form_with, sequence}
+use Rattle.dnp_store.specs.QueueTables.{Figures, Queued, figures_rows, lanes_columns, queue_schema, queued_cells, queue_columns}
 use Rattle.dnp_store.specs.PairTables.{Checks, HoldsSide, IsForm, lanes_tree, pair_schema, rows_name, rows_tree}
 use Rattle.dnp_store.specs.steps.Pairs.{HoldsAmong, ReadsPair, ReadsSide}
-use Rattle.dnp_store.specs.steps.Shown.{AreNine, IsPutBack, ShowNine, ShowsForm}
-use Rattle.dnp_store.proofs.Opening.{form_query, form_terms, lanes_terms, query, queue_terms, reads_form_in, reads_lanes, reads_lanes_in}
+use Rattle.dnp_store.specs.steps.Shown.{AreNine, IsPutBack, ShowIds, ShowNine, ShowsForm}
+use Rattle.dnp_store.proofs.IdRows.{IsUnder, are_under}
+use Rattle.dnp_store.proofs.Opening.{form_query, form_terms, lanes_terms, listed, query, queue_is, queue_plain, queue_terms, reads_form_in, reads_lanes, reads_lanes_in, shown_by, unchanged}
 use Rattle.dnp_store.proofs.PairSchema.{lanes_of, lanes_read, rows_read, rows_with}
 use Rattle.dnp_store.proofs.Restoring.{PutsBack, held_lanes, reads_queued, reads_queued_in}
 use Rattle.sqlite_schema.specs.Rules.{has_computed}
@@ -32,36 +36,36 @@ use Rattle.dnp_store.proofs.Rows.{IsTyped, form_columns, typed}
 
 -- ---- what the texts are
 
-form_is : (c : Checks)
+pub form_is : (c : Checks)
     → (command_of (understood (pair_schema c) form_query) ≡ Select (record { lets = []; body = query 0 form_terms }) (codes "rowid" ∷ codes "number" ∷ []))
     × (reads_listing (pair_schema c) form_query ≡ false)
 unfolding understood everything
 form_is c = (refl, refl)
 
-form_plain : (c : Checks) → IsPlain (understood (pair_schema c) form_query)
+pub form_plain : (c : Checks) → IsPlain (understood (pair_schema c) form_query)
 unfolding understood everything
 form_plain c = (refl, refl)
 
-lanes_is : (side : QueueSide) (c : Checks)
+pub lanes_is : (side : QueueSide) (c : Checks)
     → (command_of (understood (pair_schema c) (lanes_select side)) ≡ Select (record { lets = []; body = query (lanes_tree side) lanes_terms })
     (codes "lane" ∷ codes "cap" ∷ codes "lost" ∷ codes "raised" ∷ [])) × (reads_listing (pair_schema c) (lanes_select side) ≡ false)
 unfolding understood everything
 lanes_is First c = (refl, refl)
 lanes_is Second c = (refl, refl)
 
-lanes_plain : (side : QueueSide) (c : Checks) → IsPlain (understood (pair_schema c) (lanes_select side))
+pub lanes_plain : (side : QueueSide) (c : Checks) → IsPlain (understood (pair_schema c) (lanes_select side))
 unfolding understood everything
 lanes_plain First c = (refl, refl)
 lanes_plain Second c = (refl, refl)
 
-rows_is : (side : QueueSide) (c : Checks)
+pub rows_is : (side : QueueSide) (c : Checks)
     → (command_of (understood (pair_schema c) (rows_select side)) ≡ Select (record { lets = []; body = query (rows_tree side) queue_terms })
     (codes "id" ∷ codes "lane" ∷ codes "point" ∷ codes "flags" ∷ codes "value" ∷ codes "time" ∷ [])) × (reads_listing (pair_schema c) (rows_select side) ≡ false)
 unfolding understood everything
 rows_is First c = (refl, refl)
 rows_is Second c = (refl, refl)
 
-rows_plain : (side : QueueSide) (c : Checks) → IsPlain (understood (pair_schema c) (rows_select side))
+pub rows_plain : (side : QueueSide) (c : Checks) → IsPlain (understood (pair_schema c) (rows_select side))
 unfolding understood everything
 rows_plain First c = (refl, refl)
 rows_plain Second c = (refl, refl)
@@ -124,7 +128,68 @@ module _ {E : Type 0} (old new : State) (side : QueueSide) where
   queued_if (Ok rows) shown = reads_rows old new rows.items side shown
   queued_if (Err e) shown = tt
 
+-- the ids in the rows of a table, under any schema that has such a table in this tree
+ids_in : (old new : State) (rows : List Row) (schema : Schema) (tree : ℕ) (text : List ℕ)
+    → (command_of (understood schema text) ≡ Select (record { lets = []; body = query tree queue_terms })
+    (codes "id" ∷ codes "lane" ∷ codes "point" ∷ codes "flags" ∷ codes "value" ∷ codes "time" ∷ [])) × (reads_listing schema text ≡ false)
+    → IsPlain (understood schema text) → overlay old.now.trees [] tree ≡ old.now.trees tree → Shown text [] old new rows → old.now.schema ≡ schema
+    → (new.now ≡ old.now) × ((n : ℕ) → AllByRecursion (IsUnder n) (old.now.trees tree) → ShowIds rows n)
+ids_in old new rows schema tree text is plain bare shown has =
+    let read = reads_as text [] old new schema has _ is.0 plain is.1 rows shown in
+    let got = listed tree queue_terms old.now.trees rows bare (read.answer Null) in (
+      unchanged text old new schema rows has plain shown,
+      λ n under. subst (λ (rs : List Row). ShowIds rs n) (sym got.2) (ids_of got.0 n (all-permutation (IsUnder n) (old.now.trees tree) got.0 got.1 under)),
+    )
+  where
+    ids_of : (rs : List Row) (n : ℕ) → AllByRecursion (IsUnder n) rs → ShowIds (map (shown_by queue_terms) rs) n
+    ids_of [] n all k low = absurd (omega (arith, low))
+    ids_of (r ∷ rs) n all zero low = all.0
+    ids_of (r ∷ rs) n all (suc k) low = ids_of rs n all.1 k (omega (arith, low))
+
+-- the rows of a side that is held are under ids up to its last one
+held_under : (side : QueueSide) (db : Trees) (noting : List Row) (s : EventBuffer) → HoldsAmong side db noting s
+    → AllByRecursion (IsUnder s.last_id) (db (rows_tree side))
+held_under side db noting s held =
+    are_under (λ (x : Queued). x.id) queued_cells held.lanes.queued s.last_id (db (rows_tree side)) held.lanes.up_to_last held.lanes.queue_is
+
+module _ (old new : State) (rows : List Row) (side : QueueSide) where
+  reads_ids : Shown (rows_select side) [] old new rows
+      → ReadsSide side old new (λ db. (noting : List Row) (s : EventBuffer) → HoldsAmong side db noting s → ShowIds rows s.last_id)
+  reads_ids shown sound (inl two) =
+      let it = ids_in old new rows (pair_schema two.0) (rows_tree side) (rows_select side) (rows_is side two.0) (rows_plain side two.0)
+      (rows_read side old.now.trees) shown two.1 in
+      (it.0, λ noting s held. it.1 s.last_id (held_under side old.now.trees noting s held))
+  reads_ids shown sound (inr one) =
+      let it = ids_in old new rows (queue_schema one.0 one.1 one.2) 1 (rows_select First) (queue_is one.0 one.1 one.2) (queue_plain one.0 one.1 one.2) refl
+      (subst (λ s. Shown (rows_select s) [] old new rows) one.3 shown) one.4 in (
+        it.0,
+        λ noting s held. it.1 s.last_id (subst (λ (d : QueueSide). AllByRecursion (IsUnder s.last_id) (old.now.trees (rows_tree d))) one.3
+            (held_under side old.now.trees noting s held)),
+      )
+
+module _ {E : Type 0} (old new : State) (side : QueueSide) where
+  pub ids_if : (r : Result (Vec (List Value) Global) E) → IfOk r (λ rows. Shown (rows_select side) [] old new rows.items)
+      → IfOk r (λ rows. ReadsSide side old new (λ db. (noting : List Row) (s : EventBuffer) → HoldsAmong side db noting s → ShowIds rows.items s.last_id))
+  ids_if (Ok rows) shown = reads_ids old new rows.items side shown
+  ids_if (Err e) shown = tt
+
 -- ---- what was put back is what a side holds
+
+-- whatever was counted, the side is held with the last id used that was put back
+pub holds_some : (side : QueueSide) (db : Trees) (figures : List Figures) (rows : List Row) (noted : ℕ) (s : EventBuffer) (is_noted : Bool)
+    → AreNine figures → IsPermutation (figures_rows 0 figures) (db (lanes_tree side)) → PutsBack rows (db (rows_tree side))
+    → IsPutBack figures rows noted s is_noted → (noting : List Row) × HoldsAmong side db noting s
+holds_some side db figures rows noted s is_noted nine lanes puts put =
+    let back = puts put.bare s put.begun.nine (λ k low. ap (λ (lane : LaneState). lane.rows) (put.begun.lanes k low)) put.restored in
+    let noting = count_row (rows_name side) (pos 1) put.last ∷ [] in (
+      noting,
+      record {
+        figures = figures;
+        lanes = held_lanes (rows_name side) (db (rows_tree side)) noting (db (lanes_tree side)) figures put.bare s put.last nine lanes
+            (inr (pos 1, refl)) put.begun back;
+        overflow = back.overflow ∙ put.begun.overflow;
+      },
+    )
 
 pub holds_among : (side : QueueSide) (db : Trees) (figures : List Figures) (rows : List Row) (noted : ℕ) (s : EventBuffer) (is_noted : Bool)
     → IsTrue is_noted → AreNine figures → IsPermutation (figures_rows 0 figures) (db (lanes_tree side)) → PutsBack rows (db (rows_tree side))
@@ -137,6 +202,9 @@ holds_among side db figures rows noted s is_noted is nine lanes puts put noting 
           (subst (λ (n : ℕ). IsCounted (rows_name side) noting n) (put.same is) counted) put.begun back;
       overflow = back.overflow ∙ put.begun.overflow;
     }
+
+pub among_of : (side : QueueSide) (db : Trees) (s : EventBuffer) → HoldsSide side db s → HoldsAmong side db (counts_of (rows_name side) (db 2)) s
+among_of side db s held = record { figures = held.figures; lanes = held.lanes; overflow = held.overflow }
 
 -- and where it stands among the counts under its name, the side is held
 pub holds_side : (side : QueueSide) (db : Trees) (s : EventBuffer) → HoldsAmong side db (counts_of (rows_name side) (db 2)) s → HoldsSide side db s

@@ -1,5 +1,5 @@
 -- What is so of the schema of a queue for two centres, and of its trees as one side sees them.
-use Rattle.std.proofs.Common.{◌≡◌, ◌≢◌, ℕ, zero, suc, List, [], ◌∷◌, true, false, Some, refl, sym, subst, arith, ap}
+use Rattle.std.proofs.Common.{◌≡◌, ◌≢◌, ◌⊎◌, inl, inr, not, ℕ, zero, suc, List, [], ◌∷◌, true, false, Some, refl, sym, subst, arith, ap, length}
 use Rattle.std.specs.Prelude.{codes, slice_get}
 use Rattle.sqlite_tied.specs.Compute.{everything}
 use Rattle.sqlite_schema.specs.declared.schema.Keys.TheVariants.{Enforced}
@@ -9,16 +9,19 @@ use Rattle.sqlite.specs.Program.{overlay}
 use Rattle.sqlite.specs.Table.{Table}
 use Rattle.sqlite.specs.Term.{Term}
 use Rattle.sqlite.specs.Order.{Row as SqlRow}
-use Rattle.sqlite.specs.Tree.{Trees}
+use Rattle.sqlite_rules.specs.Lists.{Has}
+use Rattle.sqlite_rules.proofs.ListLemmas.{has_filtered}
+use Rattle.sqlite_rules.proofs.TableLemmas.{put_has}
+use Rattle.sqlite.specs.Tree.{Trees, has_rowid, without_rowid}
 use Rattle.sqlite.specs.Edit.{Edit, taken_by}
 use Rattle.sqlite.specs.Rows.{sequence as counters_of}
 use Rattle.sqlite_rules.specs.Action.{works}
 use Rattle.dnp_eventbuf.specs.EventBuffer.{EventBuffer}
 use Rattle.dnp_store.specs.declared.queue_side.QueueSide.{QueueSide}
 use Rattle.dnp_store.specs.declared.queue_side.QueueSide.TheVariants.{First, Second}
-use Rattle.dnp_store.specs.Tables.{HaveOwnIds, counts_of, sequence, table_of}
+use Rattle.dnp_store.specs.Tables.{HaveOwnIds, count_row, counts_of, sequence, table_of}
 use Rattle.dnp_store.specs.QueueTables.{Figures, HoldsLanes, lanes_columns, queue_columns}
-use Rattle.dnp_store.specs.PairTables.{Checks, HoldsSide, IsForm2, beside, lanes_tree, pair_schema, rows_name, rows_tree}
+use Rattle.dnp_store.specs.PairTables.{Checks, CountSides, HoldsSide, IsForm2, IsOfSides, beside, lanes_tree, pair_schema, rows_name, rows_tree}
 use Rattle.dnp_store.proofs.Counting.{PutsAt, PutsAll, PutsIn, PutsAllIn}
 use Rattle.dnp_store.proofs.Recounting.{AreApart, Recounts, counted_so, others_so, table_so}
 
@@ -133,12 +136,33 @@ pub record Spares (side : QueueSide) (db now : Trees) : Type 0 where
   pub rows : now (rows_tree (beside side)) ≡ db (rows_tree (beside side))
   pub lanes : now (lanes_tree (beside side)) ≡ db (lanes_tree (beside side))
   pub counts : HaveOwnIds (db 2) → counts_of (rows_name (beside side)) (now 2) ≡ counts_of (rows_name (beside side)) (db 2)
-  pub ids : HaveOwnIds (db 2) → HaveOwnIds (now 2)
+  pub ids : CountSides (db 2) → CountSides (now 2)
 
 pub names_apart : (side : QueueSide) → AreApart (rows_name side) (rows_name (beside side))
 unfolding everything
 names_apart First = ap is_eq (value_cmp-Text (rows_name First) (rows_name Second))
 names_apart Second = ap is_eq (value_cmp-Text (rows_name Second) (rows_name First))
+
+-- the two tables of rows have names that differ
+pub rows_differ : rows_name First ≢ rows_name Second
+rows_differ same =
+    let long : length (rows_name First) ≡ length (rows_name Second) = ap length same in
+    absurd (omega (arith, long))
+
+-- a count that is put in is of one of the two sides
+sides_so : (side : QueueSide) (before after : List SqlRow) (top : ℕ) → Recounts (rows_name side) before top after → CountSides before → CountSides after
+sides_so side before after top h sides = record {
+  own = table_so (rows_name side) before after top h sides.own;
+  only = λ r has. go r (put_has (count_row (rows_name side) h.id top) (without_rowid h.id before) r (subst (λ (rs : List SqlRow). Has rs r) h.is has));
+}
+  where
+    of_new : (s : QueueSide) → IsOfSides (count_row (rows_name s) h.id top)
+    of_new First = inl refl
+    of_new Second = inr refl
+
+    go : (r : SqlRow) → (r ≡ count_row (rows_name side) h.id top) ⊎ Has (without_rowid h.id before) r → IsOfSides r
+    go r (inl is) = subst IsOfSides (sym is) (of_new side)
+    go r (inr old) = sides.only r (has_filtered (λ z. not (has_rowid h.id z)) before r old).0
 
 -- rows are put in on one side
 pub puts_spare : (side : QueueSide) (db now : Trees) (top : ℕ) → Recounts (rows_name side) (db 2) top (now 2)
@@ -148,14 +172,14 @@ puts_spare First db now top count same = record {
   rows = same 4 (λ e. absurd (omega arith)) (λ e. absurd (omega arith));
   lanes = same 5 (λ e. absurd (omega arith)) (λ e. absurd (omega arith));
   counts = others_so (rows_name First) (rows_name Second) (db 2) (now 2) top count (names_apart First);
-  ids = table_so (rows_name First) (db 2) (now 2) top count;
+  ids = sides_so First (db 2) (now 2) top count;
 }
 puts_spare Second db now top count same = record {
   form = same 0 (λ e. absurd (omega arith)) (λ e. absurd (omega arith));
   rows = same 1 (λ e. absurd (omega arith)) (λ e. absurd (omega arith));
   lanes = same 3 (λ e. absurd (omega arith)) (λ e. absurd (omega arith));
   counts = others_so (rows_name Second) (rows_name First) (db 2) (now 2) top count (names_apart Second);
-  ids = table_so (rows_name Second) (db 2) (now 2) top count;
+  ids = sides_so Second (db 2) (now 2) top count;
 }
 
 -- a tree of a side changes, and no other
@@ -170,7 +194,7 @@ one_spares side tree db now of same =
       rows = same (rows_tree (beside side)) (λ e. of.2 (sym e));
       lanes = same (lanes_tree (beside side)) (λ e. of.3 (sym e));
       counts = λ table. ap (counts_of (rows_name (beside side))) counts;
-      ids = λ table. subst HaveOwnIds (sym counts) table;
+      ids = λ table. subst CountSides (sym counts) table;
     }
 
 pub rows_of_side : (side : QueueSide) → IsOfSide side (rows_tree side)
@@ -182,7 +206,7 @@ lanes_of_side First = (λ e. absurd (omega arith), λ e. absurd (omega arith), �
 lanes_of_side Second = (λ e. absurd (omega arith), λ e. absurd (omega arith), λ e. absurd (omega arith), λ e. absurd (omega arith))
 
 -- the other side holds what it did
-pub spared : (side : QueueSide) (db now : Trees) (others : EventBuffer) → Spares side db now → HaveOwnIds (db 2) → HoldsSide (beside side) db others
+pub spared : (side : QueueSide) (db now : Trees) (others : EventBuffer) → Spares side db now → CountSides (db 2) → HoldsSide (beside side) db others
     → HoldsSide (beside side) now others
 spared side db now others spares table h =
     let name = rows_name (beside side) in
@@ -190,7 +214,7 @@ spared side db now others spares table h =
       figures = h.figures;
       lanes = subst (λ (l : List SqlRow). HoldsLanes name (now (rows_tree (beside side))) (counts_of name (now 2)) l others h.figures) (sym spares.lanes)
           (subst (λ (c : List SqlRow). HoldsLanes name (now (rows_tree (beside side))) c (db (lanes_tree (beside side))) others h.figures)
-          (sym (spares.counts table))
+          (sym (spares.counts table.own))
           (subst (λ (r : List SqlRow). HoldsLanes name r (counts_of name (db 2)) (db (lanes_tree (beside side))) others h.figures) (sym spares.rows) h.lanes));
       overflow = h.overflow;
     }

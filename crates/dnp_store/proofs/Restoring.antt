@@ -1,6 +1,6 @@
 -- Rows that are put back into lanes are those of the table.
-use Rattle.std.proofs.Common.{◌≡◌, ℕ, ◌-◌, ◌<◌, ◌≤◌, ◌&&◌, ◌==◌, Bool, true, cond, List, [], ◌∷◌, ◌++◌, map, filter, length, codes, Option, Some, None, false, refl, sym, ap, ap₂, subst, ◌∙◌, arith, append-nil, append_assoc, length-set, IsPermutation}
-use Rattle.std.specs.Prelude.{if◌then◌else◌}
+use Rattle.std.proofs.Common.{◌≡◌, ℕ, ℤ, pos, not, nat_le, nat_lt, ◌-◌, ◌<◌, ◌≤◌, ◌&&◌, ◌==◌, Bool, true, cond, List, [], ◌∷◌, ◌++◌, map, filter, length, codes, Option, Some, None, false, refl, sym, ap, ap₂, subst, ◌∙◌, arith, append-nil, append_assoc, length-set, IsPermutation}
+use Rattle.std.specs.Prelude.{if◌then◌else◌, ◌^◌}
 use Rattle.std.specs.List.{AllByRecursion}
 use Rattle.std.proofs.lemmas.Bool.{leb-true}
 use Rattle.std.proofs.lemmas.List.Sorted.{IsPermutation-sym}
@@ -16,11 +16,14 @@ use Rattle.dnp_objects.specs.declared.row.Kind.{Kind}
 use Rattle.dnp_objects.specs.Lanes.{lane_number}
 use Rattle.dnp_eventbuf.specs.declared.numbered.Numbered.{Numbered}
 use Rattle.dnp_eventbuf.specs.FitsLane.{FitsLane}
-use Rattle.dnp_eventbuf.specs.Restored.{with_old_row, fits_behind}
-use Rattle.dnp_eventbuf.specs.EventBuffer.{LaneState, EventBuffer, lane_at, added_in}
-use Rattle.dnp_store.specs.Tables.{IsCounted}
-use Rattle.dnp_store.specs.QueueTables.{queue_schema, queue_columns, Queued, queued_row, event_of, in_lane, Figures, figures_rows, HoldsLanes}
-use Rattle.dnp_store.specs.steps.Shown.{AreNine, IsBegun, Restores, PutBack}
+use Rattle.dnp_eventbuf.specs.Restored.{with_lane, with_old_row, fits_behind}
+use Rattle.dnp_objects.specs.declared.row.Row.{Row as EventRow}
+use Rattle.dnp_objects.specs.Events.{IsEvent}
+use Rattle.sqlite.specs.declared.types.Value.TheVariants.{Int}
+use Rattle.dnp_eventbuf.specs.EventBuffer.{LaneState, EventBuffer, lane_at, added_in, is_full, last_of}
+use Rattle.dnp_store.specs.Tables.{IsCounted, or_null}
+use Rattle.dnp_store.specs.QueueTables.{kind_in, queue_schema, queue_columns, Queued, queued_row, event_of, in_lane, Figures, figures_rows, HoldsLanes}
+use Rattle.dnp_store.specs.steps.Shown.{AreNine, IsBegun, Restores, PutBack, ShowsQueued}
 use Rattle.dnp_store.proofs.Appending.{behind}
 use Rattle.dnp_store.proofs.Holding.{at_lane, kind_is}
 use Rattle.sqlite.specs.Command.TheVariants.{Select}
@@ -44,7 +47,7 @@ event_of_row id x short carried time =
     ap₂ (λ (kind : Kind) (t : Option ℕ). record { id = id; row = record { kind = kind; index = x.row.index; flags = x.row.flags; value = x.row.value; time = t } })
     (kind_is (x.lane.class - 1) x.lane.kind ∙ sym carried.of_its_kind) time
 
-abbrev shown_queued : Row → Row
+abbrev pub shown_queued : Row → Row
 shown_queued = shown_by queue_terms
 
 record Restored (last : ℕ) (rs : List Row) (a b : EventBuffer) : Type 0 where
@@ -69,7 +72,7 @@ more : (xs : List Numbered) (e : Numbered) (ys : List Numbered) → (xs ++ e ∷
 more xs e ys = append_assoc xs (e ∷ []) ys
 
 -- what one row adds to each lane
-one_more : (a : EventBuffer) (id : ℕ) (x : LaneRow) (y : Queued) (ys : List Queued) → length a.lanes ≡ LANES → lane_number x.lane < LANES
+pub one_more : (a : EventBuffer) (id : ℕ) (x : LaneRow) (y : Queued) (ys : List Queued) → length a.lanes ≡ LANES → lane_number x.lane < LANES
     → y.lane ≡ lane_number x.lane
     → event_of y ≡ record { id = id; row = x.row } → (k : ℕ) → k < LANES
     → behind (lane_at (with_old_row a id x) k) (in_lane k ys) ≡ behind (lane_at a k) (in_lane k (y ∷ ys))
@@ -126,6 +129,56 @@ restored last (r ∷ rs) a b typed nine h =
       overflow = rest.overflow;
       last_is = rest.last_is;
     }
+
+-- ---- a row is read in one way
+
+same_number : (m n : ℕ) → ◌≡◌ {A = Value} (Int (pos m)) (Int (pos n)) → m ≡ n
+same_number m n e = cc
+
+same_value : (m n : ℤ) → ◌≡◌ {A = Value} (Int m) (Int n) → m ≡ n
+same_value m n e = cc
+
+same_time : (s t : Option ℕ) → or_null s ≡ or_null t → s ≡ t
+same_time None None e = refl
+same_time None (Some b) e = absurd cc
+same_time (Some a) None e = absurd cc
+same_time (Some a) (Some b) e = ap (λ (n : ℕ). Some n) (same_number a b e)
+
+module _ (r : Row) (id other : ℕ) (x y : LaneRow) (ours : ShowsQueued r id x) (theirs : ShowsQueued r other y) where
+  pub one_id : id ≡ other
+  one_id = same_number id other (sym ours.id_is ∙ theirs.id_is)
+
+  one_lane : lane_number x.lane ≡ lane_number y.lane
+  one_lane = same_number (lane_number x.lane) (lane_number y.lane) (sym ours.lane ∙ theirs.lane)
+
+  one_row : x.row.kind ≡ x.lane.kind → y.row.kind ≡ y.lane.kind → x.row ≡ y.row
+  one_row its theirs_is =
+      let kind : x.row.kind ≡ y.row.kind = its ∙ sym (kind_is (x.lane.class - 1) x.lane.kind) ∙ ap kind_in one_lane
+      ∙ kind_is (y.lane.class - 1) y.lane.kind ∙ sym theirs_is in
+      let index = same_number x.row.index y.row.index (sym ours.index ∙ theirs.index) in
+      let flags = same_number x.row.flags y.row.flags (sym ours.flags ∙ theirs.flags) in
+      let value = same_value x.row.value y.row.value (sym ours.value ∙ theirs.value) in
+      let time = same_time x.row.time y.row.time (sym ours.time ∙ theirs.time) in
+      ap (λ (k : Kind). record { kind = k; index = x.row.index; flags = x.row.flags; value = x.row.value; time = x.row.time }) kind
+      ∙ ap (λ (n : ℕ). record { kind = y.row.kind; index = n; flags = x.row.flags; value = x.row.value; time = x.row.time }) index
+      ∙ ap (λ (n : ℕ). record { kind = y.row.kind; index = y.row.index; flags = n; value = x.row.value; time = x.row.time }) flags
+      ∙ ap (λ (v : ℤ). record { kind = y.row.kind; index = y.row.index; flags = y.row.flags; value = v; time = x.row.time }) value
+      ∙ ap (λ (t : Option ℕ). record { kind = y.row.kind; index = y.row.index; flags = y.row.flags; value = y.row.value; time = t }) time
+
+  -- so it fits behind the others alike, and is put there alike
+  pub fits_alike : (a : EventBuffer) → fits_behind a id x ≡ fits_behind a other y
+  fits_alike a = ap₂ (λ (n i : ℕ). not (is_full (lane_at a n)) && nat_lt (last_of (lane_at a n).rows) i && nat_le i a.last_id) one_lane one_id
+
+  pub put_alike : (a : EventBuffer) → FitsLane x → FitsLane y → with_old_row a id x ≡ with_old_row a other y
+  put_alike a carried fits =
+      ap₂ (λ (n : ℕ) (v : Numbered). with_lane a n (added_in (lane_at a n) v)) one_lane
+      (ap₂ (λ (i : ℕ) (row : EventRow). record { id = i; row = row }) one_id (one_row carried.of_its_kind fits.of_its_kind))
+
+  -- and fits its lane alike
+  pub fits_too : FitsLane x → y.row.kind ≡ y.lane.kind → FitsLane y
+  fits_too carried kind =
+      let same : x.row ≡ y.row = one_row carried.of_its_kind kind in
+      record { of_its_kind = kind; fits = subst IsEvent same carried.fits; index = subst (λ (row : EventRow). row.index < 2 ^ 16) same carried.index }
 
 -- what the rows of a table are, where they were put back
 abbrev pub PutsBack : List Row → List Row → Type 0

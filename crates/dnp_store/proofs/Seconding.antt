@@ -1,5 +1,5 @@
 -- What the statements that make the second centre's side make of a queue's database.
-use Rattle.std.proofs.Common.{◌≡◌, ◌≢◌, inl, inr, ℕ, ◌+◌, ℤ, pos, negsuc, List, [], ◌∷◌, ◌++◌, length, map, false, Option, None, Ok, refl, sym, ap, subst, ◌∙◌, arith, IsPermutation}
+use Rattle.std.proofs.Common.{◌≡◌, ◌≢◌, inl, inr, ℕ, ◌+◌, ℤ, pos, negsuc, List, [], ◌∷◌, ◌++◌, length, map, false, IsTrue, Option, None, Ok, refl, sym, ap, subst, ◌∙◌, arith, IsPermutation}
 use Rattle.std.proofs.lemmas.Simd.{map-map}
 use Rattle.sqlite_tied.specs.Compute.{everything}
 use Rattle.sqlite_resolve.specs.Compile.{table_defined_by}
@@ -35,11 +35,11 @@ use Rattle.dnp_eventbuf.specs.EventBuffer.{EventBuffer, empty_buffer}
 use Rattle.dnp_store.specs.Texts.{form_update, lanes_b_insert}
 use Rattle.dnp_store.specs.Tables.{HaveOwnIds, IsCounted, count_row, counts_of, form_with, schema_of}
 use Rattle.dnp_store.specs.QueueTables.{Figures, HoldsIn, HoldsLanes, HoldsBuffer, IsForm1, figures_cells, figures_rows, lanes_with, queue_schema, queue_with}
-use Rattle.dnp_store.specs.PairTables.{lanes_b_with, migrated, pair_schema, queue_b_with, rows_name}
+use Rattle.dnp_store.specs.PairTables.{CountSides, IsOfSides, lanes_b_with, migrated, pair_schema, queue_b_with, rows_name}
 use Rattle.dnp_store.specs.Schemas.{checks_of_lanes_b, checks_of_queue_b, lanes_b_text, queue_b_text, table_of_text}
 use Rattle.dnp_store.specs.declared.queue_side.QueueSide.TheVariants.{First, Second}
 use Rattle.dnp_store.specs.steps.Making.{fresh}
-use Rattle.dnp_store.specs.steps.Seconds.{HasQueueB, HasSecond, IsSecond, with_second}
+use Rattle.dnp_store.specs.steps.Seconds.{HasQueueB, HasSecond, IsSecond, has_second_name, with_second}
 use Rattle.dnp_store.proofs.Creating.{IsMade, IsTable, is_of, made_of, makes, plain_of, treeless}
 use Rattle.dnp_store.proofs.Filling.{empty_lanes, none_raised, put_end}
 use Rattle.dnp_store.proofs.Numbering.{PutsIn}
@@ -158,6 +158,16 @@ created_lanes_b old new count f q l s has h =
       empty = at 4 ∙ kept.1.1.1.1.0 ∙ has.empty;
       filled = at 5 ∙ made.empty;
     }
+
+-- ---- the names of both
+
+names_free : (f q l : List Term) → has_second_name (queue_schema f q l) ≡ false
+unfolding everything
+names_free f q l = refl
+
+-- nothing in the database of a queue for one centre has one of them
+pub not_named : (schema : Schema) (f q l : List Term) → schema ≡ queue_schema f q l → IsTrue (has_second_name schema) → ⊥
+not_named schema f q l is named = absurd (let no = sym named ∙ ap has_second_name is ∙ names_free f q l in cc)
 
 -- ---- INSERT
 
@@ -306,6 +316,18 @@ own_ids name rows n (inr one) x y has_x has_y tied =
     go (inl a) (inr b) = absurd b
     go (inr a) b = absurd a
 
+-- a count of the first side alone is of one of the two
+first_counts : (rows : List Row) (n : ℕ) → IsCounted (rows_name First) rows n → CountSides rows
+first_counts rows n counted = record { own = own_ids (rows_name First) rows n counted; only = go counted }
+  where
+    go : IsCounted (rows_name First) rows n → (r : Row) → Has rows r → IsOfSides r
+    go (inl none) r has = absurd (subst (λ (rs : List Row). Has rs r) none.0 has)
+    go (inr one) r has = here (subst (λ (rs : List Row). Has rs r) one.1 has)
+      where
+        here : Has (count_row (rows_name First) one.0 n ∷ []) r → IsOfSides r
+        here (inl is) = inl (ap (λ (x : Row). column x 1) is)
+        here (inr left) = absurd left
+
 uncounted : (rows : List Row) (n : ℕ) → IsCounted (rows_name First) rows n → counts_of (rows_name Second) rows ≡ []
 uncounted rows n (inl none) = ap (counts_of (rows_name Second)) none.0
 uncounted rows n (inr one) = ap (counts_of (rows_name Second)) one.1 ∙ rw (names_apart First) refl
@@ -329,7 +351,7 @@ numbered_second old new count f q l s capacities nine has h =
       schema = ap (λ (d : Database). d.schema) is;
       holds = record {
         form = (form.0, tree 0 ∙ put.form);
-        counts = own_ids (rows_name First) (new.now.trees 2) s.last_id kept.counted;
+        counts = first_counts (new.now.trees 2) s.last_id kept.counted;
         first = record {
           figures = has.holds.figures;
           lanes = record {

@@ -1,6 +1,6 @@
 -- Definition: the tables of a book of controls, and the entries that they hold (an own form: IEEE Std 1815-2012 knows no
 -- stored tables).
-use Rattle.std.specs.Prelude.{◌≡◌, ℕ, ℤ, pos, true, false, List, [], ◌∷◌, map, codes}
+use Rattle.std.specs.Prelude.{◌≡◌, ◌<◌, ◌≤◌, ◌^◌, All, ℕ, ℤ, pos, true, false, List, [], ◌∷◌, map, codes}
 use Rattle.std.specs.List.Sorted.{IsPermutation}
 use Rattle.sqlite.specs.declared.types.Value.TheVariants.{Null, Int}
 use Rattle.sqlite.specs.Table.{Table}
@@ -13,11 +13,13 @@ use Rattle.sqlite.specs.Effect.{Database}
 use Rattle.sqlite_schema.specs.declared.schema.Column.{Column}
 use Rattle.dnp_objects.specs.declared.command.Command.{Command}
 use Rattle.dnp_objects.specs.declared.command.Command.TheVariants.{Block, Set16, Set32}
-use Rattle.dnp_objects.specs.Commands.{index_of}
+use Rattle.dnp_objects.specs.declared.limits.TheConstants.{MAX_ID}
+use Rattle.dnp_objects.specs.Commands.{IsInRange, index_of}
+use Rattle.dnp_controls.specs.declared.limits.TheConstants.{TARGETS}
 use Rattle.dnp_controls.specs.declared.book.Entry.{Entry}
 use Rattle.dnp_controls.specs.declared.book.State.{State}
 use Rattle.dnp_controls.specs.declared.book.State.TheVariants.{Pending, Spent, Finished}
-use Rattle.dnp_controls.specs.Book.{Ledger}
+use Rattle.dnp_controls.specs.Book.{IsSoundLedger, Ledger}
 use Rattle.dnp_store.specs.Tables.{column_of, table_of, schema_of, IsCounted}
 use Rattle.dnp_store.specs.QueueTables.{IsForm1}
 
@@ -78,6 +80,24 @@ abbrev pub status_of : State → ℕ
 status_of Pending = 0
 status_of Spent = 0
 status_of (Finished status) = status
+
+-- each value of a command and of an entry is in its column's range
+pub record FitsCommand (command : Command) : Type 0 where
+  pub index : index_of command < 2 ^ 16
+  pub code : code_of command < 2 ^ 8
+  pub count : count_of command < 2 ^ 8
+  pub in_range : IsInRange command
+
+pub record FitsControl (e : Entry) : Type 0 where
+  pub target : e.target < TARGETS
+  pub command : FitsCommand e.command
+  pub status : status_of e.state < 2 ^ 7
+
+-- a book may hold them: they are sound, and each value is in its column's range
+pub record IsStorable (book : Ledger) : Type 0 where
+  pub sound : IsSoundLedger book
+  pub last_in_range : book.last_id ≤ MAX_ID
+  pub fit : All FitsControl book.entries
 
 abbrev pub entry_cells : Entry → SqlRow
 entry_cells e =

@@ -1,6 +1,6 @@
 -- Definition: the tables of a journal, and the events that they hold (an own form: IEEE Std 1815-2012 knows no stored
 -- tables).
-use Rattle.std.specs.Prelude.{◌≡◌, ℕ, ◌<◌, ◌≤◌, ℤ, pos, true, false, List, [], ◌∷◌, map, codes, Option, Some, None}
+use Rattle.std.specs.Prelude.{◌≡◌, ℕ, ◌<◌, ◌≤◌, ◌^◌, All, ℤ, pos, true, false, List, [], ◌∷◌, map, codes, Option, Some, None, IfSome}
 use Rattle.std.specs.Ordering.{nat_cmp}
 use Rattle.std.specs.List.Sorted.{IsPermutation}
 use Rattle.std.specs.List.{AllByRecursion}
@@ -15,6 +15,7 @@ use Rattle.sqlite.specs.Tree.{Trees, IsAscending}
 use Rattle.sqlite.specs.Effect.{Database}
 use Rattle.sqlite_keyed.specs.Lists.{sort_by}
 use Rattle.sqlite_schema.specs.declared.schema.Column.{Column}
+use Rattle.dnp_objects.specs.declared.limits.TheConstants.{MAX_ID, MAX_TIME}
 use Rattle.dnp_eventbuf.specs.declared.numbered.Numbered.{Numbered}
 use Rattle.dnp_eventbuf.specs.Archive.{Archive}
 use Rattle.dnp_store.specs.Tables.{column_of, table_of, schema_of, IsCounted}
@@ -57,6 +58,17 @@ pub record IsJournal (db : Database) (a : Archive) : Type 0 where
   pub journal_checks : List Term
   pub schema : db.schema ≡ journal_schema form_checks journal_checks
   pub holds : HoldsArchive db.trees a
+
+-- each value of an event is in its column's range
+pub record FitsEvent (e : Numbered) : Type 0 where
+  pub index : e.row.index < 2 ^ 16
+  pub flags : e.row.flags < 2 ^ 8
+  pub time : IfSome e.row.time (λ time. time < MAX_TIME)
+
+-- a journal may hold them: the last id used is one that there is, and each value is in its column's range
+pub record IsStorableArchive (a : Archive) : Type 0 where
+  pub last_in_range : a.last_id ≤ MAX_ID
+  pub fit : All FitsEvent a.rows
 
 abbrev pub empty_archive : Archive
 empty_archive = record { rows = []; last_id = 0 }

@@ -4,6 +4,7 @@ pub mod QueueTables
 pub mod PairTables
 pub mod Commits
 pub mod QueueKept
+pub mod QueueOpens
 pub mod JournalTables
 pub mod JournalKept
 pub mod BookTables
@@ -11,6 +12,7 @@ pub mod BookKept
 pub mod Schemas
 pub mod Faults
 pub mod Texts
+pub mod Added
 pub mod Refusals
 -- Words of private steps.
 pub mod steps

@@ -1,11 +1,12 @@
 -- Definition: the tables of a queue for two centres, and the lanes that they hold for each of them (an own form: IEEE Std
 -- 1815-2012 knows no stored tables).
-use Rattle.std.specs.Prelude.{◌≡◌, ◌==◌, ℕ, ℤ, pos, true, false, if◌then◌else◌, List, [], ◌∷◌, codes}
-use Rattle.sqlite.specs.declared.types.Value.TheVariants.{Int}
+use Rattle.std.specs.Prelude.{◌≡◌, ◌⊎◌, ◌==◌, ℕ, ℤ, pos, true, false, if◌then◌else◌, List, [], ◌∷◌, codes}
+use Rattle.sqlite_rules.specs.Lists.{Has}
+use Rattle.sqlite.specs.declared.types.Value.TheVariants.{Int, Text}
 use Rattle.sqlite.specs.Table.{Table}
 use Rattle.sqlite.specs.Term.{Term}
 use Rattle.sqlite.specs.Schema.{Schema}
-use Rattle.sqlite.specs.Order.{Row as SqlRow}
+use Rattle.sqlite.specs.Order.{Row as SqlRow, column}
 use Rattle.sqlite.specs.Tree.{Trees}
 use Rattle.sqlite.specs.Effect.{Database}
 use Rattle.dnp_eventbuf.specs.Sides.{at}
@@ -54,6 +55,17 @@ abbrev pub beside : QueueSide → QueueSide
 beside First = Second
 beside Second = First
 
+-- ---- the rows of `sqlite_sequence`
+
+-- the row counts for the rows of one of the two sides
+abbrev pub IsOfSides : SqlRow → Type 0
+IsOfSides row = (column row 1 ≡ Text (rows_name First)) ⊎ (column row 1 ≡ Text (rows_name Second))
+
+-- each of them does, and rows under one id are one row
+pub record CountSides (rows : List SqlRow) : Type 0 where
+  pub own : HaveOwnIds rows
+  pub only : (row : SqlRow) → Has rows row → IsOfSides row
+
 -- ---- the lanes that the tables hold
 
 -- `form` is one row with this number
@@ -91,10 +103,10 @@ with_side sides centre s = if centre == 0 then record { first = s; second = side
 abbrev pub both_with : Sides → List LaneRow → Sides
 both_with sides rows = record { first = with_rows sides.first rows; second = with_rows sides.second rows }
 
--- the trees are those of a queue for two centres, and hold these lanes; counts under one id are one count
+-- the trees are those of a queue for two centres, and hold these lanes; nothing else is counted
 pub record HoldsPair (db : Trees) (sides : Sides) : Type 0 where
   pub form : IsForm2 (db 0)
-  pub counts : HaveOwnIds (db 2)
+  pub counts : CountSides (db 2)
   pub first : HoldsSide First db sides.first
   pub second : HoldsSide Second db sides.second
 

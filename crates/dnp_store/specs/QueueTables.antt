@@ -139,6 +139,18 @@ pub record HoldsBuffer (db : Trees) (s : EventBuffer) : Type 0 where
   pub lanes : HoldsIn db s figures
   pub overflow : s.overflow ≡ is_raised figures
 
+-- the database is a queue's and holds these lanes, whatever is counted of their ids
+pub record IsUncounted (db : Database) (s : EventBuffer) : Type 0 where
+  pub form_checks : List Term
+  pub queue_checks : List Term
+  pub lanes_checks : List Term
+  pub schema : db.schema ≡ queue_schema form_checks queue_checks lanes_checks
+  pub form : IsForm1 (db.trees 0)
+  pub counts : List SqlRow
+  pub figures : List Figures
+  pub lanes : HoldsLanes (codes "queue") (db.trees 1) counts (db.trees 3) s figures
+  pub overflow : s.overflow ≡ is_raised figures
+
 -- the database is a queue's, and holds these lanes
 pub record IsQueue (db : Database) (s : EventBuffer) : Type 0 where
   pub form_checks : List Term

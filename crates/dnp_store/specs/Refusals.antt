@@ -1,8 +1,9 @@
 -- Definition: when a store is lost, so that it answers Device and stops.
-use Rattle.std.specs.Prelude.{◌≡◌, ◌⊎◌, ⊤, false, List, ℕ, IsTrue, Err}
+use Rattle.std.specs.Prelude.{◌≡◌, ◌⊎◌, ⊤, [], codes, false, List, ℕ, IsTrue, Err}
 use Rattle.sqlite_trees.specs.declared.store.Store.{Ghosts}
 use Rattle.sqlite.specs.Held.{Held, state}
 use Rattle.sqlite.specs.Order.{Row}
+use Rattle.sqlite.specs.Effect.{Database}
 use Rattle.sqlite.specs.State.{State, ExecutesInside, FailsToQuery, Shown, Survives}
 use Rattle.sqlite.specs.Steps.{FailsToCommit}
 use Rattle.sqlite.specs.declared.error.Error.{Error}
@@ -12,6 +13,7 @@ use Rattle.dnp_store.specs.declared.fault.Unread.{Unread}
 use Rattle.dnp_store.specs.declared.fault.Unread.TheVariants.{Form, Memory, Failed}
 use Rattle.dnp_store.specs.Faults.{RefusesNothing, is_memory, is_out_of_memory, is_taken}
 use Rattle.dnp_store.specs.steps.JournalShown.{HasNoEvent}
+use Rattle.dnp_store.specs.steps.Shown.{ShowsForm}
 use Rattle.dnp_store.specs.Texts.{IsMaking, IsOwn}
 
 -- A statement of the store's in a transaction, the commit of one, or a query of the store's was refused with this error; or
@@ -59,3 +61,12 @@ pub record IsTaken {S : Type 0} (g : Ghosts S) (kind : StoreKind) (old new : Hel
   pub refused : IsRefused g kind old between error
   pub taken : IsTrue (is_taken error)
   pub late : Survives (state g between) (state g new) (λ _. ⊥)
+
+-- of this database, the query for the number of the form shows one row, with this number
+pub record IsNumbered {S : Type 0} (g : Ghosts S) (n : ℕ) (db : Database) : Type 0 where
+  pub old : Held S
+  pub new : Held S
+  pub rows : List Row
+  pub of : (state g old).now ≡ db
+  pub shown : Shown (codes "SELECT rowid, number FROM form ORDER BY rowid") [] (state g old) (state g new) rows
+  pub one : ShowsForm rows n

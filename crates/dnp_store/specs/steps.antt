@@ -6,6 +6,7 @@ pub mod JournalShown
 pub mod JournalPages
 pub mod Making
 pub mod Pairs
+pub mod QueueDenied
 pub mod Seconds
 pub mod Shown
 pub mod Steps

@@ -1,15 +1,16 @@
 //! How a book of controls in a SQL database begins, and what stands at its end.
 
-ghost use Rattle.std.specs.Prelude.{◌≡◌, ◌≢◌, ◌↔◌, ◌≤◌, [], false, not, IsTrue, IfOk, IfErr, IsErrAnd, ◌⊎◌, Err};
+ghost use Rattle.std.specs.Prelude.{◌≡◌, ◌≢◌, ◌&&◌, ◌↔◌, ◌≤◌, [], false, not, All, IsTrue, IfOk, IfErr, IsErrAnd, ◌⊎◌, Err};
 ghost use Rattle.sqlite.specs.Held.{Held, state};
 ghost use Rattle.sqlite.specs.State.{HasCleanDisk, Survives};
 ghost use Rattle.sqlite.specs.Steps.{IsEmpty, over_memory};
-ghost use Rattle.dnp_controls.specs.Book.{IsSoundLedger, empty_ledger};
+ghost use Rattle.dnp_controls.specs.Book.{IsSoundLedger, Ledger, empty_ledger};
 ghost use Rattle.dnp_objects.specs.declared.limits.TheConstants as limits;
 ghost use Rattle.dnp_store.specs.steps.Beginning.{IsFound};
 ghost use Rattle.dnp_store.specs.steps.BookShown.{IsBookFound};
+ghost use Rattle.dnp_store.specs.Added.{LeavesMade, MakeAll, making_tables};
 ghost use Rattle.dnp_store.specs.BookKept.{IsHonestBook, LeavesBook, BookStands};
-ghost use Rattle.dnp_store.specs.BookTables.{HoldsBook, IsBook};
+ghost use Rattle.dnp_store.specs.BookTables.{FitsControl, HoldsBook, IsBook, IsStorable};
 ghost use Rattle.dnp_store.specs.Refusals.{IsLost, IsTaken};
 ghost use Rattle.dnp_store.specs.Schemas.{made_book};
 ghost use Rattle.dnp_store.specs.Tables.{no_schema};
@@ -30,7 +31,11 @@ fn find_book<S: Alter>(
 ) -> Result<(FoundBook, bool), OpenFault>
     requires { entries.old.items ≡ [] }
     ensures found { IsFound S.Store (λ old new found. IsTrue found.1 → IsBookFound old new entries.new.items found.0.last_id) conn.old conn.new result }
+    ensures alone { HasCleanDisk (state S.Store conn.new) → IfOk result (λ found. (book : Ledger) → IsSoundLedger book → IsBook (state S.Store conn.old).committed book → IsTrue found.1) }
+    ensures wrong_form { HasCleanDisk (state S.Store conn.new) → IfErr result (λ fault. fault ≡ OpenFault.WrongForm → IsTrue conn.old.in_transaction
+        ⊎ ((book : Ledger) → IsStorable book → IsBook (state S.Store conn.old).committed book → ⊥)) }
     ensures sound { IfOk result (λ found. IsSoundLedger (record { entries = entries.new.items; last_id = found.0.last_id }) × (found.0.last_id ≤ limits.MAX_ID)) }
+    ensures fit { IfOk result (λ _. All FitsControl entries.new.items) }
 {
     if !conn.is_autocommit() {
         return Err(OpenFault::WrongForm);
@@ -40,8 +45,8 @@ fn find_book<S: Alter>(
 }
 
 impl<S: Alter> ControlBook<S> {
-    /// Makes a book without entries in the database. Other tables are left alone, but the book promises to
-    /// hold its entries only where there are none.
+    /// Makes a book without entries in the database. Beside other tables the same statements run, in
+    /// one transaction, and no others; but the book promises to hold its entries only where there are none.
     ///
     /// WrongForm where a name of its tables is taken, or the connection is inside a transaction; else
     /// Memory or Device. A refusal hands the connection back, with the database as it was.
@@ -56,8 +61,9 @@ impl<S: Alter> ControlBook<S> {
         ensures stands { IfOk result (λ b. HasCleanDisk (state S.Store b.conn) → IsTrue b.owned → BookStands (state S.Store b.conn) b.ledger) }
         ensures same { IfErr result (λ e. HasCleanDisk (state S.Store e.1) → IsTrue (state S.Store e.1).is_open → (state S.Store e.1).committed ≡ (state S.Store conn).committed) }
         ensures schema { IfOk result (λ b. HasCleanDisk (state S.Store b.conn) → IsTrue b.owned → (state S.Store b.conn).committed.schema ≡ made_book) }
-        ensures made { IfOk result (λ b. Survives (state S.Store conn) (state S.Store b.conn) (λ db. (state S.Store conn).now.schema ≡ no_schema → HoldsBook db empty_ledger)) }
-        ensures left { IfErr result (λ e. Survives (state S.Store conn) (state S.Store e.1) (λ db. (state S.Store conn).now.schema ≡ no_schema → HoldsBook db empty_ledger)) }
+        ensures added { IfOk result (λ b. HasCleanDisk (state S.Store b.conn) → MakeAll S.Store (making_tables StoreKind.Book) (state S.Store conn).now (state S.Store b.conn).committed) }
+        ensures made { IfOk result (λ b. Survives (state S.Store conn) (state S.Store b.conn) (LeavesMade S.Store (making_tables StoreKind.Book) (λ db. HoldsBook db empty_ledger) (state S.Store conn).now)) }
+        ensures left { IfErr result (λ e. Survives (state S.Store conn) (state S.Store e.1) (LeavesMade S.Store (making_tables StoreKind.Book) (λ db. HoldsBook db empty_ledger) (state S.Store conn).now)) }
         ensures handed_back { IfErr result (λ e. (e.1.in_transaction ≡ conn.in_transaction) × (e.1.step_limit ≡ conn.step_limit)) }
         ensures device { IfErr result (λ e. HasCleanDisk (state S.Store e.1) → e.0 ≡ OpenFault.Device → IsLost S.Store StoreKind.Book conn e.1) }
         ensures taken { IfErr result (λ e. HasCleanDisk (state S.Store e.1) → e.0 ≡ OpenFault.WrongForm → IsTrue conn.in_transaction ⊎ IsTaken S.Store StoreKind.Book conn e.1) }
@@ -90,13 +96,17 @@ impl<S: Alter> ControlBook<S> {
         ensures inside { IsTrue conn.in_transaction → IsErrAnd result (λ e. (e.0 ≡ OpenFault.WrongForm) × (e.1 ≡ conn)) }
         ensures held { IfOk result (λ b. HasCleanDisk (state S.Store b.conn) → HasCleanDisk (state S.Store conn)) }
         ensures serves { IfOk result (λ b. b.stopped ≡ false) }
+        ensures fit { IfOk result (λ b. All FitsControl b.ledger.entries) }
         ensures found { IfOk result (λ b. HasCleanDisk (state S.Store b.conn) → IsTrue b.owned → IsBook (state S.Store conn).committed b.ledger) }
+        ensures owned { IfOk result (λ b. HasCleanDisk (state S.Store b.conn) → (book : Ledger) → IsSoundLedger book → IsBook (state S.Store conn).committed book → IsTrue b.owned) }
         ensures stands { IfOk result (λ b. HasCleanDisk (state S.Store b.conn) → IsTrue b.owned → BookStands (state S.Store b.conn) b.ledger) }
         ensures same { IfErr result (λ e. HasCleanDisk (state S.Store e.1) → IsTrue (state S.Store e.1).is_open → (state S.Store e.1).committed ≡ (state S.Store conn).committed) }
         ensures unwritten { IfOk result (λ b. Survives (state S.Store conn) (state S.Store b.conn) (λ _. ⊥)) }
         ensures left { IfErr result (λ e. Survives (state S.Store conn) (state S.Store e.1) (λ _. ⊥)) }
         ensures handed_back { IfErr result (λ e. (e.1.in_transaction ≡ conn.in_transaction) × (e.1.step_limit ≡ conn.step_limit)) }
         ensures current { IfErr result (λ e. e.0 ≢ OpenFault.OldForm) }
+        ensures wrong_form { IfErr result (λ e. HasCleanDisk (state S.Store e.1) → e.0 ≡ OpenFault.WrongForm → IsTrue conn.in_transaction
+            ⊎ ((book : Ledger) → IsStorable book → IsBook (state S.Store conn).committed book → ⊥)) }
     {
         let mut conn = conn;
         let mut entries = Vec::new(alloc);
@@ -114,7 +124,7 @@ impl<S: Alter> ControlBook<S> {
     }
 
     /// Whether the database had no tables but the book's own as it began or opened. Where it had, the book works
-    /// alike, and promises nothing of its entries.
+    /// alike, and answers by its entries in memory; of those in the database nothing is promised.
     pub fn owns_database(&self) -> bool
         ensures { result ≡ self.now.owned }
     {
@@ -153,7 +163,8 @@ impl ControlBook<MemStore> {
     /// Whether the book is honest still: it has not answered Device, and its database is its own. So what
     /// was promised under that premise held up to this moment.
     pub fn is_well(&self) -> bool
-        ensures { IsTrue result → IsHonestBook over_memory self.now }
+        ensures well { IsTrue result → IsHonestBook over_memory self.now }
+        ensures told { result ≡ (not self.now.stopped && self.now.owned) }
     {
         self.serves() && self.owns_database()
     }

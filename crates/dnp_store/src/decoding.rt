@@ -1,14 +1,15 @@
 //! What rows that queries show of a queue's tables say.
 
-ghost use Rattle.std.specs.Prelude.{◌≡◌, ◌≢◌, ◌<◌, ◌≤◌, ◌^◌, ℕ, ℤ, Bool, Option, nat_le, false, IsTrue, IfOk, IfSome, [], ◌∷◌, List, codes, length, pos, All, slice_index_or, if◌then◌else◌, IfErr, OnErr};
+ghost use Rattle.std.specs.Prelude.{◌≡◌, ◌≢◌, ◌<◌, ◌≤◌, ◌-◌, ◌^◌, ℕ, ℤ, Bool, Option, nat_le, false, true, IsTrue, IfOk, IfSome, IsSome, None, Some, [], ◌∷◌, List, codes, length, pos, All, slice_index_or, if◌then◌else◌, IfErr, OnErr};
 ghost use Rattle.sqlite.specs.declared.types.Value.TheVariants.{Int, Text};
 ghost use Rattle.sqlite.specs.Order.{column};
 ghost use Rattle.dnp_objects.specs.declared.limits.TheConstants as limits;
 ghost use Rattle.dnp_eventbuf.specs.FitsLane.{FitsLane};
-ghost use Rattle.dnp_eventbuf.specs.EventBuffer.{lane_at};
+ghost use Rattle.dnp_eventbuf.specs.EventBuffer.{EventBuffer, lane_at};
+ghost use Rattle.dnp_objects.specs.declared.lane.LaneRow.{LaneRow as LaneRowValue};
 ghost use Rattle.dnp_store.specs.QueueTables.{is_raised, no_figures};
 ghost use Rattle.dnp_store.specs.Tables.{or_null};
-ghost use Rattle.dnp_store.specs.steps.Shown.{AreInRange, AreNine, IsBegun, LackNine, Restores, ShowNine, IsMost, ShowsCount, ShowsCountOf, ShowsFigures, ShowsForm, ShowsForm1, ShowsQueued, ShowsTwo};
+ghost use Rattle.dnp_store.specs.steps.Shown.{AreInRange, AreNine, IsBegun, IsNoted, IsWhole, LackNine, Restores, ShowIds, ShowNine, IsMost, ShowsCount, ShowsCountOf, ShowsFigures, ShowsForm, ShowsForm1, ShowsQueued, ShowsTwo};
 ghost use Rattle.dnp_store.specs.declared.figures.Figures.{Figures as FiguresValue};
 
 use crate::fault::Unread;
@@ -79,7 +80,8 @@ pub(crate) fn form1(rows: &[Shown]) -> Option<i64>
 
 /// The number in the only row.
 pub(crate) fn number_of(rows: &[Shown]) -> Option<u64>
-    ensures { IfSome result (λ n. ShowsForm rows.now n) }
+    ensures value { IfSome result (λ n. ShowsForm rows.now n) }
+    ensures found { (n : ℕ) → ShowsForm rows.now n → result ≡ Some n }
 {
     if rows.len() != 1 {
         return None;
@@ -155,14 +157,14 @@ fn is_for(row: &Shown, table: &str) -> bool
 }
 
 /// The rowid of a row that counts for this table, and the number that it notes.
-fn count_in(row: &Shown, table: &str) -> Option<(u64, u64)>
+fn count_in(row: &Shown, table: &str) -> Option<(i64, u64)>
     ensures value { IfSome result (λ x. ShowsCountOf table.now row.now x.0 x.1) }
-    ensures found { (id n : ℕ) → ShowsCountOf table.now row.now id n → result ≡ Some (id, n) }
+    ensures found { (id : ℤ) (n : ℕ) → ShowsCountOf table.now row.now id n → result ≡ Some (id, n) }
 {
     if !is_for(row, table) {
         return None;
     }
-    let id = whole(row, 0)?;
+    let id = signed(row, 0)?;
     let n = whole(row, 2)?;
     Some((id, n))
 }
@@ -184,7 +186,8 @@ fn counted(rows: &[Shown], table: &str) -> Option<u64>
 
 /// The numbers that a row notes for one table and another row for a second, if their ids differ.
 fn pair_in(row: &Shown, other: &Shown, table: &str, second: &str) -> Option<(u64, u64)>
-    ensures { IfSome result (λ n. (id : ℕ) × (next : ℕ) × ShowsCountOf table.now row.now id n.0 × ShowsCountOf second.now other.now next n.1 × (id ≢ next)) }
+    ensures value { IfSome result (λ n. (id : ℤ) × (next : ℤ) × ShowsCountOf table.now row.now id n.0 × ShowsCountOf second.now other.now next n.1 × (id ≢ next)) }
+    ensures found { (id next : ℤ) (n m : ℕ) → ShowsCountOf table.now row.now id n → ShowsCountOf second.now other.now next m → id ≢ next → result ≡ Some (n, m) }
 {
     let (id, n) = count_in(row, table)?;
     let (next, m) = count_in(other, second)?;
@@ -193,7 +196,8 @@ fn pair_in(row: &Shown, other: &Shown, table: &str, second: &str) -> Option<(u64
 
 /// The last ids used that are noted for two tables, 0 where none is, if nothing else is noted and their ids differ.
 fn counted_two(rows: &[Shown], first: &str, second: &str) -> Option<(u64, u64)>
-    ensures { IfSome result (λ n. ShowsTwo first.now second.now rows.now n.0 n.1) }
+    ensures value { IfSome result (λ n. ShowsTwo first.now second.now rows.now n.0 n.1) }
+    ensures found { first.now ≢ second.now → (n m : ℕ) → ShowsTwo first.now second.now rows.now n m → result ≡ Some (n, m) }
 {
     match rows {
         [] => Some((0, 0)),
@@ -214,7 +218,8 @@ fn counted_two(rows: &[Shown], first: &str, second: &str) -> Option<(u64, u64)>
 
 /// The last id used that is noted for a table, and whether nothing else is noted.
 pub(crate) fn noted_alone(counts: &[Shown], table: &str) -> (u64, bool)
-    ensures { IsTrue result.1 → ShowsCount table.now counts.now result.0 }
+    ensures value { IsTrue result.1 → ShowsCount table.now counts.now result.0 }
+    ensures found { (n : ℕ) → ShowsCount table.now counts.now n → result ≡ (n, true) }
 {
     match counted(counts, table) {
         Some(n) => (n, true),
@@ -224,7 +229,8 @@ pub(crate) fn noted_alone(counts: &[Shown], table: &str) -> (u64, bool)
 
 /// The last ids used that are noted for two tables, and whether nothing else is noted, and their ids differ.
 pub(crate) fn two_noted(counts: &[Shown], first: &str, second: &str) -> (u64, u64, bool)
-    ensures { IsTrue result.2 → ShowsTwo first.now second.now counts.now result.0 result.1 }
+    ensures value { IsTrue result.2 → ShowsTwo first.now second.now counts.now result.0 result.1 }
+    ensures found { first.now ≢ second.now → (n m : ℕ) → ShowsTwo first.now second.now counts.now n m → result ≡ (n, m, true) }
 {
     match counted_two(counts, first, second) {
         Some((n, m)) => (n, m, true),
@@ -232,15 +238,26 @@ pub(crate) fn two_noted(counts: &[Shown], first: &str, second: &str) -> (u64, u6
     }
 }
 
+/// The greater of a number and the one that a row notes for this table, if it notes one.
+fn with_noted(row: &Shown, table: &str, so_far: u64) -> u64
+    ensures more { so_far ≤ result }
+    ensures noted { (id : ℤ) (n : ℕ) → ShowsCountOf table.now row.now id n → n ≤ result }
+    ensures least { (most : ℕ) → so_far ≤ most → ((id : ℤ) (n : ℕ) → ShowsCountOf table.now row.now id n → n ≤ most) → result ≤ most }
+{
+    match count_in(row, table) {
+        Some((_id, n)) => so_far.max(n),
+        None => so_far,
+    }
+}
+
 /// The greatest number that is noted for this table, or 0.
 fn greatest(rows: &[Shown], table: &str) -> u64
-    ensures { IsMost table.now rows.now result }
+    ensures most { IsMost table.now rows.now result }
+    ensures least { (n : ℕ) → IsMost table.now rows.now n → result ≤ n }
 {
     let mut greatest = 0;
     for row in rows {
-        if let Some((_id, n)) = count_in(row, table) {
-            greatest = greatest.max(n);
-        }
+        greatest = with_noted(row, table, greatest);
     }
     greatest
 }
@@ -252,17 +269,27 @@ fn is_id(id: u64) -> bool
     id <= MAX_ID
 }
 
+/// Whether the number that is noted is this one.
+fn is_noted(noted: Option<u64>, last: u64) -> bool
+    ensures same { IsTrue result → noted ≡ Some last }
+    ensures found { noted ≡ Some last → IsTrue result }
+{
+    noted == Some(last)
+}
+
 /// The last id used in this table, at most `MAX_ID`, and whether that alone is noted, where this is the
 /// greatest id that stands there.
 pub(crate) fn last_noted(counts: &[Shown], top: u64, table: &str) -> Option<(u64, bool)>
     ensures counted { IfSome result (λ last. (last.0 ≤ limits.MAX_ID) × (IsTrue last.1 → ShowsCount table.now counts.now last.0)) }
     ensures most { IfSome result (λ last. IsMost table.now counts.now last.0) }
     ensures over { IfSome result (λ last. top ≤ last.0) }
+    ensures alone { IfSome result (λ last. (n : ℕ) → ShowsCount table.now counts.now n → top ≤ n → (last.0 ≡ n) × IsTrue last.1) }
+    ensures found { (n : ℕ) → ShowsCount table.now counts.now n → top ≤ n → n ≤ limits.MAX_ID → result ≡ Some (n, true) }
 {
     let noted = counted(counts, table);
     let last = greatest(counts, table).max(top);
     if is_id(last) {
-        Some((last, noted == Some(last)))
+        Some((last, is_noted(noted, last)))
     } else {
         None
     }
@@ -275,12 +302,12 @@ pub(crate) fn last_of_side(
     table: &str,
     noted: u64,
 ) -> Option<(u64, bool)>
-    ensures { IfSome result (λ last. (last.0 ≤ limits.MAX_ID) × (IsTrue last.1 → noted ≡ last.0)) }
+    ensures value { IfSome result (λ last. (last.0 ≤ limits.MAX_ID) × (IsTrue last.1 → noted ≡ last.0)) }
+    ensures found { IsNoted table.now counts.now noted → ShowIds rows.now noted → result ≡ (if nat_le noted limits.MAX_ID then Some (noted, true) else None) }
+    ensures some { IsMost table.now counts.now limits.MAX_ID → ShowIds rows.now limits.MAX_ID → result ≢ None }
+    ensures over { IfSome result (λ last. (n : ℕ) → column (slice_index_or rows.now (length rows.now - 1) []) 0 ≡ Int (pos n) → n ≤ last.0) }
 {
-    let top = match rows.last() {
-        Some(row) => whole(row, 0)?,
-        None => 0,
-    };
+    let top = last_shown(rows)?;
     let last = greatest(counts, table).max(top);
     if is_id(last) {
         Some((last, noted == last))
@@ -289,15 +316,26 @@ pub(crate) fn last_of_side(
     }
 }
 
+/// The id in the last row, which is the greatest where they stand in order, or 0 where there is no row.
+fn last_shown(rows: &[Shown]) -> Option<u64>
+    ensures low { IfSome result (λ last. (n : ℕ) → ShowIds rows.now n → last ≤ n) }
+    ensures found { (n : ℕ) → ShowIds rows.now n → result ≢ None }
+    ensures over { IfSome result (λ last. (n : ℕ) → column (slice_index_or rows.now (length rows.now - 1) []) 0 ≡ Int (pos n) → n ≤ last) }
+{
+    match rows.last() {
+        Some(row) => whole(row, 0),
+        None => Some(0),
+    }
+}
+
 /// The last id used in this table, at most `MAX_ID`, and whether that alone is noted.
 pub(crate) fn last_used(counts: &[Shown], rows: &[Shown], table: &str) -> Option<(u64, bool)>
     ensures counted { IfSome result (λ last. (last.0 ≤ limits.MAX_ID) × (IsTrue last.1 → ShowsCount table.now counts.now last.0)) }
     ensures most { IfSome result (λ last. IsMost table.now counts.now last.0) }
+    ensures alone { IfSome result (λ last. (n : ℕ) → ShowsCount table.now counts.now n → ShowIds rows.now n → (last.0 ≡ n) × IsTrue last.1) }
+    ensures found { (n : ℕ) → ShowsCount table.now counts.now n → ShowIds rows.now n → n ≤ limits.MAX_ID → result ≡ Some (n, true) }
 {
-    let top = match rows.last() {
-        Some(row) => whole(row, 0)?,
-        None => 0,
-    };
+    let top = last_shown(rows)?;
     last_noted(counts, top, table)
 }
 
@@ -350,9 +388,18 @@ pub(crate) fn begun(
     Ok(lanes)
 }
 
+/// An id and an event of a lane, if the lane's event object can carry it.
+fn carried(id: u64, x: LaneRow) -> Option<(u64, LaneRow)>
+    ensures value { IfSome result (λ y. (y.0 ≡ id) × (y.1 ≡ x) × FitsLane x) }
+    ensures found { FitsLane x → IsSome result }
+{
+    if is_carried(&x) { Some((id, x)) } else { None }
+}
+
 /// The row's id, lane and event, if it has them, in their ranges.
 fn queued_in(row: &Shown) -> Option<(u64, LaneRow)>
-    ensures { IfSome result (λ x. ShowsQueued row.now x.0 x.1 × FitsLane x.1) }
+    ensures value { IfSome result (λ x. ShowsQueued row.now x.0 x.1 × FitsLane x.1) }
+    ensures found { (id : ℕ) (x : LaneRowValue) → 5 < length row.now → x.row.flags < 2 ^ 8 → ShowsQueued row.now id x → FitsLane x → IsSome result }
 {
     let id = whole(row, 0)?;
     let lane = Lane::numbered(small(row, 1)? as usize)?;
@@ -369,12 +416,13 @@ fn queued_in(row: &Shown) -> Option<(u64, LaneRow)>
         time,
     };
     let x = LaneRow { lane, row };
-    if is_carried(&x) { Some((id, x)) } else { None }
+    carried(id, x)
 }
 
 /// Puts rows back into their lanes: whether each is as it should be and fits, under ids that rise.
 pub(crate) fn restore_rows(rows: &[Shown], lanes: &mut PlainLanes) -> bool
-    ensures { IsTrue result → Restores 0 rows.now lanes.old lanes.new }
+    ensures put { IsTrue result → Restores 0 rows.now lanes.old lanes.new }
+    ensures fits { (b : EventBuffer) → ((k : ℕ) → k < length rows.now → IsWhole (slice_index_or rows.now k [])) → Restores 0 rows.now lanes.old b → IsTrue result }
 {
     let mut last = 0;
     for row in rows {

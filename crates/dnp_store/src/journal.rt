@@ -1,6 +1,6 @@
 //! A journal in a SQL database.
 
-ghost use Rattle.std.specs.Prelude.{◌≡◌, ◌≢◌, ◌+◌, false, true, IsTrue, [], All, IfOk, IfErr, OnOk, OnErr, length, ◌⊎◌};
+ghost use Rattle.std.specs.Prelude.{◌≡◌, ◌≢◌, ◌≤◌, ◌+◌, false, true, IsTrue, [], All, IfOk, IfErr, OnOk, OnErr, IsOkAnd, length, ◌⊎◌};
 ghost use Rattle.sqlite.specs.Held.{state};
 ghost use Rattle.sqlite.specs.State.{HasCleanDisk};
 ghost use Rattle.dnp_objects.specs.Events.{IsEvent};
@@ -155,6 +155,8 @@ impl<S: Alter> JournalStore for Journal<S> {
         ensures owned { self.new.owned ≡ self.old.owned }
         ensures limit { self.new.conn.step_limit ≡ self.old.conn.step_limit }
         ensures memory { result ≡ Err StoreFault.Memory → true ≡ false → rows_over (held_archive S.Store self.old) from most ≢ [] }
+        // Past the last id nothing is asked of memory or the database.
+        ensures past { self.old.stopped ≡ false → self.old.last_id ≤ from → IsOkAnd result (λ rows. rows.items ≡ []) × (self.new ≡ self.old) }
         ensures named { IfErr result (λ e. e ≢ StoreFault.Exhausted) }
         ensures untouched { IsTrue self.old.stopped → self.new ≡ self.old }
         ensures device { HasCleanDisk (state S.Store self.new.conn) → result ≡ Err StoreFault.Device → IsTrue self.old.stopped ⊎ LosesReading S.Store self.old.conn self.new.conn }

@@ -1,9 +1,9 @@
 //! What rows that queries show of a journal's table say.
 
-ghost use Rattle.std.specs.Prelude.{◌≡◌, ◌<◌, ◌≤◌, ◌^◌, IfOk, IfSome, length, ◌⊎◌, IfErr, Err};
+ghost use Rattle.std.specs.Prelude.{◌≡◌, ◌<◌, ◌≤◌, ℕ, IfOk, IfSome, Some, ◌⊎◌, IfErr, Err};
 ghost use Rattle.dnp_eventbuf.specs.declared.numbered.Numbered.{Numbered as NumberedValue};
 ghost use Rattle.dnp_objects.specs.declared.limits.TheConstants as limits;
-ghost use Rattle.dnp_store.specs.steps.JournalShown.{AreInOrder, HasNoEvent, ShowEvents, ShowsEvent};
+ghost use Rattle.dnp_store.specs.steps.JournalShown.{AreInOrder, HasNoEvent, IsStored, ShowEvents, ShowsEvent};
 
 use crate::decoding::{signed, small, time_in, whole};
 use crate::fault::Unread;
@@ -16,7 +16,7 @@ use std::alloc::Global;
 fn event_in(row: &Shown) -> Option<Numbered>
     ensures value { IfSome result (λ e. ShowsEvent row.now e) }
     ensures timed { IfSome result (λ e. IfSome e.row.time (λ time. time < MAX_TIME)) }
-    ensures found { (e : NumberedValue) → 5 < length row.now → (e.row.index < 2 ^ 16) × (e.row.flags < 2 ^ 8) → IfSome e.row.time (λ time. time < MAX_TIME) → ShowsEvent row.now e → result ≡ Some e }
+    ensures found { (e : NumberedValue) → IsStored row.now e → result ≡ Some e }
 {
     let id = whole(row, 0)?;
     let kind = Kind::numbered(small(row, 1)? as usize)?;
@@ -57,6 +57,7 @@ pub(crate) fn last_in_order(events: &[Numbered], before: u64) -> Option<u64>
     requires { before ≤ limits.MAX_ID }
     ensures range { IfSome result (λ last. (before ≤ last) × (last ≤ limits.MAX_ID)) }
     ensures order { IfSome result (λ last. AreInOrder before last events.now) }
+    ensures found { (last : ℕ) → AreInOrder before last events.now → last ≤ limits.MAX_ID → result ≡ Some last }
 {
     let mut last = before;
     for x in events {

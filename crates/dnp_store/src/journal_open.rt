@@ -1,11 +1,13 @@
 //! How a journal in a SQL database begins, and what stands at its end.
 
-ghost use Rattle.std.specs.Prelude.{◌≡◌, ◌≢◌, ◌↔◌, ◌≤◌, false, not, IsTrue, IfOk, IfErr, IsErrAnd, ◌⊎◌, Err};
+ghost use Rattle.std.specs.Prelude.{◌≡◌, ◌≢◌, ◌&&◌, ◌↔◌, ◌≤◌, false, not, IsTrue, IfOk, IfErr, IsErrAnd, ◌⊎◌, Err};
 ghost use Rattle.sqlite.specs.Held.{Held, state};
 ghost use Rattle.sqlite.specs.State.{HasCleanDisk, Survives};
 ghost use Rattle.sqlite.specs.Steps.{IsEmpty, over_memory};
+ghost use Rattle.dnp_store.specs.Added.{LeavesMade, MakeAll, making_tables};
+ghost use Rattle.dnp_eventbuf.specs.Archive.{Archive};
 ghost use Rattle.dnp_store.specs.JournalKept.{IsHonestJournal, LeavesJournal, JournalStands, held_archive};
-ghost use Rattle.dnp_store.specs.JournalTables.{HoldsArchive, IsJournal, empty_archive};
+ghost use Rattle.dnp_store.specs.JournalTables.{HoldsArchive, IsJournal, IsStorableArchive, empty_archive};
 ghost use Rattle.dnp_store.specs.Refusals.{IsLost, IsTaken};
 ghost use Rattle.dnp_store.specs.Schemas.{made_journal};
 ghost use Rattle.dnp_store.specs.Tables.{no_schema};
@@ -26,6 +28,9 @@ fn find_journal<S: Alter>(
     alloc: Global,
 ) -> Result<(Found, bool), OpenFault>
     ensures found { IsFound S.Store (λ old new found. IsTrue found.1 → IsJournalFound old new found.0.last_id found.0.count) conn.old conn.new result }
+    ensures alone { HasCleanDisk (state S.Store conn.new) → IfOk result (λ found. (a : Archive) → IsJournal (state S.Store conn.old).committed a → IsTrue found.1) }
+    ensures wrong_form { HasCleanDisk (state S.Store conn.new) → IfErr result (λ fault. fault ≡ OpenFault.WrongForm → IsTrue conn.old.in_transaction
+        ⊎ ((a : Archive) → IsStorableArchive a → IsJournal (state S.Store conn.old).committed a → ⊥)) }
     ensures range { IfOk result (λ found. (found.0.last_id ≤ limits.MAX_ID) × (found.0.count ≤ found.0.last_id)) }
 {
     if !conn.is_autocommit() {
@@ -36,8 +41,8 @@ fn find_journal<S: Alter>(
 }
 
 impl<S: Alter> Journal<S> {
-    /// Makes a journal without rows in the database. Other tables are left alone, but the journal promises
-    /// to hold its rows only where there are none.
+    /// Makes a journal without rows in the database. Beside other tables the same statements run, in
+    /// one transaction, and no others; but the journal promises to hold its rows only where there are none.
     ///
     /// WrongForm where a name of its tables is taken, or the connection is inside a transaction; else
     /// Memory or Device. A refusal hands the connection back, with the database as it was.
@@ -51,8 +56,9 @@ impl<S: Alter> Journal<S> {
         ensures handed_back { IfErr result (λ e. (e.1.in_transaction ≡ conn.in_transaction) × (e.1.step_limit ≡ conn.step_limit)) }
         ensures same { IfErr result (λ e. HasCleanDisk (state S.Store e.1) → IsTrue (state S.Store e.1).is_open → (state S.Store e.1).committed ≡ (state S.Store conn).committed) }
         ensures schema { IfOk result (λ j. HasCleanDisk (state S.Store j.conn) → IsTrue j.owned → (state S.Store j.conn).committed.schema ≡ made_journal) }
-        ensures made { IfOk result (λ j. Survives (state S.Store conn) (state S.Store j.conn) (λ db. (state S.Store conn).now.schema ≡ no_schema → HoldsArchive db empty_archive)) }
-        ensures left { IfErr result (λ e. Survives (state S.Store conn) (state S.Store e.1) (λ db. (state S.Store conn).now.schema ≡ no_schema → HoldsArchive db empty_archive)) }
+        ensures added { IfOk result (λ j. HasCleanDisk (state S.Store j.conn) → MakeAll S.Store (making_tables StoreKind.Journal) (state S.Store conn).now (state S.Store j.conn).committed) }
+        ensures made { IfOk result (λ j. Survives (state S.Store conn) (state S.Store j.conn) (LeavesMade S.Store (making_tables StoreKind.Journal) (λ db. HoldsArchive db empty_archive) (state S.Store conn).now)) }
+        ensures left { IfErr result (λ e. Survives (state S.Store conn) (state S.Store e.1) (LeavesMade S.Store (making_tables StoreKind.Journal) (λ db. HoldsArchive db empty_archive) (state S.Store conn).now)) }
         ensures device { IfErr result (λ e. HasCleanDisk (state S.Store e.1) → e.0 ≡ OpenFault.Device → IsLost S.Store StoreKind.Journal conn e.1) }
         ensures taken { IfErr result (λ e. HasCleanDisk (state S.Store e.1) → e.0 ≡ OpenFault.WrongForm → IsTrue conn.in_transaction ⊎ IsTaken S.Store StoreKind.Journal conn e.1) }
     {
@@ -78,8 +84,8 @@ impl<S: Alter> Journal<S> {
         !self.stopped
     }
 
-    /// Whether the database had no tables but the journal's own as it began or opened. Where it had, the
-    /// journal works alike, and promises nothing of its rows.
+    /// Whether the database had no tables but the journal's own as it began or opened. Where it had, the journal works
+    /// alike, and counts its rows; of what stands in the database nothing is promised.
     pub fn owns_database(&self) -> bool
         ensures { result ≡ self.now.owned }
     {
@@ -100,21 +106,24 @@ impl<S: Alter> Journal<S> {
         ensures held { IfOk result (λ j. HasCleanDisk (state S.Store j.conn) → HasCleanDisk (state S.Store conn)) }
         ensures serves { IfOk result (λ j. j.stopped ≡ false) }
         ensures found { IfOk result (λ j. HasCleanDisk (state S.Store j.conn) → IsTrue j.owned → IsJournal (state S.Store conn).committed (held_archive S.Store j)) }
+        ensures owned { IfOk result (λ j. HasCleanDisk (state S.Store j.conn) → (a : Archive) → IsJournal (state S.Store conn).committed a → IsTrue j.owned) }
         ensures stands { IfOk result (λ j. HasCleanDisk (state S.Store j.conn) → IsTrue j.owned → JournalStands (state S.Store j.conn) (held_archive S.Store j)) }
         ensures same { IfErr result (λ e. HasCleanDisk (state S.Store e.1) → IsTrue (state S.Store e.1).is_open → (state S.Store e.1).committed ≡ (state S.Store conn).committed) }
         ensures unwritten { IfOk result (λ j. Survives (state S.Store conn) (state S.Store j.conn) (λ _. ⊥)) }
         ensures left { IfErr result (λ e. Survives (state S.Store conn) (state S.Store e.1) (λ _. ⊥)) }
         ensures handed_back { IfErr result (λ e. (e.1.in_transaction ≡ conn.in_transaction) × (e.1.step_limit ≡ conn.step_limit)) }
         ensures current { IfErr result (λ e. e.0 ≢ OpenFault.OldForm) }
+        ensures wrong_form { IfErr result (λ e. HasCleanDisk (state S.Store e.1) → e.0 ≡ OpenFault.WrongForm → IsTrue conn.in_transaction
+            ⊎ ((a : Archive) → IsStorableArchive a → IsJournal (state S.Store conn).committed a → ⊥)) }
     {
         let mut conn = conn;
         match find_journal(&mut conn, alloc) {
             Ok((found, owned)) => Ok(Journal {
                 conn,
-                last_id: found.last_id,
-                count: found.count,
                 owned,
                 stopped: false,
+                last_id: found.last_id,
+                count: found.count,
             }),
             Err(fault) => Err((fault, conn)),
         }
@@ -143,7 +152,8 @@ impl Journal<MemStore> {
     /// Whether the journal is honest still: it has not answered Device, and its database is its own. So
     /// what was promised under that premise held up to this moment.
     pub fn is_well(&self) -> bool
-        ensures { IsTrue result → IsHonestJournal over_memory self.now }
+        ensures well { IsTrue result → IsHonestJournal over_memory self.now }
+        ensures told { result ≡ (not self.now.stopped && self.now.owned) }
     {
         self.serves() && self.owns_database()
     }

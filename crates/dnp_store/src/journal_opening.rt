@@ -1,21 +1,22 @@
 //! The count and the last id of a journal that a database holds.
 
-ghost use Rattle.std.specs.Prelude.{◌≡◌, ◌≤◌, false, IsTrue, Ok, OnOk, IfOk, List, codes};
+ghost use Rattle.std.specs.Prelude.{◌≡◌, ◌≤◌, ◌↔◌, ℕ, false, IsTrue, Err, Ok, OnOk, IfErr, IfOk, List, codes};
 ghost use Rattle.sqlite.specs.Effect.{IsDatabase};
 ghost use Rattle.sqlite.specs.Held.{state};
 ghost use Rattle.sqlite.specs.State.{HasCleanDisk, Survives};
 ghost use Rattle.sqlite.specs.Term.{Term};
 ghost use Rattle.dnp_objects.specs.declared.limits.TheConstants as limits;
+ghost use Rattle.dnp_eventbuf.specs.Archive.{Archive};
+ghost use Rattle.dnp_store.specs.Faults.{is_wrong};
 ghost use Rattle.dnp_store.specs.steps.Inside.{IsInside, IsStep};
 ghost use Rattle.dnp_store.specs.steps.JournalShown.{Finds};
 ghost use Rattle.dnp_store.specs.steps.Shown.{ShowsCount};
-ghost use Rattle.dnp_store.specs.JournalTables.{journal_schema};
+ghost use Rattle.dnp_store.specs.JournalTables.{IsJournal, IsStorableArchive, journal_schema};
 
 use crate::decoding::last_noted;
 use crate::fault::Unread;
 use crate::journal_paging::{Gathered, read_logged};
-use crate::queue_opening::both;
-use crate::store_form::is_of_three;
+use crate::store_form::{is_of_three, is_own};
 use crate::store_kind::StoreKind;
 use crate::stores::read_begun;
 use sqlite::{Alter, Connection, Row, Transaction};
@@ -38,6 +39,8 @@ fn found_in(counts: &[Row], logged: Gathered) -> Result<Found, Unread>
     ensures range { IfOk result (λ found. (found.last_id ≤ limits.MAX_ID) × (found.count ≤ found.last_id)) }
     ensures logged { IfOk result (λ found. (found.count ≡ logged.count) × (logged.last ≤ found.last_id)) }
     ensures counted { IfOk result (λ found. IsTrue found.counted → ShowsCount (codes "journal") counts.now found.last_id) }
+    ensures alone { IfOk result (λ found. (n : ℕ) → ShowsCount (codes "journal") counts.now n → logged.last ≤ n → IsTrue found.counted) }
+    ensures wrong { IfErr result (λ _. (n : ℕ) → ShowsCount (codes "journal") counts.now n → logged.last ≤ n → n ≤ limits.MAX_ID → ⊥) }
 {
     match last_noted(counts, logged.last, "journal") {
         Some((last_id, counted)) => Ok(Found {
@@ -52,10 +55,11 @@ fn found_in(counts: &[Row], logged: Gathered) -> Result<Found, Unread>
 /// What was found, and whether it is the database's own.
 fn owned_by(found: Result<Found, Unread>, ours: bool) -> Result<(Found, bool), Unread>
     ensures found { IfOk result (λ owned. found ≡ Ok owned.0) }
-    ensures owned { IfOk result (λ owned. IsTrue owned.1 → IsTrue ours × IsTrue owned.0.counted) }
+    ensures refused { IfErr result (λ unread. found ≡ Err unread) }
+    ensures owned { IfOk result (λ owned. IsTrue owned.1 ↔ (IsTrue ours × IsTrue owned.0.counted)) }
 {
     match found {
-        Ok(found) => Ok((found, both(ours, found.counted))),
+        Ok(found) => Ok((found, is_own(ours, found.counted))),
         Err(unread) => Err(unread),
     }
 }
@@ -68,6 +72,10 @@ fn read_all<S: Alter>(tx: &mut Transaction<'_, S>, alloc: Global) -> Result<Foun
     ensures range { IfOk result (λ found. (found.last_id ≤ limits.MAX_ID) × (found.count ≤ found.last_id)) }
     ensures read { HasCleanDisk (state S.Store tx.new.conn.now) → IfOk result (λ found. IsTrue found.counted → (f j : List Term) → IsDatabase (state S.Store tx.old.conn.now).now
         → (state S.Store tx.old.conn.now).now.schema ≡ journal_schema f j → Finds (state S.Store tx.old.conn.now).now found.last_id found.count) }
+    ensures alone { HasCleanDisk (state S.Store tx.new.conn.now) → IfOk result (λ found. (a : Archive) → IsDatabase (state S.Store tx.old.conn.now).now
+        → IsJournal (state S.Store tx.old.conn.now).now a → IsTrue found.counted) }
+    ensures denies { HasCleanDisk (state S.Store tx.new.conn.now) → IfErr result (λ unread. IsTrue (is_wrong unread) → IsTrue (state S.Store tx.old.conn.now).is_open
+        × ((a : Archive) → IsStorableArchive a → IsDatabase (state S.Store tx.old.conn.now).now → IsJournal (state S.Store tx.old.conn.now).now a → ⊥)) }
 {
     let counts = read_begun(tx)?;
     let logged = read_logged(tx, alloc)?;
@@ -83,6 +91,8 @@ pub(crate) fn read_journal<S: Alter>(
     ensures idle { conn.new.in_transaction ≡ false }
     ensures range { IfOk result (λ found. (found.0.last_id ≤ limits.MAX_ID) × (found.0.count ≤ found.0.last_id)) }
     ensures read { HasCleanDisk (state S.Store conn.new) → IfOk result (λ found. IsTrue found.1 → Finds (state S.Store conn.old).committed found.0.last_id found.0.count) }
+    ensures alone { HasCleanDisk (state S.Store conn.new) → IfOk result (λ found. (a : Archive) → IsJournal (state S.Store conn.old).committed a → IsTrue found.1) }
+    ensures denies { HasCleanDisk (state S.Store conn.new) → IfErr result (λ unread. IsTrue (is_wrong unread) → (a : Archive) → IsStorableArchive a → IsJournal (state S.Store conn.old).committed a → ⊥) }
     ensures same { HasCleanDisk (state S.Store conn.new) → IsTrue (state S.Store conn.new).is_open
         → IsTrue (state S.Store conn.old).is_open × ((state S.Store conn.new).committed ≡ (state S.Store conn.old).committed) }
     ensures survives { Survives (state S.Store conn.old) (state S.Store conn.new) (λ _. ⊥) }

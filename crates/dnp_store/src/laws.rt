@@ -1,16 +1,23 @@
 //! Laws of the words of `specs/`: each function does nothing, and its contract is a law.
 
-ghost use Rattle.std.specs.Prelude.{◌≡◌, ◌⊎◌};
+ghost use Rattle.std.specs.Prelude.{◌≡◌, ◌⊎◌, ℕ, List, Some, codes, find};
+ghost use Rattle.sqlite.specs.Effect.{Database};
 ghost use Rattle.sqlite.specs.Tree.{Trees};
+ghost use Rattle.sqlite.specs.Table.{Table};
+ghost use Rattle.sqlite_schema.specs.Names.{same_name};
 ghost use Rattle.dnp_controls.specs.Book.{Ledger, IsSoundLedger as IsSoundBook};
 ghost use Rattle.dnp_eventbuf.specs.Archive.{Archive};
 ghost use Rattle.dnp_eventbuf.specs.Sound.{IsSoundBuffer};
 ghost use Rattle.dnp_eventbuf.specs.EventBuffer.{EventBuffer};
+ghost use Rattle.dnp_store.specs.Added.{AreMadeBy, KeepsTables, KeepsTablesBut, ListsTables, MakeAll, NoneNames, NonePoints, making_queue, making_second, making_tables};
+ghost use Rattle.dnp_store.specs.declared.store_kind.StoreKind.{StoreKind};
 ghost use Rattle.dnp_store.specs.BookTables.{HoldsBook};
 ghost use Rattle.dnp_store.specs.JournalTables.{HoldsArchive};
 ghost use Rattle.dnp_store.specs.QueueKept.{AreSound};
 ghost use Rattle.dnp_store.specs.PairTables.{HoldsPair, Sides};
 ghost use Rattle.dnp_store.specs.QueueTables.{HoldsBuffer};
+
+use sqlite::Alter;
 
 /// A database holds one content: the lanes of a queue, the events of a journal, the entries of a book.
 pub fn a_database_holds_one_content()
@@ -27,4 +34,21 @@ pub fn what_opens_is_before_or_after()
     ensures sides { (db : Trees) (before after opened : Sides) → AreSound before → AreSound after → AreSound opened → HoldsPair db before ⊎ HoldsPair db after → HoldsPair db opened → (opened ≡ before) ⊎ (opened ≡ after) }
     ensures archive { (db : Trees) (before after opened : Archive) → HoldsArchive db before ⊎ HoldsArchive db after → HoldsArchive db opened → (opened ≡ before) ⊎ (opened ≡ after) }
     ensures ledger { (db : Trees) (before after opened : Ledger) → IsSoundBook before → IsSoundBook after → IsSoundBook opened → HoldsBook db before ⊎ HoldsBook db after → HoldsBook db opened → (opened ≡ before) ⊎ (opened ≡ after) }
+{}
+
+/// What the store's own statements make of a database keeps the rows of each table that stood there. Those of a journal and a book, and
+/// the first of a queue's, do so whatever stands beside; the last of a queue's changes `form`, and so nothing beside where no foreign
+/// key names that. Those of a migration keep each table but `form` itself, where no foreign key points to it.
+pub fn making_keeps_other_tables<S: Alter>()
+    ensures tables { (kind : StoreKind) (before : Database) (trees : Trees) → AreMadeBy S.Store (making_tables kind) before trees → KeepsTables before trees }
+    ensures queue { (first second : List ℕ) (before : Database) (trees : Trees) → NoneNames (codes "form") before.schema → AreMadeBy S.Store (making_queue first second) before trees → KeepsTables before trees }
+    ensures second { (capacities : List ℕ) (before : Database) (form : Table) (trees : Trees) → find (λ t. same_name t.name (codes "form")) before.schema.tables ≡ Some form → NonePoints form.tree before.schema
+        → AreMadeBy S.Store (making_second capacities) before trees → KeepsTablesBut form.tree before trees }
+{}
+
+/// They take no table away, whatever stands there.
+pub fn making_lists_other_tables<S: Alter>()
+    ensures tables { (kind : StoreKind) (before after : Database) → MakeAll S.Store (making_tables kind) before after → ListsTables before after }
+    ensures queue { (first second : List ℕ) (before after : Database) → MakeAll S.Store (making_queue first second) before after → ListsTables before after }
+    ensures second { (capacities : List ℕ) (before after : Database) → MakeAll S.Store (making_second capacities) before after → ListsTables before after }
 {}

@@ -1,17 +1,19 @@
 //! Stores on databases: how they begin.
 
-ghost use Rattle.std.specs.Prelude.{◌≡◌, ◌≢◌, ◌⊎◌, ◌||◌, List, ◌↔◌, ◌≤◌, true, false, not, if◌then◌else◌, All, IsTrue, IfOk, IfErr, IsErrAnd, IfSome, OnErr, OnOk, Err};
+ghost use Rattle.std.specs.Prelude.{◌≡◌, ◌≢◌, ◌⊎◌, ◌&&◌, List, ◌↔◌, ◌≤◌, true, false, not, if◌then◌else◌, All, IsTrue, IfOk, IfErr, IsErrAnd, IfSome, OnErr, OnOk, Err};
 ghost use Rattle.sqlite.specs.Held.{Held, state};
 ghost use Rattle.sqlite.specs.State.{HasCleanDisk, Survives};
 ghost use Rattle.sqlite.specs.Term.{Term};
 ghost use Rattle.sqlite.specs.Steps.{IsEmpty, over_memory};
 ghost use Rattle.dnp_eventbuf.specs.Sound.{IsSoundBuffer};
 ghost use Rattle.dnp_eventbuf.specs.EventBuffer.{EventBuffer, empty_buffer};
+ghost use Rattle.dnp_store.specs.Added.{LeavesMade, LeavesSecond, MakeAll, making_queue, making_second, making_tables};
 ghost use Rattle.dnp_store.specs.Faults.{IsCut, RefusesNothing, is_out_of_memory, is_wrong};
 ghost use Rattle.dnp_store.specs.QueueKept.{AreSound, IsHonestQueue, LeavesQueue, QueueStands};
-ghost use Rattle.dnp_store.specs.PairTables.{HoldsMigrated, HoldsPair, IsPair, Sides, migrated};
-ghost use Rattle.dnp_store.specs.QueueTables.{IsQueue, queue_schema};
-ghost use Rattle.dnp_store.specs.Refusals.{IsLost, IsTaken};
+ghost use Rattle.dnp_store.specs.PairTables.{HoldsPair, IsPair, Sides, migrated};
+ghost use Rattle.dnp_store.specs.QueueOpens.{HoldsOne, HoldsTwo};
+ghost use Rattle.dnp_store.specs.QueueTables.{IsQueue, IsUncounted, queue_schema};
+ghost use Rattle.dnp_store.specs.Refusals.{IsLost, IsNumbered, IsTaken};
 ghost use Rattle.dnp_store.specs.Schemas.{made_pair};
 ghost use Rattle.dnp_store.specs.steps.Beginning.{IsMade, IsServed, IsTold};
 ghost use Rattle.dnp_store.specs.steps.Stores.{HasNumber, IsFresh};
@@ -142,12 +144,27 @@ pub(crate) fn told<S: Alter>(
     }
 }
 
+/// What a store answers that was to make tables whose names are free: where it didn't, Memory or Device.
+pub(crate) fn written<S: Alter>(
+    conn: &mut Connection<S>,
+    done: Result<(), Error>,
+) -> Result<(), OpenFault>
+    requires { conn.old.in_transaction ≡ false }
+    ensures told { IsTold S.Store conn.old conn.new done result }
+    ensures named { IfErr result (λ fault. fault ≢ OpenFault.WrongForm) }
+{
+    match done {
+        Ok(()) => Ok(()),
+        Err(error) => Err(open_fault(false, is_lost(conn, &error))),
+    }
+}
+
 /// Makes the tables of a journal or a book, and tells whether nothing else stands in the database.
 pub(crate) fn begin_tables<S: Alter>(
     conn: &mut Connection<S>,
     kind: StoreKind,
 ) -> Result<bool, OpenFault>
-    ensures { IsMade S.Store kind IsFresh (λ s. IsTrue s.is_open × HasNumber kind s.committed) (λ owned. owned) conn.old conn.new result }
+    ensures { IsMade S.Store kind (making_tables kind) IsFresh (λ s. IsTrue s.is_open × HasNumber kind s.committed) (λ owned. owned) conn.old conn.new result }
 {
     if !conn.is_autocommit() {
         return Err(OpenFault::WrongForm);
@@ -162,8 +179,8 @@ pub(crate) fn begin_tables<S: Alter>(
 
 impl<S: Alter> Queue<S> {
     /// Makes empty lanes in the database for two centres, which take this many rows each, 1 to `MAX_CAPACITY`: those
-    /// for the first, and those for the second. Other tables are left alone, but the lanes promise to hold their
-    /// rows only where there are none.
+    /// for the first, and those for the second. Beside other tables the same statements run, in one
+    /// transaction, and no others; but the lanes promise to hold their rows only where there are none.
     ///
     /// WrongForm where a name of its tables is taken, or the connection is inside a transaction; else
     /// Memory or Device. A refusal hands the connection back, with the database as it was.
@@ -182,8 +199,9 @@ impl<S: Alter> Queue<S> {
         ensures stands { IfOk result (λ q. HasCleanDisk (state S.Store q.conn) → IsTrue q.owned → QueueStands (state S.Store q.conn) q.sides) }
         ensures same { IfErr result (λ e. HasCleanDisk (state S.Store e.1) → IsTrue (state S.Store e.1).is_open → (state S.Store e.1).committed ≡ (state S.Store conn).committed) }
         ensures schema { IfOk result (λ q. HasCleanDisk (state S.Store q.conn) → IsTrue q.owned → (state S.Store q.conn).committed.schema ≡ made_pair) }
-        ensures made { IfOk result (λ q. Survives (state S.Store conn) (state S.Store q.conn) (λ db. (state S.Store conn).now.schema ≡ no_schema → HoldsPair db (record { first = empty_buffer first; second = empty_buffer second }))) }
-        ensures left { IfErr result (λ e. Survives (state S.Store conn) (state S.Store e.1) (λ db. (state S.Store conn).now.schema ≡ no_schema → HoldsPair db (record { first = empty_buffer first; second = empty_buffer second }))) }
+        ensures added { IfOk result (λ q. HasCleanDisk (state S.Store q.conn) → MakeAll S.Store (making_queue first second) (state S.Store conn).now (state S.Store q.conn).committed) }
+        ensures made { IfOk result (λ q. Survives (state S.Store conn) (state S.Store q.conn) (LeavesMade S.Store (making_queue first second) (λ db. HoldsPair db (record { first = empty_buffer first; second = empty_buffer second })) (state S.Store conn).now)) }
+        ensures left { IfErr result (λ e. Survives (state S.Store conn) (state S.Store e.1) (LeavesMade S.Store (making_queue first second) (λ db. HoldsPair db (record { first = empty_buffer first; second = empty_buffer second })) (state S.Store conn).now)) }
         ensures handed_back { IfErr result (λ e. (e.1.in_transaction ≡ conn.in_transaction) × (e.1.step_limit ≡ conn.step_limit)) }
         ensures device { IfErr result (λ e. HasCleanDisk (state S.Store e.1) → e.0 ≡ OpenFault.Device → IsLost S.Store StoreKind.Queue conn e.1) }
         ensures taken { IfErr result (λ e. HasCleanDisk (state S.Store e.1) → e.0 ≡ OpenFault.WrongForm → IsTrue conn.in_transaction ⊎ IsTaken S.Store StoreKind.Queue conn e.1) }
@@ -206,9 +224,8 @@ impl<S: Alter> Queue<S> {
     /// OldForm where a queue for one centre would open, which `migrate` takes. WrongForm where a table or a column of theirs
     /// is missing; where `form` isn't one row with the number 2, or `lanes` or `lanes_b` isn't its nine rows; where a value
     /// isn't a whole number in its column's range, an id isn't in 1 to `MAX_ID`, a lane holds more rows than its
-    /// capacity, or a row that its event object can't carry; where nothing but a queue for one centre stands there, and
-    /// `sqlite_sequence` doesn't count its ids as it should; or where the connection is inside a transaction. Else Memory or Device. A refusal hands the
-    /// connection back, with the database as it was.
+    /// capacity, or a row that its event object can't carry; or where the connection is inside a transaction. Else Memory
+    /// or Device. A refusal hands the connection back, with the database as it was.
     pub fn open(alloc: Global, conn: Connection<S>) -> Result<Queue<S>, (OpenFault, Connection<S>)>
         ensures inside { IsTrue conn.in_transaction → IsErrAnd result (λ e. (e.0 ≡ OpenFault.WrongForm) × (e.1 ≡ conn)) }
         ensures held { IfOk result (λ q. HasCleanDisk (state S.Store q.conn) → HasCleanDisk (state S.Store conn)) }
@@ -219,9 +236,15 @@ impl<S: Alter> Queue<S> {
         ensures unwritten { IfOk result (λ q. Survives (state S.Store conn) (state S.Store q.conn) (λ _. ⊥)) }
         ensures left { IfErr result (λ e. Survives (state S.Store conn) (state S.Store e.1) (λ _. ⊥)) }
         ensures handed_back { IfErr result (λ e. (e.1.in_transaction ≡ conn.in_transaction) × (e.1.step_limit ≡ conn.step_limit)) }
+        ensures owned { IfOk result (λ q. HasCleanDisk (state S.Store q.conn) → (sides : Sides) → IsPair (state S.Store conn).committed sides → IsTrue q.owned) }
+        ensures current { IfOk result (λ q. HasCleanDisk (state S.Store q.conn) → IsNumbered S.Store 2 (state S.Store conn).committed) }
+        ensures numbered { IfErr result (λ e. HasCleanDisk (state S.Store e.1) → e.0 ≡ OpenFault.OldForm → IsNumbered S.Store 1 (state S.Store conn).committed) }
         ensures old_form { IfErr result (λ e. HasCleanDisk (state S.Store e.1) → e.0 ≡ OpenFault.OldForm → (f q l : List Term) → (state S.Store conn).committed.schema ≡ queue_schema f q l
-            → (buffer : EventBuffer) × IsQueue (state S.Store conn).committed buffer) }
+            → (buffer : EventBuffer) × IsUncounted (state S.Store conn).committed buffer) }
         ensures not_old { IfErr result (λ e. HasCleanDisk (state S.Store e.1) → e.0 ≡ OpenFault.OldForm → (sides : Sides) → IsPair (state S.Store conn).committed sides → ⊥) }
+        ensures not_new { IfOk result (λ q. HasCleanDisk (state S.Store q.conn) → (buffer : EventBuffer) → IsQueue (state S.Store conn).committed buffer → ⊥) }
+        ensures wrong_form { IfErr result (λ e. HasCleanDisk (state S.Store e.1) → e.0 ≡ OpenFault.WrongForm → IsTrue conn.in_transaction
+            ⊎ (HoldsTwo (state S.Store conn).committed ⊎ HoldsOne (state S.Store conn).committed → ⊥)) }
     {
         let mut conn = conn;
         match open_lanes(&mut conn, alloc) {
@@ -240,8 +263,7 @@ impl<S: Alter> Queue<S> {
     /// before, in one transaction: they are the first centre's, and the second's are empty and take this many rows each, 1
     /// to `MAX_CAPACITY`. Where it holds them for two, nothing is written.
     ///
-    /// WrongForm where `open` answers it, but for a queue for one centre whose ids aren't counted, or where the name of a
-    /// table for the second centre is taken; else Memory or Device. A refusal hands the connection back, with the
+    /// WrongForm where `open` answers it, or where the name of a table for the second centre is taken; else Memory or Device. A refusal hands the connection back, with the
     /// database as it was.
     pub fn migrate(
         alloc: Global,
@@ -253,14 +275,20 @@ impl<S: Alter> Queue<S> {
         ensures held { IfOk result (λ q. HasCleanDisk (state S.Store q.conn) → HasCleanDisk (state S.Store conn)) }
         ensures serves { IfOk result (λ q. q.stopped ≡ false) }
         ensures current { IfErr result (λ e. e.0 ≢ OpenFault.OldForm) }
+        ensures owned { IfOk result (λ q. HasCleanDisk (state S.Store q.conn) → (sides : Sides) → IsPair (state S.Store conn).committed sides → IsTrue q.owned) }
+        ensures owned_old { IfOk result (λ q. HasCleanDisk (state S.Store q.conn) → (buffer : EventBuffer) → IsQueue (state S.Store conn).committed buffer → IsTrue q.owned) }
         ensures migrated { IfOk result (λ q. HasCleanDisk (state S.Store q.conn) → IsTrue q.owned → (buffer : EventBuffer) → IsSoundBuffer buffer → IsQueue (state S.Store conn).committed buffer → q.sides ≡ migrated buffer capacities) }
         ensures kept { IfOk result (λ q. HasCleanDisk (state S.Store q.conn) → IsTrue q.owned → (sides : Sides) → AreSound sides → IsPair (state S.Store conn).committed sides → q.sides ≡ sides) }
         ensures stands { IfOk result (λ q. HasCleanDisk (state S.Store q.conn) → IsTrue q.owned → QueueStands (state S.Store q.conn) q.sides) }
         ensures same { IfErr result (λ e. HasCleanDisk (state S.Store e.1) → IsTrue (state S.Store e.1).is_open → (state S.Store e.1).committed ≡ (state S.Store conn).committed) }
-        ensures made { IfOk result (λ q. Survives (state S.Store conn) (state S.Store q.conn) (HoldsMigrated (state S.Store conn).committed capacities)) }
-        ensures left { IfErr result (λ e. Survives (state S.Store conn) (state S.Store e.1) (HoldsMigrated (state S.Store conn).committed capacities)) }
+        ensures added { IfOk result (λ q. HasCleanDisk (state S.Store q.conn) → ((state S.Store q.conn).committed ≡ (state S.Store conn).committed)
+            ⊎ MakeAll S.Store (making_second capacities) (state S.Store conn).committed (state S.Store q.conn).committed) }
+        ensures made { IfOk result (λ q. Survives (state S.Store conn) (state S.Store q.conn) (LeavesSecond S.Store (state S.Store conn).committed capacities)) }
+        ensures left { IfErr result (λ e. Survives (state S.Store conn) (state S.Store e.1) (LeavesSecond S.Store (state S.Store conn).committed capacities)) }
         ensures unwritten { IfOk result (λ q. (sides : Sides) → IsPair (state S.Store conn).committed sides → Survives (state S.Store conn) (state S.Store q.conn) (λ _. ⊥)) }
         ensures unwritten_too { IfErr result (λ e. (sides : Sides) → IsPair (state S.Store conn).committed sides → Survives (state S.Store conn) (state S.Store e.1) (λ _. ⊥)) }
+        ensures wrong_form { IfErr result (λ e. HasCleanDisk (state S.Store e.1) → e.0 ≡ OpenFault.WrongForm → IsTrue conn.in_transaction
+            ⊎ (HoldsTwo (state S.Store conn).committed ⊎ HoldsOne (state S.Store conn).committed → ⊥)) }
         ensures handed_back { IfErr result (λ e. (e.1.in_transaction ≡ conn.in_transaction) × (e.1.step_limit ≡ conn.step_limit)) }
     {
         let mut conn = conn;
@@ -285,8 +313,8 @@ impl<S: Alter> Queue<S> {
         !self.stopped
     }
 
-    /// Whether the database had no tables but the queue's own as it began or opened. Where it had, the
-    /// queue works alike, and promises nothing of its rows.
+    /// Whether the database had no tables but the queue's own as it began or opened. Where it had, the queue works
+    /// alike, and answers by its rows in memory; of those in the database nothing is promised.
     pub fn owns_database(&self) -> bool
         ensures { result ≡ self.now.owned }
     {
@@ -322,7 +350,8 @@ impl Queue<MemStore> {
     /// Whether the queue is honest still: it has not answered Device, and its database is its own. So what
     /// was promised under that premise held up to this moment.
     pub fn is_well(&self) -> bool
-        ensures { IsTrue result → IsHonestQueue over_memory self.now }
+        ensures well { IsTrue result → IsHonestQueue over_memory self.now }
+        ensures told { result ≡ (not self.now.stopped && self.now.owned) }
     {
         self.serves() && self.owns_database()
     }

@@ -1,16 +1,19 @@
 //! What the tables of a queue show, each query inside a transaction.
 
-ghost use Rattle.std.specs.Prelude.{◌≡◌, ◌<◌, ℕ, IsTrue, OnOk, IfOk, [], length};
+ghost use Rattle.std.specs.Prelude.{◌≡◌, ◌<◌, ℕ, ⊤, IsTrue, List, OnOk, IfErr, IfOk, [], length};
 ghost use Rattle.std.specs.List.Sorted.{IsPermutation};
 ghost use Rattle.sqlite.specs.Held.{state};
 ghost use Rattle.sqlite.specs.State.{HasCleanDisk};
+ghost use Rattle.sqlite.specs.Order.{Row as SqlRow};
 ghost use Rattle.dnp_objects.specs.declared.limits.TheConstants as limits;
 ghost use Rattle.dnp_eventbuf.specs.EventBuffer.{EventBuffer, lane_at};
 ghost use Rattle.dnp_store.specs.steps.Inside.{IsInside, IsStep};
 ghost use Rattle.dnp_store.specs.PairTables.{lanes_tree, rows_tree};
-ghost use Rattle.dnp_store.specs.QueueTables.{figures_rows};
-ghost use Rattle.dnp_store.specs.steps.Pairs.{ReadsSide};
-ghost use Rattle.dnp_store.specs.steps.Shown.{AreNine, PutBack, Restores};
+ghost use Rattle.dnp_store.specs.QueueOpens.{MayStand};
+ghost use Rattle.dnp_store.specs.QueueTables.{Figures as FiguresValue, figures_rows};
+ghost use Rattle.dnp_store.specs.steps.Pairs.{HasSide, HoldsAmong, ReadsSide};
+ghost use Rattle.dnp_store.specs.steps.QueueDenied.{CanStand, DeniesSide, SideStands};
+ghost use Rattle.dnp_store.specs.steps.Shown.{AreNine, PutBack, Restores, ShowIds};
 ghost use Rattle.dnp_store.specs.Texts.{lanes_select, rows_select};
 
 use crate::decoding::all_figures;
@@ -42,6 +45,7 @@ pub(crate) fn read_figures<S: Alter>(
     ensures in_range { IfOk result AreNine }
     ensures read { HasCleanDisk (state S.Store tx.new.conn.now) → IfOk result (λ figures. ReadsSide side (state S.Store tx.old.conn.now) (state S.Store tx.new.conn.now)
         (λ db. IsPermutation (figures_rows 0 figures) (db (lanes_tree side)))) }
+    ensures denies { HasCleanDisk (state S.Store tx.new.conn.now) → IfErr result (λ unread. DeniesSide side (state S.Store tx.old.conn.now) unread (SideStands side)) }
 {
     let rows = list(tx, lanes_query(side))?;
     all_figures(&rows)
@@ -57,6 +61,11 @@ pub(crate) fn read_queued<S: Alter>(
     ensures open { HasCleanDisk (state S.Store tx.new.conn.now) → OnOk result (IsTrue (state S.Store tx.old.conn.now).is_open) }
     ensures read { HasCleanDisk (state S.Store tx.new.conn.now) → IfOk result (λ rows. ReadsSide side (state S.Store tx.old.conn.now) (state S.Store tx.new.conn.now) (λ db. (a b : EventBuffer) → length a.lanes ≡ limits.LANES
         → ((k : ℕ) → k < limits.LANES → (lane_at a k).rows ≡ []) → Restores 0 rows.items a b → PutBack (db (rows_tree side)) a b)) }
+    ensures ids { HasCleanDisk (state S.Store tx.new.conn.now) → IfOk result (λ rows. ReadsSide side (state S.Store tx.old.conn.now) (state S.Store tx.new.conn.now)
+        (λ db. (noting : List SqlRow) (s : EventBuffer) → HoldsAmong side db noting s → ShowIds rows.items s.last_id)) }
+    ensures puts { HasCleanDisk (state S.Store tx.new.conn.now) → IfOk result (λ rows. HasSide side (state S.Store tx.old.conn.now).now.schema → (counts : List SqlRow) (s : EventBuffer) (figures : List FiguresValue) → MayStand s
+        → HoldsAmong side (state S.Store tx.old.conn.now).now.trees counts s → IsPermutation (figures_rows 0 figures) ((state S.Store tx.old.conn.now).now.trees (lanes_tree side)) → CanStand figures rows.items) }
+    ensures denies { HasCleanDisk (state S.Store tx.new.conn.now) → IfErr result (λ e. DeniesSide side (state S.Store tx.old.conn.now) (Unread.Failed e) (λ _. ⊤)) }
 {
     list(tx, rows_query(side))
 }

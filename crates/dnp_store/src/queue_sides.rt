@@ -1,15 +1,18 @@
 //! The lanes that the database of a queue for two centres holds.
 
-ghost use Rattle.std.specs.Prelude.{◌≡◌, IsTrue, List, OnOk, IfOk};
+ghost use Rattle.std.specs.Prelude.{◌≡◌, ◌⊎◌, IsTrue, List, OnOk, Err, IfErr, IfOk};
 ghost use Rattle.sqlite.specs.Held.{state};
 ghost use Rattle.sqlite.specs.State.{HasCleanDisk};
 ghost use Rattle.sqlite.specs.Order.{Row as SqlRow};
-ghost use Rattle.dnp_store.specs.PairTables.{HoldsSide, rows_name};
-ghost use Rattle.dnp_store.specs.Tables.{HaveOwnIds, IsCounted};
+ghost use Rattle.dnp_objects.specs.declared.limits.TheConstants as limits;
+ghost use Rattle.dnp_eventbuf.specs.EventBuffer.{EventBuffer};
+ghost use Rattle.dnp_store.specs.PairTables.{CountSides, HoldsPair, HoldsSide, Sides, rows_name};
+ghost use Rattle.dnp_store.specs.Tables.{IsCounted};
 ghost use Rattle.dnp_store.specs.steps.Inside.{IsInside, IsStep};
 ghost use Rattle.dnp_store.specs.steps.Pairs.{CountsTwo, HoldsAmong, ReadsPair, ReadsSide};
-ghost use Rattle.dnp_store.specs.steps.Shown.{AreNine, IsPutBack};
-ghost use Rattle.dnp_store.specs.steps.Stores.{Reads};
+ghost use Rattle.dnp_store.specs.steps.QueueDenied.{CanStand, DeniesPair, DeniesSide, OneStands, SideStandsBy, TwoStand};
+ghost use Rattle.dnp_store.specs.steps.Shown.{AreNine, IsMost, IsNoted, IsPutBack, ShowIds};
+ghost use Rattle.dnp_store.specs.steps.Stores.{Denies, Reads};
 
 use crate::decoding::{begun, last_of_side, noted_alone, restore_rows, two_noted};
 use crate::fault::Unread;
@@ -33,7 +36,10 @@ fn put_back(
     noted: u64,
 ) -> Result<(PlainLanes, bool), Unread>
     requires figures { AreNine figures.now }
-    ensures { IfOk result (λ found. IsPutBack figures.now rows.now noted found.0 found.1) }
+    ensures put { IfOk result (λ found. IsPutBack figures.now rows.now noted found.0 found.1) }
+    ensures counted { IsNoted (rows_name side) counts.now noted → ShowIds rows.now noted → IfOk result (λ found. IsTrue found.1) }
+    ensures named { IfErr result (λ unread. (unread ≡ Unread.Form) ⊎ (unread ≡ Unread.Memory)) }
+    ensures wrong { result ≡ Err Unread.Form → IsMost (rows_name side) counts.now limits.MAX_ID → CanStand figures.now rows.now → ⊥ }
 {
     let Some((last_id, counted)) = last_of_side(counts, rows, rows_name(side), noted) else {
         return Err(Unread::Form);
@@ -61,6 +67,11 @@ fn read_side<S: Alter>(
     ensures open { HasCleanDisk (state S.Store tx.new.conn.now) → OnOk result (IsTrue (state S.Store tx.old.conn.now).is_open) }
     ensures read { HasCleanDisk (state S.Store tx.new.conn.now) → IfOk result (λ found. IsTrue found.1 → ReadsSide side (state S.Store tx.old.conn.now) (state S.Store tx.new.conn.now)
         (λ db. (noting : List SqlRow) → IsCounted (rows_name side) noting noted → HoldsAmong side db noting found.0)) }
+    ensures shown { HasCleanDisk (state S.Store tx.new.conn.now) → IfOk result (λ found. ReadsSide side (state S.Store tx.old.conn.now) (state S.Store tx.new.conn.now)
+        (λ db. (noting : List SqlRow) × HoldsAmong side db noting found.0)) }
+    ensures counted { HasCleanDisk (state S.Store tx.new.conn.now) → IfOk result (λ found. ReadsSide side (state S.Store tx.old.conn.now) (state S.Store tx.new.conn.now)
+        (λ db. IsNoted (rows_name side) counts.now noted → (noting : List SqlRow) (s : EventBuffer) → HoldsAmong side db noting s → s.last_id ≡ noted → IsTrue found.1)) }
+    ensures denies { HasCleanDisk (state S.Store tx.new.conn.now) → IfErr result (λ unread. DeniesSide side (state S.Store tx.old.conn.now) unread (SideStandsBy side counts.now)) }
 {
     let figures = read_figures(tx, side)?;
     let rows = read_queued(tx, side)?;
@@ -77,6 +88,11 @@ pub(crate) fn read_one<S: Alter>(
     ensures open { HasCleanDisk (state S.Store tx.new.conn.now) → OnOk result (IsTrue (state S.Store tx.old.conn.now).is_open) }
     ensures read { HasCleanDisk (state S.Store tx.new.conn.now) → IfOk result (λ found. IsTrue found.1 → Reads StoreKind.Queue (state S.Store tx.old.conn.now) (state S.Store tx.new.conn.now)
         (λ db. HoldsAmong QueueSide.First db (db 2) found.0)) }
+    ensures shown { HasCleanDisk (state S.Store tx.new.conn.now) → IfOk result (λ found. Reads StoreKind.Queue (state S.Store tx.old.conn.now) (state S.Store tx.new.conn.now)
+        (λ db. (noting : List SqlRow) × HoldsAmong QueueSide.First db noting found.0)) }
+    ensures counted { HasCleanDisk (state S.Store tx.new.conn.now) → IfOk result (λ found. Reads StoreKind.Queue (state S.Store tx.old.conn.now) (state S.Store tx.new.conn.now)
+        (λ db. (s : EventBuffer) → HoldsAmong QueueSide.First db (db 2) s → IsTrue found.1)) }
+    ensures denies { HasCleanDisk (state S.Store tx.new.conn.now) → IfErr result (λ unread. Denies StoreKind.Queue (state S.Store tx.old.conn.now) unread OneStands) }
 {
     let counts = read_counts(tx)?;
     let (noted, alone) = noted_alone(&counts, rows_name(QueueSide::First));
@@ -96,6 +112,10 @@ fn read_both<S: Alter>(
     ensures open { HasCleanDisk (state S.Store tx.new.conn.now) → OnOk result (IsTrue (state S.Store tx.old.conn.now).is_open) }
     ensures read { HasCleanDisk (state S.Store tx.new.conn.now) → IfOk result (λ found. IsTrue found.2 → ReadsPair (state S.Store tx.old.conn.now) (state S.Store tx.new.conn.now)
         (λ db. CountsTwo (db 2) noted.0 noted.1 → HoldsSide QueueSide.First db found.0 × HoldsSide QueueSide.Second db found.1)) }
+    ensures counted { HasCleanDisk (state S.Store tx.new.conn.now) → IfOk result (λ found. ReadsPair (state S.Store tx.old.conn.now) (state S.Store tx.new.conn.now)
+        (λ db. IsNoted (rows_name QueueSide.First) counts.now noted.0 → IsNoted (rows_name QueueSide.Second) counts.now noted.1 → (sides : Sides) → HoldsPair db sides → sides.first.last_id ≡ noted.0 → sides.second.last_id ≡ noted.1 → IsTrue found.2)) }
+    ensures denies { HasCleanDisk (state S.Store tx.new.conn.now) → IfErr result (λ unread. DeniesPair (state S.Store tx.old.conn.now) unread
+        (λ db. SideStandsBy QueueSide.First counts.now db × SideStandsBy QueueSide.Second counts.now db)) }
 {
     let (first, ours) = read_side(tx, QueueSide::First, alloc, counts, noted.0)?;
     let (second, theirs) = read_side(tx, QueueSide::Second, alloc, counts, noted.1)?;
@@ -111,7 +131,10 @@ pub(crate) fn read_sides<S: Alter>(
     ensures step { IsStep S.Store tx.old.conn tx.new.conn result }
     ensures open { HasCleanDisk (state S.Store tx.new.conn.now) → OnOk result (IsTrue (state S.Store tx.old.conn.now).is_open) }
     ensures read { HasCleanDisk (state S.Store tx.new.conn.now) → IfOk result (λ found. IsTrue found.2 → ReadsPair (state S.Store tx.old.conn.now) (state S.Store tx.new.conn.now)
-        (λ db. HaveOwnIds (db 2) × HoldsSide QueueSide.First db found.0 × HoldsSide QueueSide.Second db found.1)) }
+        (λ db. CountSides (db 2) × HoldsSide QueueSide.First db found.0 × HoldsSide QueueSide.Second db found.1)) }
+    ensures counted { HasCleanDisk (state S.Store tx.new.conn.now) → IfOk result (λ found. ReadsPair (state S.Store tx.old.conn.now) (state S.Store tx.new.conn.now)
+        (λ db. (sides : Sides) → HoldsPair db sides → IsTrue found.2)) }
+    ensures denies { HasCleanDisk (state S.Store tx.new.conn.now) → IfErr result (λ unread. DeniesPair (state S.Store tx.old.conn.now) unread TwoStand) }
 {
     let counts = read_counts(tx)?;
     let (ours, theirs, alone) = two_noted(

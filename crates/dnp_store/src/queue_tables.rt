@@ -1,17 +1,19 @@
 //! The tables of a queue, as they are made.
 
-ghost use Rattle.std.specs.Prelude.{◌≡◌, false, IsTrue, OnOk, OnErr, [], map, IfErr};
+ghost use Rattle.std.specs.Prelude.{◌≡◌, ◌++◌, ◌∷◌, false, IsTrue, OnOk, OnErr, [], map, IfErr};
 ghost use Rattle.sqlite.specs.Held.{state};
 ghost use Rattle.sqlite.specs.State.{HasCleanDisk, Survives};
 ghost use Rattle.dnp_eventbuf.specs.EventBuffer.{EventBuffer, empty_buffer};
+ghost use Rattle.dnp_store.specs.Added.{AreMadeBy, LeavesMade, MakeAll, making_lanes, making_queue, making_second, making_tables};
 ghost use Rattle.dnp_store.specs.Refusals.{IsRefused};
 ghost use Rattle.dnp_store.specs.steps.Inside.{IsInside, IsStep};
 ghost use Rattle.dnp_store.specs.QueueKept.{QueueStands};
 ghost use Rattle.dnp_store.specs.steps.Making.{HasLanes, fresh};
 ghost use Rattle.dnp_store.specs.PairTables.{HoldsPair, migrated};
 ghost use Rattle.dnp_store.specs.steps.Seconds.{IsSecond, Opens};
-ghost use Rattle.dnp_store.specs.Schemas.{checks_of_form, checks_of_lanes, checks_of_rows, made_pair};
+ghost use Rattle.dnp_store.specs.Schemas.{checks_of_form, checks_of_lanes, checks_of_rows, lanes_text, made_pair};
 ghost use Rattle.dnp_store.specs.Tables.{no_schema};
+ghost use Rattle.dnp_store.specs.Texts.{lanes_insert};
 
 use crate::queue_second::make_second;
 use crate::store_kind::StoreKind;
@@ -26,6 +28,7 @@ fn put_lanes<S: Alter>(tx: &mut Transaction<'_, S>, capacities: &[u32; LANES]) -
     ensures step { IsStep S.Store tx.old.conn tx.new.conn result }
     ensures refused { HasCleanDisk (state S.Store tx.new.conn.now) → IfErr result (IsRefused S.Store StoreKind.Queue tx.old.conn.now tx.new.conn.now) }
     ensures made { HasCleanDisk (state S.Store tx.new.conn.now) → OnOk result (HasLanes (state S.Store tx.old.conn.now).now [] → HasLanes (state S.Store tx.new.conn.now).now (map fresh capacities.now)) }
+    ensures added { HasCleanDisk (state S.Store tx.new.conn.now) → OnOk result (MakeAll S.Store (making_lanes lanes_insert 0 capacities.now) (state S.Store tx.old.conn.now).now (state S.Store tx.new.conn.now).now) }
 {
     for number in 0..LANES {
         let lane = number as u32;
@@ -45,6 +48,7 @@ fn make_all<S: Alter>(tx: &mut Transaction<'_, S>, capacities: &[u32; LANES]) ->
     ensures step { IsStep S.Store tx.old.conn tx.new.conn result }
     ensures refused { HasCleanDisk (state S.Store tx.new.conn.now) → IfErr result (IsRefused S.Store StoreKind.Queue tx.old.conn.now tx.new.conn.now) }
     ensures made { HasCleanDisk (state S.Store tx.new.conn.now) → OnOk result ((state S.Store tx.old.conn.now).now.schema ≡ no_schema → HasLanes (state S.Store tx.new.conn.now).now (map fresh capacities.now)) }
+    ensures added { HasCleanDisk (state S.Store tx.new.conn.now) → OnOk result (MakeAll S.Store (making_tables StoreKind.Queue ++ ((lanes_text, []) ∷ making_lanes lanes_insert 0 capacities.now)) (state S.Store tx.old.conn.now).now (state S.Store tx.new.conn.now).now) }
 {
     make_tables(tx, StoreKind::Queue)?;
     run(
@@ -66,6 +70,7 @@ fn make_pair<S: Alter>(
     ensures refused { HasCleanDisk (state S.Store tx.new.conn.now) → IfErr result (IsRefused S.Store StoreKind.Queue tx.old.conn.now tx.new.conn.now) }
     ensures made { HasCleanDisk (state S.Store tx.new.conn.now) → OnOk result ((state S.Store tx.old.conn.now).now.schema ≡ no_schema
         → IsSecond checks_of_form (checks_of_rows StoreKind.Queue) checks_of_lanes (migrated (empty_buffer first.now) second.now) (state S.Store tx.new.conn.now).now) }
+    ensures added { HasCleanDisk (state S.Store tx.new.conn.now) → OnOk result (MakeAll S.Store (making_queue first.now second.now) (state S.Store tx.old.conn.now).now (state S.Store tx.new.conn.now).now) }
 {
     make_all(tx, first)?;
     make_second(tx, second)
@@ -83,7 +88,9 @@ pub(crate) fn write_tables<S: Alter>(
     ensures schema { HasCleanDisk (state S.Store conn.new) → (state S.Store conn.old).now.schema ≡ no_schema → OnOk result ((state S.Store conn.new).committed.schema ≡ made_pair) }
     ensures err { HasCleanDisk (state S.Store conn.new) → IsTrue (state S.Store conn.new).is_open → OnErr result (IsTrue (state S.Store conn.old).is_open × ((state S.Store conn.new).committed ≡ (state S.Store conn.old).committed)) }
     ensures refused { HasCleanDisk (state S.Store conn.new) → IfErr result (IsRefused S.Store StoreKind.Queue conn.old conn.new) }
-    ensures survives { Survives (state S.Store conn.old) (state S.Store conn.new) (λ db. (state S.Store conn.old).now.schema ≡ no_schema → HoldsPair db (record { first = empty_buffer first.now; second = empty_buffer second.now })) }
+    ensures added { HasCleanDisk (state S.Store conn.new) → OnOk result (MakeAll S.Store (making_queue first.now second.now) (state S.Store conn.old).now (state S.Store conn.new).committed) }
+    ensures survives { Survives (state S.Store conn.old) (state S.Store conn.new) (LeavesMade S.Store (making_queue first.now second.now)
+        (λ db. HoldsPair db (record { first = empty_buffer first.now; second = empty_buffer second.now })) (state S.Store conn.old).now) }
 {
     let mut tx = conn.transaction();
     let done = make_pair(&mut tx, first, second);
@@ -101,7 +108,10 @@ pub(crate) fn write_second<S: Alter>(
     ensures ok { HasCleanDisk (state S.Store conn.new) → (s : EventBuffer) → Opens (state S.Store conn.old) s → OnOk result (QueueStands (state S.Store conn.new) (migrated s capacities.now)) }
     ensures err { HasCleanDisk (state S.Store conn.new) → IsTrue (state S.Store conn.new).is_open → OnErr result (IsTrue (state S.Store conn.old).is_open × ((state S.Store conn.new).committed ≡ (state S.Store conn.old).committed)) }
     ensures refused { HasCleanDisk (state S.Store conn.new) → IfErr result (IsRefused S.Store StoreKind.Queue conn.old conn.new) }
-    ensures survives { Survives (state S.Store conn.old) (state S.Store conn.new) (λ db. (s : EventBuffer) → Opens (state S.Store conn.old) s → HoldsPair db (migrated s capacities.now)) }
+    ensures added { HasCleanDisk (state S.Store conn.new) → OnOk result (MakeAll S.Store (making_second capacities.now) (state S.Store conn.old).now (state S.Store conn.new).committed) }
+    ensures settled { IsTrue (state S.Store conn.old).is_open → (state S.Store conn.old).now ≡ (state S.Store conn.old).committed }
+    ensures survives { Survives (state S.Store conn.old) (state S.Store conn.new) (λ db. ((s : EventBuffer) → Opens (state S.Store conn.old) s → HoldsPair db (migrated s capacities.now))
+        × AreMadeBy S.Store (making_second capacities.now) (state S.Store conn.old).now db) }
 {
     prove!(conn.is_autocommit());
     let mut tx = conn.transaction();

@@ -1,6 +1,6 @@
 //! Whether a database has the tables of a journal or a book, which have three each.
 
-ghost use Rattle.std.specs.Prelude.{◌≡◌, IsTrue, [], ◌∷◌};
+ghost use Rattle.std.specs.Prelude.{◌≡◌, ◌↔◌, IsTrue, [], ◌∷◌};
 ghost use Rattle.sqlite.specs.Held.{state};
 ghost use Rattle.sqlite.specs.State.{IsLive};
 ghost use Rattle.dnp_store.specs.steps.Stores.{rows_with};
@@ -12,6 +12,13 @@ use crate::queue_form::{is_form, is_queue, is_sequence};
 use crate::store_kind::StoreKind;
 use sqlite::{Alter, Connection};
 use sqlite_schema::schema::Table;
+
+/// Whether the tables are a store's alone, and `sqlite_sequence` counts for it alone.
+pub(crate) fn is_own(ours: bool, counted: bool) -> bool
+    ensures { IsTrue result ↔ (IsTrue ours × IsTrue counted) }
+{
+    ours && counted
+}
 
 /// Whether the table is that of a store's rows.
 fn is_of_rows(table: &Table, kind: StoreKind) -> bool

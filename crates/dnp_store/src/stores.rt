@@ -1,20 +1,24 @@
 //! What all stores do alike inside a transaction: they look at the number of their form and at the last id
 //! used, and make the tables that each of them begins with.
 
-ghost use Rattle.std.specs.Prelude.{◌≡◌, ℕ, List, map, IsTrue, false, OnOk, OnErr, IfOk, [], ◌≢◌, Ok, Err, IfErr, ℤ, codes};
+ghost use Rattle.std.specs.Prelude.{◌≡◌, ◌↔◌, ◌⊎◌, ⊤, ℕ, List, map, IsTrue, false, OnOk, OnErr, IfOk, [], ◌≢◌, Ok, Err, IfErr, ℤ, codes};
 ghost use Rattle.std.specs.List.{AllByRecursion};
 ghost use Rattle.sqlite.specs.Held.{state};
 ghost use Rattle.sqlite.specs.Order.{Row as SqlRow};
-ghost use Rattle.sqlite.specs.State.{Executes, ExecutesInside, HasCleanDisk, Shown, Survives};
+ghost use Rattle.sqlite.specs.State.{Executes, ExecutesInside, FailsToQuery, HasCleanDisk, IsTooLate, Shown, Survives};
 ghost use Rattle.sqlite.specs.Values.{bound};
-ghost use Rattle.dnp_store.specs.Refusals.{IsRefused};
+ghost use Rattle.dnp_store.specs.Added.{LeavesMade, MakeAll, making_tables};
+ghost use Rattle.dnp_store.specs.Refusals.{IsNumbered, IsRefused};
 ghost use Rattle.dnp_store.specs.steps.Inside.{IsInside, IsStep};
 ghost use Rattle.dnp_store.specs.PairTables.{IsForm, rows_name};
+ghost use Rattle.dnp_objects.specs.declared.limits.TheConstants as limits;
+ghost use Rattle.dnp_store.specs.QueueOpens.{NotesInRange};
 ghost use Rattle.dnp_store.specs.QueueTables.{IsForm1};
 ghost use Rattle.dnp_store.specs.steps.Pairs.{CountsTwo, ReadsPair};
-ghost use Rattle.dnp_store.specs.steps.Shown.{ShowsCount, ShowsForm1, ShowsTwo};
+ghost use Rattle.dnp_store.specs.steps.QueueDenied.{DeniesPair};
+ghost use Rattle.dnp_store.specs.steps.Shown.{IsMost, ShowsCount, ShowsForm1, ShowsTwo};
 ghost use Rattle.dnp_store.specs.steps.Making.{ExecuteAll};
-ghost use Rattle.dnp_store.specs.steps.Stores.{HasNumber, IsFresh, Reads};
+ghost use Rattle.dnp_store.specs.steps.Stores.{Denies, HasNumber, IsFresh, Reads};
 ghost use Rattle.dnp_store.specs.Tables.{IsCounted, no_schema};
 ghost use Rattle.dnp_store.specs.Texts.{IsMaking};
 
@@ -50,6 +54,8 @@ pub(crate) fn list<S: Alter>(tx: &mut Transaction<'_, S>, sql: &str) -> Result<V
     ensures step { IsStep S.Store tx.old.conn tx.new.conn result }
     ensures open { HasCleanDisk (state S.Store tx.new.conn.now) → OnOk result (IsTrue (state S.Store tx.old.conn.now).is_open) }
     ensures shown { HasCleanDisk (state S.Store tx.new.conn.now) → IfOk result (λ rows. Shown sql.now [] (state S.Store tx.old.conn.now) (state S.Store tx.new.conn.now) rows.items) }
+    ensures refused { HasCleanDisk (state S.Store tx.new.conn.now) → IfErr result (λ e. FailsToQuery sql.now [] (state S.Store tx.old.conn.now) (state S.Store tx.new.conn.now) e
+        ⊎ IsTooLate sql.now [] (state S.Store tx.old.conn.now) (state S.Store tx.new.conn.now) e) }
 {
     tx.query_all(sql, &[])
 }
@@ -61,6 +67,7 @@ pub(crate) fn read_form<S: Alter>(tx: &mut Transaction<'_, S>) -> Result<(), Unr
     ensures open { HasCleanDisk (state S.Store tx.new.conn.now) → OnOk result (IsTrue (state S.Store tx.old.conn.now).is_open) }
     ensures read { HasCleanDisk (state S.Store tx.new.conn.now) → OnOk result ((kind : StoreKind) → Reads kind (state S.Store tx.old.conn.now) (state S.Store tx.new.conn.now) (λ db. IsForm1 (db 0))) }
     ensures named { result ≢ Err Unread.Memory }
+    ensures denies { HasCleanDisk (state S.Store tx.new.conn.now) → IfErr result (λ unread. (kind : StoreKind) → Denies kind (state S.Store tx.old.conn.now) unread (λ db. IsForm1 (db 0))) }
     ensures wrong { HasCleanDisk (state S.Store tx.new.conn.now) → result ≡ Err Unread.Form → (rows : List SqlRow)
         × Shown (codes "SELECT rowid, number FROM form ORDER BY rowid") [] (state S.Store tx.old.conn.now) (state S.Store tx.new.conn.now) rows × ((id : ℤ) → ShowsForm1 rows id → ⊥) }
 {
@@ -76,8 +83,11 @@ pub(crate) fn read_number<S: Alter>(tx: &mut Transaction<'_, S>) -> Result<u64, 
     requires inside { IsInside S.Store tx.old.conn }
     ensures step { IsStep S.Store tx.old.conn tx.new.conn result }
     ensures open { HasCleanDisk (state S.Store tx.new.conn.now) → OnOk result (IsTrue (state S.Store tx.old.conn.now).is_open) }
+    ensures shown { HasCleanDisk (state S.Store tx.new.conn.now) → IfOk result (λ n. IsNumbered S.Store n (state S.Store tx.old.conn.now).now) }
     ensures read { HasCleanDisk (state S.Store tx.new.conn.now) → IfOk result (λ n. Reads StoreKind.Queue (state S.Store tx.old.conn.now) (state S.Store tx.new.conn.now) (λ db. IsForm n (db 0))) }
     ensures read_pair { HasCleanDisk (state S.Store tx.new.conn.now) → IfOk result (λ n. ReadsPair (state S.Store tx.old.conn.now) (state S.Store tx.new.conn.now) (λ db. IsForm n (db 0))) }
+    ensures denies { HasCleanDisk (state S.Store tx.new.conn.now) → IfErr result (λ unread. Denies StoreKind.Queue (state S.Store tx.old.conn.now) unread (λ db. (n : ℕ) × IsForm n (db 0))) }
+    ensures denies_pair { HasCleanDisk (state S.Store tx.new.conn.now) → IfErr result (λ unread. DeniesPair (state S.Store tx.old.conn.now) unread (λ db. (n : ℕ) × IsForm n (db 0))) }
 {
     let rows = list(tx, "SELECT rowid, number FROM form ORDER BY rowid")?;
     match number_of(&rows) {
@@ -92,9 +102,13 @@ pub(crate) fn read_counts<S: Alter>(tx: &mut Transaction<'_, S>) -> Result<Vec<R
     ensures step { IsStep S.Store tx.old.conn tx.new.conn result }
     ensures open { HasCleanDisk (state S.Store tx.new.conn.now) → OnOk result (IsTrue (state S.Store tx.old.conn.now).is_open) }
     ensures read { HasCleanDisk (state S.Store tx.new.conn.now) → IfOk result (λ rows. (kind : StoreKind) → Reads kind (state S.Store tx.old.conn.now) (state S.Store tx.new.conn.now)
-        (λ db. (table : List ℕ) (n : ℕ) → ShowsCount table rows.items n → IsCounted table (db 2) n)) }
+        (λ db. (table : List ℕ) (n : ℕ) → ShowsCount table rows.items n ↔ IsCounted table (db 2) n)) }
+    ensures denies { HasCleanDisk (state S.Store tx.new.conn.now) → IfErr result (λ e. (kind : StoreKind) → Denies kind (state S.Store tx.old.conn.now) (Unread.Failed e) (λ _. ⊤)) }
     ensures read_pair { HasCleanDisk (state S.Store tx.new.conn.now) → IfOk result (λ rows. ReadsPair (state S.Store tx.old.conn.now) (state S.Store tx.new.conn.now)
-        (λ db. (n m : ℕ) → ShowsTwo (rows_name QueueSide.First) (rows_name QueueSide.Second) rows.items n m → CountsTwo (db 2) n m)) }
+        (λ db. (n m : ℕ) → ShowsTwo (rows_name QueueSide.First) (rows_name QueueSide.Second) rows.items n m ↔ CountsTwo (db 2) n m)) }
+    ensures denies_pair { HasCleanDisk (state S.Store tx.new.conn.now) → IfErr result (λ e. DeniesPair (state S.Store tx.old.conn.now) (Unread.Failed e) (λ _. ⊤)) }
+    ensures in_range { HasCleanDisk (state S.Store tx.new.conn.now) → IfOk result (λ rows. Reads StoreKind.Queue (state S.Store tx.old.conn.now) (state S.Store tx.new.conn.now)
+        (λ db. NotesInRange (db 2) → IsMost (rows_name QueueSide.First) rows.items limits.MAX_ID)) }
 {
     list(
         tx,
@@ -108,7 +122,8 @@ pub(crate) fn read_begun<S: Alter>(tx: &mut Transaction<'_, S>) -> Result<Vec<Ro
     ensures step { IsStep S.Store tx.old.conn tx.new.conn result }
     ensures open { HasCleanDisk (state S.Store tx.new.conn.now) → OnOk result (IsTrue (state S.Store tx.old.conn.now).is_open) }
     ensures read { HasCleanDisk (state S.Store tx.new.conn.now) → IfOk result (λ rows. (kind : StoreKind) → Reads kind (state S.Store tx.old.conn.now) (state S.Store tx.new.conn.now)
-        (λ db. IsForm1 (db 0) × ((table : List ℕ) (n : ℕ) → ShowsCount table rows.items n → IsCounted table (db 2) n))) }
+        (λ db. IsForm1 (db 0) × ((table : List ℕ) (n : ℕ) → ShowsCount table rows.items n ↔ IsCounted table (db 2) n))) }
+    ensures denies { HasCleanDisk (state S.Store tx.new.conn.now) → IfErr result (λ unread. (kind : StoreKind) → Denies kind (state S.Store tx.old.conn.now) unread (λ db. IsForm1 (db 0))) }
 {
     read_form(tx)?;
     Ok(read_counts(tx)?)
@@ -137,6 +152,7 @@ pub(crate) fn make_tables<S: Alter>(
     ensures step { IsStep S.Store tx.old.conn tx.new.conn result }
     ensures refused { HasCleanDisk (state S.Store tx.new.conn.now) → IfErr result (IsRefused S.Store kind tx.old.conn.now tx.new.conn.now) }
     ensures made { HasCleanDisk (state S.Store tx.new.conn.now) → OnOk result ((state S.Store tx.old.conn.now).now.schema ≡ no_schema → HasNumber kind (state S.Store tx.new.conn.now).now) }
+    ensures added { HasCleanDisk (state S.Store tx.new.conn.now) → OnOk result (MakeAll S.Store (making_tables kind) (state S.Store tx.old.conn.now).now (state S.Store tx.new.conn.now).now) }
 {
     let texts = [
         "CREATE TABLE form (number INTEGER NOT NULL CHECK (number BETWEEN 1 AND 1000))",
@@ -166,6 +182,7 @@ fn make_store<S: Alter>(tx: &mut Transaction<'_, S>, kind: StoreKind) -> Result<
     ensures step { IsStep S.Store tx.old.conn tx.new.conn result }
     ensures refused { HasCleanDisk (state S.Store tx.new.conn.now) → IfErr result (IsRefused S.Store kind tx.old.conn.now tx.new.conn.now) }
     ensures made { HasCleanDisk (state S.Store tx.new.conn.now) → OnOk result ((state S.Store tx.old.conn.now).now.schema ≡ no_schema → HasNumber kind (state S.Store tx.new.conn.now).now) }
+    ensures added { HasCleanDisk (state S.Store tx.new.conn.now) → OnOk result (MakeAll S.Store (making_tables kind) (state S.Store tx.old.conn.now).now (state S.Store tx.new.conn.now).now) }
 {
     make_tables(tx, kind)?;
     keep_probe(tx)
@@ -179,7 +196,8 @@ pub(crate) fn write_tables<S: Alter>(conn: &mut Connection<S>, kind: StoreKind) 
         → OnOk result (IsTrue (state S.Store conn.new).is_open × HasNumber kind (state S.Store conn.new).committed) }
     ensures err { HasCleanDisk (state S.Store conn.new) → IsTrue (state S.Store conn.new).is_open → OnErr result (IsTrue (state S.Store conn.old).is_open × ((state S.Store conn.new).committed ≡ (state S.Store conn.old).committed)) }
     ensures refused { HasCleanDisk (state S.Store conn.new) → IfErr result (IsRefused S.Store kind conn.old conn.new) }
-    ensures survives { Survives (state S.Store conn.old) (state S.Store conn.new) (λ db. (state S.Store conn.old).now.schema ≡ no_schema → IsFresh db) }
+    ensures added { HasCleanDisk (state S.Store conn.new) → OnOk result (MakeAll S.Store (making_tables kind) (state S.Store conn.old).now (state S.Store conn.new).committed) }
+    ensures survives { Survives (state S.Store conn.old) (state S.Store conn.new) (LeavesMade S.Store (making_tables kind) IsFresh (state S.Store conn.old).now) }
 {
     let mut tx = conn.transaction();
     let done = make_store(&mut tx, kind);

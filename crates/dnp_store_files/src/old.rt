@@ -151,7 +151,7 @@ impl<S: Alter> Stored<Connection<S>> for Migrating<S> {
     }
 
     /// One that was migrated before is migrated once more, which has to change nothing. One whose ids aren't counted as they
-    /// should be is not told as old, and migrated all the same.
+    /// should be is told as old too.
     fn open(
         alloc: Global,
         conn: Connection<S>,
@@ -159,7 +159,6 @@ impl<S: Alter> Stored<Connection<S>> for Migrating<S> {
         match Queue::open(alloc, conn) {
             Ok(queue) => migrated(alloc, queue.into_connection(), false),
             Err((OpenFault::OldForm, conn)) => migrated(alloc, conn, true),
-            Err((OpenFault::WrongForm, conn)) => migrated(alloc, conn, false),
             Err(refused) => Err(refused),
         }
     }

@@ -13,7 +13,7 @@ use Rattle.dnp_controls.specs.declared.book.Entry.{Entry}
 use Rattle.dnp_controls.specs.declared.book.State.{State as Control}
 use Rattle.dnp_controls.specs.declared.book.State.TheVariants.{Pending}
 use Rattle.dnp_store.specs.BookKept.{BookStands}
-use Rattle.dnp_store.specs.BookTables.{IsBook, entry_row, kind_of, code_of, count_of, on_of, off_of, value_of, state_of, status_of}
+use Rattle.dnp_store.specs.BookTables.{FitsControl, IsBook, entry_row, kind_of, code_of, count_of, on_of, off_of, value_of, state_of, status_of}
 
 -- a row that a query shows of `control`: its command
 pub record ShowsCommand (row : SqlRow) (command : Command) : Type 0 where
@@ -43,6 +43,10 @@ no_entry = record { id = 0; target = 0; command = Set16 0 (pos 0); state = Pendi
 pub record ShowEntries (rows : List SqlRow) (entries : List Entry) : Type 0 where
   pub long : length rows ≡ length entries
   pub each : (k : ℕ) → k < length entries → ShowsEntry (slice_index_or rows k []) (slice_index_or entries k no_entry)
+
+-- some row shows none, each value in its column's range
+abbrev pub HasNoEntry : List SqlRow → Type 0
+HasNoEntry rows = (k : ℕ) × (k < length rows) × ((e : Entry) → FitsControl e → ShowsEntry (slice_index_or rows k []) e → ⊥)
 
 -- the entries stand under ids that rise from one on, up to the last
 abbrev pub EntriesRise : ℕ → ℕ → List Entry → Type 0

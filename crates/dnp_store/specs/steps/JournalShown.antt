@@ -1,5 +1,5 @@
 -- Words of private steps: what queries show of a journal's tables.
-use Rattle.std.specs.Prelude.{◌≡◌, ℕ, ◌<◌, ◌≤◌, ◌^◌, pos, List, [], ◌∷◌, ◌++◌, map, length, slice_index_or, None, IfSome}
+use Rattle.std.specs.Prelude.{◌≡◌, ℕ, ◌<◌, ◌≤◌, pos, List, [], ◌∷◌, ◌++◌, map, length, slice_index_or, None}
 use Rattle.std.specs.List.{AllByRecursion}
 use Rattle.std.specs.List.Sorted.{IsPermutation}
 use Rattle.sqlite.specs.declared.types.Value.TheVariants.{Int}
@@ -9,12 +9,12 @@ use Rattle.sqlite.specs.Effect.{Database}
 use Rattle.sqlite.specs.State.{State}
 use Rattle.dnp_objects.specs.declared.row.Kind.TheVariants.{Binary}
 use Rattle.dnp_objects.specs.Lanes.{kind_number}
-use Rattle.dnp_objects.specs.declared.limits.TheConstants.{MAX_ID, MAX_TIME}
+use Rattle.dnp_objects.specs.declared.limits.TheConstants.{MAX_ID}
 use Rattle.dnp_eventbuf.specs.declared.numbered.Numbered.{Numbered}
 use Rattle.dnp_eventbuf.specs.Archive.{Archive, rows_over}
 use Rattle.dnp_store.specs.Tables.{or_null}
 use Rattle.dnp_store.specs.JournalKept.{JournalStands}
-use Rattle.dnp_store.specs.JournalTables.{IsJournal, IsLogged, archive_in}
+use Rattle.dnp_store.specs.JournalTables.{FitsEvent, IsJournal, IsLogged, archive_in}
 use Rattle.dnp_store.specs.QueueTables.{Queued, queued_row, event_of}
 
 -- a row that a query shows of `journal`
@@ -38,9 +38,7 @@ pub record ShowEvents (rows : List SqlRow) (events : List Numbered) : Type 0 whe
 pub record IsStored (row : SqlRow) (e : Numbered) : Type 0 where
   pub wide : 5 < length row
   pub shown : ShowsEvent row e
-  pub index : e.row.index < 2 ^ 16
-  pub flags : e.row.flags < 2 ^ 8
-  pub time : IfSome e.row.time (λ time. time < MAX_TIME)
+  pub fits : FitsEvent e
 
 -- some row shows none
 abbrev pub HasNoEvent : List SqlRow → Type 0
@@ -50,9 +48,9 @@ HasNoEvent rows = (k : ℕ) × (k < length rows) × ((e : Numbered) → IsStored
 abbrev pub ShowOver : List SqlRow → Archive → ℕ → ℕ → Type 0
 ShowOver rows a from most = (events : List Numbered) → ShowEvents rows events → events ≡ rows_over a from most
 
--- the events stand under ids that rise from one on, up to the last
+-- the events stand under ids that rise from the one before them on, and the last is the last of those
 abbrev pub AreInOrder : ℕ → ℕ → List Numbered → Type 0
-AreInOrder before last [] = Unit {0}
+AreInOrder before last [] = last ≡ before
 AreInOrder before last (e ∷ es) = (before < e.id) × (e.id ≤ last) × AreInOrder e.id last es
 
 -- what an open finds: the tables hold so many events, and this is the last id used
@@ -70,7 +68,7 @@ pub record Logs (db : Trees) (events : List Numbered) (last : ℕ) : Type 0 wher
   pub in_range : AllByRecursion (IsLogged last) logged
   pub rows : events ≡ map event_of logged
 
--- so many rows of `journal` were looked at, whose ids rise up to the last of them; the others are left
+-- so many rows of `journal` were looked at, whose ids rise up to the last of them, or to 0; the others are left
 pub record Gathers (table : List SqlRow) (last count : ℕ) : Type 0 where
   pub logged : List Queued
   pub others : List SqlRow
@@ -78,6 +76,7 @@ pub record Gathers (table : List SqlRow) (last count : ℕ) : Type 0 where
   pub rise : IsAscending (λ x y. x.id < y.id) logged
   pub in_range : AllByRecursion (IsLogged last) logged
   pub many : length logged ≡ count
+  pub top : (n : ℕ) → AllByRecursion (λ x. x.id ≤ n) logged → last ≤ n
 
 -- the table has so many rows, if they are not more than ids
 abbrev pub HasCount : List SqlRow → ℕ → Type 0

@@ -10,16 +10,16 @@ use Rattle.sqlite.specs.State.{State}
 use Rattle.dnp_eventbuf.specs.EventBuffer.{EventBuffer}
 use Rattle.dnp_store.specs.declared.queue_side.QueueSide.{QueueSide}
 use Rattle.dnp_store.specs.declared.queue_side.QueueSide.TheVariants.{First, Second}
-use Rattle.dnp_store.specs.Tables.{HaveOwnIds, IsCounted, checks_at, counts_of}
+use Rattle.dnp_store.specs.Tables.{IsCounted, checks_at, counts_of}
 use Rattle.dnp_store.specs.QueueTables.{Figures, HoldsLanes, is_raised, queue_schema}
-use Rattle.dnp_store.specs.PairTables.{Checks, HoldsOn, HoldsSide, IsForm2, Sides, beside, lanes_tree, pair_schema, rows_name, rows_tree}
+use Rattle.dnp_store.specs.PairTables.{Checks, CountSides, HoldsOn, HoldsSide, IsForm2, Sides, beside, lanes_tree, pair_schema, rows_name, rows_tree}
 
 -- it holds these lanes on this side, with these figures, and others on the other side
 pub record HoldsFor (side : QueueSide) (others : EventBuffer) (db : Database) (s : EventBuffer) (figures : List Figures) : Type 0 where
   pub checks : Checks
   pub schema : db.schema ≡ pair_schema checks
   pub form : IsForm2 (db.trees 0)
-  pub counts : HaveOwnIds (db.trees 2)
+  pub counts : CountSides (db.trees 2)
   pub lanes : HoldsOn side db.trees s figures
   pub rest : HoldsSide (beside side) db.trees others
 
@@ -48,9 +48,9 @@ checks_among tables = record {
 abbrev pub ReadsPair : State → State → (Trees → Type 0) → Type 0
 ReadsPair old new P = (c : Checks) → IsDatabase old.now → old.now.schema ≡ pair_schema c → (new.now ≡ old.now) × P old.now.trees
 
--- these are the last ids used on the two sides, and the rows that say so stand under ids of their own
+-- these are the last ids used on the two sides, and the rows that say so are all that there are, each under an id of its own
 pub record CountsTwo (rows : List SqlRow) (n m : ℕ) : Type 0 where
-  pub own : HaveOwnIds rows
+  pub counts : CountSides rows
   pub first : IsCounted (rows_name First) (counts_of (rows_name First) rows) n
   pub second : IsCounted (rows_name Second) (counts_of (rows_name Second) rows) m
 

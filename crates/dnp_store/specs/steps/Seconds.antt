@@ -1,5 +1,7 @@
 -- Words of private steps: a queue's database while the tables for the second centre are made.
-use Rattle.std.specs.Prelude.{◌≡◌, IsTrue, List, [], ◌∷◌}
+use Rattle.std.specs.Prelude.{◌≡◌, ◌||◌, Bool, IsTrue, List, [], ◌∷◌, codes}
+use Rattle.sqlite.specs.Schema.{Schema}
+use Rattle.sqlite_catalog.specs.Change.{is_used}
 use Rattle.sqlite.specs.State.{State}
 use Rattle.sqlite.specs.Term.{Term}
 use Rattle.sqlite.specs.Effect.{Database}
@@ -8,6 +10,10 @@ use Rattle.dnp_store.specs.Tables.{schema_of}
 use Rattle.dnp_store.specs.QueueTables.{Figures, HoldsBuffer, IsQueue, figures_rows, lanes_with, queue_with}
 use Rattle.dnp_store.specs.PairTables.{Checks, HoldsPair, Sides, pair_schema, queue_b_with}
 use Rattle.dnp_store.specs.Schemas.{checks_of_lanes_b, checks_of_queue_b}
+
+-- a table, an index or a view has the name of one of those tables
+abbrev pub has_second_name : Schema → Bool
+has_second_name schema = is_used schema (codes "queue_b") || is_used schema (codes "lanes_b")
 
 -- the CHECKs of a queue for one centre, and those of the tables for the second
 abbrev pub with_second : List Term → List Term → List Term → Checks

@@ -1,5 +1,5 @@
 -- Words of private steps: what queries show of tables, and the lanes that are put together from it.
-use Rattle.std.specs.Prelude.{◌≡◌, ◌≢◌, ◌⊎◌, ℕ, ◌<◌, ◌≤◌, ℤ, pos, Bool, IsTrue, true, if◌then◌else◌, List, [], ◌∷◌, map, length, slice_index_or}
+use Rattle.std.specs.Prelude.{◌≡◌, ◌≢◌, ◌⊎◌, ℕ, ◌<◌, ◌≤◌, ◌^◌, ℤ, pos, Bool, IsTrue, true, if◌then◌else◌, List, [], ◌∷◌, map, length, slice_index_or}
 use Rattle.std.specs.List.{AllByRecursion}
 use Rattle.std.specs.List.Sorted.{IsPermutation}
 use Rattle.sqlite.specs.declared.types.Value.TheVariants.{Int, Text}
@@ -68,8 +68,8 @@ pub record IsBegun (s : EventBuffer) (figures : List Figures) (last : ℕ) : Typ
 
 -- ---- `sqlite_sequence`
 
-pub record ShowsCountOf (table : List ℕ) (row : SqlRow) (id n : ℕ) : Type 0 where
-  pub id_is : column row 0 ≡ Int (pos id)
+pub record ShowsCountOf (table : List ℕ) (row : SqlRow) (id : ℤ) (n : ℕ) : Type 0 where
+  pub id_is : column row 0 ≡ Int id
   pub name : column row 1 ≡ Text table
   pub count : column row 2 ≡ Int (pos n)
 
@@ -77,20 +77,29 @@ pub record ShowsCountOf (table : List ℕ) (row : SqlRow) (id n : ℕ) : Type 0 
 abbrev pub ShowsCount : List ℕ → List SqlRow → ℕ → Type 0
 ShowsCount table rows n =
     ((length rows ≡ 0) × (n ≡ 0))
-    ⊎ ((id : ℕ) × (length rows ≡ 1) × ShowsCountOf table (slice_index_or rows 0 []) id n)
+    ⊎ ((id : ℤ) × (length rows ≡ 1) × ShowsCountOf table (slice_index_or rows 0 []) id n)
 
 -- of two tables, each is counted once at most, under ids that differ, and nothing else is
 abbrev pub ShowsTwo : List ℕ → List ℕ → List SqlRow → ℕ → ℕ → Type 0
 ShowsTwo first second [] n m = (n ≡ 0) × (m ≡ 0)
-ShowsTwo first second (r ∷ []) n m = ((id : ℕ) × ShowsCountOf first r id n × (m ≡ 0)) ⊎ ((id : ℕ) × ShowsCountOf second r id m × (n ≡ 0))
+ShowsTwo first second (r ∷ []) n m = ((id : ℤ) × ShowsCountOf first r id n × (m ≡ 0)) ⊎ ((id : ℤ) × ShowsCountOf second r id m × (n ≡ 0))
 ShowsTwo first second (r ∷ s ∷ []) n m =
-    ((id : ℕ) × (next : ℕ) × ShowsCountOf first r id n × ShowsCountOf second s next m × (id ≢ next))
-    ⊎ ((id : ℕ) × (next : ℕ) × ShowsCountOf second r id m × ShowsCountOf first s next n × (id ≢ next))
+    ((id : ℤ) × (next : ℤ) × ShowsCountOf first r id n × ShowsCountOf second s next m × (id ≢ next))
+    ⊎ ((id : ℤ) × (next : ℤ) × ShowsCountOf second r id m × ShowsCountOf first s next n × (id ≢ next))
 ShowsTwo first second (r ∷ s ∷ t ∷ rows) n m = ⊥
 
 -- no row notes a greater number for the table of this name
 abbrev pub IsMost : List ℕ → List SqlRow → ℕ → Type 0
-IsMost table rows most = (k : ℕ) → k < length rows → (id n : ℕ) → ShowsCountOf table (slice_index_or rows k []) id n → n ≤ most
+IsMost table rows most = (k : ℕ) → k < length rows → (id : ℤ) (n : ℕ) → ShowsCountOf table (slice_index_or rows k []) id n → n ≤ most
+
+-- a row notes this number for the table of this name, or it is 0; and none notes a greater one
+pub record IsNoted (table : List ℕ) (rows : List SqlRow) (n : ℕ) : Type 0 where
+  pub noted : (n ≡ 0) ⊎ ((k : ℕ) × (k < length rows) × (id : ℤ) × ShowsCountOf table (slice_index_or rows k []) id n)
+  pub most : IsMost table rows n
+
+-- the rows show ids up to this one
+abbrev pub ShowIds : List SqlRow → ℕ → Type 0
+ShowIds rows last = (k : ℕ) → k < length rows → (id : ℕ) × (column (slice_index_or rows k []) 0 ≡ Int (pos id)) × (id ≤ last)
 
 -- ---- `queue`
 
@@ -102,6 +111,10 @@ pub record ShowsQueued (row : SqlRow) (id : ℕ) (x : LaneRow) : Type 0 where
   pub flags : column row 3 ≡ Int (pos x.row.flags)
   pub value : column row 4 ≡ Int x.row.value
   pub time : column row 5 ≡ or_null x.row.time
+
+-- the row has all its columns, and flags in their range
+abbrev pub IsWhole : SqlRow → Type 0
+IsWhole row = (5 < length row) × ((flags : ℕ) → column row 3 ≡ Int (pos flags) → flags < 2 ^ 8)
 
 -- rows under ids that rise from the last one on are put back into lanes
 abbrev pub Restores : ℕ → List SqlRow → EventBuffer → EventBuffer → Type 0

@@ -1,29 +1,52 @@
 -- Words of private steps: what an open found in the database of a queue.
-use Rattle.std.specs.Prelude.{◌≡◌, ◌&&◌, Bool, not, IsTrue, List}
+use Rattle.std.specs.Prelude.{◌≡◌, ◌&&◌, ℕ, Bool, IsTrue, List}
 use Rattle.sqlite.specs.Term.{Term}
 use Rattle.sqlite.specs.Effect.{Database, IsDatabase}
 use Rattle.dnp_store.specs.declared.queue_opening.Stored.{Stored}
 use Rattle.dnp_store.specs.declared.queue_opening.Stored.TheVariants.{One, Pair}
-use Rattle.dnp_store.specs.QueueTables.{IsQueue, queue_schema}
+use Rattle.dnp_eventbuf.specs.EventBuffer.{EventBuffer}
+use Rattle.dnp_store.specs.QueueTables.{IsQueue, IsUncounted, queue_schema}
 use Rattle.dnp_store.specs.PairTables.{Checks, IsPair, Sides, pair_schema}
 
 -- it is what a database shows that has the tables of a queue, if its ids are counted as they should be; what is shown of one
--- centre's lanes is not shown by the database of a queue for two
+-- centre's lanes is not shown by the database of a queue for two, and is what stands there whatever is counted
+pub record ShowsOne (db : Database) (lanes : EventBuffer) (counted : Bool) : Type 0 where
+  pub held : IsTrue counted → (f q l : List Term) → IsDatabase db → db.schema ≡ queue_schema f q l → IsQueue db lanes
+  pub stands : (f q l : List Term) → IsDatabase db → db.schema ≡ queue_schema f q l → IsUncounted db lanes
+  pub no_pair : IsDatabase db → (sides : Sides) → IsPair db sides → ⊥
+
 abbrev pub IsShown : Database → Stored → Type 0
-IsShown db (One lanes counted others) =
-    (IsTrue counted → (f q l : List Term) → IsDatabase db → db.schema ≡ queue_schema f q l → IsQueue db lanes)
-    × (IsDatabase db → (sides : Sides) → IsPair db sides → ⊥)
+IsShown db (One lanes counted) = ShowsOne db lanes counted
 IsShown db (Pair first second counted) =
     IsTrue counted → (c : Checks) → IsDatabase db → db.schema ≡ pair_schema c → IsPair db (record { first = first; second = second })
 
--- it is what the database holds, if this has the tables of a queue and no others; whether it has others is known of a queue for
--- one centre
+-- and if the database holds lanes, their ids are counted as they should be
+abbrev pub AreCounted : Database → Stored → Type 0
+AreCounted db (One lanes counted) = IsDatabase db → (s : EventBuffer) → IsQueue db s → IsTrue counted
+AreCounted db (Pair first second counted) =
+    (IsDatabase db → (sides : Sides) → IsPair db sides → IsTrue counted) × (IsDatabase db → (s : EventBuffer) → IsQueue db s → ⊥)
+
+-- it is what the database holds, if this has the tables of a queue and no others
+pub record StoresOne (db : Database) (lanes : EventBuffer) (owned : Bool) : Type 0 where
+  pub held : IsTrue owned → IsQueue db lanes
+  pub stands : (f q l : List Term) → db.schema ≡ queue_schema f q l → IsUncounted db lanes
+  pub no_pair : (sides : Sides) → IsPair db sides → ⊥
+
 abbrev pub IsStored : Database → Stored → Type 0
-IsStored db (One lanes owned others) =
-    (IsTrue owned → IsQueue db lanes) × ((sides : Sides) → IsPair db sides → ⊥) × (IsTrue others → (f q l : List Term) → db.schema ≡ queue_schema f q l → ⊥)
+IsStored db (One lanes owned) = StoresOne db lanes owned
 IsStored db (Pair first second owned) = IsTrue owned → IsPair db (record { first = first; second = second })
+
+-- and if the database holds lanes, it is their own
+abbrev pub IsOwned : Database → Stored → Type 0
+IsOwned db (One lanes owned) = (s : EventBuffer) → IsQueue db s → IsTrue owned
+IsOwned db (Pair first second owned) = ((sides : Sides) → IsPair db sides → IsTrue owned) × ((s : EventBuffer) → IsQueue db s → ⊥)
+
+-- the number of its form
+abbrev pub number_of : Stored → ℕ
+number_of (One lanes owned) = 1
+number_of (Pair first second owned) = 2
 
 -- what was shown is all that stands there, if the database has the tables of such a queue and no others
 abbrev pub owned_by : Stored → Bool → Bool → Stored
-owned_by (One lanes counted others) one pair = One lanes (one && counted) (not one)
+owned_by (One lanes counted) one pair = One lanes (one && counted)
 owned_by (Pair first second counted) one pair = Pair first second (pair && counted)

@@ -1,6 +1,6 @@
 -- Words of private steps: what the databases of the three stores have alike. (Each has the table `form`, that of its rows
 -- under ids that are counted, and that of the counts; a queue has one more.)
-use Rattle.std.specs.Prelude.{◌≡◌, ℕ, pos, true, List, [], ◌∷◌, codes}
+use Rattle.std.specs.Prelude.{◌≡◌, IsTrue, ℕ, pos, true, List, [], ◌∷◌, codes}
 use Rattle.sqlite.specs.declared.types.Value.TheVariants.{Int}
 use Rattle.sqlite.specs.Table.{Table}
 use Rattle.sqlite.specs.Term.{Term}
@@ -10,7 +10,9 @@ use Rattle.sqlite.specs.Tree.{Trees}
 use Rattle.sqlite.specs.Effect.{Database, IsDatabase}
 use Rattle.sqlite.specs.State.{State}
 use Rattle.sqlite_schema.specs.declared.schema.Column.{Column}
+use Rattle.dnp_store.specs.declared.fault.Unread.{Unread}
 use Rattle.dnp_store.specs.declared.store_kind.StoreKind.{StoreKind}
+use Rattle.dnp_store.specs.Faults.{is_wrong}
 use Rattle.dnp_store.specs.declared.store_kind.StoreKind.TheVariants.{Queue, Journal, Book}
 use Rattle.dnp_store.specs.Tables.{table_of, form_with, schema_of}
 use Rattle.dnp_store.specs.QueueTables.{queue_columns, lanes_with}
@@ -47,6 +49,12 @@ schema_for kind form rows more = schema_of form (rows_with kind rows) (more_with
 abbrev pub Reads : StoreKind → State → State → (Trees → Type 0) → Type 0
 Reads kind old new P =
     (form rows more : List Term) → IsDatabase old.now → old.now.schema ≡ schema_for kind form rows more → (new.now ≡ old.now) × P old.now.trees
+
+-- why they could not be read: the connection was open, and under the schema of such a store its trees don't hold this
+abbrev pub Denies : StoreKind → State → Unread → (Trees → Type 0) → Type 0
+Denies kind old unread P = IsTrue (is_wrong unread)
+    → IsTrue old.is_open
+    × ((form rows more : List Term) → IsDatabase old.now → old.now.schema ≡ schema_for kind form rows more → P old.now.trees → ⊥)
 
 -- ---- how they are made
 

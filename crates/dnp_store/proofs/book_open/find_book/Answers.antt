@@ -1,12 +1,14 @@
-use Rattle.std.proofs.Common.{rules, ◌≡◌, Bool, IsTrue, false}
+use Rattle.std.proofs.Common.{rules, ◌≡◌, Bool, IsTrue, false, Err, ap, inl, inr, ◌∙◌, arith}
 use Rattle.sqlite.specs.Effect.{Database}
 use Rattle.sqlite.specs.Held.{state}
+use Rattle.sqlite.specs.State.{HasCleanDisk}
 use Rattle.dnp_store.specs.declared.book_opening.FoundBook.{FoundBook}
 use Rattle.dnp_store.specs.steps.BookShown.{FindsBook}
 use Rattle.dnp_store.proofs.Beginning.{found_inside, found_read}
 use Rattle.dnp_store.proofs.BookOpening.{found_again}
 use Rattle.dnp_store.proofs.Outcomes.{at_ok}
 use Rattle.dnp_store.proofs.Stepping.{if_ok}
+use Rattle.dnp_store.proofs.Unread.{at_err, err_each}
 use Rattle.dnp_store.proofs.book_open.find_book.Goals as goal
 
 pub returns-then-not-is_autocommit-clause-found : goal.returns-then-not-is_autocommit-clause-found
@@ -29,3 +31,23 @@ returns-clause-sound g c =
       at_ok _ c.read_book-read.result found is c.read_book-read.ensures.sound,
       at_ok _ c.read_book-read.result found is c.read_book-read.ensures.range,
     )) c.served.ensures.handed
+
+pub returns-clause-alone : goal.returns-clause-alone
+returns-clause-alone g c clean =
+    let early : HasCleanDisk (state g.S.Store c.read_book-read.new.conn) = omega (arith, clean, c.served.ensures.survives.clean) in
+    if_ok _ _ c.served.result (λ found is. at_ok _ c.read_book-read.result found is (c.read_book-read.ensures.alone early)) c.served.ensures.handed
+
+pub returns-clause-wrong_form : goal.returns-clause-wrong_form
+returns-clause-wrong_form g c clean =
+    let early : HasCleanDisk (state g.S.Store c.read_book-read.new.conn) = omega (arith, clean, c.served.ensures.survives.clean) in
+    err_each _ c.served.result (λ fault is told.
+    let wrong = c.served.ensures.wrong (is ∙ ap Err told) in
+    inr (at_err _ c.read_book-read.result wrong.0 wrong.1 (c.read_book-read.ensures.denies early) wrong.2))
+
+pub returns-then-not-is_autocommit-clause-wrong_form : goal.returns-then-not-is_autocommit-clause-wrong_form
+returns-then-not-is_autocommit-clause-wrong_form g c clean told =
+    let inside : IsTrue c.args.conn.now.in_transaction = search rules in
+    inl inside
+
+pub returns-clause-fit : goal.returns-clause-fit
+returns-clause-fit g c = if_ok _ _ c.served.result (λ found is. at_ok _ c.read_book-read.result found is c.read_book-read.ensures.fit) c.served.ensures.handed

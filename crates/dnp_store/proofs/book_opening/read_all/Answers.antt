@@ -3,10 +3,12 @@ use Rattle.sqlite.specs.State.{HasCleanDisk}
 use Rattle.sqlite.specs.Held.{state}
 use Rattle.sqlite.specs.Effect.{Database, IsDatabase}
 use Rattle.sqlite.specs.Order.{Row}
-use Rattle.dnp_store.specs.steps.Shown.{ShowsCount}
+use Rattle.dnp_store.specs.steps.Shown.{ShowIds, ShowsCount}
 use Rattle.dnp_store.specs.steps.BookShown.{HoldsEntries, ShowEntries}
 use Rattle.dnp_store.specs.declared.store_kind.StoreKind.TheVariants.{Book}
 use Rattle.dnp_store.proofs.BookOpening.{opened, sound_of_rise}
+use Rattle.dnp_store.proofs.BookShowing.{ids_shown}
+use Rattle.dnp_store.proofs.Unread.{err_on, if_form}
 use Rattle.dnp_store.proofs.Stepping.{if_ok, step_then, step_as}
 use Rattle.dnp_store.proofs.Outcomes.{if_both_on, on_any}
 use Rattle.dnp_store.proofs.Running.{step_too}
@@ -25,9 +27,65 @@ returns-clause-read g c clean =
     let last = found.last_id in
     let shows = subst (λ (rows : List Row). ShowsCount (codes "control") rows last) c.deref.ensures.value (noted counted) in
     let are = subst (λ (rows : List Row). ShowEntries rows entries) c.deref-2.ensures.value each in
-    opened old.now f j entries last has r1.1.0 (r1.1.1 (codes "control") last shows)
+    opened old.now f j entries last has r1.1.0 ((r1.1.1 (codes "control") last).0 shows)
     (subst (λ (d : Database). HoldsEntries d.trees entries) same (r2.1 entries are)))
     c.found_in.ensures.shown c.found_in.ensures.counted
+
+pub returns-clause-alone : goal.returns-clause-alone
+returns-clause-alone g c clean =
+    let old = state g.S.Store c.args.tx.now.conn.now in
+    let one = state g.S.Store c.read_begun.new.tx.conn.now in
+    let early : HasCleanDisk one = omega (arith, clean, c.read_controls.ensures.step.survives.clean) in
+    if_ok _ _ c.found_in.result (λ found alone book sound sure is.
+    let r1 = c.in_ok-counts.ensures.read early Book is.form_checks is.control_checks [] sure is.schema in
+    let same : one.now ≡ old.now = r1.0 in
+    let r2 = c.in_ok-rows.ensures.shown clean is.form_checks is.control_checks [] (subst IsDatabase (sym same) sure)
+    (ap (λ (d : Database). d.schema) same ∙ is.schema) in
+    let entries = r2.1 book sound (subst (λ (d : Database). HoldsEntries d.trees book.entries) (sym same) is.holds.entries) in
+    let counts = (r1.1.1 (codes "control") book.last_id).1 is.holds.counted in
+    alone book.last_id (subst (λ (rows : List Row). ShowsCount (codes "control") rows book.last_id) (sym c.deref.ensures.value) counts)
+    (subst (λ (rows : List Row). ShowIds rows book.last_id) (sym c.deref-2.ensures.value) (ids_shown _ book sound entries)))
+    c.found_in.ensures.alone
+
+-- `form` was not as it is to be
+pub returns-in_err-counts-clause-denies : goal.returns-in_err-counts-clause-denies
+returns-in_err-counts-clause-denies g c clean =
+    err_on _ c.from_residual.result _ c.from_residual.ensures (λ told.
+    let no = c.in_err-counts.ensures.denies clean Book told in
+    (no.0, λ book storable sure is. no.1 is.form_checks is.control_checks [] sure is.schema is.holds.form))
+
+-- the entries can't be asked for
+pub returns-in_err-rows-clause-denies : goal.returns-in_err-rows-clause-denies
+returns-in_err-rows-clause-denies g c clean =
+    let mid = state g.S.Store c.read_begun.new.tx.conn.now in
+    let early : HasCleanDisk mid = omega (arith, clean, c.read_controls.ensures.step.survives.clean) in
+    err_on _ c.from_residual-in_err-rows.result _ c.from_residual-in_err-rows.ensures (λ told.
+    let no = c.in_err-rows.ensures.denies clean told in (
+      (c.in_ok-counts.ensures.step.kept early).was_open no.0,
+      λ book storable sure is.
+          (let r1 = c.in_ok-counts.ensures.read early Book is.form_checks is.control_checks [] sure is.schema in
+          no.1 is.form_checks is.control_checks [] (subst IsDatabase (sym r1.0) sure) (ap (λ (d : Database). d.schema) r1.0 ∙ is.schema) tt),
+    ))
+
+-- what is shown of them is no book's
+pub returns-clause-denies : goal.returns-clause-denies
+returns-clause-denies g c clean =
+    let old = state g.S.Store c.args.tx.now.conn.now in
+    let one = state g.S.Store c.read_begun.new.tx.conn.now in
+    let early : HasCleanDisk one = omega (arith, clean, c.read_controls.ensures.step.survives.clean) in
+    if_form _ c.found_in.result c.found_in.ensures.named (λ told. (
+      c.in_ok-counts.ensures.open early,
+      λ book storable sure is.
+          (let r1 = c.in_ok-counts.ensures.read early Book is.form_checks is.control_checks [] sure is.schema in
+          let same : one.now ≡ old.now = r1.0 in
+          let r2 = c.in_ok-rows.ensures.shown clean is.form_checks is.control_checks [] (subst IsDatabase (sym same) sure)
+          (ap (λ (d : Database). d.schema) same ∙ is.schema) in
+          let entries = r2.1 book storable.sound (subst (λ (d : Database). HoldsEntries d.trees book.entries) (sym same) is.holds.entries) in
+          let counts = (r1.1.1 (codes "control") book.last_id).1 is.holds.counted in
+          c.found_in.ensures.wrong told book storable
+          (subst (λ (rows : List Row). ShowsCount (codes "control") rows book.last_id) (sym c.deref.ensures.value) counts)
+          (subst (λ (rows : List Row). ShowEntries rows book.entries) (sym c.deref-2.ensures.value) entries)),
+    ))
 
 pub returns-clause-sound : goal.returns-clause-sound
 returns-clause-sound g c = if_ok _ _ c.found_in.result (λ found. sound_of_rise found.last_id c.found_in.new.entries.items) c.found_in.ensures.rise

@@ -1,7 +1,23 @@
 use Rattle.sqlite.specs.Held.{state}
-use Rattle.dnp_store.proofs.BookOpening.{controls_if}
+use Rattle.std.proofs.Common.{[]}
+use Rattle.dnp_store.specs.BookTables.{book_schema}
+use Rattle.dnp_store.proofs.BookOpening.{control_plain, control_query, controls_if}
+use Rattle.dnp_store.proofs.Unread.{if_err, means_nothing}
+use Rattle.dnp_store.proofs.BookShowing.{entries_if}
 use Rattle.dnp_store.proofs.book_opening.read_controls.Goals as goal
 
 pub returns-clause-read : goal.returns-clause-read
 returns-clause-read g c clean =
     controls_if (state g.S.Store c.args.tx.now.conn.now) (state g.S.Store c.list.new.tx.conn.now) c.list.result (c.list.ensures.shown clean)
+
+pub returns-clause-shown : goal.returns-clause-shown
+returns-clause-shown g c clean =
+    entries_if (state g.S.Store c.args.tx.now.conn.now) (state g.S.Store c.list.new.tx.conn.now) c.list.result (c.list.ensures.shown clean)
+
+pub returns-clause-denies : goal.returns-clause-denies
+returns-clause-denies g c clean =
+    let old = state g.S.Store c.args.tx.now.conn.now in
+    let new = state g.S.Store c.list.new.tx.conn.now in
+    if_err _ _ c.list.result (λ e refused told.
+    let none = means_nothing old new control_query [] e told refused in
+    (none.is_open, λ f r m sound has any. none.none (book_schema f r) has (control_plain f r))) (c.list.ensures.refused clean)

@@ -9,4 +9,5 @@ invariant-loop-x l = record {
   rises : l.before ≤ l.last;
   low : l.last ≤ MAX_ID;
   order : (n : ℕ) → l.last ≤ n → AreInOrder l.last n (drop l.x-index l.events) → AreInOrder l.before n l.events;
+  found : (n : ℕ) → AreInOrder l.before n l.events → AreInOrder l.last n (drop l.x-index l.events);
 }

@@ -7,6 +7,10 @@ use Rattle.sqlite.specs.Held.{state}
 use Rattle.dnp_store.proofs.Reading.{was_open, is_inside, keeps}
 use Rattle.dnp_store.proofs.QueueSteps.{delete_bound}
 use Rattle.dnp_store.proofs.JournalPaging.{page_if}
+use Rattle.dnp_store.specs.JournalTables.{journal_schema}
+use Rattle.dnp_store.proofs.JournalReading.{over_plain, over_text}
+use Rattle.dnp_store.proofs.JournalSeen.{first_if}
+use Rattle.dnp_store.proofs.Unread.{if_err, means_nothing}
 use Rattle.dnp_store.proofs.journal_paging.read_page.Goals as goal
 
 pub returns-clause-step : goal.returns-clause-step
@@ -33,3 +37,17 @@ returns-clause-read g c clean =
     page_if (state g.S.Store c.args.tx.now.conn.now) (state g.S.Store c.query_all.new.self.conn.now) c.args.from 1000 _
     (delete_bound _ _ c.args.from 1000 (c.params-to_sql.ensures ∙ ap Int (to_z_pos w64 c.args.from (omega (arith, c.requires.from)))) c.params-to_sql-2.ensures)
     c.query_all.result (c.query_all.ensures.ok clean)
+
+pub returns-clause-shown : goal.returns-clause-shown
+returns-clause-shown g c clean =
+    first_if (state g.S.Store c.args.tx.now.conn.now) (state g.S.Store c.query_all.new.self.conn.now) c.args.from 1000 (omega arith) _
+    (delete_bound _ _ c.args.from 1000 (c.params-to_sql.ensures ∙ ap Int (to_z_pos w64 c.args.from (omega (arith, c.requires.from)))) c.params-to_sql-2.ensures)
+    c.query_all.result (c.query_all.ensures.ok clean)
+
+pub returns-clause-denies : goal.returns-clause-denies
+returns-clause-denies g c clean =
+    let old = state g.S.Store c.args.tx.now.conn.now in
+    let new = state g.S.Store c.query_all.new.self.conn.now in
+    if_err _ _ c.query_all.result (λ e refused told.
+    let none = means_nothing old new over_text _ e told refused in
+    (none.is_open, λ f j m sound has any. none.none (journal_schema f j) has (over_plain f j))) (c.query_all.ensures.err clean)

@@ -1,29 +1,15 @@
+use Rattle.std.proofs.Common.{not, IsTrue, refl, ap, ◌∙◌}
 use Rattle.sqlite.specs.Held.{state}
-use Rattle.dnp_store.specs.QueueKept.{QueueStands}
-use Rattle.dnp_store.specs.PairTables.{migrated}
-use Rattle.dnp_store.proofs.Beginning.{told_current, told_err, told_ok}
-use Rattle.dnp_store.proofs.Statements.{survives_on}
+use Rattle.dnp_store.proofs.Standing.{survives_itself}
 use Rattle.dnp_store.proofs.queue_begin.second_made.Goals as goal
 
-pub returns-clause-idle : goal.returns-clause-idle
-returns-clause-idle g c = c.told.ensures.idle
+pub returns-then-has_second_name-clause-settled : goal.returns-then-has_second_name-clause-settled
+returns-then-has_second_name-clause-settled g c is_open =
+    let idle : IsTrue c.is_autocommit.result = c.is_autocommit.ensures.value ∙ ap not c.requires.idle in
+    c.is_autocommit.ensures.settled idle is_open
 
-pub returns-clause-ok : goal.returns-clause-ok
-returns-clause-ok g c clean s opens =
-    told_ok g.S.Store c.args.conn.now c.write_second-done.new.conn c.told.new.conn c.write_second-done.result
-    (λ h. QueueStands (state g.S.Store h) (migrated s c.args.capacities.now)) c.told.result c.told.ensures
-    (λ early. c.write_second-done.ensures.ok early s opens) clean
+pub returns-then-has_second_name-clause-err : goal.returns-then-has_second_name-clause-err
+returns-then-has_second_name-clause-err g c clean opened = (opened, refl)
 
-pub returns-clause-current : goal.returns-clause-current
-returns-clause-current g c =
-    told_current g.S.Store c.args.conn.now c.write_second-done.new.conn c.told.new.conn c.write_second-done.result c.told.result c.told.ensures
-
-pub returns-clause-err : goal.returns-clause-err
-returns-clause-err g c clean opened =
-    told_err g.S.Store c.args.conn.now c.write_second-done.new.conn c.told.new.conn c.write_second-done.result c.told.result c.told.ensures
-    c.write_second-done.ensures.err clean opened
-
-pub returns-clause-survives : goal.returns-clause-survives
-returns-clause-survives g c =
-    survives_on (state g.S.Store c.args.conn.now) (state g.S.Store c.write_second-done.new.conn) (state g.S.Store c.told.new.conn) _
-    c.write_second-done.ensures.survives c.told.ensures.survives
+pub returns-then-has_second_name-clause-survives : goal.returns-then-has_second_name-clause-survives
+returns-then-has_second_name-clause-survives g c = survives_itself (state g.S.Store c.args.conn.now)

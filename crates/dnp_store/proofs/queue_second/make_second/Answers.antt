@@ -1,10 +1,14 @@
-use Rattle.std.proofs.Common.{rules, ◌≡◌, length, arith, refl, sym, subst}
+use Rattle.std.proofs.Common.{rules, ◌≡◌, ◌++◌, [], ◌∷◌, length, arith, refl, sym, subst}
 use Rattle.sqlite.specs.State.{HasCleanDisk}
 use Rattle.sqlite.specs.Held.{state}
 use Rattle.dnp_objects.specs.declared.limits.TheConstants.{LANES}
 use Rattle.dnp_store.specs.PairTables.{migrated}
 use Rattle.dnp_store.specs.steps.Seconds.{IsSecond}
 use Rattle.dnp_store.specs.declared.store_kind.StoreKind.TheVariants.{Queue}
+use Rattle.dnp_store.specs.Added.{MakeAll, making_lanes, making_second}
+use Rattle.dnp_store.specs.Schemas.{lanes_b_text, queue_b_text}
+use Rattle.dnp_store.specs.Texts.{form_update, lanes_b_insert}
+use Rattle.dnp_store.proofs.Adding.{made_one, made_texts, made_then}
 use Rattle.dnp_store.proofs.Refusing.{any_kind, by_making, refused_after, refused_last}
 use Rattle.dnp_store.proofs.Seconding.{created_second, numbered_second}
 use Rattle.dnp_store.proofs.Stepping.{on_then, step_then}
@@ -25,6 +29,26 @@ returns-clause-made g c clean =
     on_then _ _ c.keep_probe.result (λ same f q l s has holds. subst (IsSecond f q l (migrated s c.args.capacities.now)) (sym same)
     (numbered_second three four numbered.0 f q l s c.args.capacities.now nine (c.in_ok-put_lanes_b.ensures.made clean_3 f q l s
     (created_second g.S.Store old two f q l s has holds (c.in_ok-run_all.ensures.ran clean_2))) numbered.1))
+    (c.keep_probe.ensures.same clean)
+
+pub returns-clause-added : goal.returns-clause-added
+returns-clause-added g c clean =
+    let one = c.args.tx.now.conn.now in
+    let two = c.run_all.new.tx.conn.now in
+    let three = c.put_lanes_b.new.tx.conn.now in
+    let four = c.run.new.tx.conn.now in
+    let clean_4 : HasCleanDisk (state g.S.Store four) = omega (arith, clean, c.keep_probe.ensures.step.survives.clean) in
+    let clean_3 : HasCleanDisk (state g.S.Store three) = omega (arith, clean_4, c.run.ensures.step.survives.clean) in
+    let clean_2 : HasCleanDisk (state g.S.Store two) = omega (arith, clean_3, c.put_lanes_b.ensures.step.survives.clean) in
+    let numbered = c.in_ok-run.ensures.ran clean_4 in
+    let lanes = making_lanes lanes_b_insert 0 c.args.capacities.now in
+    let texts : MakeAll g.S.Store ((queue_b_text, []) ∷ (lanes_b_text, []) ∷ []) (state g.S.Store one).now (state g.S.Store two).now =
+    made_texts g.S.Store (queue_b_text ∷ lanes_b_text ∷ []) one two (c.in_ok-run_all.ensures.ran clean_2) in
+    let all : MakeAll g.S.Store (making_second c.args.capacities.now) (state g.S.Store one).now (state g.S.Store four).now =
+    made_then g.S.Store ((queue_b_text, []) ∷ (lanes_b_text, []) ∷ []) (lanes ++ (form_update, []) ∷ []) (state g.S.Store one).now (state g.S.Store two).now (state g.S.Store four).now texts
+    (made_then g.S.Store lanes ((form_update, []) ∷ []) (state g.S.Store two).now (state g.S.Store three).now (state g.S.Store four).now (c.in_ok-put_lanes_b.ensures.added clean_3)
+    (made_one g.S.Store three four form_update [] numbered.0 numbered.1)) in
+    on_then _ _ c.keep_probe.result (λ same. subst (λ d. MakeAll g.S.Store (making_second c.args.capacities.now) (state g.S.Store one).now d) (sym same) all)
     (c.keep_probe.ensures.same clean)
 
 pub returns-clause-step : goal.returns-clause-step

@@ -1,7 +1,11 @@
-use Rattle.std.proofs.Common.{arith, refl}
+use Rattle.std.proofs.Common.{[], ◌∷◌, arith, refl}
 use Rattle.sqlite.specs.State.{HasCleanDisk}
 use Rattle.sqlite.specs.Held.{state}
 use Rattle.dnp_store.specs.declared.store_kind.StoreKind.TheVariants.{Queue}
+use Rattle.dnp_store.specs.Added.{making_lanes, making_tables}
+use Rattle.dnp_store.specs.Schemas.{lanes_text}
+use Rattle.dnp_store.specs.Texts.{lanes_insert}
+use Rattle.dnp_store.proofs.Adding.{made_one, made_then}
 use Rattle.dnp_store.proofs.Creating.{created_lanes}
 use Rattle.dnp_store.proofs.Refusing.{by_making, refused_after, refused_last}
 use Rattle.dnp_store.proofs.Running.{err_too, step_too}
@@ -17,6 +21,22 @@ returns-clause-made g c clean =
     let ran = c.in_ok-run.ensures.ran clean_2 in
     on_then _ _ c.put_lanes.result (λ filled none. filled (created_lanes numbered made ran.0 (c.in_ok-make_tables.ensures.made clean_1 none) ran.1))
     (c.put_lanes.ensures.made clean)
+
+pub returns-clause-added : goal.returns-clause-added
+returns-clause-added g c clean =
+    let old = state g.S.Store c.args.tx.now.conn.now in
+    let numbered = state g.S.Store c.make_tables.new.tx.conn.now in
+    let made = state g.S.Store c.run.new.tx.conn.now in
+    let last = state g.S.Store c.put_lanes.new.tx.conn.now in
+    let clean_2 : HasCleanDisk made = omega (arith, clean, c.put_lanes.ensures.step.survives.clean) in
+    let clean_1 : HasCleanDisk numbered = omega (arith, clean_2, c.run.ensures.step.survives.clean) in
+    let ran = c.in_ok-run.ensures.ran clean_2 in
+    let lanes = making_lanes lanes_insert 0 c.args.capacities.now in
+    on_then _ _ c.put_lanes.result
+    (λ filled. made_then g.S.Store (making_tables Queue) ((lanes_text, []) ∷ lanes) old.now numbered.now last.now (c.in_ok-make_tables.ensures.added clean_1)
+    (made_then g.S.Store ((lanes_text, []) ∷ []) lanes numbered.now made.now last.now
+    (made_one g.S.Store c.make_tables.new.tx.conn.now c.run.new.tx.conn.now lanes_text [] ran.0 ran.1) filled))
+    (c.put_lanes.ensures.added clean)
 
 pub returns-clause-step : goal.returns-clause-step
 returns-clause-step g c =

@@ -1,10 +1,13 @@
-use Rattle.std.proofs.Common.{rules, ◌≡◌, length, arith}
+use Rattle.std.proofs.Common.{rules, ◌≡◌, ◌++◌, [], ◌∷◌, length, arith}
 use Rattle.sqlite.specs.State.{HasCleanDisk}
 use Rattle.sqlite.specs.Held.{state}
 use Rattle.dnp_objects.specs.declared.limits.TheConstants.{LANES}
 use Rattle.dnp_eventbuf.specs.EventBuffer.{empty_buffer}
-use Rattle.dnp_store.specs.Schemas.{checks_of_form, checks_of_lanes, checks_of_rows}
+use Rattle.dnp_store.specs.Schemas.{checks_of_form, checks_of_lanes, checks_of_rows, lanes_text}
 use Rattle.dnp_store.specs.declared.store_kind.StoreKind.TheVariants.{Queue}
+use Rattle.dnp_store.specs.Added.{making_lanes, making_second, making_tables}
+use Rattle.dnp_store.specs.Texts.{lanes_insert}
+use Rattle.dnp_store.proofs.Adding.{made_then}
 use Rattle.dnp_store.proofs.Filling.{made_empty, made_of}
 use Rattle.dnp_store.proofs.Refusing.{refused_last}
 use Rattle.dnp_store.proofs.Stepping.{on_then, step_then}
@@ -22,6 +25,17 @@ returns-clause-made g c clean =
     made checks_of_form (checks_of_rows Queue) checks_of_lanes (empty_buffer c.args.first.now) (made_of mid.now _ has)
     (made_empty mid.now c.args.first.now nine has))
     (c.make_second.ensures.made clean)
+
+pub returns-clause-added : goal.returns-clause-added
+returns-clause-added g c clean =
+    let old = state g.S.Store c.args.tx.now.conn.now in
+    let mid = state g.S.Store c.make_all.new.tx.conn.now in
+    let last = state g.S.Store c.make_second.new.tx.conn.now in
+    let early : HasCleanDisk mid = omega (arith, c.make_second.ensures.step.survives.clean) in
+    on_then _ _ c.make_second.result
+    (λ made. made_then g.S.Store (making_tables Queue ++ ((lanes_text, []) ∷ making_lanes lanes_insert 0 c.args.first.now)) (making_second c.args.second.now)
+    old.now mid.now last.now (c.in_ok-make_all.ensures.added early) made)
+    (c.make_second.ensures.added clean)
 
 pub returns-clause-step : goal.returns-clause-step
 returns-clause-step g c =

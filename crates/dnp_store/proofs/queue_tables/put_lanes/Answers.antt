@@ -6,7 +6,9 @@ use Rattle.sqlite.specs.Values.{bound_value}
 use Rattle.sqlite.specs.Held.{state}
 use Rattle.dnp_objects.specs.declared.limits.TheConstants.{LANES}
 use Rattle.dnp_store.specs.steps.Making.{HasLanes, fresh}
+use Rattle.dnp_store.specs.Texts.{lanes_insert}
 use Rattle.dnp_store.proofs.Filling.{lane_made, lane_text, length_fresh}
+use Rattle.dnp_store.proofs.Adding.{lanes_left, one_lane}
 use Rattle.dnp_store.proofs.Stepping.{step_then, step_none}
 use Rattle.dnp_store.specs.declared.store_kind.StoreKind.TheVariants.{Queue}
 use Rattle.dnp_store.proofs.Refusing.{by_making, refused_after}
@@ -20,6 +22,15 @@ loop-number-preserved g c =
     let number = c.loop-number.number in
     let all = c.args.capacities.now in record {
       step = step_then g.S.Store c.args.tx.now.conn c.loop-number.tx.conn c.run.new.tx.conn _ _ c.loop-number.invariant.step c.in_ok-run.ensures.step;
+      ran = λ clean.
+          let early : HasCleanDisk mid = omega (arith, c.run.ensures.step.survives.clean) in
+          let nine : length all ≡ LANES = search rules in
+          let low : number < LANES = omega arith in
+          let ran = c.in_ok-run.ensures.ran clean in
+          let given =
+          ap₂ (λ (a b : Value). bound_value a ∷ bound_value b ∷ []) c.params-to_sql.ensures c.params-to_sql-in-loop-number.ensures in
+          one_lane g.S.Store lanes_insert all number ran.0 (state g.S.Store c.args.tx.now.conn.now).now c.loop-number.tx.conn.now c.run.new.tx.conn.now
+          (omega (arith, low, nine)) (subst (λ ps. Executes lanes_insert ps mid new (Ok ran.0)) given ran.1) (c.loop-number.invariant.ran early);
       made = λ clean.
           let early : HasCleanDisk mid = omega (arith, c.run.ensures.step.survives.clean) in
           let was = c.loop-number.invariant.made early in
@@ -51,4 +62,12 @@ returns-in_err-run-clause-step g c =
     step_too g.S.Store _ _ _ c.from_residual.result c.from_residual.ensures here
 
 pub loop-number-init : goal.loop-number-init
-loop-number-init g c = record { step = step_none g.S.Store c.args.tx.now.conn c.requires.inside; made = λ clean has. has }
+loop-number-init g c = record { step = step_none g.S.Store c.args.tx.now.conn c.requires.inside; ran = λ clean last rest. rest; made = λ clean has. has }
+
+pub returns-clause-added : goal.returns-clause-added
+returns-clause-added g c clean =
+    let all = c.args.capacities.now in
+    let nine : length all ≡ LANES = search rules in
+    let end : c.loop-number.number ≡ LANES = omega arith in
+    lanes_left g.S.Store lanes_insert all c.loop-number.number (state g.S.Store c.args.tx.now.conn.now).now (state g.S.Store c.loop-number.tx.conn.now).now
+    (omega (arith, nine, end)) (c.loop-number.invariant.ran clean)

@@ -1,14 +1,16 @@
-use Rattle.std.proofs.Common.{rules, ◌≡◌, ℕ, List, ap, ◌∙◌}
+use Rattle.std.proofs.Common.{rules, ◌≡◌, ℕ, List, ap, subst, ◌∙◌}
 use Rattle.std.specs.Prelude.{OnOk}
 use Rattle.sqlite.specs.Held.{state}
 use Rattle.sqlite.specs.Tree.{Trees}
 use Rattle.sqlite.specs.State.{HasCleanDisk}
 use Rattle.dnp_eventbuf.specs.EventBuffer.{empty_buffer}
+use Rattle.dnp_store.specs.Added.{LeavesMade, MakeAll, making_queue}
 use Rattle.dnp_store.specs.Tables.{no_schema}
 use Rattle.dnp_store.specs.Schemas.{checks_of_form, checks_of_lanes, checks_of_rows, made_pair}
 use Rattle.dnp_store.specs.PairTables.{HoldsPair, IsPair, Sides, migrated}
 use Rattle.dnp_store.specs.steps.Seconds.{IsSecond}
 use Rattle.dnp_store.specs.declared.store_kind.StoreKind.TheVariants.{Queue}
+use Rattle.dnp_store.proofs.Adding.{leaves_made}
 use Rattle.dnp_store.proofs.Ending.{end_err, end_ok, end_refused, end_survives}
 use Rattle.dnp_store.proofs.Standing.{stands_if}
 use Rattle.dnp_store.proofs.Statements.{second}
@@ -36,13 +38,31 @@ returns-clause-ok g c clean none =
     (λ early. on_then (IsSecond checks_of_form (checks_of_rows Queue) checks_of_lanes (empties c.args.first.now c.args.second.now) _) (IsPair _ b) c.make_pair-done.result
     (λ it. record { checks = _; schema = it.schema; holds = it.holds }) (made g c none early)) clean)
 
+-- the transaction began with what the connection shows
+added : (g : _) (c : goal.After-conn-1 g) → HasCleanDisk (state g.S.Store c.make_pair-done.new.tx.conn.now)
+    → OnOk c.make_pair-done.result (MakeAll g.S.Store (making_queue c.args.first.now c.args.second.now) (state g.S.Store c.args.conn.now).now (state g.S.Store c.make_pair-done.new.tx.conn.now).now)
+added g c early =
+    subst (λ h. OnOk c.make_pair-done.result (MakeAll g.S.Store (making_queue c.args.first.now c.args.second.now) (state g.S.Store h).now (state g.S.Store c.make_pair-done.new.tx.conn.now).now))
+    c.transaction-tx.ensures.begun (c.make_pair-done.ensures.added early)
+
+pub returns-clause-added : goal.returns-clause-added
+returns-clause-added g c clean =
+    second _ _ c.end.result
+    (end_ok g.S.Store c.args.conn.now c.conn-1.given.0 c.transaction-tx.result.conn c.make_pair-done.new.tx.conn c.end.new.tx.0 c.make_pair-done.result c.end.result
+    c.transaction-tx.ensures.begun (ended g c) c.make_pair-done.ensures.step c.end.ensures
+    (MakeAll g.S.Store (making_queue c.args.first.now c.args.second.now) (state g.S.Store c.args.conn.now).now) (added g c) clean)
+
 pub returns-clause-survives : goal.returns-clause-survives
 returns-clause-survives g c =
     let b = empties c.args.first.now c.args.second.now in
+    let its = making_queue c.args.first.now c.args.second.now in
     end_survives g.S.Store c.args.conn.now c.conn-1.given.0 c.transaction-tx.result.conn c.make_pair-done.new.tx.conn c.end.new.tx.0 c.make_pair-done.result c.end.result
-    c.transaction-tx.ensures.begun (ended g c) c.make_pair-done.ensures.step c.end.ensures (λ db. c.args.conn.now.schema ≡ no_schema → HoldsPair db b)
-    (λ early. on_then _ _ c.make_pair-done.result
+    c.transaction-tx.ensures.begun (ended g c) c.make_pair-done.ensures.step c.end.ensures
+    (LeavesMade g.S.Store its (λ db. HoldsPair db b) (state g.S.Store c.args.conn.now).now)
+    (λ early. leaves_made g.S.Store its (λ db. HoldsPair db b) _ _ c.make_pair-done.result
+    (on_then _ _ c.make_pair-done.result
     (λ went none. (went (ap (λ h. (state g.S.Store h).now.schema) c.transaction-tx.ensures.begun ∙ none)).holds) (c.make_pair-done.ensures.made early))
+    (added g c early))
 
 pub returns-clause-schema : goal.returns-clause-schema
 returns-clause-schema g c clean none =

@@ -1,6 +1,7 @@
 use Rattle.std.proofs.Common.{arith, sym, subst}
 use Rattle.sqlite.specs.State.{HasCleanDisk}
 use Rattle.sqlite.specs.Held.{state}
+use Rattle.dnp_store.specs.Added.{MakeAll, making_tables}
 use Rattle.dnp_store.specs.steps.Stores.{HasNumber}
 use Rattle.dnp_store.proofs.Refusing.{any_kind}
 use Rattle.dnp_store.proofs.Stepping.{on_then, step_then}
@@ -11,6 +12,13 @@ pub returns-clause-made : goal.returns-clause-made
 returns-clause-made g c clean =
     let early : HasCleanDisk (state g.S.Store c.make_tables.new.tx.conn.now) = omega (arith, clean, c.keep_probe.ensures.step.survives.clean) in
     on_then _ _ c.keep_probe.result (λ same none. subst (HasNumber c.args.kind) (sym same) (c.in_ok-make_tables.ensures.made early none))
+    (c.keep_probe.ensures.same clean)
+
+pub returns-clause-added : goal.returns-clause-added
+returns-clause-added g c clean =
+    let early : HasCleanDisk (state g.S.Store c.make_tables.new.tx.conn.now) = omega (arith, clean, c.keep_probe.ensures.step.survives.clean) in
+    on_then _ _ c.keep_probe.result
+    (λ same. subst (λ d. MakeAll g.S.Store (making_tables c.args.kind) (state g.S.Store c.args.tx.now.conn.now).now d) (sym same) (c.in_ok-make_tables.ensures.added early))
     (c.keep_probe.ensures.same clean)
 
 pub returns-clause-refused : goal.returns-clause-refused

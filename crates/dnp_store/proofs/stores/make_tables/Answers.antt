@@ -1,8 +1,9 @@
 use Rattle.std.proofs.Common.{[], ◌∷◌, Some, ap, refl, subst, sym}
 use Rattle.std.specs.List.{AllByRecursion}
-use Rattle.dnp_store.specs.Schemas.{form_text}
+use Rattle.dnp_store.specs.Schemas.{form_text, rows_text}
 use Rattle.dnp_store.specs.Texts.{IsMaking}
 use Rattle.dnp_store.specs.steps.Making.{ExecuteAll}
+use Rattle.dnp_store.proofs.Adding.{made_texts}
 use Rattle.dnp_store.proofs.Numbering.{began, number_text}
 use Rattle.dnp_store.proofs.Running.{making_told}
 use Rattle.dnp_store.proofs.Stepping.{on_then}
@@ -16,6 +17,14 @@ returns-clause-made g c clean =
     let old = c.args.tx.now.conn.now in
     let new = c.run_all.new.tx.conn.now in
     on_then _ _ c.run_all.result (λ ran none. began g.S.Store c.args.kind old new none
+    (subst (λ text. ExecuteAll g.S.Store (form_text ∷ text ∷ number_text ∷ []) old new) c.rows_text.ensures ran))
+    (c.run_all.ensures.ran clean)
+
+pub returns-clause-added : goal.returns-clause-added
+returns-clause-added g c clean =
+    let old = c.args.tx.now.conn.now in
+    let new = c.run_all.new.tx.conn.now in
+    on_then _ _ c.run_all.result (λ ran. made_texts g.S.Store (form_text ∷ rows_text c.args.kind ∷ number_text ∷ []) old new
     (subst (λ text. ExecuteAll g.S.Store (form_text ∷ text ∷ number_text ∷ []) old new) c.rows_text.ensures ran))
     (c.run_all.ensures.ran clean)
 

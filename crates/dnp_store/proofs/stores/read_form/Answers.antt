@@ -1,7 +1,9 @@
-use Rattle.std.proofs.Common.{rules, subst, sym}
+use Rattle.std.proofs.Common.{[], rules, subst, sym}
 use Rattle.sqlite.specs.Held.{state}
 use Rattle.dnp_store.specs.steps.Shown.{ShowsForm1}
-use Rattle.dnp_store.proofs.Opening.{reads_form}
+use Rattle.dnp_store.specs.steps.Stores.{schema_for}
+use Rattle.dnp_store.proofs.Opening.{form_plain, form_query, reads_form}
+use Rattle.dnp_store.proofs.Unread.{err_on, form_shown, means_nothing}
 use Rattle.dnp_store.proofs.stores.read_form.Goals as goal
 
 pub returns-in-Some-clause-read : goal.returns-in-Some-clause-read
@@ -18,3 +20,22 @@ returns-clause-wrong g c clean told = (
       (let is = c.form1.ensures.found id (subst (λ rs. ShowsForm1 rs id) (sym c.deref.ensures.value) shows) in
       let none = c.in-None.is in cc),
 )
+
+pub returns-in_err-rows-clause-denies : goal.returns-in_err-rows-clause-denies
+returns-in_err-rows-clause-denies g c clean =
+    let old = state g.S.Store c.args.tx.now.conn.now in
+    let new = state g.S.Store c.list.new.tx.conn.now in
+    err_on _ c.from_residual.result _ c.from_residual.ensures (λ kind told.
+    let none = means_nothing old new form_query [] _ told (c.in_err-rows.ensures.refused clean) in
+    (none.is_open, λ f r m sound has form. none.none (schema_for kind f r m) has (form_plain kind f r m)))
+
+pub returns-clause-denies : goal.returns-clause-denies
+returns-clause-denies g c clean kind told =
+    let old = state g.S.Store c.args.tx.now.conn.now in
+    let new = state g.S.Store c.list.new.tx.conn.now in (
+      c.in_ok-rows.ensures.open clean,
+      λ f r m sound has form.
+          (let shows = form_shown old new c.in_ok-rows.rows.items kind f r m has (c.in_ok-rows.ensures.shown clean) form in
+          let is = c.form1.ensures.found shows.0 (subst (λ rs. ShowsForm1 rs shows.0) (sym c.deref.ensures.value) shows.1) in
+          let none = c.in-None.is in absurd cc),
+    )

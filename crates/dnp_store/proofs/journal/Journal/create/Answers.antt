@@ -57,10 +57,13 @@ returns-in-Ok-clause-stands g c clean own = told_stands (state g.S.Store c.begin
 
 pub returns-in-Ok-clause-made : goal.returns-in-Ok-clause-made
 returns-in-Ok-clause-made g c =
-    survives_as (state g.S.Store c.args.conn) (state g.S.Store c.begin_tables.new.conn) _ _ (λ db made none. fresh_journal db (made none))
+    survives_as (state g.S.Store c.args.conn) (state g.S.Store c.begin_tables.new.conn) _ _ (λ db made. ((λ none. fresh_journal db (made.0 none)), made.1))
     c.in-Ok.ensures.begins.survives
 
 pub returns-in-Err-clause-left : goal.returns-in-Err-clause-left
 returns-in-Err-clause-left g c =
-    survives_as (state g.S.Store c.args.conn) (state g.S.Store c.begin_tables.new.conn) _ _ (λ db made none. fresh_journal db (made none))
+    survives_as (state g.S.Store c.args.conn) (state g.S.Store c.begin_tables.new.conn) _ _ (λ db made. ((λ none. fresh_journal db (made.0 none)), made.1))
     c.in-Err.ensures.begins.survives
+
+pub returns-in-Ok-clause-added : goal.returns-in-Ok-clause-added
+returns-in-Ok-clause-added g c = c.in-Ok.ensures.added

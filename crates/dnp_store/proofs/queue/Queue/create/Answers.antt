@@ -54,3 +54,6 @@ returns-in-Ok-clause-made g c = c.in-Ok.ensures.is.begins.survives
 
 pub returns-in-Err-clause-left : goal.returns-in-Err-clause-left
 returns-in-Err-clause-left g c = c.in-Err.ensures.is.begins.survives
+
+pub returns-in-Ok-clause-added : goal.returns-in-Ok-clause-added
+returns-in-Ok-clause-added g c = c.in-Ok.ensures.is.added

@@ -1,4 +1,4 @@
-use Rattle.std.proofs.Common.{arith}
+use Rattle.std.proofs.Common.{Err, arith, ap}
 use Rattle.dnp_store.proofs.Beginning.{inside_not, inside_wrong}
 use Rattle.dnp_store.proofs.queue.Queue.migrate.Goals as goal
 
@@ -40,3 +40,9 @@ returns-in-Ok-clause-unwritten g c = c.in-Ok.ensures.unwritten
 
 pub returns-in-Err-clause-unwritten_too : goal.returns-in-Err-clause-unwritten_too
 returns-in-Err-clause-unwritten_too g c = c.in-Err.ensures.unwritten
+
+pub returns-in-Ok-clause-added : goal.returns-in-Ok-clause-added
+returns-in-Ok-clause-added g c = c.in-Ok.ensures.added
+
+pub returns-in-Err-clause-wrong_form : goal.returns-in-Err-clause-wrong_form
+returns-in-Err-clause-wrong_form g c clean told = c.in-Err.ensures.wrong clean (ap Err told)

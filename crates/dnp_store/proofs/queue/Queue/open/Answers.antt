@@ -34,3 +34,9 @@ returns-in-Err-clause-old_form g c clean told = c.in-Err.ensures.old_form clean 
 
 pub returns-in-Err-clause-not_old : goal.returns-in-Err-clause-not_old
 returns-in-Err-clause-not_old g c clean told = c.in-Err.ensures.not_old clean (ap Err told)
+
+pub returns-in-Ok-clause-not_new : goal.returns-in-Ok-clause-not_new
+returns-in-Ok-clause-not_new g c = c.in-Ok.ensures.is_new
+
+pub returns-in-Err-clause-wrong_form : goal.returns-in-Err-clause-wrong_form
+returns-in-Err-clause-wrong_form g c clean told = c.in-Err.ensures.wrong clean (ap Err told)
