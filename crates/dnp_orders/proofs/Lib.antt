@@ -1,0 +1,3 @@
+mod OneToOne
+mod Parsed
+mod Units
