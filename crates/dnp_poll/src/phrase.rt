@@ -1,9 +1,8 @@
-//! The words for indications, statuses, families and tasks.
+//! The words for indications, families and tasks.
 
 use crate::rows::Family;
 use dnp_appfragment::Iin;
 use dnp_master::Task;
-use dnp_objects::Status;
 use std::fmt;
 use std::fmt::{Display, Formatter, Write};
 
@@ -85,33 +84,6 @@ impl Display for Indications {
             after: self.after,
         };
         write!(f, "{first}{second}")
-    }
-}
-
-/// The standard's name of a control status (IEEE Std 1815-2012, object library: control status codes).
-pub(crate) fn status_name(status: Status) -> &'static str {
-    match status.code() {
-        0 => "SUCCESS",
-        1 => "TIMEOUT",
-        2 => "NO_SELECT",
-        3 => "FORMAT_ERROR",
-        4 => "NOT_SUPPORTED",
-        5 => "ALREADY_ACTIVE",
-        6 => "HARDWARE_ERROR",
-        7 => "LOCAL",
-        8 => "TOO_MANY_OBJS",
-        9 => "NOT_AUTHORIZED",
-        10 => "AUTOMATION_INHIBIT",
-        11 => "PROCESSING_LIMITED",
-        12 => "OUT_OF_RANGE",
-        13 => "DOWNSTREAM_LOCAL",
-        14 => "ALREADY_COMPLETE",
-        15 => "BLOCKED",
-        16 => "CANCELLED",
-        17 => "BLOCKED_OTHER_MASTER",
-        18 => "DOWNSTREAM_FAIL",
-        126 => "NON_PARTICIPATING",
-        _ => "UNDEFINED",
     }
 }
 

@@ -1,12 +1,13 @@
 //! Rows and outcomes as JSON objects.
 
-use crate::phrase::{Indications, family_name, status_name, task_name};
+use crate::phrase::{Indications, family_name, task_name};
 use crate::rows::ShownRow;
 use crate::shown_text::index_of;
 use crate::task_end::TaskEnd;
 use dnp_appfragment::Iin;
 use dnp_master::Outcome;
 use dnp_objects::Row;
+use dnp_orders::status_name;
 use std::fmt;
 use std::fmt::{Display, Formatter, Write};
 

@@ -1,12 +1,13 @@
 //! Rows and outcomes as lines of text.
 
-use crate::phrase::{Indications, family_name, status_name, task_name};
+use crate::phrase::{Indications, family_name, task_name};
 use crate::rows::ShownRow;
 use crate::task_end::TaskEnd;
 use dnp_appfragment::Iin;
 use dnp_decode::Moment;
 use dnp_master::{Outcome, Task};
 use dnp_objects::Row;
+use dnp_orders::status_name;
 use std::fmt;
 use std::fmt::{Display, Formatter, Write};
 
