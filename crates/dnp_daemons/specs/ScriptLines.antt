@@ -179,18 +179,3 @@ first_unread reading lines = option_map (λ k. k + 1) (position (λ line. not (i
 -- the first of the lines that doesn't fit
 abbrev pub first_misfit : ℕ → List (List ℕ) → Option ℕ
 first_misfit substations lines = first_unread (reading_of substations) lines
-
--- ---- the words after `issue`
-
--- the substation and the command of a line that issues one
-abbrev pub issued_by : Option ScriptLine → Option (ℕ × Command)
-issued_by (Some (One (Issue centre substation command))) = Some (substation, command)
-issued_by _ = None
-
--- what they say
-abbrev pub issue_words : ℕ → List (List ℕ) → Option (ℕ × Command)
-issue_words n (substation ∷ form ∷ index ∷ more) = issued_by (at_index n (codes "issue") substation form index more)
-issue_words n _ = None
-
-abbrev pub issue_said : ℕ → List ℕ → Option (ℕ × Command)
-issue_said n text = issue_words n (words_of text)

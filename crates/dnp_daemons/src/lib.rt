@@ -28,7 +28,7 @@ pub use plain::{PlainWorld, plain_world};
 pub use report_text::{PrintFault, print_report};
 pub use run::{ScriptStop, Scripted, run_script};
 pub use script::{
-    IdleLines, IdleReason, LineFault, ScriptFault, ScriptLine, WhichCentre, idle_lines, issue_in,
-    number_in, read_script, script_fault,
+    IdleLines, IdleReason, LineFault, ScriptFault, ScriptLine, WhichCentre, idle_lines, number_in,
+    read_script, script_fault,
 };
 pub use sim::{Stores, loop_text, sim_text};

@@ -23,7 +23,6 @@ pub(crate) mod which;
 pub(crate) mod words;
 
 pub use idle::{IdleLines, IdleReason, idle_lines};
-pub use lines::issue_in;
 pub use numbers::number_in;
 pub use reason::{LineFault, script_fault};
 pub use which::WhichCentre;

@@ -1,7 +1,7 @@
 //! One line of a script.
 
 ghost use Rattle.std.specs.Prelude.{◌≡◌, ◌∷◌, [], IfOk, map};
-ghost use Rattle.dnp_daemons.specs.ScriptLines.{at_link, at_end, at_way, at_link_with, at_word, reading_named, setpoint_named, block_named, change_named, issue_named, issuer_named, damage_named, at_index, issue_said, line_named, reading_of};
+ghost use Rattle.dnp_daemons.specs.ScriptLines.{at_link, at_end, at_way, at_link_with, at_word, reading_named, setpoint_named, block_named, change_named, issue_named, issuer_named, damage_named, at_index, line_named, reading_of};
 
 use crate::script::ScriptLine;
 use crate::script::names::{
@@ -291,31 +291,5 @@ pub(crate) fn read_line(
     match words_in(line) {
         Some(words) => words_line(alloc, &words, substations),
         None => Ok(None),
-    }
-}
-
-/// The substation and the command that the words of an `issue` line after `issue` name, for a plan of so many substations,
-/// or none where they don't fit.
-pub fn issue_in(text: &str, substations: usize) -> Option<(u8, Command)>
-    ensures { result ≡ issue_said substations text.now }
-{
-    let words = words_in(text)?;
-    let line = match &*words {
-        [substation, form, index, more @ ..] => {
-            index_line("issue", substation, form, index, more, substations)
-        }
-        _ => None,
-    };
-    match line {
-        Some(
-            ScriptLine::One(
-                Event::Issue {
-                    centre: _,
-                    substation,
-                    command,
-                },
-            ),
-        ) => Some((substation, command)),
-        _ => None,
     }
 }
