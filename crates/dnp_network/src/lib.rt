@@ -1,0 +1,33 @@
+//! Where the stations of a plan are: the text of a network, in TOML, beside the text of its plan, and the table of what
+//! people call its points, in CSV. `read_network` reads the one, `records_of` and `points_in` the other; `name_of_point`
+//! tells what people call a point.
+#![tactic(auto)]
+
+mod endpoint;
+mod head;
+mod keys;
+mod kind;
+mod listed;
+mod looked;
+mod network;
+mod place;
+mod points;
+mod points_said;
+mod said;
+mod shown;
+mod sites;
+mod twice;
+mod words;
+
+pub use endpoint::{Endpoint, EndpointFault, Host, endpoint_in};
+pub use kind::{PointCounts, PointKind, count_of};
+pub use listed::Listed;
+pub use network::{Head, Network, NetworkFault, Site, read_network};
+pub use place::{MAX_SITES, NetworkKey, NetworkPlace, Part, Stands};
+pub use points::{
+    PointId, PointName, PointsFault, RowStands, name_of_point, points_in, records_of,
+};
+pub use points_said::PointsReason;
+pub use said::{NetworkReason, network_reason};
+pub use shown::{CsvText, JsonText, PlainText};
+pub use words::Words;

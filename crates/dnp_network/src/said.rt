@@ -1,0 +1,213 @@
+//! Why a text is no network, in a sentence.
+
+use crate::endpoint::EndpointFault;
+use crate::looked::{line_of, shown_at};
+use crate::network::NetworkFault;
+use crate::place::{MAX_ADDRESS, NetworkKey, NetworkPlace, Part, Stands};
+use std::alloc::{AllocError, Global};
+use std::fmt;
+use std::fmt::{Display, Formatter, Write};
+
+/// The most characters of a text that are repeated.
+const SHOWN: usize = 60;
+
+/// A text in quotes, and no more of it than [`SHOWN`] characters.
+#[derive(Clone, Copy)]
+pub(crate) struct Quoted<'a>(pub &'a str);
+
+impl Display for Quoted<'_> {
+    fn fmt<W: Write>(&self, f: &mut Formatter<W>) -> fmt::Result {
+        match self.0.char_indices().nth(SHOWN) {
+            Some((end, _)) => {
+                let shown = self.0.get(..end).unwrap_or("").escape_debug();
+                write!(f, "'{shown}' and more")
+            }
+            None => {
+                let shown = self.0.escape_debug();
+                write!(f, "'{shown}'")
+            }
+        }
+    }
+}
+
+/// What belongs under a key.
+#[derive(Clone, Copy)]
+struct Belongs(NetworkKey);
+
+impl Display for Belongs {
+    fn fmt<W: Write>(&self, f: &mut Formatter<W>) -> fmt::Result {
+        match self.0 {
+            NetworkKey::Name => f.write_str("a string with a character or more belongs"),
+            NetworkKey::Points => f.write_str("the path of a file belongs, as \"points.csv\""),
+            NetworkKey::Concentrator => f.write_str("a table [concentrator] belongs"),
+            NetworkKey::Substation => {
+                f.write_str("a table [[substation]] for each substation of the plan belongs")
+            }
+            NetworkKey::Address | NetworkKey::Master | NetworkKey::Centre | NetworkKey::Centre2 => {
+                write!(f, "a link address from 0 to {MAX_ADDRESS} belongs")
+            }
+            _ => f.write_str(
+                "a host and port belong, as 10.0.0.1:20000, [2001:db8::1]:20000 or name:20000",
+            ),
+        }
+    }
+}
+
+/// What is wrong with a text that says no host and port.
+fn ill_of(fault: EndpointFault) -> &'static str {
+    match fault {
+        EndpointFault::NoPort => "without a port behind the host",
+        EndpointFault::Port => "with a port that is no number from 1 to 65535",
+        EndpointFault::Bracket => "with a bracket that isn't closed",
+        EndpointFault::Address6 => "with no IPv6 address in the brackets",
+        EndpointFault::Bare6 => "with more than one colon, and no brackets around an IPv6 address",
+        EndpointFault::Address4 => "with digits and dots that are no IPv4 address",
+        EndpointFault::Name => "with a host that is neither an address nor a name",
+    }
+}
+
+/// What stands at a place, by its type.
+fn type_of(stands: Stands) -> &'static str {
+    match stands {
+        Stands::Empty => "an empty string",
+        Stands::Whole => "a whole number",
+        Stands::Float => "a number that isn't whole",
+        Stands::Truth => "true or false",
+        Stands::Datetime => "a date or a time",
+        Stands::List => "a list",
+        Stands::Table => "a table",
+        _ => "a string",
+    }
+}
+
+/// The keys that a part has.
+#[derive(Clone, Copy)]
+struct KeysOf(Part);
+
+impl Display for KeysOf {
+    fn fmt<W: Write>(&self, f: &mut Formatter<W>) -> fmt::Result {
+        let keys = self.0.keys();
+        for (place, key) in keys.iter().enumerate() {
+            if place > 0 && place == keys.len().saturating_sub(1) {
+                f.write_str(" and ")?;
+            } else if place > 0 {
+                f.write_str(", ")?;
+            }
+            f.write_str(key.name())?;
+        }
+        Ok(())
+    }
+}
+
+/// Writes the table that a place is in, where it isn't that of the whole network.
+fn write_part<W: Write>(f: &mut Formatter<W>, part: Part) -> fmt::Result {
+    match part {
+        Part::Whole => Ok(()),
+        Part::Concentrator => f.write_str("concentrator, "),
+        Part::Substation(number) => write!(f, "substation {number}, "),
+    }
+}
+
+/// Writes what stands under a key that may not stand there too.
+fn write_repeated<W: Write>(f: &mut Formatter<W>, place: &NetworkPlace, text: &str) -> fmt::Result {
+    let name = place.key.name();
+    let whose = match place.key {
+        NetworkKey::Name => "a name of its own belongs",
+        _ => "a host and port of its own belong",
+    };
+    match place.stands {
+        Stands::Twice(number) => write!(
+            f,
+            "{name}: {}, which substation {number} has too, where {whose}",
+            Quoted(text)
+        ),
+        Stands::As(first) => write!(
+            f,
+            "{name}: {}, which stands under {} too, where {whose}",
+            Quoted(text),
+            first.name()
+        ),
+        _ => Ok(()),
+    }
+}
+
+/// Writes the key of a place, what stands there, and what belongs there.
+fn write_place<W: Write>(f: &mut Formatter<W>, place: &NetworkPlace, text: &str) -> fmt::Result {
+    if let (Part::Substation(number), NetworkKey::Substation) = (place.part, place.key) {
+        let found = type_of(place.stands);
+        return write!(f, "substation {number}: {found}, where a table belongs");
+    }
+    write_part(f, place.part)?;
+    let name = place.key.name();
+    let wanted = Belongs(place.key);
+    match place.stands {
+        Stands::Unknown => write!(
+            f,
+            "unknown key {}, where {} are known",
+            Quoted(text),
+            KeysOf(place.part)
+        ),
+        Stands::Missing => write!(f, "{name} is missing, where {wanted}"),
+        Stands::Count(count, planned) => write!(
+            f,
+            "{name}: {count} in this file, where the plan has {planned}"
+        ),
+        Stands::Number(number) => write!(f, "{name}: {number}, where {wanted}"),
+        Stands::Own(number) => write!(
+            f,
+            "{name}: {number}, which is the station's own address, where another one belongs"
+        ),
+        Stands::NoEndpoint(fault) => {
+            write!(
+                f,
+                "{name}: {} {}, where {wanted}",
+                Quoted(text),
+                ill_of(fault)
+            )
+        }
+        Stands::Twice(_) | Stands::As(_) => write_repeated(f, place, text),
+        Stands::Alone => write!(
+            f,
+            "{name}: of a second centre, where listen2 is missing, at which it is served"
+        ),
+        stands => write!(f, "{name}: {}, where {wanted}", type_of(stands)),
+    }
+}
+
+/// Why a text says no network, and where.
+#[derive(Debug, Drop)]
+pub struct NetworkReason {
+    /// The fault.
+    pub fault: NetworkFault,
+    /// The line that it is in, counted from 1, where that is known.
+    pub line: Option<usize>,
+    /// The text that stands there, where it is one.
+    pub text: String,
+}
+
+impl Display for NetworkReason {
+    /// The line, the key, what stands there, and what belongs there.
+    fn fmt<W: Write>(&self, f: &mut Formatter<W>) -> fmt::Result {
+        if let Some(line) = self.line {
+            write!(f, "line {line}: ")?;
+        }
+        match &self.fault {
+            NetworkFault::Syntax => f.write_str("the network is no TOML"),
+            NetworkFault::Wrong(place) => write_place(f, place, self.text.as_str()),
+            NetworkFault::Memory => f.write_str("out of memory"),
+        }
+    }
+}
+
+/// What is said of a text that is refused for this fault.
+pub fn network_reason(
+    alloc: Global,
+    text: &str,
+    fault: NetworkFault,
+) -> Result<NetworkReason, AllocError> {
+    Ok(NetworkReason {
+        fault,
+        line: line_of(alloc, text, fault)?,
+        text: shown_at(alloc, text, fault)?,
+    })
+}
