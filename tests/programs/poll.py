@@ -292,6 +292,60 @@ def foreign_cases():
     return good
 
 
+# The object of each command after the function, by IEEE Std 1815-2012, 12.1 (code, count, ms on, ms off, status) and 41.1 and
+# 41.2 (value, status), with an index of two octets. The codes are those of opendnp3's ControlCode as well.
+SENT = {
+    "latch-on 3": "0C 01 28 01 00 03 00 03 01 00 00 00 00 00 00 00 00 00",
+    "latch-off 3": "0C 01 28 01 00 03 00 04 01 00 00 00 00 00 00 00 00 00",
+    "pulse-on 3 100ms": "0C 01 28 01 00 03 00 01 01 64 00 00 00 00 00 00 00 00",
+    "pulse-off 3 2s": "0C 01 28 01 00 03 00 02 01 D0 07 00 00 00 00 00 00 00",
+    "close 3 100ms": "0C 01 28 01 00 03 00 41 01 64 00 00 00 00 00 00 00 00",
+    "trip 3 100ms": "0C 01 28 01 00 03 00 81 01 64 00 00 00 00 00 00 00 00",
+    "trip 259 4294967295ms": "0C 01 28 01 00 03 01 81 01 FF FF FF FF 00 00 00 00 00",
+    "close 3 4294967s": "0C 01 28 01 00 03 00 41 01 D8 FE FF FF 00 00 00 00 00",
+    "set16 2 -1": "29 02 28 01 00 02 00 FF FF 00",
+    "set32 2 -2": "29 01 28 01 00 02 00 FE FF FF FF 00",
+    "block 1 129 2 100 200": "0C 01 28 01 00 01 00 81 02 64 00 00 00 C8 00 00 00 00",
+    "block 1 0x81 2 100 200": "0C 01 28 01 00 01 00 81 02 64 00 00 00 C8 00 00 00 00",
+}
+# What is refused before a connection is made, and what standard error says of it.
+REFUSED = {
+    "Trip 3 100ms": "word 1: 'Trip', where latch-on, latch-off, pulse-on, pulse-off, close, trip, set16, set32 or block belongs",
+    "trip 3 100": "word 3: '100', where a time as 100ms or 2s, 4294967295ms at most, belongs",
+    "trip 3": "word 3: the words end, where a time as 100ms or 2s, 4294967295ms at most, belongs",
+    "trip -1 1s": "word 2: '-1', where an output's number, 0 to 65535, belongs",
+    "latch-on 3 1s": "word 3: '1s', where the end belongs",
+    "block 5 0x1G 1 0 0": "word 3: '0x1G', where a control code, 0 to 255 or 0x00 to 0xFF, belongs",
+    "block 1 81 1 100 100": "81 is 0x51: PULSE_ON, CLOSE, queue; trip is 0x81 ('--raw' sends it all the same)",
+    "block 1 41 1 100 100": "41 is 0x29: reserved operation, clear; close is 0x41 ('--raw' sends it all the same)",
+    "block 1 0x51 1 100 100": "81 is 0x51: PULSE_ON, CLOSE, queue ('--raw' sends it all the same)",
+    "block 1 0 1 0 0": "0 is 0x00: NUL ('--raw' sends it all the same)",
+    "block 1 193 1 0 0": "193 is 0xC1: PULSE_ON, reserved relay ('--raw' sends it all the same)",
+}
+
+
+def command_cases():
+    """Each word of a command, as it goes over the wire, and those that nothing is sent for."""
+    good = True
+
+    def sends(name, text, octets, *words):
+        station = Outstation(answers_each(0, 0))
+        came = ended(poll(station.place, "--operate", text, *words))
+        station.thread.join(5)
+        wanted = [bytes([function]) + bytes.fromhex(octets) for function in (3, 4)]
+        heard = [fragment[1:] for fragment in station.heard]
+        return case(name, came[0] == 0 and heard == wanted, came, [it.hex(" ") for it in heard])
+
+    for text, octets in SENT.items():
+        good &= sends(f"sends:{text}", text, octets)
+    good &= sends("sends-any-code-where-told", "block 1 81 1 100 100", "0C 01 28 01 00 01 00 51 01 64 00 00 00 64 00 00 00 00", "--raw")
+    for text, why in REFUSED.items():
+        came = ended(poll("127.0.0.1:9", "--operate", text))
+        said = f"error: invalid value '{text}' for '--operate <COMMAND>': {why}"
+        good &= case(f"refuses:{text}", came[0] == 2 and came[1] == [] and came[2][:1] == [said], came)
+    return good
+
+
 def word_cases():
     """Words, and no connection."""
     good = True
@@ -303,6 +357,7 @@ def word_cases():
     for name, words in {
         "operate-and-repeat": ["--operate", COMMAND, "--repeat", "1s"],
         "no-command": ["--operate", "block 5 3"],
+        "raw-without-a-command": ["--raw"],
         "class-twice": ["--classes", "11"],
         "no-time": ["--repeat", "5"],
         "count-alone": ["--count", "2"],
@@ -344,7 +399,7 @@ def own_cases():
         Path(room, "day.txt").write_text(f"0 change binary 3 1 01 {TIME}\n", encoding="ascii")
         with socket.create_server(("127.0.0.1", 0)) as taken:
             port = taken.getsockname()[1]
-        words = ["--plan", "plan.toml", "--station", "0", "--port", str(port), "--replay", "day.txt", "--connections", "6"]
+        words = ["--plan", "plan.toml", "--station", "0", "--port", str(port), "--replay", "day.txt", "--connections", "9"]
         station = subprocess.Popen([DNP, "outstation", *words], cwd=room, stdin=subprocess.DEVNULL, stdout=subprocess.DEVNULL)
         try:
             place = f"127.0.0.1:{port}"
@@ -365,6 +420,9 @@ def own_cases():
             good &= case("operates", came == (0, ["select 5 SUCCESS", "operate 5 SUCCESS"], []), came)
             came = ended(poll(place, "--operate", "block 9 3 1 0 0"))
             good &= case("tells-what-is-not-there", came == (1, ["select 9 NOT_SUPPORTED"], []), came)
+            for text in ("trip 3 100ms", "close 3 100ms", "latch-off 3"):
+                came = ended(poll(place, "--operate", text))
+                good &= case(f"operates:{text}", came == (0, ["select 3 SUCCESS", "operate 3 SUCCESS"], []), came)
             came = ended(poll(place, "--operate", "set16 0 -7"))
             good &= case("sets", came == (0, ["select 0 SUCCESS", "operate 0 SUCCESS"], []), came)
             came = ended(poll(place, "--peer", "11", "--timeout", "300"))
@@ -376,5 +434,5 @@ def own_cases():
 
 
 if __name__ == "__main__":
-    results = [foreign_cases(), word_cases(), own_cases()]
+    results = [foreign_cases(), command_cases(), word_cases(), own_cases()]
     sys.exit(0 if all(results) else 1)

@@ -16,14 +16,39 @@ for wrong in '' '--plan plan.toml' "--plan none.toml --journal journal.db --cont
     "--plan none.toml $words --every 100 --polls 1000001" "--plan none.toml $words --every 100 --polls 2 --forever"; do
     expect "takes-no-words:centre $wrong" 2 '' '' centre $wrong
 done
-# commands TEXT: which are no words of a control, whatever the plan
-for text in '' '0' '0 block 0 1 1 0' '0 block 0 1 1 0 0 0' '0 block 0 256 1 0 0' '16 block 0 1 1 0 0' 'issue 0 block 0 1 1 0 0' \
-    '0 set16 0 32768' '0 set32  0 1' '0 set8 0 1' $'0 set16 0 1\n' '0 set16 0 +1'; do
-    expect "issues-no:$text" 2 '' '' centre --plan none.toml $words --issue "$text"
-    says "tells-what-is-no-control:$text" "error: invalid value '${text//$'\n'/\\n}' for '--issue <TEXT>': not the words of a control
+# issues_no TEXT WHY: which are no words of a control, whatever the plan; the first wrong word is told
+issues_no() {
+    expect "issues-no:$1" 2 '' '' centre --plan none.toml $words --issue "$1"
+    says "tells-the-wrong-word:$1" "error: invalid value '${1//$'\n'/\\n}' for '--issue <TEXT>': $2 belongs
 
 For more information, try '--help'."
-done
+}
+order='where latch-on, latch-off, pulse-on, pulse-off, close, trip, set16, set32 or block'
+substation="where a substation's number, 0 to 15,"
+time='where a time as 100ms or 2s, 4294967295ms at most,'
+issues_no '' "word 1: an empty word, $substation"
+issues_no '0' "word 2: the words end, $order"
+issues_no '0 block 0 1 1 0' 'word 7: the words end, where a number of milliseconds, 0 to 4294967295,'
+issues_no '0 block 0 1 1 0 0 0' "word 8: '0', where the end"
+issues_no '0 block 0 256 1 0 0' "word 4: '256', where a control code, 0 to 255 or 0x00 to 0xFF,"
+issues_no '0 block 0 0x100 1 0 0' "word 4: '0x100', where a control code, 0 to 255 or 0x00 to 0xFF,"
+issues_no '0 block 65536 1 1 0 0' "word 3: '65536', where an output's number, 0 to 65535,"
+issues_no '0 block 0 1 256 0 0' "word 5: '256', where how many times, 0 to 255,"
+issues_no '16 block 0 1 1 0 0' "word 1: '16', $substation"
+issues_no 'issue 0 block 0 1 1 0 0' "word 1: 'issue', $substation"
+issues_no 'trip 3 100ms' "word 1: 'trip', $substation"
+issues_no '0 set16 0 32768' "word 4: '32768', where a whole number from -32768 to 32767"
+issues_no '0 set32  0 1' "word 3: an empty word, where an output's number, 0 to 65535,"
+issues_no '0 set32 0 2147483648' "word 4: '2147483648', where a whole number from -2147483648 to 2147483647"
+issues_no '0 set8 0 1' "word 2: 'set8', $order"
+issues_no $'0 set16 0 1\n' "word 4: '1\\n', where a whole number from -32768 to 32767"
+issues_no '0 set16 0 +1' "word 4: '+1', where a whole number from -32768 to 32767"
+issues_no '0 Trip 3 100ms' "word 2: 'Trip', $order"
+issues_no '0 trip 3' "word 4: the words end, $time"
+issues_no '0 trip 3 100' "word 4: '100', $time"
+issues_no '0 trip 3 4294967296ms' "word 4: '4294967296ms', $time"
+issues_no '0 close 3 4294968s' "word 4: '4294968s', $time"
+issues_no '0 latch-on 3 1s' "word 4: '1s', where the end"
 expect has-no-plan 3 '' '' centre --plan none.toml $words --issue '15 set16 0 1'
 says tells-that-it-has-no-plan 'dnp: none.toml: No such file or directory (os error 2)'
 plan wrong.toml 1 2 retries=4
@@ -74,11 +99,13 @@ concentrates --new --rounds 5
 listens "$port"
 polls sends-what-is-pending 0 'rows 2'
 logs says-nothing-of-a-good-run ''
-polls issues-another 0 'rows 2' --issue '0 block 0 1 1 33 0'
-logs tells-what-became-of-it 'dnp: issued as control 2
+polls issues-another 0 'rows 2' --issue '0 pulse-on 0 33ms'
+logs tells-what-became-of-it 'dnp: code 1 = 0x01: PULSE_ON
+dnp: issued as control 2
 dnp: control 2 was answered with status 0'
 polls issues-what-is-no-code 0 'rows 2' --issue '0 block 0 0 1 34 0'
-logs tells-of-a-refusal 'dnp: issued as control 3
+logs tells-of-a-refusal 'dnp: code 0 = 0x00: NUL
+dnp: issued as control 3
 dnp: control 3 was answered with status 4'
 polls polls-on 0 'rows 2'
 got=0

@@ -7,9 +7,9 @@ use crate::plan_file::plan_given;
 use clap::{ArgMatches, Command};
 use dnp_concentrator::MAX_SUBSTATIONS;
 use dnp_concentrator::addresses::{CENTRE, SECOND_CENTRE};
-use dnp_daemons::issue_in;
 use dnp_files::{CentreWords, PollPace, StoreFile, has_output, run_centre};
 use dnp_objects::Command as Control;
+use dnp_orders::{CodeNames, ToldFault, read_order};
 use dnp_tcp::exit;
 use std::alloc::{AllocError, Global};
 use std::process::ExitCode;
@@ -51,14 +51,15 @@ BY THE CLOCK
   soon as it is not pending, or else at the end.
 
 CONTROLS
-  --issue takes the words of a script's line 'issue' after 'issue': the substation, and 'block
-  INDEX CODE COUNT ON OFF', 'set16 INDEX VALUE' or 'set32 INDEX VALUE', where the index is the
-  substation's own (docs/scripts.md). The control is put into the book before anything is sent, and
-  its number is said on standard error; what became of it is said there at the end. One that is
-  still pending, as where the concentrator could not be reached, is sent by the next run without
-  --issue: to give --issue again would issue it once more. One that was sent, and whose answer is
-  not known, is not sent again. A status of 0 says that the concentrator took it; the substation
-  gets it in the concentrator's next round.
+  --issue takes the substation and the words of a command, as '0 trip 3 100ms' or '0 set16 2 -1',
+  where the index is the substation's own: 'dnp poll --help' lists them, under COMMANDS. It takes
+  every control code, and says on standard error which one it sends: 'code 81 = 0x51: PULSE_ON,
+  CLOSE, queue'. The control is put into the book before anything is sent, and its number is said on
+  standard error; what became of it is said there at the end. One that is still pending, as where
+  the concentrator could not be reached, is sent by the next run without --issue: to give --issue
+  again would issue it once more. One that was sent, and whose answer is not known, is not sent
+  again. A status of 0 says that the concentrator took it; the substation gets it in the
+  concentrator's next round.
 
 LOG
   On standard error first which build this is, with the time in UTC, as '2026-11-26T03:12:40.000Z
@@ -88,7 +89,7 @@ const PORT: &str = "The TCP port of the concentrator, 1 to 65535";
 
 const NUMBER: &str = "Which of the two centres it is, 1 or 2";
 
-const ISSUE: &str = "A control to issue, as in '0 block 3 129 1 100 200'";
+const ISSUE: &str = "A control to issue, as in '0 trip 3 100ms'";
 
 const EVERY: &str = "Poll each so many milliseconds, 1 to 86400000";
 
@@ -176,19 +177,33 @@ fn pace_given<R: Eprint>(rt: &R, given: &ArgMatches<'_>) -> Option<PollPace> {
 /// The substation and the command that the words of a control name, for the largest plan. Where they name none, that is
 /// printed.
 fn control_given<R: Eprint>(rt: &R, text: &str) -> Option<(u8, Control)> {
-    let found = issue_in(text, MAX_SUBSTATIONS);
-    if found.is_none() {
-        no_control(rt, text, "not the words of a control");
+    match read_order(text, MAX_SUBSTATIONS) {
+        Ok(order) => Some(order),
+        Err(fault) => {
+            let told = ToldFault { text, fault };
+            let shown = text.escape_debug();
+            let _ = eprintln!(rt;
+                "error: invalid value '{shown}' for '--issue <TEXT>': {told}{HINT}"
+            );
+            None
+        }
     }
-    found
 }
 
-/// Says on standard error what is wrong with the words of a control.
-fn no_control<R: Eprint>(rt: &R, text: &str, why: &str) {
+/// Says on standard error that the plan has no output for the words of a control.
+fn no_output<R: Eprint>(rt: &R, text: &str) {
     let _ = eprintln!(rt;
-        "error: invalid value '{}' for '--issue <TEXT>': {why}{HINT}",
+        "error: invalid value '{}' for '--issue <TEXT>': the plan has no such output{HINT}",
         text.escape_debug()
     );
+}
+
+/// Says on standard error which control code will be sent, where a control that has one is issued.
+fn say_code<R: Eprint>(rt: &R, issue: Option<(u8, Control)>) {
+    if let Some((_, Control::Block { code, .. })) = issue {
+        let names = CodeNames(code);
+        let _ = eprintln!(rt; "dnp: code {code} = 0x{code:02X}: {names}");
+    }
 }
 
 /// Runs the centre that the given words name, and tells the exit status.
@@ -203,10 +218,10 @@ pub(crate) fn run(rt: &HostRuntime, given: &ArgMatches<'_>) -> anyhow::Result<Ex
     if let Some((substation, control)) = words.run.issue
         && !has_output(&plan, substation, &control)
     {
-        let text = given.get_str("issue").unwrap_or("");
-        no_control(rt, text, "the plan has no such output");
+        no_output(rt, given.get_str("issue").unwrap_or(""));
         return Ok(ExitCode::from(exit::USAGE));
     }
     note_start(rt);
+    say_code(rt, words.run.issue);
     Ok(run_centre(rt, &words.run, plan))
 }

@@ -35,12 +35,23 @@ WHAT IT ASKS
   the same way. What comes with another sequence number is passed over.
 
 COMMANDS
-  --operate takes 'block INDEX CODE COUNT ON OFF', 'set16 INDEX VALUE' or 'set32 INDEX VALUE', as
-  'dnp centre --issue' after the substation: 'block 5 3 1 0 0' is output 5, code 3 (latch on), once, 0
-  ms on and 0 ms off; codes are decimal, 1 pulse on, 3 latch on, 4 latch off, 65 close, 129 trip. It
-  sends a SELECT, and the OPERATE only where the answer to that is the same command with the status
-  SUCCESS. Neither is sent twice, also where no answer comes: look at the output before you give the
-  command again. It can't be given with --repeat.
+  --operate takes the words of a command, as 'dnp centre --issue' after the substation:
+    latch-on 5            output 5 is latched on: code 0x03, LATCH_ON
+    latch-off 5           it is latched off: code 0x04, LATCH_OFF
+    pulse-on 5 100ms      it is on for 100 ms: code 0x01, PULSE_ON
+    pulse-off 5 2s        it is off for two seconds: code 0x02, PULSE_OFF
+    close 5 100ms         the close relay of the pair 5 is on for 100 ms: code 0x41, PULSE_ON, CLOSE
+    trip 5 100ms          the trip relay of that pair is: code 0x81, PULSE_ON, TRIP
+    set16 2 -1            the setpoint 2 gets this value, of 16 bits
+    set32 2 -1            the same, of 32 bits
+    block 5 0x81 1 100 0  output 5, a code, how many times, ms on, ms off: decimal numbers, and the
+                          code may be hexadecimal, after 0x; 129 is 0x81
+  The words for a code act once. A time is at most 4294967295ms. A code that no output of 'dnp
+  outstation' takes (queue, clear, NUL or reserved bits) is refused, and the word that was probably
+  meant is said: 'block 5 81 1 100 0' is code 0x51, not a trip. --raw sends it all the same.
+  --operate sends a SELECT, and the OPERATE only where the answer to that is the same command with
+  the status SUCCESS. Neither is sent twice, also where no answer comes: look at the output before
+  you give the command again. It can't be given with --repeat.
 
 OUTPUT
   A line for each row, and for how each task came out:
@@ -80,7 +91,9 @@ const CLEAR: &str = "Clear the restart indication";
 
 const TIME: &str = "Set the clock: 'now', or milliseconds since 1970";
 
-const OPERATE: &str = "Select and operate, as in 'block 5 3 1 0 0'";
+const OPERATE: &str = "Select and operate, as in 'latch-on 5' or 'trip 3 100ms'";
+
+const RAW: &str = "Operate by any control code, also one that no output of ours takes";
 
 const REPEAT: &str = "Ask again after this time, as 500ms, 5s, 2m or 1h";
 
@@ -102,6 +115,7 @@ pub(crate) fn command<'a>(alloc: Global) -> Result<Command<'a>, AllocError> {
         flag("clear-restart", CLEAR),
         valued("time", "MS", TIME),
         valued("operate", "COMMAND", OPERATE),
+        flag("raw", RAW).needing("operate"),
         valued("repeat", "TIME", REPEAT),
         valued("count", "N", COUNT),
         defaulted("confirm", "WORD", "yes", CONFIRM),
@@ -117,7 +131,7 @@ where
     R: AllocGlobal + Print + Eprint + Clock,
     R: Net<Listener = TcpListener, Stream = TcpStream>,
 {
-    let Some(words) = words_given(rt, given)? else {
+    let Some(words) = words_given(rt, given) else {
         return Ok(ExitCode::from(exit::USAGE));
     };
     let tasks = tasks_of(rt.alloc(), &words)?;

@@ -69,7 +69,8 @@ OUTPUT
     and at the end the report: each list's name and length, and below it its events, as
     ' 0 binary 3 1 01 1000' (substation, kind, index, value, flags in hexadecimal, time in
     milliseconds or '-'), or its commands, as
-    ' 0 block 3 129 1 100 200' (substation, form, index, code, count, ms on, ms off) or
+    ' 0 block 3 129 1 100 200' (substation, form, index, code, here 0x81 PULSE_ON with TRIP, count,
+    ms on, ms off) or
     ' 0 set16 3 -2' (substation, form, index, value). The index is the substation's own; on the
     link above the plan's base is added to it.
   The report's lists:

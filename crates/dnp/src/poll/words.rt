@@ -5,9 +5,10 @@ ghost use Rattle.std.specs.Prelude.{◌<◌, IfSome};
 use crate::numbers::number_given;
 use crate::options::HINT;
 use clap::ArgMatches;
-use dnp_daemons::{issue_in, number_in};
+use dnp_daemons::number_in;
 use dnp_master::{Classes, Task};
 use dnp_objects::{Command, MAX_TIME};
+use dnp_orders::{ToldFault, code_doubt, read_command};
 use dnp_tcp::RoundSettings;
 use std::alloc::{AllocError, Global};
 use std::rt::Clock;
@@ -102,15 +103,6 @@ fn time_in<C: Clock>(clock: &C, text: &str) -> Option<u64>
     if time < MAX_TIME { Some(time) } else { None }
 }
 
-/// The command that a text names, as the words of an `issue` line after the substation.
-fn command_in(alloc: Global, text: &str) -> Result<Option<Command>, AllocError> {
-    let line = format!(in alloc; "0 {text}")?;
-    match issue_in(line.as_str(), 1) {
-        Some((_, command)) => Ok(Some(command)),
-        None => Ok(None),
-    }
-}
-
 /// Whether a word says yes or no. Where it says neither, that is printed.
 fn is_yes<R: Eprint>(rt: &R, text: &str) -> Option<bool> {
     match text {
@@ -162,43 +154,52 @@ fn time_given<R: Eprint + Clock>(rt: &R, given: &ArgMatches<'_>) -> Option<Optio
     Some(time)
 }
 
-/// The command that is to be carried out, if the words give one. Where it is wrong, that is printed. An error says that
-/// memory ran out.
-fn command_given<R: AllocGlobal + Eprint>(
-    rt: &R,
-    given: &ArgMatches<'_>,
-) -> Result<Option<Option<Command>>, AllocError> {
-    let Some(text) = given.get_str("operate") else {
-        return Ok(Some(None));
+/// The command that a text says. Where a word is wrong, or where no output of ours takes the code and it isn't to be sent
+/// all the same, that is printed.
+fn command_in<R: Eprint>(rt: &R, text: &str, is_raw: bool) -> Option<Command> {
+    let command = match read_command(text) {
+        Ok(command) => command,
+        Err(fault) => {
+            let told = ToldFault { text, fault };
+            let shown = text.escape_debug();
+            let _ = eprintln!(rt;
+                "error: invalid value '{shown}' for '--operate <COMMAND>': {told}{HINT}"
+            );
+            return None;
+        }
     };
-    let command = command_in(rt.alloc(), text)?;
-    if command.is_none() {
-        say_wrong(rt, "operate", "COMMAND", text, "no command");
-        return Ok(None);
+    if !is_raw && let Some(doubt) = code_doubt(text) {
+        let shown = text.escape_debug();
+        let _ = eprintln!(rt;
+            "error: invalid value '{shown}' for '--operate <COMMAND>': {doubt} ('--raw' sends it all the same){HINT}"
+        );
+        return None;
     }
-    Ok(Some(command))
+    Some(command)
+}
+
+/// The command that is to be carried out, if the words give one. Where it is wrong, that is printed.
+fn command_given<R: Eprint>(rt: &R, given: &ArgMatches<'_>) -> Option<Option<Command>> {
+    match given.get_str("operate") {
+        Some(text) => Some(Some(command_in(rt, text, given.get_flag("raw"))?)),
+        None => Some(None),
+    }
 }
 
 /// What the words want read, set and operated: all classes, where they want nothing. Where one is wrong, that is printed.
-fn wanted_given<R: AllocGlobal + Eprint + Clock>(
-    rt: &R,
-    given: &ArgMatches<'_>,
-) -> Result<Option<Wanted>, AllocError> {
-    let Some(command) = command_given(rt, given)? else {
-        return Ok(None);
-    };
-    let (Some(mut classes), Some(time)) = (classes_given(rt, given), time_given(rt, given)) else {
-        return Ok(None);
-    };
+fn wanted_given<R: Eprint + Clock>(rt: &R, given: &ArgMatches<'_>) -> Option<Wanted> {
+    let command = command_given(rt, given)?;
+    let mut classes = classes_given(rt, given)?;
+    let time = time_given(rt, given)?;
     let is_anything = classes.is_some() || time.is_some() || command.is_some();
     if !is_anything && !given.get_flag("clear-restart") {
         classes = Some(ALL);
     }
-    Ok(Some(Wanted {
+    Some(Wanted {
         classes,
         time,
         command,
-    }))
+    })
 }
 
 /// The host and the port that the words name. Where there is no port, that is printed.
@@ -248,15 +249,13 @@ fn rounds_given<R: Eprint>(rt: &R, given: &ArgMatches<'_>) -> Option<(u64, u64)>
     }
 }
 
-/// What the words say, or none where one is wrong, which is printed. An error says that memory ran out.
-pub(crate) fn words_given<'a, R: AllocGlobal + Eprint + Clock>(
+/// What the words say, or none where one is wrong, which is printed.
+pub(crate) fn words_given<'a, R: Eprint + Clock>(
     rt: &R,
     given: &ArgMatches<'a>,
-) -> Result<Option<Words<'a>>, AllocError> {
-    let Some(wanted) = wanted_given(rt, given)? else {
-        return Ok(None);
-    };
-    Ok(all_given(rt, given, &wanted))
+) -> Option<Words<'a>> {
+    let wanted = wanted_given(rt, given)?;
+    all_given(rt, given, &wanted)
 }
 
 /// What the words say beside what is wanted.
