@@ -1,11 +1,12 @@
-"""Hostile texts: lines for `dnp answer`, plans, scripts and captures. What is refused is refused by a documented text, and where it
-is known what is wrong, by the right one; what a script prints stays the same with hostile events in between that do nothing."""
+"""Hostile texts: lines for `dnp answer`, plans, scripts, captures, networks and the names of their points. What is refused is refused
+by a documented text, and where it is known what is wrong, by the right one; what a script prints stays the same with hostile events in between that do nothing."""
+import json
 import random
 import re
 import sys
 
 import wire
-from program import DONE, REFUSED, TOP, Broken, ran
+from program import DONE, FAULT, REFUSED, TOP, Broken, ran
 
 sys.path.insert(0, str(TOP / "tests/headline"))
 import holds
@@ -27,6 +28,19 @@ WRONG = [("retries", "4", 3), ("retries", "-1", 3), ("confirm_ms", "0", 3), ("se
          ("lanes", "[0, 1, 1, 1, 1, 1, 1, 1, 1]", 3), ("lanes", "{}", 2), ("outputs", "257", 3), ("setpoints", "-1", 3), ("binary", "[4]", 4),
          ("binary", "[256]", 3), ("counter", "[255, 0]", 4), ("binary", '["1"]', 2), ("base", "[0, 0, 0, 0]", 2), ("base", "[0, 0, 0, 0, 65536]", 3),
          ("outputs", "99999999999999999999", 1), ("outputs", "1 1", 1), ("retries", "", 1), ("queue", "[1, 1", 1), ("unsolicited", "maybe", 1)]
+# a key of a network, what is put there, and what is said of it
+ILL = [("at", '"10.9.9.9"', "at: '10.9.9.9' without a port"), ("at", '"10.9.9.9:0"', "with a port that is no number"), ("at", '"::1:20000"', "more than one colon"),
+       ("at", '"[::1:20000"', "a bracket that isn't closed"), ("at", '"[1::2::3]:1"', "no IPv6 address"), ("at", '"10.9.9:1"', "no IPv4 address"),
+       ("at", '"a b:1"', "neither an address nor a name"), ("at", "20000", "at: a whole number"), ("at", "[]", "at: a list"), ("at", "{}", "at: a table"),
+       ("address", "65520", "address: 65520, where a link address"), ("address", "-1", "address: -1, where a link address"), ("address", "2.5", "isn't whole"),
+       ("address", "2", "the station's own address"), ("name", '""', "name: an empty string"), ("name", "true", "name: true or false"), ("at", "", "no TOML"),
+       ("at", '"a:1" 1', "no TOML"), ("address", "99999999999999999999", "no TOML"), ("name", '"A"\nname = "A"', "no TOML"), ("name", '"A"\nhost = 1', "unknown key 'host'")]
+HEAD = "substation,kind,index,name,unit,scale,zero,one"
+# a record of a point that the plan has, made wrong, and what is said of it
+UNNAMED = [("{s},{k},{i}", "a record of 3 fields"), ("{s},{k},{i},A,,,,,", "a record of 9 fields"), ("x,{k},{i},A,,,,", "substation: 'x'"),
+           ("16,{k},{i},A,,,,", "substation: 16"), ("{s},{k}s,{i},A,,,,", "kind: '"), ("{s},{k},65536,A,,,,", "index: '65536'"), ("{s},{k},65535,A,,,,", "index: {k} 65535"),
+           ("{s},{k},{i},,,,,", "name is empty"), ("{s},{k},{i},A,,1e3,,", "scale: '1e3'"), ("{s},{k},{i},A,,1234567890.123,,", "scale: '"),
+           ('{s},{k},{i},A,,"1""",,', "scale: '"), ("{s},{k},{i},B,,,,\r\n{s},{k},{i},C,,,,", "the same point as in line")]
 # lines that do nothing, whatever stands before them, and what a line may be given in place of a word
 NOTHING = ["change {s} binary 65535 1 01 -", "change {s} counter 0 -1 01 5", "change {s} analog 0 2147483648 01 -", "change {s} binary 0 2 01 -",
            "change {s} analog 0 1 01 281474976710656", "change {s} counter 1024 1 01 -", "issue {s} block 65535 3 1 0 0", "issue {s} set16 65535 1",
@@ -108,6 +122,88 @@ def plans(r, size, room, bounded):
             raise run.broken("standard error doesn't say at which place")
         if not refused:
             report_of(run)
+    return size
+
+
+def network_of(r, plan):
+    """The text of a network for a plan, with the keys of the substations in any order."""
+    lines = r.choice(([], ['name = "Net"'], ["[concentrator]"], ["[concentrator]", 'listen2 = "[::]:20101"', "centre = 5"]))
+    for number in range(len(plan.substations)):
+        keys = [f'at = "{r.choice((f"10.0.0.{number}", f"[2001:db8::{number}]", f"sub-{number}.example"))}:{r.randint(1, 65535)}"', f'name = "S{number}"',
+                f"address = {r.randint(100, 65519)}", *r.choice(([], ["master = 2"], ['listen = "0.0.0.0:20000"']))]
+        lines += ["[[substation]]", *r.sample(keys, len(keys))]
+    return "\n".join(lines) + "\n"
+
+
+def is_formed(printed, form):
+    """Whether what `dnp check` prints has this form."""
+    if form == ["--csv"]:
+        return printed.startswith("station,name,at,listen,address,peer,kind,index,above,class,deadband,point,unit,scale,zero,one")
+    if not form:
+        return re.search(r"(?m)^substation kind +index above class +deadband  name$", printed) is not None
+    try:
+        return set(json.loads(printed)) == {"name", "concentrator", "substations", "points"}
+    except ValueError:
+        return False
+
+
+def checked(r, room, network, points, plan):
+    """What `dnp check` says of these files."""
+    (room / "plan.toml").write_text(plan.text(), encoding="ascii")
+    (room / "network.toml").write_bytes(network)
+    (room / "points.csv").write_bytes(points)
+    form = r.choice((["--csv"], ["--json"], []))
+    run = ran("check", "--plan", "plan.toml", "--network", "network.toml", *form, room=room).ends(DONE, REFUSED, FAULT)
+    run.given |= {"plan": plan.text().encode(), "network": network, "points": points}
+    if run.status == DONE and (run.err or not is_formed(run.out, form)) or run.status != DONE and run.out:
+        raise run.broken("what is printed doesn't fit how it ends")
+    if run.status == FAULT and not (b"points" in network and re.search(r": (No such file|Is a directory|Not a directory|Permission denied|File name too long|"
+                                                                       r"invalid)", run.err, re.I)):
+        raise run.broken("it failed, where files were to be judged")
+    if run.status == REFUSED and not re.fullmatch(r"dnp: (?:network\.toml|[^\n]+): [^\n]+\n", run.err):
+        raise run.broken("standard error doesn't say at which place")
+    return run
+
+
+def judged(run, is_right, why):
+    """Files that are right are taken, and of those that are wrong it is said why."""
+    if is_right and run.status != DONE:
+        raise run.broken("files that are right are refused")
+    if why and (run.status != REFUSED or why not in run.err):
+        raise run.broken(f"it is refused otherwise than by {why!r}")
+
+
+def networks(r, size, room, bounded):
+    """Tries so many files of networks: of five, three that are wrong, one that is right, and one that is spoilt."""
+    for _ in range(size):
+        plan = scripts.Script(r.randrange(1 << 30), 0).plan
+        text, why, how = network_of(r, plan), None, r.randrange(5)
+        if how < 3:
+            key, value, why = r.choice(ILL)
+            text = re.sub(rf"(?m)^{key} = .*$", lambda _: f"{key} = {value}", text, count=1)
+        octets = wire.mutated(r, text.encode()) if how == 4 else text.encode()
+        judged(checked(r, room, octets, b"", plan), how == 3, why)
+    return size
+
+
+def names(r, size, room, bounded):
+    """Tries so many tables of points: of five, three that are wrong, one that is right, and one that is spoilt."""
+    for _ in range(size):
+        plan = scripts.Script(r.randrange(1 << 30), 0).plan
+        named = [(number, kind, index) for number, station in enumerate(plan.substations) for kind in ("binary", "counter", "analog")
+                 for index in range(len(station[kind]))]
+        records = [HEAD, *(f'{number},{kind},{index},"P, {number}",,{r.choice(("", "1", "-0.5"))},,' for number, kind, index in r.sample(named, len(named)))]
+        why, how = None, r.randrange(5)
+        if named and how < 3:
+            record, why = r.choice(UNNAMED)
+            number, kind, index = r.choice(named)
+            why = why.format(k=kind)
+            records = [HEAD, record.format(s=number, k=kind, i=index)]
+        end = r.choice(("\n", "\r\n"))
+        octets = (end.join(records) + end).encode()
+        if how == 4:
+            octets = wire.mutated(r, octets)
+        judged(checked(r, room, b'points = "points.csv"\n' + network_of(r, plan).encode(), octets, plan), how == 3, why)
     return size
 
 

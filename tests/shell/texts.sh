@@ -23,4 +23,5 @@ completes completes-the-one-option '--own' answer --o
 completes completes-the-options-of-sim '--plan --limit --trace --chart --capture --json --plain --help' sim ''
 completes completes-the-ports-of-both-centres '--port --port2' concentrate --port
 completes completes-no-number '' outstation --port ''
-completes completes-help 'answer centre concentrate decode loopback outstation poll rows sim' help ''
+completes completes-the-options-of-check '--plan --network --csv --json --help' check ''
+completes completes-help 'answer centre check concentrate decode loopback outstation poll rows sim' help ''

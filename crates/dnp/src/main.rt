@@ -7,6 +7,7 @@ mod addresses;
 mod answer;
 mod build;
 mod centre;
+mod check;
 mod concentrate;
 mod decode;
 mod inputs;
@@ -48,7 +49,7 @@ as when it is out of memory. The others are each subcommand's own.";
 pub(crate) const VERSION: &str = "0.2.0";
 
 /// How many subcommands there are.
-const SUBCOMMANDS: u8 = 9;
+const SUBCOMMANDS: u8 = 10;
 
 /// Runs the command line, and says what failed.
 fn main(rt: HostRuntime) -> ExitCode {
@@ -114,12 +115,13 @@ fn subcommand<'a>(alloc: Global, number: u8) -> Result<Command<'a>, AllocError> 
     match number {
         0 => answer::command(alloc),
         1 => centre::command(alloc),
-        2 => concentrate::command(alloc),
-        3 => decode::command(alloc),
-        4 => loopback::command(alloc),
-        5 => outstation::command(alloc),
-        6 => poll::command(alloc),
-        7 => rows::command(alloc),
+        2 => check::command(alloc),
+        3 => concentrate::command(alloc),
+        4 => decode::command(alloc),
+        5 => loopback::command(alloc),
+        6 => outstation::command(alloc),
+        7 => poll::command(alloc),
+        8 => rows::command(alloc),
         _ => sim::command(alloc),
     }
 }
@@ -129,6 +131,7 @@ fn dispatch(rt: &HostRuntime, matches: &ArgMatches<'_>) -> anyhow::Result<ExitCo
     match matches.subcommand() {
         Some((answer::NAME, given)) => answer::run(rt, given),
         Some((centre::NAME, given)) => centre::run(rt, given),
+        Some((check::NAME, given)) => check::run(rt, given),
         Some((concentrate::NAME, given)) => concentrate::run(rt, given),
         Some((decode::NAME, given)) => decode::run(rt, given),
         Some((loopback::NAME, given)) => loopback::run(rt, given),

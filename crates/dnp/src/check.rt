@@ -1,0 +1,169 @@
+//! `dnp check`: checks a plan and its network file, and prints the system.
+
+ghost use Rattle.dnp_concentrator.specs.Plan.{KeepsLimits};
+
+mod csv;
+mod files;
+mod json;
+mod system;
+mod table;
+
+use crate::check::csv::write_csv;
+use crate::check::files::{network_given, points_given};
+use crate::check::json::write_json;
+use crate::check::system::System;
+use crate::check::table::write_table;
+use crate::options::{flag, plan, subcommand, valued};
+use crate::plan_file::plan_given;
+use clap::{ArgMatches, Command};
+use dnp_concentrator::Plan;
+use dnp_tcp::{exit, unwritten};
+use std::alloc::{AllocError, Global};
+use std::io;
+use std::io::Write;
+use std::process::ExitCode;
+use std::rt::Files;
+
+/// The subcommand's name.
+pub(crate) const NAME: &str = "check";
+
+/// What the subcommand does, in a line.
+const ABOUT: &str = "Check a plan and its network file, and print the system as a table";
+
+/// What its help text says after the options.
+const AFTER: &str = "\
+WHAT IT CHECKS
+  The plan alone, or with --network FILE both files. The plan says which points the stations have.
+  The network file says where the stations are, and has names for them and for their points. Only
+  these files are opened, and no name of a host is looked up. docs/network.md describes the network
+  file.
+
+OUTPUT
+  With --network a line for each station: where it is found, where it listens, its link address,
+  that of its peer (the master of a substation, the centre of the concentrator), and its name. Then
+  a line for each point: its substation, kind, index at the substation, index above, class,
+  deadband, and name with the unit. '-' means none.
+  --csv prints CSV records (RFC 4180) after the header
+    station,name,at,listen,address,peer,kind,index,above,class,deadband,point,unit,scale,zero,one
+  The records of the stations come first and have no kind. The station is the number of a
+  substation, 'concentrator', or 'concentrator2' for the link to the second centre.
+  --json prints one object with \"name\", \"concentrator\", \"substations\" and \"points\"; null means
+  none.
+  A refused plan prints 'refused plan N', as with 'dnp sim'. Standard error then has the file, the
+  line if it is known, the key, the wrong value, and the form of a right one.
+
+EXIT STATUS
+  0  the files are right and agree
+  1  a file is refused
+  2  the command line is wrong
+  3  the program failed: a file can't be read, out of memory, or the output was lost; a line on
+     standard error says which, and why, but for an output whose reader has gone";
+
+/// What is said of the options.
+const NETWORK: &str = "The hosts and names of the stations, as TOML";
+
+const CSV: &str = "Print records of CSV";
+
+const JSON: &str = "Print a JSON object";
+
+/// How the system is printed.
+#[derive(Clone, Copy)]
+enum Form {
+    /// A table for people.
+    Table,
+    /// Records of CSV.
+    Csv,
+    /// A JSON object.
+    Json,
+}
+
+/// What `clap` has to know of `dnp check`.
+pub(crate) fn command<'a>(alloc: Global) -> Result<Command<'a>, AllocError> {
+    let choices = [
+        plan(),
+        valued("network", "FILE", NETWORK),
+        flag("csv", CSV).excluding("json"),
+        flag("json", JSON),
+    ];
+    subcommand(alloc, NAME, ABOUT, AFTER, &choices)
+}
+
+/// How the words want the system printed.
+fn form_given(given: &ArgMatches<'_>) -> Form {
+    if given.get_flag("csv") {
+        Form::Csv
+    } else if given.get_flag("json") {
+        Form::Json
+    } else {
+        Form::Table
+    }
+}
+
+/// Judges the files that the given words name, prints the system, and tells the exit status.
+pub(crate) fn run<R: AllocGlobal + Print + Eprint + Files>(
+    rt: &R,
+    given: &ArgMatches<'_>,
+) -> anyhow::Result<ExitCode> {
+    let form = form_given(given);
+    let plan = match plan_given(rt, given.get_str("plan").unwrap_or("")) {
+        Ok(plan) => plan,
+        Err(status) => return Ok(status),
+    };
+    match given.get_str("network") {
+        Some(path) => judge(rt, form, &plan, path),
+        None => print_system(
+            rt,
+            form,
+            &System {
+                plan: &plan,
+                network: None,
+                points: &[],
+            },
+        ),
+    }
+}
+
+/// Judges the file of the plan's network, prints the system, and tells the exit status.
+fn judge<R: AllocGlobal + Print + Eprint + Files>(
+    rt: &R,
+    form: Form,
+    plan: &Plan,
+    path: &str,
+) -> anyhow::Result<ExitCode>
+    requires { KeepsLimits plan.now }
+{
+    let network = match network_given(rt, path, plan)? {
+        Ok(network) => network,
+        Err(status) => return Ok(status),
+    };
+    match points_given(rt, path, plan, &network)? {
+        Ok(points) => print_system(
+            rt,
+            form,
+            &System {
+                plan,
+                network: Some(&network),
+                points: points.as_slice(),
+            },
+        ),
+        Err(status) => Ok(status),
+    }
+}
+
+/// Prints the system, and tells the exit status.
+fn print_system<R: AllocGlobal + Print + Eprint>(
+    rt: &R,
+    form: Form,
+    system: &System<'_>,
+) -> anyhow::Result<ExitCode> {
+    let mut printed = Vec::new(rt.alloc());
+    match form {
+        Form::Table => write_table(&mut printed, rt.alloc(), system)?,
+        Form::Csv => write_csv(&mut printed, system)?,
+        Form::Json => write_json(&mut printed, system)?,
+    }
+    if let Err(cause) = io::writer(rt).write_all(printed.as_slice()) {
+        return Ok(unwritten(rt, &cause));
+    }
+    Ok(ExitCode::from(exit::DONE))
+}
