@@ -13,11 +13,7 @@ use Rattle.sqlite.specs.Tree.{Trees}
 use Rattle.sqlite.specs.declared.error.Error.{Error}
 use Rattle.dnp_store.specs.Added.{LeavesMade, MakeAll, Statement, making_lanes}
 use Rattle.dnp_store.specs.Tables.{no_schema}
-use Rattle.dnp_store.specs.steps.Making.{ExecuteAll}
-
--- a statement without parameters
-abbrev pub bare : List ℕ → Statement
-bare text = (text, [])
+use Rattle.dnp_store.specs.steps.Making.{ExecuteAll, bare}
 
 module _ {S : Type 0} (g : Ghosts S) where
   -- one ran

@@ -10,10 +10,9 @@ use Rattle.sqlite.specs.declared.error.Error.{Error}
 use Rattle.dnp_store.specs.declared.fault.Unread.{Unread}
 use Rattle.dnp_store.specs.declared.open.OpenFault.{OpenFault}
 use Rattle.dnp_store.specs.declared.open.OpenFault.TheVariants.{Device, Memory, OldForm, WrongForm}
-use Rattle.dnp_store.specs.declared.store_kind.StoreKind.{StoreKind}
 use Rattle.dnp_store.specs.Added.{LeavesMade, MakeAll, Statement}
-use Rattle.dnp_store.specs.Refusals.{IsRefused}
-use Rattle.dnp_store.specs.steps.Beginning.{Begins, IsFound, IsMade, IsServed, IsTold}
+use Rattle.dnp_store.specs.Refusals.{IsUnmade}
+use Rattle.dnp_store.specs.steps.Beginning.{Begins, IsFound, IsMade, IsServed, IsTold, TellsTaken}
 use Rattle.dnp_store.specs.Tables.{no_schema}
 use Rattle.dnp_store.proofs.Statements.{survives_on}
 use Rattle.dnp_store.proofs.Standing.{survives_itself}
@@ -110,8 +109,8 @@ module _ {S A : Type 0} (g : Ghosts S) (Finds : Database → State → A → Typ
 
 -- ---- where tables are made
 
-module _ {S A : Type 0} (g : Ghosts S) (kind : StoreKind) (its : List Statement) (Fresh : Trees → Type 0) (Made : State → Type 0) (owned : A → Bool) where
-  pub made_inside : (old : Held S) → IsTrue old.in_transaction → IsMade g kind its Fresh Made owned old old (Err WrongForm)
+module _ {S A : Type 0} (g : Ghosts S) (its : List Statement) (Fresh : Trees → Type 0) (Made : State → Type 0) (owned : A → Bool) where
+  pub made_inside : (old : Held S) → IsTrue old.in_transaction → IsMade g its Fresh Made owned old old (Err WrongForm)
   made_inside old inside = record {
     begins = begins_inside g _ old inside;
     added = λ clean. tt;
@@ -119,9 +118,10 @@ module _ {S A : Type 0} (g : Ghosts S) (kind : StoreKind) (its : List Statement)
     made = λ clean bare. tt;
     device = λ clean told. absurd (let no = told in cc);
     taken = λ clean told. inl inside;
+    current = λ is. absurd (let no = is in cc);
   }
 
-  pub made_memory : (old : Held S) → old.in_transaction ≡ false → IsMade g kind its Fresh Made owned old old (Err Memory)
+  pub made_memory : (old : Held S) → old.in_transaction ≡ false → IsMade g its Fresh Made owned old old (Err Memory)
   made_memory old idle = record {
     begins = begins_before g _ old Memory idle;
     added = λ clean. tt;
@@ -129,17 +129,18 @@ module _ {S A : Type 0} (g : Ghosts S) (kind : StoreKind) (its : List Statement)
     made = λ clean bare. tt;
     device = λ clean told. absurd (let no = told in cc);
     taken = λ clean told. absurd (let no = told in cc);
+    current = λ is. absurd (let no = is in cc);
   }
 
   module _ (old mid new : Held S) (done : Result (Unit {0}) Error) (idle : old.in_transaction ≡ false)
       (err : HasCleanDisk (state g mid) → IsTrue (state g mid).is_open
       → OnErr done (IsTrue (state g old).is_open × ((state g mid).committed ≡ (state g old).committed)))
-      (refused : HasCleanDisk (state g mid) → IfErr done (IsRefused g kind old mid))
+      (refused : HasCleanDisk (state g mid) → IfErr done (IsUnmade g its old mid))
       (made : Survives (state g old) (state g mid) (LeavesMade g its Fresh (state g old).now)) where
-    pub made_not : (told : Result (Unit {0}) OpenFault) (fault : OpenFault) → told ≡ Err fault → IsTold g mid new done told
-        → IsMade g kind its Fresh Made owned old new (Err fault)
-    made_not (Ok _) fault is told = absurd cc
-    made_not (Err f) fault is told = subst (λ x. IsMade g kind its Fresh Made owned old new (Err x)) (same_err is) (record {
+    pub made_not : (told : Result (Unit {0}) OpenFault) (fault : OpenFault) → told ≡ Err fault → IsTold g mid new done told → TellsTaken done told
+        → IsMade g its Fresh Made owned old new (Err fault)
+    made_not (Ok _) fault is told free = absurd cc
+    made_not (Err f) fault is told free = subst (λ x. IsMade g its Fresh Made owned old new (Err x)) (same_err is) (record {
       begins = begins_refused g _ old new f idle told.idle
           (λ clean opened.
           let back = told.same clean opened in
@@ -151,16 +152,18 @@ module _ {S A : Type 0} (g : Ghosts S) (kind : StoreKind) (its : List Statement)
       device = λ clean is_device. record {
         between = mid;
         error = told.err.error;
-        refused = if_err (refused (early clean));
+        unmade = if_err (refused (early clean));
+        free = free (same_err is_device) told.err.error told.err.failed;
         lost = told.err.lost clean (same_err is_device);
       };
       taken = λ clean is_wrong. inr (record {
         between = mid;
         error = told.err.error;
-        refused = if_err (refused (early clean));
+        unmade = if_err (refused (early clean));
         taken = told.err.taken (same_err is_wrong);
         late = told.survives;
       });
+      current = told.err.current;
     })
       where
         early : HasCleanDisk (state g new) → HasCleanDisk (state g mid)
@@ -169,19 +172,20 @@ module _ {S A : Type 0} (g : Ghosts S) (kind : StoreKind) (its : List Statement)
         on_err : {X : Type 0} → OnErr done X → X
         on_err {X} h = subst (λ r. OnErr r X) told.err.failed h
 
-        if_err : IfErr done (IsRefused g kind old mid) → IsRefused g kind old mid told.err.error
-        if_err h = subst (λ r. IfErr r (IsRefused g kind old mid)) told.err.failed h
+        if_err : IfErr done (IsUnmade g its old mid) → IsUnmade g its old mid told.err.error
+        if_err h = subst (λ r. IfErr r (IsUnmade g its old mid)) told.err.failed h
 
     pub made_well : (found : A) → (IsTrue (owned found) ↔ ((state g old).now.schema ≡ no_schema)) → IsTold g mid new done (Ok tt)
         → (HasCleanDisk (state g mid) → OnOk done (MakeAll g its (state g old).now (state g mid).committed))
-        → (HasCleanDisk (state g mid) → (state g old).now.schema ≡ no_schema → OnOk done (Made (state g mid))) → IsMade g kind its Fresh Made owned old new (Ok found)
-    made_well found alone told adds makes = subst (λ h. IsMade g kind its Fresh Made owned old h (Ok found)) (sym told.ok.1) (record {
+        → (HasCleanDisk (state g mid) → (state g old).now.schema ≡ no_schema → OnOk done (Made (state g mid))) → IsMade g its Fresh Made owned old new (Ok found)
+    made_well found alone told adds makes = subst (λ h. IsMade g its Fresh Made owned old h (Ok found)) (sym told.ok.1) (record {
       begins = begins_well g _ old mid found idle (subst (λ h. h.in_transaction ≡ false) told.ok.1 told.idle) made;
       added = λ clean. ok_of _ done told.ok.0 (adds clean);
       alone = alone;
       made = λ clean bare. ok_of _ done told.ok.0 (makes clean bare);
       device = λ clean is. absurd (let no = is in cc);
       taken = λ clean is. absurd (let no = is in cc);
+      current = tt;
     })
 
 -- who tells why tables were not made doesn't say that they are of an old form
@@ -189,6 +193,11 @@ pub not_old : (wrong lost : Bool) (f : OpenFault) → f ≡ cond wrong WrongForm
 not_old true lost f is old = absurd cc
 not_old false true f is old = absurd cc
 not_old false false f is old = absurd cc
+
+-- nor is it told as Device that a name is taken
+pub not_device : (wrong lost : Bool) (f : OpenFault) → f ≡ cond wrong WrongForm (cond lost Device Memory) → f ≡ Device → wrong ≡ false
+not_device true lost f is told = absurd cc
+not_device false lost f is told = refl
 
 -- ---- what follows of what was told
 

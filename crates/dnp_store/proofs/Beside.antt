@@ -145,7 +145,7 @@ creates_all sql before mid after keyless made more = go (lacks_sequence mid.sche
 
 -- ---- names and their tables
 
-last_has : {X : Type 0} (p : X → Bool) (xs ys : List X) (x : X) → find p xs ≡ None → find p (xs ++ ys) ≡ Some x → Has ys x
+pub last_has : {X : Type 0} (p : X → Bool) (xs ys : List X) (x : X) → find p xs ≡ None → find p (xs ++ ys) ≡ Some x → Has ys x
 last_has p [] ys x none is = (has_found p ys x is).0
 last_has p (y ∷ xs) ys x none is = elim (cases_Bool (p y)) [
   | inl passes ↦ absurd (let e = rw passes at none in cc)
@@ -162,7 +162,7 @@ defined_so name r t defines is = subst (Defines name) is defines
 same_found : (o : Option Table) (t u : Table) → o ≡ Some t → o ≡ Some u → t ≡ u
 same_found o t u one two = let e : ◌≡◌ {A = Option Table} (Some t) (Some u) = sym one ∙ two in cc
 
-nothing_refers : (child : Table) (ref : Reference) → child.references ≡ [] → Has child.references ref → ⊥
+pub nothing_refers : (child : Table) (ref : Reference) → child.references ≡ [] → Has child.references ref → ⊥
 nothing_refers child ref none has = subst (λ (rs : List Reference). Has rs ref) none has
 
 -- new tables in trees above refer to none, and the names that keys have find the same tables, or new ones

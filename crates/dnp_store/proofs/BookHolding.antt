@@ -33,12 +33,12 @@ low : (book : Ledger) → IsSoundLedger book → AllByRecursion (λ (x : Entry).
 low book sound = recursion_from_All (λ (x : Entry). x.id ≤ book.last_id) book.entries sound.up_to_last
 
 put : (db now : Trees) (book : Ledger) (target : ℕ) (command : Command) → IsSoundLedger book → HoldsBook db book
-    → PutsAt (codes "control") db (entry_cells (entry_for (book.last_id + 1) target command)) book.last_id now → HoldsBook now (added book target command)
+    → PutsAt 3 (codes "control") db (entry_cells (entry_for (book.last_id + 1) target command)) book.last_id now → HoldsBook now (added book target command)
 put db now book target command sound h puts =
     let new = entry_for (book.last_id + 1) target command in
     let under = id_rows.are_under (λ (e : Entry). e.id) entry_cells book.entries book.last_id (db 1) (low book sound) h.entries in
     record {
-      form = subst IsForm1 (sym (puts.others 0 (λ e. absurd (omega arith)) (λ e. absurd (omega arith)))) h.form;
+      form = subst IsForm1 (sym (puts.others 0 (omega arith) (λ e. absurd (omega arith)) (λ e. absurd (omega arith)))) h.form;
       entries = subst₂ IsPermutation (sym (map-append entry_row book.entries (new ∷ [])))
           (sym (puts.table ∙ id_rows.put_last (db 1) book.last_id (entry_cells new) under))
           (IsPermutation-append_left (entry_row new ∷ []) (map entry_row book.entries) (db 1) h.entries);
@@ -50,12 +50,14 @@ pub insert_holds : (old new : State) (book : Ledger) (target count : ℕ) (comma
 insert_holds old new book target count command sound ran h =
     let under = id_rows.are_under (λ (e : Entry). e.id) entry_cells book.entries book.last_id (old.now.trees 1) (low book sound) h.holds.entries in
     let next = id_rows.next_is (old.now.trees 1) book.last_id under in
-    let did = inserts old new h.form_checks h.control_checks (entry_for (book.last_id + 1) target command) book.last_id next.0 count h.schema h.holds.counted
+    let did = inserts old new h.form_checks h.control_checks h.more h.behind (entry_for (book.last_id + 1) target command) book.last_id next.0 count h.schema h.holds.counted
     next.1 next.2 ran in
     record {
       form_checks = h.form_checks;
       control_checks = h.control_checks;
+      more = h.more;
       schema = did.0;
+      behind = h.behind;
       holds = put old.now.trees new.now.trees book target command sound h.holds did.1;
     }
 
@@ -79,15 +81,17 @@ pub update_holds : (old new : State) (book : Ledger) (id count : ℕ) (s : Contr
     → Executes update_text (update_params id s) old new (Ok count) → IsBook old.now book
     → IsBook new.now (record book { entries = in_state book.entries id s })
 update_holds old new book id count s e sound at ran h =
-    let did = updates old new h.form_checks h.control_checks id count s book.entries e h.schema h.holds.entries sound.rising at (named book.entries id e at) ran in
+    let did = updates old new h.form_checks h.control_checks h.more h.behind id count s book.entries e h.schema h.holds.entries sound.rising at (named book.entries id e at) ran in
     record {
       form_checks = h.form_checks;
       control_checks = h.control_checks;
+      more = h.more;
       schema = did.0;
+      behind = h.behind;
       holds = record {
-        form = subst IsForm1 (sym (did.1.others 0 (λ e. absurd (omega arith)))) h.holds.form;
+        form = subst IsForm1 (sym (did.1.others 0 (omega arith) (λ e. absurd (omega arith)))) h.holds.form;
         entries = did.1.table;
-        counted = subst (λ rows. IsCounted (codes "control") rows book.last_id) (sym (did.1.others 2 (λ e. absurd (omega arith)))) h.holds.counted;
+        counted = subst (λ rows. IsCounted (codes "control") rows book.last_id) (sym (did.1.others 2 (omega arith) (λ e. absurd (omega arith)))) h.holds.counted;
       };
     }
 

@@ -8,6 +8,7 @@ use Rattle.std.proofs.lemmas.List.Kept.{AllPairs-cons}
 use Rattle.std.proofs.lemmas.List.Sorted.{IsPermutation-sym}
 use Rattle.sqlite_tied.specs.Compute.{everything}
 use Rattle.sqlite_trees.proofs.ListLemmas.{all-permutation, all_weaker}
+use Rattle.sqlite.specs.Schema.{Schema}
 use Rattle.sqlite.specs.Command.TheVariants.{Select}
 use Rattle.sqlite.specs.declared.types.Value.{Value}
 use Rattle.sqlite.specs.declared.types.Value.TheVariants.{Null, Int}
@@ -20,9 +21,9 @@ use Rattle.sqlite.specs.State.{State, Shown}
 use Rattle.sqlite.proofs.Callers.{command_of, reads_as}
 use Rattle.dnp_controls.specs.declared.book.Entry.{Entry}
 use Rattle.dnp_controls.specs.Book.{IsSoundLedger}
-use Rattle.dnp_store.specs.Tables.{IsCounted}
+use Rattle.dnp_store.specs.Tables.{AreBehind, IsCounted}
 use Rattle.dnp_store.specs.QueueTables.{IsForm1}
-use Rattle.dnp_store.specs.BookTables.{book_schema, book_columns, entry_row, IsBook, status_of}
+use Rattle.dnp_store.specs.BookTables.{book_names, book_schema, book_columns, entry_row, IsBook, status_of}
 use Rattle.dnp_store.specs.steps.BookShown.{ShowsEntry, ShowEntries, EntriesRise, HoldsEntries, FindsBook, IsBookFound}
 use Rattle.dnp_store.specs.declared.store_kind.StoreKind.TheVariants.{Book}
 use Rattle.dnp_store.specs.steps.Stores.{Reads}
@@ -37,15 +38,16 @@ control_query = codes "SELECT id, target, kind, point, code, count, on_ms, off_m
 abbrev pub control_terms : List Term
 control_terms = col 1 0 ∷ col 1 2 ∷ col 1 3 ∷ col 1 4 ∷ col 1 5 ∷ col 1 6 ∷ col 1 7 ∷ col 1 8 ∷ col 1 9 ∷ col 1 10 ∷ col 1 11 ∷ []
 
-pub control_is : (f c : List Term) → (command_of (understood (book_schema f c) control_query) ≡ Select (record { lets = []; body = query 1 control_terms })
+pub control_is : (f c : List Term) (m : Schema)
+    → (command_of (understood (book_schema f c m) control_query) ≡ Select (record { lets = []; body = query 1 control_terms })
     (codes "id" ∷ codes "target" ∷ codes "kind" ∷ codes "point" ∷ codes "code" ∷ codes "count" ∷ codes "on_ms" ∷ codes "off_ms" ∷ codes "value" ∷ codes "state"
-    ∷ codes "status" ∷ [])) × (reads_listing (book_schema f c) control_query ≡ false)
+    ∷ codes "status" ∷ [])) × (reads_listing (book_schema f c m) control_query ≡ false)
 unfolding understood everything
-control_is f c = (refl, refl)
+control_is f c m = (refl, refl)
 
-pub control_plain : (f c : List Term) → IsPlain (understood (book_schema f c) control_query)
+pub control_plain : (f c : List Term) (m : Schema) → IsPlain (understood (book_schema f c m) control_query)
 unfolding understood everything
-control_plain f c = (refl, refl)
+control_plain f c m = (refl, refl)
 
 -- ---- entries of rows
 
@@ -135,10 +137,10 @@ module _ (old new : State) (rows : List Row) where
   pub reads_controls : Shown control_query [] old new rows
       → Reads Book old new (λ db. (entries : List Entry) → ShowEntries rows entries → HoldsEntries db entries)
   reads_controls shows f c m sound has =
-      let read = reads_as control_query [] old new (book_schema f c) has _ (control_is f c).0 (control_plain f c) (control_is f c).1 rows shows in
+      let read = reads_as control_query [] old new (book_schema f c m) has _ (control_is f c m).0 (control_plain f c m) (control_is f c m).1 rows shows in
       let got = listed 1 control_terms old.now.trees rows refl (read.answer Null) in
       let types = all-permutation (IsTyped (Some 0) book_columns) (old.now.trees 1) got.0 got.1 (typed_rows Book old.now f c m has sound) in (
-        unchanged control_query old new (book_schema f c) rows has (control_plain f c) shows,
+        unchanged control_query old new (book_schema f c m) rows has (control_plain f c m) shows,
         λ entries each.
             let is = controls got.0 entries types (subst (λ (xs : List Row). ShowEntries xs entries) got.2 each) in
             subst (λ xs. IsPermutation xs (old.now.trees 1)) is (IsPermutation-sym (old.now.trees 1) got.0 got.1),
@@ -151,12 +153,15 @@ module _ {E : Type 0} (old new : State) where
   controls_if (Err e) shows = tt
 
 -- the entries that were read are those of the database
-pub opened : (db : Database) (f c : List Term) (entries : List Entry) (last : ℕ) → db.schema ≡ book_schema f c → IsForm1 (db.trees 0)
+pub opened : (db : Database) (f c : List Term) (m : Schema) → AreBehind book_names m → (entries : List Entry) (last : ℕ) → db.schema ≡ book_schema f c m
+    → IsForm1 (db.trees 0)
     → IsCounted (codes "control") (db.trees 2) last → HoldsEntries db.trees entries → FindsBook db entries last
-opened db f c entries last has form counted holds = record {
+opened db f c m behind entries last has form counted holds = record {
   form_checks = f;
   control_checks = c;
+  more = m;
   schema = has;
+  behind = behind;
   holds = record { form = form; entries = holds; counted = counted };
 }
 

@@ -2,6 +2,7 @@
 use Rattle.std.proofs.Common.{ℕ, zero, suc, ◌<◌, ◌≤◌, List, [], ◌∷◌, map, get_or, length, Ok, Err, Result, IfOk, refl, sym, ap, subst, arith}
 use Rattle.std.specs.Prelude.{Vec}
 use Rattle.std.specs.declared.alloc.Global.{Global}
+use Rattle.sqlite.specs.Schema.{Schema}
 use Rattle.sqlite.specs.declared.types.Value.{Value}
 use Rattle.sqlite.specs.declared.types.Value.TheVariants.{Null}
 use Rattle.sqlite.specs.Order.{Row}
@@ -43,8 +44,8 @@ module _ (old new : State) (rows : List Row) where
   pub shows_entries : Shown control_query [] old new rows
       → Reads Book old new (λ db. (book : Ledger) → IsSoundLedger book → HoldsEntries db book.entries → ShowEntries rows book.entries)
   shows_entries shows f c m sure has =
-      let read = reads_as control_query [] old new (book_schema f c) has _ (control_is f c).0 (control_plain f c) (control_is f c).1 rows shows in (
-        unchanged control_query old new (book_schema f c) rows has (control_plain f c) shows,
+      let read = reads_as control_query [] old new (book_schema f c m) has _ (control_is f c m).0 (control_plain f c m) (control_is f c m).1 rows shows in (
+        unchanged control_query old new (book_schema f c m) rows has (control_plain f c m) shows,
         λ book sound holds.
             let table : IsTable (map entry_row book.entries) =
             id_rows.is_table (λ (e : Entry). e.id) entry_cells book.entries (ascending book.entries sound.rising) in

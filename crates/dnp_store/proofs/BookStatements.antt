@@ -1,6 +1,7 @@
 -- What the INSERTs of a book make of its tables.
 use Rattle.std.proofs.Common.{◌≡◌, ℕ, ◌+◌, ◌≤◌, pos, List, [], ◌∷◌, codes, Option, Ok, refl}
 use Rattle.sqlite_tied.specs.Compute.{everything}
+use Rattle.sqlite.specs.Schema.{Schema}
 use Rattle.sqlite.specs.declared.types.Value.TheVariants.{Null, Int}
 use Rattle.sqlite.specs.Command.TheVariants.{Insert}
 use Rattle.sqlite.specs.Source.TheVariants.{Values}
@@ -14,10 +15,10 @@ use Rattle.sqlite.specs.Given.{IsPlain}
 use Rattle.sqlite.specs.State.{State, Executes}
 use Rattle.sqlite.proofs.Callers.{command_of}
 use Rattle.dnp_store.specs.Texts.{book_insert}
-use Rattle.dnp_store.specs.Tables.{IsCounted}
+use Rattle.dnp_store.specs.Tables.{AreBehind, IsCounted}
 use Rattle.dnp_objects.specs.Commands.{index_of}
 use Rattle.dnp_controls.specs.declared.book.Entry.{Entry}
-use Rattle.dnp_store.specs.BookTables.{book_schema, book_with, kind_of, code_of, count_of, on_of, off_of, value_of}
+use Rattle.dnp_store.specs.BookTables.{book_names, book_schema, book_with, kind_of, code_of, count_of, on_of, off_of, value_of}
 use Rattle.dnp_store.specs.declared.store_kind.StoreKind.TheVariants.{Book}
 use Rattle.dnp_store.proofs.Inserting as inserting
 use Rattle.dnp_store.proofs.Statements.{IsRead, command_read, plain_read}
@@ -41,21 +42,21 @@ whole_cells e =
     ∷ Int (pos (count_of e.command)) ∷ Int (pos (on_of e.command)) ∷ Int (pos (off_of e.command)) ∷ Int (value_of e.command)
     ∷ Int (pos 0) ∷ Int (pos 0) ∷ []
 
-insert_read : (f j : List Term) → IsRead (Insert 1 (Values insert_terms 12)) (understood (book_schema f j) insert_text)
+insert_read : (f j : List Term) (m : Schema) → IsRead (Insert 1 (Values insert_terms 12)) (understood (book_schema f j m) insert_text)
 unfolding understood everything
-insert_read f j = (refl, refl, refl)
+insert_read f j m = (refl, refl, refl)
 
-insert_is : (f j : List Term) → command_of (understood (book_schema f j) insert_text) ≡ Insert 1 (Values insert_terms 12)
-insert_is f j = command_read _ (understood (book_schema f j) insert_text) (insert_read f j)
+insert_is : (f j : List Term) (m : Schema) → command_of (understood (book_schema f j m) insert_text) ≡ Insert 1 (Values insert_terms 12)
+insert_is f j m = command_read _ (understood (book_schema f j m) insert_text) (insert_read f j m)
 
-insert_plain : (f j : List Term) → IsPlain (understood (book_schema f j) insert_text)
-insert_plain f j = plain_read _ (understood (book_schema f j) insert_text) (insert_read f j)
+insert_plain : (f j : List Term) (m : Schema) → IsPlain (understood (book_schema f j m) insert_text)
+insert_plain f j m = plain_read _ (understood (book_schema f j m) insert_text) (insert_read f j m)
 
-insert_sources : (f j : List Term) (limit : Option ℕ) (db : Trees) (x : Entry) (rows : List Row)
-    → Sourced limit (record { schema = book_schema f j; trees = db }) (stamped (book_with j) (insert_params x)) (Values insert_terms 12) (Ok rows)
+insert_sources : (f j : List Term) (m : Schema) (limit : Option ℕ) (db : Trees) (x : Entry) (rows : List Row)
+    → Sourced limit (record { schema = book_schema f j m; trees = db }) (stamped (book_with j) (insert_params x)) (Values insert_terms 12) (Ok rows)
     → rows ≡ (Null ∷ whole_cells x) ∷ []
 unfolding everything
-insert_sources f j limit db x rows h = h.1
+insert_sources f j m limit db x rows h = h.1
 
 insert_casts : (j : List Term) (x : Entry) → cast_row (book_with j) (Null ∷ whole_cells x) ≡ Null ∷ whole_cells x
 insert_casts j x =
@@ -72,10 +73,10 @@ insert_casts j x =
       cast_int (pos 0),
     )
 
-pub inserts : (old new : State) (f j : List Term) (x : Entry) (n m count : ℕ) → old.now.schema ≡ book_schema f j
+pub inserts : (old new : State) (f j : List Term) (m : Schema) → AreBehind book_names m → (x : Entry) (n next count : ℕ) → old.now.schema ≡ book_schema f j m
     → IsCounted (codes "control") (old.now.trees 2) n
-    → Rattle.sqlite.specs.Edit.next_rowid (old.now.trees 1) ≡ pos m → m ≤ n + 1 → Executes insert_text (insert_params x) old new (Ok count)
-    → (new.now.schema ≡ book_schema f j) × PutsAt (codes "control") old.now.trees (whole_cells x) n new.now.trees
-inserts old new f j x n m count has counted next low h =
-    inserting.inserts Book f j [] old new insert_text (insert_params x) (Null ∷ whole_cells x) (whole_cells x) (Values insert_terms 12) n m count
-    (insert_is f j) (insert_plain f j) (insert_sources f j old.step_limit old.now.trees x) (insert_casts j x) has counted next low h
+    → Rattle.sqlite.specs.Edit.next_rowid (old.now.trees 1) ≡ pos next → next ≤ n + 1 → Executes insert_text (insert_params x) old new (Ok count)
+    → (new.now.schema ≡ book_schema f j m) × PutsAt 3 (codes "control") old.now.trees (whole_cells x) n new.now.trees
+inserts old new f j m behind x n next count has counted next_is low h =
+    inserting.inserts Book f j m behind old new insert_text (insert_params x) (Null ∷ whole_cells x) (whole_cells x) (Values insert_terms 12) n next count
+    (insert_is f j m) (insert_plain f j m) (insert_sources f j m old.step_limit old.now.trees x) (insert_casts j x) has counted next_is low h

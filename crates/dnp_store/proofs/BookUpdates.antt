@@ -9,6 +9,7 @@ use Rattle.std.proofs.lemmas.List.Sorted.{IsPermutation-refl, IsPermutation-cons
 use Rattle.sqlite_tied.specs.Compute.{everything}
 use Rattle.sqlite_sql.specs.declared.ops.BinaryOp.TheVariants.{Compare}
 use Rattle.sqlite_sql.specs.declared.ops.CompareOp.TheVariants.{Eq}
+use Rattle.sqlite.specs.Schema.{Schema}
 use Rattle.sqlite.specs.Collation.TheVariants.{Binary}
 use Rattle.sqlite.specs.declared.types.Value.TheVariants.{Null, Int}
 use Rattle.sqlite.specs.Query.{Query, inner, end, IsAnswer, output, Output}
@@ -36,14 +37,16 @@ use Rattle.dnp_controls.specs.declared.book.Entry.{Entry}
 use Rattle.dnp_controls.specs.declared.book.State.{State as Control}
 use Rattle.dnp_controls.specs.Book.{entry_of, in_state}
 use Rattle.dnp_store.specs.Texts.{book_update}
-use Rattle.dnp_store.specs.BookTables.{book_schema, book_with, entry_row, kind_of, code_of, count_of, on_of, off_of, value_of, state_of, status_of}
+use Rattle.dnp_store.specs.BookTables.{book_names, book_schema, book_with, entry_row, kind_of, code_of, count_of, on_of, off_of, value_of, state_of, status_of}
 use Rattle.dnp_store.proofs.Statements.{IsRead, command_read, plain_read, went, written, same_value}
 use Rattle.dnp_store.proofs.Counting.{cast_int, cast_null}
 use Rattle.dnp_store.proofs.IdRows.{put_apart}
 use Rattle.dnp_store.proofs.QueueDeletes.{passes_on, and_true}
 use Rattle.dnp_store.proofs.Recounting.{others_left}
 use Rattle.dnp_store.specs.declared.store_kind.StoreKind.TheVariants.{Book}
-use Rattle.dnp_store.proofs.Inserting.{quiet}
+use Rattle.dnp_store.proofs.Inserting.{quiet, trees}
+use Rattle.dnp_store.proofs.Apart.{others_kept}
+use Rattle.dnp_store.specs.Tables.{AreBehind}
 use Rattle.dnp_store.proofs.Tests.{eq_holds, has_is, is_other}
 
 abbrev pub update_text : List ℕ
@@ -62,15 +65,15 @@ query = record {
   offset = lit (Int (pos 0));
 }
 
-update_read : (f c : List Term) → IsRead (Update 1 (record { lets = []; body = query })) (understood (book_schema f c) update_text)
+update_read : (f c : List Term) (m : Schema) → IsRead (Update 1 (record { lets = []; body = query })) (understood (book_schema f c m) update_text)
 unfolding understood everything
-update_read f c = (refl, refl, refl)
+update_read f c m = (refl, refl, refl)
 
-update_is : (f c : List Term) → command_of (understood (book_schema f c) update_text) ≡ Update 1 (record { lets = []; body = query })
-update_is f c = command_read _ (understood (book_schema f c) update_text) (update_read f c)
+update_is : (f c : List Term) (m : Schema) → command_of (understood (book_schema f c m) update_text) ≡ Update 1 (record { lets = []; body = query })
+update_is f c m = command_read _ (understood (book_schema f c m) update_text) (update_read f c m)
 
-update_plain : (f c : List Term) → IsPlain (understood (book_schema f c) update_text)
-update_plain f c = plain_read _ (understood (book_schema f c) update_text) (update_read f c)
+update_plain : (f c : List Term) (m : Schema) → IsPlain (understood (book_schema f c m) update_text)
+update_plain f c m = plain_read _ (understood (book_schema f c m) update_text) (update_read f c m)
 
 -- ---- the entry that is found
 
@@ -174,10 +177,10 @@ matched params db rows a =
 -- one entry comes into a state, and no other tree changes
 pub record Turns (db : Trees) (id : ℕ) (s : Control) (es : List Entry) (now : Trees) : Type 0 where
   pub table : IsPermutation (map entry_row (in_state es id s)) (now 1)
-  pub others : (t : ℕ) → t ≢ 1 → now t ≡ db t
+  pub others : (t : ℕ) → t < 3 → t ≢ 1 → now t ≡ db t
 
-abbrev task : List Term → List Term → Option ℕ → Row → Task
-task f c limit params = record { limit = limit; keys = Enforced; schema = book_schema f c; table = book_with c; params = params }
+abbrev task : List Term → List Term → Schema → Option ℕ → Row → Task
+task f c m limit params = record { limit = limit; keys = Enforced; schema = book_schema f c m; table = book_with c; params = params }
 
 casts : (c : List Term) (e : Entry) → cast_row (book_with c) (entry_row e) ≡ entry_row e
 casts c e =
@@ -196,12 +199,13 @@ casts c e =
       cast_int (pos (status_of e.state)),
     ) refl
 
-turns : (f c : List Term) (limit : Option ℕ) (id : ℕ) (s : Control) (es : List Entry) (old : Entry) (db : Trees) (a : Written)
+turns : (f c : List Term) (m : Schema) → AreBehind book_names m
+    → (limit : Option ℕ) (id : ℕ) (s : Control) (es : List Entry) (old : Entry) (db : Trees) (a : Written)
     → IsPermutation (map entry_row es) (db 1) → Rising es → entry_of es id ≡ Some old → old.id ≡ id
-    → Updates (task f c limit (update_params id s)) (record { lets = []; body = query }) (update_params id s) db (Ok a)
+    → Updates (task f c m limit (update_params id s)) (record { lets = []; body = query }) (update_params id s) db (Ok a)
     → Turns db id s es a.trees
 unfolding everything made
-turns f c limit id s es old db a is rise at named h =
+turns f c m behind limit id s es old db a is rise at named h =
     let params = update_params id s in
     let new = in_its_state old s in
     let queried = went h in
@@ -215,7 +219,7 @@ turns f c limit id s es old db a is rise at named h =
     let edited_to = went queried.2 in
     let out = same_value edited_to.2 in
     let edit = λ (rs : List Row). edit_of db (book_with c) (ids_of rs) Given 1 rs in
-    let step = one_step (book_schema f c) Enforced db edited_to.0 (edit queried.0) (quiet Book f c [] db (edit queried.0)) edited_to.1 in
+    let step = one_step (book_schema f c m) Enforced db edited_to.0 (edit queried.0) (quiet Book f c m behind db (edit queried.0) (omega arith)) edited_to.1 in
     let row = entry_row new in
     let rest = without_rowid (pos old.id) (db 1) in
     let made_of : a.trees 1 ≡ put_row row rest = ap (λ (w : Written). w.trees 1) out ∙ step.rows
@@ -229,20 +233,22 @@ turns f c limit id s es old db a is rise at named h =
     record {
       table = subst (λ (n : ℕ). IsPermutation (map entry_row (in_state es n s)) (a.trees 1)) named
           (subst (IsPermutation (map entry_row (in_state es old.id s))) (sym made_of) turned);
-      others = λ t not_1. ap (λ (w : Written). w.trees t) out ∙ step.others t not_1 tt;
+      others = λ t low not_1. ap (λ (w : Written). w.trees t) out
+          ∙ others_kept (book_schema f c m) 3 (trees Book f c m) db edited_to.0 (edit queried.0) step t low not_1;
     }
 
-pub updates : (old new : State) (f c : List Term) (id count : ℕ) (s : Control) (es : List Entry) (e : Entry) → old.now.schema ≡ book_schema f c
+pub updates : (old new : State) (f c : List Term) (m : Schema) → AreBehind book_names m → (id count : ℕ) (s : Control) (es : List Entry) (e : Entry)
+    → old.now.schema ≡ book_schema f c m
     → IsPermutation (map entry_row es) (old.now.trees 1) → Rising es → entry_of es id ≡ Some e → e.id ≡ id
     → Executes update_text (update_params id s) old new (Ok count)
-    → (new.now.schema ≡ book_schema f c) × Turns old.now.trees id s es new.now.trees
-updates old new f c id count s es e has is rise at named h =
+    → (new.now.schema ≡ book_schema f c m) × Turns old.now.trees id s es new.now.trees
+updates old new f c m behind id count s es e has is rise at named h =
     let params = update_params id s in
     let command = Update 1 (record { lets = []; body = query }) in
-    let w = runs_as update_text params old new (book_schema f c) has command (update_is f c) (update_plain f c) count h in
-    let the_task = task f c old.step_limit params in
+    let w = runs_as update_text params old new (book_schema f c m) has command (update_is f c m) (update_plain f c m) count h in
+    let the_task = task f c m old.step_limit params in
     let does = subst (λ s. Does old.step_limit (mode_of old) params (record old.now { schema = s })
-    (statement_of update_text (understood (book_schema f c) update_text)) None command (Ok (w.tally, new.now))) has w.changed in
+    (statement_of update_text (understood (book_schema f c m) update_text)) None command (Ok (w.tally, new.now))) has w.changed in
     let done = written the_task (mode_of old) command old.now.trees w.tally new.now does in
-    let took = turns f c old.step_limit id s es e old.now.trees done.0 is rise at named done.1 in
+    let took = turns f c m behind old.step_limit id s es e old.now.trees done.0 is rise at named done.1 in
     (ap (λ (d : Database). d.schema) done.2, subst (λ (d : Database). Turns old.now.trees id s es d.trees) (sym done.2) took)

@@ -209,7 +209,7 @@ work_apart tree moves child ref (Some deed) (Some key) apart = elim (cases_Bool 
   | inr other ↦ rw other refl
 ]
 
-spared_works : (schema : Schema) (tree : ℕ) (olds news : List Row) → IsSpared tree schema.tables → works schema Enforced 0 tree olds news ≡ []
+pub spared_works : (schema : Schema) (tree : ℕ) (olds news : List Row) → IsSpared tree schema.tables → works schema Enforced 0 tree olds news ≡ []
 spared_works schema tree olds news spared =
     flat_none_in (λ (child : Table). filter_map (work_for schema Enforced 0 tree olds news child) child.references) schema.tables (λ child has.
     filter_none_in (work_for schema Enforced 0 tree olds news child) child.references (λ ref refers.

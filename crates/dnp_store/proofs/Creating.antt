@@ -77,7 +77,7 @@ rows_is Queue f = (refl, refl, refl, refl)
 rows_is Journal f = (refl, refl, refl, refl)
 rows_is Book f = (refl, refl, refl, refl)
 
-lanes_is : (f q : List Term) → IsTable lanes_text (understood (schema_of f (queue_with q) []) lanes_text)
+lanes_is : (f q : List Term) → IsTable lanes_text (understood (schema_of f (queue_with q) no_schema) lanes_text)
 unfolding understood everything
 lanes_is f q = (refl, refl, refl, refl)
 
@@ -130,7 +130,7 @@ rows_joined kind f =
     ap (created (form_schema f)) (made_of (rows_with kind) (table_defined_by (rows_text kind)) (rows_made kind)) ∙ rows_put kind f (checks_of kind)
 
 sequence_joined : (kind : StoreKind) (f r : List Term) → created (two_schema kind f r) (table_of_text (table_defined_by sequence_text))
-    ≡ schema_of f (rows_with kind r) []
+    ≡ schema_of f (rows_with kind r) no_schema
 unfolding everything
 sequence_joined kind f r = refl
 
@@ -151,7 +151,7 @@ created_rows kind old new count has h =
     let made = run.1 in
     let mid : run.0.schema ≡ two_schema kind f r = made.is ∙ ap (created (form_schema f)) (sym (ap table_of_text made.defined)) ∙ rows_joined kind f in
     let seq : MakesTable sequence_text run.0 (Ok new.now) = picked _ (lacks_sequence run.0.schema) (ap lacks_sequence mid ∙ lacks kind f r) run.2 in
-    let end : new.now.schema ≡ schema_of f (rows_with kind r) [] = seq.is ∙ ap (λ s. created s seq.table) mid
+    let end : new.now.schema ≡ schema_of f (rows_with kind r) no_schema = seq.is ∙ ap (λ s. created s seq.table) mid
     ∙ ap (created (two_schema kind f r)) (sym (ap table_of_text seq.defined)) ∙ sequence_joined kind f r in
     let kept = subst (λ (s : Schema). KeepsRows s.tables run.0.trees new.now.trees) mid seq.others in
     let third : new.now.trees 2 ≡ [] = subst (λ (s : Schema). new.now.trees (next_tree s) ≡ []) mid seq.empty in
@@ -162,13 +162,13 @@ created_rows kind old new count has h =
 abbrev l_checks : List Term
 l_checks = (table_of_text (table_defined_by lanes_text)).checks
 
-lanes_put : (f q l : List Term) → created (schema_of f (queue_with q) []) (treeless (lanes_with l)) ≡ queue_schema f q l
+lanes_put : (f q l : List Term) → created (schema_of f (queue_with q) no_schema) (treeless (lanes_with l)) ≡ queue_schema f q l
 unfolding everything
 lanes_put f q l = refl
 
-lanes_joined : (f q : List Term) → created (schema_of f (queue_with q) []) (table_of_text (table_defined_by lanes_text)) ≡ queue_schema f q l_checks
+lanes_joined : (f q : List Term) → created (schema_of f (queue_with q) no_schema) (table_of_text (table_defined_by lanes_text)) ≡ queue_schema f q l_checks
 lanes_joined f q =
-    ap (created (schema_of f (queue_with q) [])) (made_of lanes_with (table_defined_by lanes_text) lanes_made) ∙ lanes_put f q l_checks
+    ap (created (schema_of f (queue_with q) no_schema)) (made_of lanes_with (table_defined_by lanes_text) lanes_made) ∙ lanes_put f q l_checks
 
 lacks_no_more : (f q l : List Term) → lacks_sequence (queue_schema f q l) ≡ false
 unfolding everything
@@ -179,11 +179,11 @@ unfolding checks_of_lanes
 created_lanes old new count has h =
     let f = has.form in
     let q = has.rows in
-    let run = makes old new lanes_text (schema_of f (queue_with q) []) count has.schema
-    (is_of lanes_text (understood (schema_of f (queue_with q) []) lanes_text) (lanes_is f q))
-    (plain_of lanes_text (understood (schema_of f (queue_with q) []) lanes_text) (lanes_is f q)) h in
+    let run = makes old new lanes_text (schema_of f (queue_with q) no_schema) count has.schema
+    (is_of lanes_text (understood (schema_of f (queue_with q) no_schema) lanes_text) (lanes_is f q))
+    (plain_of lanes_text (understood (schema_of f (queue_with q) no_schema) lanes_text) (lanes_is f q)) h in
     let made = run.1 in
-    let mid : run.0.schema ≡ queue_schema f q l_checks = made.is ∙ ap (created (schema_of f (queue_with q) [])) (sym (ap table_of_text made.defined))
+    let mid : run.0.schema ≡ queue_schema f q l_checks = made.is ∙ ap (created (schema_of f (queue_with q) no_schema)) (sym (ap table_of_text made.defined))
     ∙ lanes_joined f q in
     let same : new.now ≡ run.0 = same_value (otherwise _ (lacks_sequence run.0.schema) (ap lacks_sequence mid ∙ lacks_no_more f q l_checks) run.2) in
     let kept = made.others in

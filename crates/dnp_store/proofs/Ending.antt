@@ -1,5 +1,5 @@
 -- How a transaction ends: it is undone, or committed, or not committed after all.
-use Rattle.std.proofs.Common.{◌≡◌, ◌⊎◌, true, false, Ok, Err, Result, IsTrue, inl, inr, refl, sym, arith, subst, ◌∙◌}
+use Rattle.std.proofs.Common.{◌≡◌, ◌⊎◌, ◌++◌, List, true, false, Ok, Err, Result, IsTrue, inl, inr, refl, sym, arith, subst, ◌∙◌}
 use Rattle.std.specs.Borrow.{MutBor}
 use Rattle.std.specs.Prelude.{IfErr, IsOk, OnErr, OnOk}
 use Rattle.sqlite_trees.specs.declared.store.Store.{Ghosts}
@@ -12,10 +12,12 @@ use Rattle.sqlite.specs.Steps.{FailsToCommit}
 use Rattle.sqlite.proofs.Callers.{survives_begin}
 use Rattle.sqlite.proofs.StateLemmas.{survives_then}
 use Rattle.dnp_store.specs.declared.store_kind.StoreKind.{StoreKind}
-use Rattle.dnp_store.specs.Refusals.{IsRefused}
+use Rattle.dnp_store.specs.Added.{MakeAll, Statement}
+use Rattle.dnp_store.specs.Refusals.{IsRefused, IsStopped, IsUnmade, RefusesOne, asking}
 use Rattle.dnp_store.specs.steps.Inside.{IsEnded, IsStep}
 use Rattle.dnp_store.proofs.Refusing.{by_commit, refused_inside, same_err}
 use Rattle.dnp_store.proofs.Statements.{survives_as}
+use Rattle.dnp_store.proofs.Stopping.{unmade_by_commit, unmade_inside}
 
 -- what was open is open, and holds the last commit
 abbrev pub IsAsBefore : State → State → Type 0
@@ -147,3 +149,25 @@ module _ {S : Type 0} (g : Ghosts S) (old last : Held S) (begun mid : MutBor (He
           (refused_inside g kind old begun.now mid.now end last d is same refuses
           (survives_as (state g mid.now) (state g end) _ _ (λ db did. absurd (let no = did.0 in cc)) survives))
       go (Err d) (Err e) refuses inside survives (inr fails) = absurd (let no = fails.0 in cc)
+
+  -- where tables were to be made
+  pub end_unmade : (its : List Statement) → (HasCleanDisk (state g mid.now) → IfErr done (IsStopped g (RefusesOne g (its ++ asking)) begun.now mid.now))
+      → (HasCleanDisk (state g mid.now) → OnOk done (MakeAll g its (state g old).now (state g mid.now).now)) → HasCleanDisk (state g last)
+      → IfErr result (IsUnmade g its old last)
+  end_unmade its refuses makes clean =
+      go done result (refuses (early clean)) (makes (early clean)) (step.inside (early clean)) ended.survives
+      (ended.refused (subst (λ h. HasCleanDisk (state g h)) (sym same) clean))
+    where
+      go : (d r : Result (Unit {0}) Error) → IfErr d (IsStopped g (RefusesOne g (its ++ asking)) begun.now mid.now)
+          → OnOk d (MakeAll g its (state g old).now (state g mid.now).now) → OnOk d (IsTrue (state g mid.now).in_transaction)
+          → Survives (state g mid.now) (state g end) (λ db. IsOk d × (db ≡ (state g mid.now).now.trees))
+          → IfErr r (λ e. (d ≡ Err e) ⊎ (IsOk d × FailsToCommit (state g mid.now) (state g end) e)) → IfErr r (IsUnmade g its old last)
+      go d (Ok _) refuses makes inside survives why = tt
+      go (Ok _) (Err e) refuses makes inside survives (inl other) = absurd cc
+      go (Ok _) (Err e) refuses makes inside survives (inr fails) =
+          unmade_by_commit g its old begun.now mid.now end last e is same step.survives makes inside fails.1
+      go (Err d) (Err e) refuses makes inside survives (inl is_that) =
+          subst (IsUnmade g its old last) (same_err is_that)
+          (unmade_inside g its old begun.now mid.now end last d is same refuses
+          (survives_as (state g mid.now) (state g end) _ _ (λ db did. absurd (let no = did.0 in cc)) survives))
+      go (Err d) (Err e) refuses makes inside survives (inr fails) = absurd (let no = fails.0 in cc)

@@ -24,7 +24,8 @@ use Rattle.dnp_store.proofs.Counting.{cast_int, cast_null}
 use Rattle.dnp_store.proofs.IdRows.{is_less}
 use Rattle.sqlite_trees.proofs.ListLemmas.{IsPermutation-same}
 use Rattle.dnp_store.specs.declared.store_kind.StoreKind.TheVariants.{Queue}
-use Rattle.dnp_store.proofs.Inserting.{quiet}
+use Rattle.sqlite.specs.Edit.{Edit, taken_by}
+use Rattle.sqlite_rules.specs.Action.{works}
 use Rattle.dnp_objects.specs.declared.limits.TheConstants.{LANES}
 use Rattle.dnp_eventbuf.specs.EventBuffer.{empty_buffer, empty_lane, no_lane}
 use Rattle.dnp_store.specs.Schemas.{checks_of_form, checks_of_rows, made_queue}
@@ -53,6 +54,11 @@ lane_task f q l limit params = record { limit = limit; keys = Enforced; schema =
 abbrev pub lane_params : ℕ → ℕ → Row
 lane_params number capacity = Int (pos number) ∷ Int (pos capacity) ∷ []
 
+-- no table refers to another
+quiet : (f q l : List Term) (db : Trees) (e : Edit) → works (queue_schema f q l) Enforced 0 e.table.tree (taken_by db e) e.news ≡ []
+unfolding everything
+quiet f q l db e = refl
+
 lane_put : (f q l : List Term) (limit : Option ℕ) (number capacity : ℕ) (db : Trees) (a : Written)
     → Inserts (lane_task f q l limit (lane_params number capacity)) (Values lane_terms 5) db (Ok a)
     → PutsIn 3 (Int (pos number) ∷ figures_cells (fresh capacity)) db a.trees
@@ -68,7 +74,7 @@ lane_put f q l limit number capacity db a h =
     let edit = λ (rows : List Row). edit_of db (lanes_with l) [] Chosen 0 rows in
     let news : (edit sourced.0).news ≡ row ∷ [] =
     ap (λ rows. (edit rows).news) source ∙ rw (cast_int (pos number), cast_null, cast_int (pos capacity), cast_int (pos 0)) refl in
-    let step = one_step (queue_schema f q l) Enforced db edited_to.0 (edit sourced.0) (quiet Queue f q l db (edit sourced.0)) edited_to.1 in
+    let step = one_step (queue_schema f q l) Enforced db edited_to.0 (edit sourced.0) (quiet f q l db (edit sourced.0)) edited_to.1 in
     let last : next.0 ≡ edited_to.0 = same_value next.1 in
     record {
       table = ap (λ (w : Written). w.trees 3) out ∙ ap (λ (t : Trees). t 3) last ∙ step.rows ∙ ap (put_all (db 3)) news;

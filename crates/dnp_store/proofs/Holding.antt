@@ -136,7 +136,7 @@ HoldsUnder name db = HoldsLanes name (db 1) (db 2) (db 3)
 pub put : (name : List ℕ) (db now : Trees) (s : EventBuffer) (fs : List Figures) (x : LaneRow) → HoldsUnder name db s fs → length s.lanes ≡ LANES
     → lane_number x.lane < LANES
     → FitsLane x
-    → PutsAt name db (queued_cells (queued_for (s.last_id + 1) x)) s.last_id now → HoldsUnder name now (added s x) fs
+    → PutsAt 4 name db (queued_cells (queued_for (s.last_id + 1) x)) s.last_id now → HoldsUnder name now (added s x) fs
 put name db now s fs x h nine low carried puts =
     let number = lane_number x.lane in
     let new = queued_for (s.last_id + 1) x in
@@ -147,7 +147,7 @@ put name db now s fs x h nine low carried puts =
       queue_is = subst₂ IsPermutation (sym (map-append queued_row h.queued (new ∷ [])))
           (sym (puts.table ∙ id_rows.put_last (db 1) s.last_id (queued_cells new) under))
           (IsPermutation-append_left (queued_row new ∷ []) (map queued_row h.queued) (db 1) h.queue_is);
-      lanes_is = subst (IsPermutation (figures_rows 0 fs)) (sym (puts.others 3 (λ e. absurd (omega arith)) (λ e. absurd (omega arith)))) h.lanes_is;
+      lanes_is = subst (IsPermutation (figures_rows 0 fs)) (sym (puts.others 3 (omega arith) (λ e. absurd (omega arith)) (λ e. absurd (omega arith)))) h.lanes_is;
       counted = puts.count;
       rise = id_rows.rise-push id_of queued_cells h.queued new s.last_id h.rise h.up_to_last (omega arith);
       up_to_last = id_rows.up_to-push id_of queued_cells h.queued new (s.last_id + 1)
@@ -167,15 +167,15 @@ put name db now s fs x h nine low carried puts =
 
 pub took : (name : List ℕ) (db now : Trees) (s : EventBuffer) (fs : List Figures) (number upto : ℕ) (h : HoldsUnder name db s fs) → length s.lanes ≡ LANES
     → number < LANES
-    → Takes 1 db number upto h.queued now → HoldsUnder name now (cut s number upto) fs
+    → Takes 4 1 db number upto h.queued now → HoldsUnder name now (cut s number upto) fs
 took name db now s fs number upto h nine low takes =
     let id_of : Queued → ℕ = λ y. y.id in
     let left = filter (stays number upto) h.queued in
     record {
       queued = left;
       queue_is = takes.table;
-      lanes_is = subst (IsPermutation (figures_rows 0 fs)) (sym (takes.others 3 (λ e. absurd (omega arith)))) h.lanes_is;
-      counted = subst (λ rows. IsCounted name rows s.last_id) (sym (takes.others 2 (λ e. absurd (omega arith)))) h.counted;
+      lanes_is = subst (IsPermutation (figures_rows 0 fs)) (sym (takes.others 3 (omega arith) (λ e. absurd (omega arith)))) h.lanes_is;
+      counted = subst (λ rows. IsCounted name rows s.last_id) (sym (takes.others 2 (omega arith) (λ e. absurd (omega arith)))) h.counted;
       rise = id_rows.rise-filter id_of queued_cells (stays number upto) h.queued h.rise;
       up_to_last = id_rows.up_to-filter id_of queued_cells (stays number upto) h.queued s.last_id h.up_to_last;
       low = id_rows.all_over-filter id_of queued_cells (λ x. x.lane < LANES) (stays number upto) h.queued h.low;
@@ -192,16 +192,17 @@ took name db now s fs number upto h nine low takes =
 
 pub noted_in : (name : List ℕ) (db now : Trees) (s : EventBuffer) (fs : List Figures) (number lost : ℕ) (raised : Bool) → HoldsUnder name db s fs
     → length s.lanes ≡ LANES → number < LANES
-    → Notes 3 db number lost raised fs now → HoldsUnder name now (counted s number lost) (set fs number (noted_as (slice_index_or fs number no_figures) lost raised))
+    → Notes 4 3 db number lost raised fs now
+    → HoldsUnder name now (counted s number lost) (set fs number (noted_as (slice_index_or fs number no_figures) lost raised))
 noted_in name db now s fs number lost raised h nine low notes =
     let new = noted_as (slice_index_or fs number no_figures) lost raised in
     let all = set fs number new in
     let new_lane : LaneState = record (lane_at s number) { lost = lost } in
     record {
       queued = h.queued;
-      queue_is = subst (IsPermutation (map queued_row h.queued)) (sym (notes.others 1 (λ e. absurd (omega arith)))) h.queue_is;
+      queue_is = subst (IsPermutation (map queued_row h.queued)) (sym (notes.others 1 (omega arith) (λ e. absurd (omega arith)))) h.queue_is;
       lanes_is = notes.table;
-      counted = subst (λ rows. IsCounted name rows s.last_id) (sym (notes.others 2 (λ e. absurd (omega arith)))) h.counted;
+      counted = subst (λ rows. IsCounted name rows s.last_id) (sym (notes.others 2 (omega arith) (λ e. absurd (omega arith)))) h.counted;
       rise = h.rise;
       up_to_last = h.up_to_last;
       low = h.low;

@@ -57,14 +57,14 @@ pushed last [] y all h = (h, tt)
 pushed last (x ∷ xs) y all h = (later last x all.0, pushed last xs y all.1 h)
 
 pub put : (db now : Trees) (a : Archive) (row : Event) → HoldsArchive db a
-    → PutsAt (codes "journal") db (queued_cells (logged_for (a.last_id + 1) row)) a.last_id now → HoldsArchive now (with_events a (row ∷ []))
+    → PutsAt 3 (codes "journal") db (queued_cells (logged_for (a.last_id + 1) row)) a.last_id now → HoldsArchive now (with_events a (row ∷ []))
 put db now a row h puts =
     let new = logged_for (a.last_id + 1) row in
     let id_of : Queued → ℕ = λ y. y.id in
     let low = up_to a.last_id h.logged h.in_range in
     let under = id_rows.are_under id_of queued_cells h.logged a.last_id (db 1) low h.logged_is in
     record {
-      form = subst IsForm1 (sym (puts.others 0 (λ e. absurd (omega arith)) (λ e. absurd (omega arith)))) h.form;
+      form = subst IsForm1 (sym (puts.others 0 (omega arith) (λ e. absurd (omega arith)) (λ e. absurd (omega arith)))) h.form;
       logged = h.logged ++ new ∷ [];
       logged_is = subst₂ IsPermutation (sym (map-append queued_row h.logged (new ∷ [])))
           (sym (puts.table ∙ id_rows.put_last (db 1) a.last_id (queued_cells new) under))
@@ -81,12 +81,14 @@ insert_holds old new a row count ran h =
     let low = up_to a.last_id h.holds.logged h.holds.in_range in
     let under = id_rows.are_under (λ (y : Queued). y.id) queued_cells h.holds.logged a.last_id (old.now.trees 1) low h.holds.logged_is in
     let next = id_rows.next_is (old.now.trees 1) a.last_id under in
-    let did = inserts old new h.form_checks h.journal_checks (logged_for (a.last_id + 1) row) a.last_id next.0 count h.schema h.holds.counted
+    let did = inserts old new h.form_checks h.journal_checks h.more h.behind (logged_for (a.last_id + 1) row) a.last_id next.0 count h.schema h.holds.counted
     next.1 next.2 ran in
     record {
       form_checks = h.form_checks;
       journal_checks = h.journal_checks;
+      more = h.more;
       schema = did.0;
+      behind = h.behind;
       holds = put old.now.trees new.now.trees a row h.holds did.1;
     }
 

@@ -3,6 +3,7 @@ use Rattle.std.proofs.Common.{◌≡◌, ℕ, suc, ◌+◌, ◌<◌, ◌≤◌, 
 use Rattle.std.specs.Prelude.{if◌then◌else◌}
 use Rattle.std.specs.List.{AllByRecursion}
 use Rattle.sqlite_trees.proofs.ListLemmas.{all_weaker}
+use Rattle.sqlite.specs.Schema.{Schema}
 use Rattle.sqlite.specs.Order.{Row}
 use Rattle.sqlite.specs.Term.{Term}
 use Rattle.sqlite.specs.Tree.{IsAscending}
@@ -10,9 +11,9 @@ use Rattle.sqlite.specs.Effect.{Database, IsDatabase}
 use Rattle.dnp_objects.specs.declared.row.Kind.{Kind}
 use Rattle.dnp_objects.specs.Lanes.{kind_number}
 use Rattle.dnp_eventbuf.specs.declared.numbered.Numbered.{Numbered}
-use Rattle.dnp_store.specs.Tables.{IsCounted}
+use Rattle.dnp_store.specs.Tables.{AreBehind, IsCounted}
 use Rattle.dnp_store.specs.QueueTables.{queue_columns, Queued, queued_row, event_of, IsForm1}
-use Rattle.dnp_store.specs.JournalTables.{journal_schema, journal_columns, IsLogged}
+use Rattle.dnp_store.specs.JournalTables.{IsLogged, journal_columns, journal_names, journal_schema}
 use Rattle.dnp_store.specs.steps.JournalShown.{ShowsEvent, ShowEvents, AreInOrder, Logs, Finds}
 use Rattle.dnp_store.specs.declared.store_kind.StoreKind.TheVariants.{Journal}
 use Rattle.dnp_store.proofs.Rows.{IsTyped, typed_rows, queue_row, queued_of}
@@ -34,7 +35,7 @@ retyped (a ∷ b ∷ c ∷ d ∷ e ∷ g ∷ []) h = h
 retyped (a ∷ b ∷ c ∷ d ∷ e ∷ g ∷ i ∷ []) h = h
 retyped (a ∷ b ∷ c ∷ d ∷ e ∷ g ∷ i ∷ k ∷ more) h = h
 
-pub typed_journal : (db : Database) (f j m : List Term) → db.schema ≡ journal_schema f j → IsDatabase db
+pub typed_journal : (db : Database) (f j : List Term) (m : Schema) → db.schema ≡ journal_schema f j m → IsDatabase db
     → AllByRecursion (IsTyped (Some 0) queue_columns) (db.trees 1)
 typed_journal db f j m has sound =
     all_weaker (IsTyped (Some 0) journal_columns) (IsTyped (Some 0) queue_columns) retyped (db.trees 1) (typed_rows Journal db f j m has sound)
@@ -100,14 +101,17 @@ few_in_order before last (e ∷ es) h low =
     omega arith
 
 -- the events that were read are those of the database
-pub opened : (db : Database) (f j : List Term) (events : List Numbered) (last : ℕ) → db.schema ≡ journal_schema f j → IsForm1 (db.trees 0)
+pub opened : (db : Database) (f j : List Term) (m : Schema) → AreBehind journal_names m → (events : List Numbered) (last : ℕ)
+    → db.schema ≡ journal_schema f j m → IsForm1 (db.trees 0)
     → IsCounted (codes "journal") (db.trees 2) last → Logs db.trees events last → Finds db last (length events)
-opened db f j events last has form counted logs = record {
+opened db f j m behind events last has form counted logs = record {
   archive = record { rows = events; last_id = last };
   holds = record {
     form_checks = f;
     journal_checks = j;
+    more = m;
     schema = has;
+    behind = behind;
     holds = record {
       form = form;
       logged = logs.logged;

@@ -7,6 +7,7 @@ use Rattle.std.proofs.lemmas.List.{map-append, length-map}
 use Rattle.std.proofs.lemmas.List.Elements.{filter-append}
 use Rattle.std.proofs.lemmas.List.Sorted.{IsPermutation-refl, IsPermutation-sym, IsPermutation-trans, IsPermutation-append_left, IsPermutation-append_right, IsPermutation-filter_both, length_permutation}
 use Rattle.sqlite_trees.proofs.ListLemmas.{all-permutation, all-append, all-filter, all_weaker, ascending-append, filter_none, IsPermutation-filter}
+use Rattle.sqlite.specs.Schema.{Schema}
 use Rattle.sqlite.specs.declared.types.Value.{Value}
 use Rattle.sqlite.specs.declared.types.Value.TheVariants.{Null, Int}
 use Rattle.sqlite.specs.Order.{Row, column}
@@ -100,13 +101,13 @@ module _ (old new : State) (from most : ℕ) (rows : List Row) where
       → ShowEvents rows events → AreInOrder from last events → from ≤ last → Gathers (db 1) from count → Gathers (db 1) last (count + length events))
   reads_page shows f j m sound has =
       let t = old.now.trees 1 in
-      let got = over_listed old new f j from most rows has shows in
+      let got = over_listed old new f j m from most rows has shows in
       let front = take most got.0 in
       let types : AllByRecursion (IsTyped (Some 0) queue_columns) (front ++ drop most got.0) =
       subst (AllByRecursion (IsTyped (Some 0) queue_columns)) (sym (take-append-drop most got.0))
       (all-permutation (IsTyped (Some 0) queue_columns) (filter (is_over from) t) got.0 got.1
       (all-filter (IsTyped (Some 0) queue_columns) (is_over from) t (typed_journal old.now f j m has sound))) in (
-        (unchanged_by over_text (over_params from most) old new (journal_schema f j) rows has (over_plain f j) shows).0.now_is,
+        (unchanged_by over_text (over_params from most) old new (journal_schema f j m) rows has (over_plain f j m) shows).0.now_is,
         λ events last count each rises low so_far.
             let did = logged front events (front_of (IsTyped (Some 0) queue_columns) front (drop most got.0) types) (subst (λ (xs : List Row). ShowEvents xs events) got.2 each) in
             let order = ordered from last did.queued (subst (AreInOrder from last) did.events_are rises) did.kinds in
@@ -176,14 +177,15 @@ many_query = record {
   offset = lit (Int (pos 0));
 }
 
-many_is : (f j : List Term) → (command_of (understood (journal_schema f j) many_text) ≡ Select (record { lets = []; body = many_query }) (codes "count(*)" ∷ []))
-    × (reads_listing (journal_schema f j) many_text ≡ false)
+many_is : (f j : List Term) (m : Schema)
+    → (command_of (understood (journal_schema f j m) many_text) ≡ Select (record { lets = []; body = many_query }) (codes "count(*)" ∷ []))
+    × (reads_listing (journal_schema f j m) many_text ≡ false)
 unfolding understood everything
-many_is f j = (refl, refl)
+many_is f j m = (refl, refl)
 
-pub many_plain : (f j : List Term) → IsPlain (understood (journal_schema f j) many_text)
+pub many_plain : (f j : List Term) (m : Schema) → IsPlain (understood (journal_schema f j m) many_text)
 unfolding understood everything
-many_plain f j = (refl, refl)
+many_plain f j m = (refl, refl)
 
 abbrev told : List Env → Value
 told order = Int (pos (min (length (map (eval (lit Null)) order)) 9223372036854775807))
@@ -213,11 +215,11 @@ pub record Sums (rows t : List Row) : Type 0 where
   pub shown : rows ≡ (told order ∷ []) ∷ []
   pub matched : length order ≡ length t
 
-sums_up : (old new : State) (rows : List Row) (f j : List Term) → old.now.schema ≡ journal_schema f j → Shown many_text [] old new rows
+sums_up : (old new : State) (rows : List Row) (f j : List Term) (m : Schema) → old.now.schema ≡ journal_schema f j m → Shown many_text [] old new rows
     → Sums rows (old.now.trees 1)
-sums_up old new rows f j has shows =
+sums_up old new rows f j m has shows =
     let t = old.now.trees 1 in
-    let got = reads_as many_text [] old new (journal_schema f j) has _ (many_is f j).0 (many_plain f j) (many_is f j).1 rows shows in
+    let got = reads_as many_text [] old new (journal_schema f j m) has _ (many_is f j m).0 (many_plain f j m) (many_is f j m).1 rows shows in
     let a : IsAnswer many_query (overlay old.now.trees []) [] rows = got.answer Null in
     let s = a.grouped in
     let order = s.grouping.0 in
@@ -237,9 +239,9 @@ sums_up old new rows f j has shows =
 module _ (old new : State) (rows : List Row) where
   pub reads_many : Shown many_text [] old new rows → Reads Journal old new (λ db. (n : ℕ) → column (get_or rows 0 []) 0 ≡ Int (pos n) → HasCount (db 1) n)
   reads_many shows f j m sound has =
-      let sums = sums_up old new rows f j has shows in
+      let sums = sums_up old new rows f j m has shows in
       let order = sums.order in (
-        unchanged many_text old new (journal_schema f j) rows has (many_plain f j) shows,
+        unchanged many_text old new (journal_schema f j m) rows has (many_plain f j m) shows,
         λ n is low.
             let first : told order ≡ Int (pos n) = ap (λ (rs : List Row). column (get_or rs 0 []) 0) (sym sums.shown) ∙ is in
             let few : min (length (map (eval (lit Null)) order)) 9223372036854775807 ≡ n = cc in
@@ -248,10 +250,10 @@ module _ (old new : State) (rows : List Row) where
 
   pub shows_many : Shown many_text [] old new rows → Reads Journal old new (λ db. length (db 1) ≤ MAX_ID → ShowsNumber rows (length (db 1)))
   shows_many shows f j m sound has =
-      let sums = sums_up old new rows f j has shows in
+      let sums = sums_up old new rows f j m has shows in
       let order = sums.order in
       let many = length (old.now.trees 1) in (
-        unchanged many_text old new (journal_schema f j) rows has (many_plain f j) shows,
+        unchanged many_text old new (journal_schema f j m) rows has (many_plain f j m) shows,
         λ low.
             let is : min (length (map (eval (lit Null)) order)) 9223372036854775807 ≡ many = told_whole _ many (length-map order (eval (lit Null)) ∙ sums.matched) low in
             record {

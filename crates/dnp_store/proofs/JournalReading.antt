@@ -91,14 +91,14 @@ over_query = record {
 abbrev names : List (List ℕ)
 names = codes "id" ∷ codes "kind" ∷ codes "point" ∷ codes "flags" ∷ codes "value" ∷ codes "time" ∷ []
 
-over_is : (f j : List Term) → (command_of (understood (journal_schema f j) over_text) ≡ Select (record { lets = []; body = over_query }) names)
-    × (reads_listing (journal_schema f j) over_text ≡ false)
+over_is : (f j : List Term) (m : Schema) → (command_of (understood (journal_schema f j m) over_text) ≡ Select (record { lets = []; body = over_query }) names)
+    × (reads_listing (journal_schema f j m) over_text ≡ false)
 unfolding understood everything
-over_is f j = (refl, refl)
+over_is f j m = (refl, refl)
 
-pub over_plain : (f j : List Term) → IsPlain (understood (journal_schema f j) over_text)
+pub over_plain : (f j : List Term) (m : Schema) → IsPlain (understood (journal_schema f j m) over_text)
 unfolding understood everything
-over_plain f j = (refl, refl)
+over_plain f j m = (refl, refl)
 
 -- the row's id is over this one, as SQL compares them
 abbrev pub is_over : ℕ → Row → Bool
@@ -143,13 +143,13 @@ made : Row → Output
 made r = (rowid r ∷ [], shown_row r)
 
 -- the first of the rows over the id, in some order
-pub over_listed : (old new : State) (f j : List Term) (from most : ℕ) (rows : List Row) → old.now.schema ≡ journal_schema f j
+pub over_listed : (old new : State) (f j : List Term) (m : Schema) (from most : ℕ) (rows : List Row) → old.now.schema ≡ journal_schema f j m
     → Shown over_text (over_params from most) old new rows
     → (rs : List Row) × IsPermutation (filter (is_over from) (old.now.trees 1)) rs × (rows ≡ map shown_row (take most rs))
 unfolding made
-over_listed old new f j from most rows has h =
+over_listed old new f j m from most rows has h =
     let params = over_params from most in
-    let got = reads_as over_text params old new (journal_schema f j) has _ (over_is f j).0 (over_plain f j) (over_is f j).1 rows h in
+    let got = reads_as over_text params old new (journal_schema f j m) has _ (over_is f j m).0 (over_plain f j m) (over_is f j m).1 rows h in
     let a : IsAnswer over_query (overlay old.now.trees []) params rows = got.answer Null in
     let left = filter (is_over from) (old.now.trees 1) in
     let staged : a.staged ≡ map (λ r. params ∷ r ∷ []) left = a.grouped ∙ passes_on (is_over from) (λ r. params ∷ r ∷ []) (old.now.trees 1) in
@@ -161,13 +161,13 @@ over_listed old new f j from most rows has h =
           ∙ take-map shown_row most back.0,
     )
 
-pub over_shows : (old new : State) (f j : List Term) (xs : List Queued) (from most : ℕ) (rows : List Row) → old.now.schema ≡ journal_schema f j
+pub over_shows : (old new : State) (f j : List Term) (m : Schema) (xs : List Queued) (from most : ℕ) (rows : List Row) → old.now.schema ≡ journal_schema f j m
     → IsPermutation (map queued_row xs) (old.now.trees 1) → IsAscending (λ x y. x.id < y.id) xs → Shown over_text (over_params from most) old new rows
     → rows ≡ take most (map shown_row (filter (is_over from) (map queued_row xs)))
 unfolding made
-over_shows old new f j xs from most rows has same rise h =
+over_shows old new f j m xs from most rows has same rise h =
     let params = over_params from most in
-    let got = reads_as over_text params old new (journal_schema f j) has _ (over_is f j).0 (over_plain f j) (over_is f j).1 rows h in
+    let got = reads_as over_text params old new (journal_schema f j m) has _ (over_is f j m).0 (over_plain f j m) (over_is f j m).1 rows h in
     let a : IsAnswer over_query (overlay old.now.trees []) params rows = got.answer Null in
     let all = map queued_row xs in
     let left = filter (is_over from) (old.now.trees 1) in
@@ -191,7 +191,7 @@ shows_over old new a from most rows db h events shows =
     let holds = db.holds in
     let xs = holds.logged in
     let few = filter (λ (x : Queued). nat_lt from x.id) xs in
-    let is = over_shows old new db.form_checks db.journal_checks xs from most rows db.schema holds.logged_is holds.rise h in
+    let is = over_shows old new db.form_checks db.journal_checks db.more xs from most rows db.schema holds.logged_is holds.rise h in
     let here : rows ≡ map shown_row (take most (map queued_row few)) =
     is ∙ ap (λ l. take most (map shown_row l)) (overs from xs) ∙ take-map shown_row most (map queued_row few) in
     let events_are : events ≡ map event_in (take most (map queued_row few)) =
@@ -223,7 +223,7 @@ module _ (old new : State) (from most : ℕ) (ps : Row) (given : ps ≡ over_par
   stays : (rows : List Row) (a : Archive) → JournalStands old a → Shown over_text ps old new rows → IsUnchanged old new
   stays rows a stands h =
       let db = at_now a stands in
-      unchanged_by over_text ps old new (journal_schema db.form_checks db.journal_checks) rows db.schema (over_plain db.form_checks db.journal_checks) h
+      unchanged_by over_text ps old new (journal_schema db.form_checks db.journal_checks db.more) rows db.schema (over_plain db.form_checks db.journal_checks db.more) h
 
   pub open_if : (r : Result (Vec Row Global) Error) → IfOk r (λ rows. Shown over_text ps old new rows.items)
       → OnOk r ((a : Archive) → JournalStands old a → IsTrue new.is_open)

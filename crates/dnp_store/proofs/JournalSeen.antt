@@ -8,6 +8,7 @@ use Rattle.std.proofs.lemmas.List.Elements.{All-from_recursion, recursion_from_A
 use Rattle.std.proofs.lemmas.List.Sorted.{length_permutation}
 use Rattle.sqlite_keyed.proofs.ListLemmas.{all_map, filter-filter}
 use Rattle.sqlite_trees.proofs.ListLemmas.{all-filter, all_weaker, ascending-filter, ascending-map, filter-map, filter_all}
+use Rattle.sqlite.specs.Schema.{Schema}
 use Rattle.sqlite.specs.declared.types.Value.{Value}
 use Rattle.sqlite.specs.declared.types.Value.TheVariants.{Int}
 use Rattle.sqlite.specs.Order.{Row, column}
@@ -248,12 +249,12 @@ all_wide : (rs : List Row) → AllByRecursion (λ (row : Row). 5 < length row) (
 all_wide [] = tt
 all_wide (r ∷ rs) = (omega arith, all_wide rs)
 
-shows_first : (old new : State) (f j : List Term) (a : Archive) (from most : ℕ) (rows : List Row) → old.now.schema ≡ journal_schema f j
+shows_first : (old new : State) (f j : List Term) (m : Schema) (a : Archive) (from most : ℕ) (rows : List Row) → old.now.schema ≡ journal_schema f j m
     → HoldsArchive old.now.trees a → 1 ≤ most → Shown over_text (over_params from most) old new rows → ShowFirst rows a from
-shows_first old new f j a from most rows has holds some shows =
+shows_first old new f j m a from most rows has holds some shows =
     let xs = holds.logged in
     let few = filter (λ (x : Queued). nat_lt from x.id) xs in
-    let is = over_shows old new f j xs from most rows has holds.logged_is holds.rise shows in
+    let is = over_shows old new f j m xs from most rows has holds.logged_is holds.rise shows in
     let here : rows ≡ map shown_row (map queued_row (take most few)) =
     is ∙ ap (λ (rs : List Row). take most (map shown_row rs)) (overs from xs) ∙ take-map shown_row most (map queued_row few)
     ∙ ap (map shown_row) (take-map queued_row most few) in
@@ -275,7 +276,7 @@ module _ {E : Type 0} (old new : State) (from most : ℕ) (some : 1 ≤ most) (p
       → IfOk r (λ rows. Reads Journal old new (λ db. (a : Archive) → HoldsArchive db a → ShowFirst rows.items a from))
   first_if (Ok rows) shown =
       let shows = subst (λ (p : Row). Shown over_text p old new rows.items) given shown in λ f j m sound has. (
-        (unchanged_by over_text (over_params from most) old new (journal_schema f j) rows.items has (over_plain f j) shows).0.now_is,
-        λ a holds. shows_first old new f j a from most rows.items has holds some shows,
+        (unchanged_by over_text (over_params from most) old new (journal_schema f j m) rows.items has (over_plain f j m) shows).0.now_is,
+        λ a holds. shows_first old new f j m a from most rows.items has holds some shows,
       )
   first_if (Err e) shown = tt

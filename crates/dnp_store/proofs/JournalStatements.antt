@@ -1,6 +1,7 @@
 -- What the INSERTs of a journal make of its tables.
 use Rattle.std.proofs.Common.{◌≡◌, ℕ, ◌+◌, ◌≤◌, pos, List, [], ◌∷◌, codes, Option, Ok, refl}
 use Rattle.sqlite_tied.specs.Compute.{everything}
+use Rattle.sqlite.specs.Schema.{Schema}
 use Rattle.sqlite.specs.declared.types.Value.TheVariants.{Null}
 use Rattle.sqlite.specs.Command.TheVariants.{Insert}
 use Rattle.sqlite.specs.Source.TheVariants.{Values}
@@ -14,9 +15,9 @@ use Rattle.sqlite.specs.Given.{IsPlain}
 use Rattle.sqlite.specs.State.{State, Executes}
 use Rattle.sqlite.proofs.Callers.{command_of}
 use Rattle.dnp_store.specs.Texts.{journal_insert}
-use Rattle.dnp_store.specs.Tables.{IsCounted}
+use Rattle.dnp_store.specs.Tables.{AreBehind, IsCounted}
 use Rattle.dnp_store.specs.QueueTables.{Queued}
-use Rattle.dnp_store.specs.JournalTables.{journal_schema, journal_with}
+use Rattle.dnp_store.specs.JournalTables.{journal_names, journal_schema, journal_with}
 use Rattle.dnp_store.specs.declared.store_kind.StoreKind.TheVariants.{Journal}
 use Rattle.dnp_store.proofs.QueueStatements.{cast_time, insert_params, whole_cells}
 use Rattle.dnp_store.proofs.Inserting as inserting
@@ -29,29 +30,30 @@ insert_text = journal_insert
 abbrev insert_terms : List Term
 insert_terms = lit Null ∷ lit Null ∷ col 0 0 ∷ col 0 1 ∷ col 0 2 ∷ col 0 3 ∷ col 0 4 ∷ []
 
-insert_read : (f j : List Term) → IsRead (Insert 1 (Values insert_terms 7)) (understood (journal_schema f j) insert_text)
+insert_read : (f j : List Term) (m : Schema) → IsRead (Insert 1 (Values insert_terms 7)) (understood (journal_schema f j m) insert_text)
 unfolding understood everything
-insert_read f j = (refl, refl, refl)
+insert_read f j m = (refl, refl, refl)
 
-insert_is : (f j : List Term) → command_of (understood (journal_schema f j) insert_text) ≡ Insert 1 (Values insert_terms 7)
-insert_is f j = command_read _ (understood (journal_schema f j) insert_text) (insert_read f j)
+insert_is : (f j : List Term) (m : Schema) → command_of (understood (journal_schema f j m) insert_text) ≡ Insert 1 (Values insert_terms 7)
+insert_is f j m = command_read _ (understood (journal_schema f j m) insert_text) (insert_read f j m)
 
-insert_plain : (f j : List Term) → IsPlain (understood (journal_schema f j) insert_text)
-insert_plain f j = plain_read _ (understood (journal_schema f j) insert_text) (insert_read f j)
+insert_plain : (f j : List Term) (m : Schema) → IsPlain (understood (journal_schema f j m) insert_text)
+insert_plain f j m = plain_read _ (understood (journal_schema f j m) insert_text) (insert_read f j m)
 
-insert_sources : (f j : List Term) (limit : Option ℕ) (db : Trees) (x : Queued) (rows : List Row)
-    → Sourced limit (record { schema = journal_schema f j; trees = db }) (stamped (journal_with j) (insert_params x)) (Values insert_terms 7) (Ok rows)
+insert_sources : (f j : List Term) (m : Schema) (limit : Option ℕ) (db : Trees) (x : Queued) (rows : List Row)
+    → Sourced limit (record { schema = journal_schema f j m; trees = db }) (stamped (journal_with j) (insert_params x)) (Values insert_terms 7) (Ok rows)
     → rows ≡ (Null ∷ whole_cells x) ∷ []
 unfolding everything
-insert_sources f j limit db x rows h = h.1
+insert_sources f j m limit db x rows h = h.1
 
 pub insert_casts : (j : List Term) (x : Queued) → cast_row (journal_with j) (Null ∷ whole_cells x) ≡ Null ∷ whole_cells x
 insert_casts j x = rw (cast_null, cast_int (pos x.lane), cast_int (pos x.index), cast_int (pos x.flags), cast_int x.value, cast_time x.time)
 
-pub inserts : (old new : State) (f j : List Term) (x : Queued) (n m count : ℕ) → old.now.schema ≡ journal_schema f j
+pub inserts : (old new : State) (f j : List Term) (m : Schema) → AreBehind journal_names m → (x : Queued) (n next count : ℕ)
+    → old.now.schema ≡ journal_schema f j m
     → IsCounted (codes "journal") (old.now.trees 2) n
-    → Rattle.sqlite.specs.Edit.next_rowid (old.now.trees 1) ≡ pos m → m ≤ n + 1 → Executes insert_text (insert_params x) old new (Ok count)
-    → (new.now.schema ≡ journal_schema f j) × PutsAt (codes "journal") old.now.trees (whole_cells x) n new.now.trees
-inserts old new f j x n m count has counted next low h =
-    inserting.inserts Journal f j [] old new insert_text (insert_params x) (Null ∷ whole_cells x) (whole_cells x) (Values insert_terms 7) n m count
-    (insert_is f j) (insert_plain f j) (insert_sources f j old.step_limit old.now.trees x) (insert_casts j x) has counted next low h
+    → Rattle.sqlite.specs.Edit.next_rowid (old.now.trees 1) ≡ pos next → next ≤ n + 1 → Executes insert_text (insert_params x) old new (Ok count)
+    → (new.now.schema ≡ journal_schema f j m) × PutsAt 3 (codes "journal") old.now.trees (whole_cells x) n new.now.trees
+inserts old new f j m behind x n next count has counted next_is low h =
+    inserting.inserts Journal f j m behind old new insert_text (insert_params x) (Null ∷ whole_cells x) (whole_cells x) (Values insert_terms 7) n next count
+    (insert_is f j m) (insert_plain f j m) (insert_sources f j m old.step_limit old.now.trees x) (insert_casts j x) has counted next_is low h

@@ -1,7 +1,9 @@
 pub mod Statements
+pub mod Selecting
 pub mod Understanding
 pub mod Changing
 pub mod Beside
+pub mod Apart
 pub mod Sparing
 pub mod Stepping
 pub mod Adding
@@ -21,6 +23,8 @@ pub mod Appending
 pub mod Trimming
 pub mod Calling
 pub mod Standing
+pub mod Stopping
+pub mod Undoing
 pub mod Writing
 pub mod Refusing
 pub mod Releasing

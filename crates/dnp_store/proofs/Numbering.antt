@@ -43,7 +43,7 @@ abbrev number_terms : List Term
 number_terms = lit Null ∷ lit (Int (pos 1)) ∷ []
 
 abbrev schema : StoreKind → List Term → List Term → Schema
-schema kind f r = schema_of f (rows_with kind r) []
+schema kind f r = schema_of f (rows_with kind r) no_schema
 
 number_read : (kind : StoreKind) (f r : List Term) → IsRead (Insert 0 (Values number_terms 2)) (understood (schema kind f r) number_text)
 unfolding understood everything
@@ -138,7 +138,9 @@ pub no_events : (db : Database) → HasNumber Journal db → IsJournal db empty_
 no_events db has = record {
   form_checks = has.form;
   journal_checks = has.rows;
+  more = no_schema;
   schema = has.schema;
+  behind = refl;
   holds = fresh_journal db.trees has.holds;
 }
 
@@ -146,7 +148,9 @@ pub no_entries : (db : Database) → HasNumber Book db → IsBook db empty_ledge
 no_entries db has = record {
   form_checks = has.form;
   control_checks = has.rows;
+  more = no_schema;
   schema = has.schema;
+  behind = refl;
   holds = fresh_book db.trees has.holds;
 }
 

@@ -31,7 +31,7 @@ use Rattle.dnp_store.specs.Texts.{lanes_select, rows_select}
 use Rattle.dnp_store.specs.declared.queue_side.QueueSide.TheVariants.{First}
 use Rattle.dnp_store.specs.declared.store_kind.StoreKind.{StoreKind}
 use Rattle.dnp_store.specs.declared.store_kind.StoreKind.TheVariants.{Queue, Journal, Book}
-use Rattle.dnp_store.specs.steps.Stores.{Reads, schema_for}
+use Rattle.dnp_store.specs.steps.Stores.{More, Reads, schema_for}
 use Rattle.dnp_store.proofs.Rows.{IsTyped, form_columns, shown_lane, typed_form, typed_lanes, typed_counts, form_row, lanes_rows, count_row_is}
 
 -- ---- a query over one table
@@ -94,13 +94,13 @@ count_terms = col 1 0 ∷ col 1 1 ∷ col 1 2 ∷ []
 abbrev pub queue_terms : List Term
 queue_terms = col 1 0 ∷ col 1 2 ∷ col 1 3 ∷ col 1 4 ∷ col 1 5 ∷ col 1 6 ∷ []
 
-pub form_is : (kind : StoreKind) (f r m : List Term)
+pub form_is : (kind : StoreKind) (f r : List Term) (m : More kind)
     → (command_of (understood (schema_for kind f r m) form_query) ≡ Select (record { lets = []; body = query 0 form_terms })
     (codes "rowid" ∷ codes "number" ∷ [])) × (reads_listing (schema_for kind f r m) form_query ≡ false)
 unfolding understood everything
 form_is kind f r m = (refl, refl)
 
-pub form_plain : (kind : StoreKind) (f r m : List Term) → IsPlain (understood (schema_for kind f r m) form_query)
+pub form_plain : (kind : StoreKind) (f r : List Term) (m : More kind) → IsPlain (understood (schema_for kind f r m) form_query)
 unfolding understood everything
 form_plain kind f r m = (refl, refl)
 
@@ -113,7 +113,7 @@ pub lanes_plain : (f q l : List Term) → IsPlain (understood (queue_schema f q 
 unfolding understood everything
 lanes_plain f q l = (refl, refl)
 
-pub count_is : (kind : StoreKind) (f r m : List Term)
+pub count_is : (kind : StoreKind) (f r : List Term) (m : More kind)
     → (command_of (understood (schema_for kind f r m) count_query) ≡ Select (record { lets = []; body = query 2 count_terms })
     (codes "rowid" ∷ codes "name" ∷ codes "seq" ∷ [])) × (reads_listing (schema_for kind f r m) count_query ≡ false)
 unfolding understood everything
@@ -121,7 +121,7 @@ count_is Queue f r m = (refl, refl)
 count_is Journal f r m = (refl, refl)
 count_is Book f r m = (refl, refl)
 
-pub count_plain : (kind : StoreKind) (f r m : List Term) → IsPlain (understood (schema_for kind f r m) count_query)
+pub count_plain : (kind : StoreKind) (f r : List Term) (m : More kind) → IsPlain (understood (schema_for kind f r m) count_query)
 unfolding understood everything
 count_plain Queue f r m = (refl, refl)
 count_plain Journal f r m = (refl, refl)

@@ -29,3 +29,8 @@ at_ok_on P (Err e) a is holds = absurd cc
 pub on_any : {A E : Type 0} (P : Type 0) (result : Result A E) → P → OnOk result P
 on_any P (Ok a) holds = holds
 on_any P (Err e) holds = tt
+
+-- what follows of each answer
+pub on_each : {A E : Type 0} (P : A → Type 0) (Q : Type 0) (result : Result A E) → ((a : A) → P a → Q) → IfOk result P → OnOk result Q
+on_each P Q (Ok a) follows holds = follows a holds
+on_each P Q (Err e) follows holds = tt

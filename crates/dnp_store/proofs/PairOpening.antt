@@ -7,7 +7,7 @@ use Rattle.sqlite.proofs.StateLemmas.{survives_then}
 use Rattle.dnp_eventbuf.specs.Sound.{IsSoundBuffer}
 use Rattle.dnp_store.specs.steps.Seconds.{Opens}
 use Rattle.dnp_store.proofs.Once.{one_buffer}
-use Rattle.std.proofs.Common.{drop, slice_index_or, ◌≡◌, ◌&&◌, ℕ, ℤ, pos, Bool, true, false, IsTrue, List, [], ◌∷◌, length, inl, inr, arith, refl, sym, ap, ap₂, subst, ◌∙◌}
+use Rattle.std.proofs.Common.{drop, slice_index_or, ◌≡◌, ◌≤◌, ◌&&◌, ℕ, ℤ, pos, Bool, true, false, IsTrue, List, [], ◌∷◌, length, inl, inr, arith, refl, sym, ap, ap₂, subst, ◌∙◌}
 use Rattle.sqlite.specs.declared.types.Value.TheVariants.{Int}
 use Rattle.sqlite.specs.Order.{Row}
 use Rattle.sqlite.specs.Term.{Term}
@@ -19,10 +19,10 @@ use Rattle.dnp_store.specs.declared.queue_opening.Stored.{Stored}
 use Rattle.dnp_store.specs.declared.queue_opening.Stored.TheVariants.{One, Pair}
 use Rattle.dnp_store.specs.declared.queue_side.QueueSide.TheVariants.{First}
 use Rattle.dnp_store.specs.steps.Pairs.{HoldsAmong, checks_among}
-use Rattle.dnp_store.specs.steps.Stored.{AreCounted, IsOwned, IsShown, IsStored, number_of, owned_by}
-use Rattle.dnp_store.specs.Tables.{checks_at}
+use Rattle.dnp_store.specs.steps.Stored.{AreCounted, AreRead, IsOwned, IsShown, IsStored, number_of, owned_by}
+use Rattle.dnp_store.specs.Tables.{AreBehind, checks_at}
 use Rattle.dnp_store.specs.QueueTables.{IsQueue, IsUncounted, queue_schema}
-use Rattle.dnp_store.specs.PairTables.{lanes_b_with, queue_b_with, Checks, HoldsPair, IsForm, IsPair, Sides, migrated, pair_schema}
+use Rattle.dnp_store.specs.PairTables.{lanes_b_with, queue_b_with, Checks, HoldsPair, IsForm, IsPair, Sides, migrated, pair_names, pair_schema}
 
 both_of : (a b : Bool) → IsTrue (a && b) → IsTrue a × IsTrue b
 both_of true true is = (refl, refl)
@@ -69,12 +69,16 @@ among_queue db s is = record { figures = is.holds.figures; lanes = is.holds.lane
 by_places : (s : Schema) (f q l : List Term) → s ≡ queue_schema f q l → s ≡ queue_schema (checks_at s.tables 0) (checks_at s.tables 1) (checks_at s.tables 3)
 by_places s f q l is = subst (λ (x : Schema). x ≡ queue_schema (checks_at x.tables 0) (checks_at x.tables 1) (checks_at x.tables 3)) (sym is) refl
 
-pairs_by_places : (s : Schema) (c : Checks) → s ≡ pair_schema c → s ≡ pair_schema (checks_among s.tables)
-pairs_by_places s c is = subst (λ (x : Schema). x ≡ pair_schema (checks_among x.tables)) (sym is) refl
+-- the first tables are a queue's, and are left alone
+abbrev ArePairs : Schema → Checks → Type 0
+ArePairs s c = (s ≡ pair_schema c) × AreBehind pair_names c.more
+
+pairs_by_places : (s : Schema) (c : Checks) → s ≡ pair_schema c → AreBehind pair_names c.more → ArePairs s (checks_among s)
+pairs_by_places s c is behind = subst (λ (x : Schema). ArePairs x (checks_among x)) (sym is) (refl, behind)
 
 pub stored_is : (db : Database) (stored : Stored) (one pair : Bool) (c : Checks) → IsDatabase db
     → (IsTrue one → db.schema ≡ queue_schema (checks_at db.schema.tables 0) (checks_at db.schema.tables 1) (checks_at db.schema.tables 3))
-    → (IsTrue pair → db.schema ≡ pair_schema c) → IsShown db stored → IsStored db (owned_by stored one pair)
+    → (IsTrue pair → ArePairs db.schema c) → IsShown db stored → IsStored db (owned_by stored one pair)
 stored_is db (One lanes counted) one pair c sound ours theirs shown = record {
   held = λ owned.
       let parts = both_of one counted owned in
@@ -84,7 +88,8 @@ stored_is db (One lanes counted) one pair c sound ours theirs shown = record {
 }
 stored_is db (Pair first second counted) one pair c sound ours theirs shown = λ owned.
     let parts = both_of pair counted owned in
-    shown parts.1 c sound (theirs parts.0)
+    let are = theirs parts.0 in
+    shown parts.1 c are.1 sound are.0
 
 both_true : (a b : Bool) → IsTrue a → IsTrue b → IsTrue (a && b)
 both_true true b here there = there
@@ -93,11 +98,11 @@ both_true false b here there = absurd cc
 -- where the database holds lanes, it is their own
 pub owned_is : (db : Database) (stored : Stored) (one pair : Bool) → IsDatabase db
     → (db.schema ≡ queue_schema (checks_at db.schema.tables 0) (checks_at db.schema.tables 1) (checks_at db.schema.tables 3) → IsTrue one)
-    → (db.schema ≡ pair_schema (checks_among db.schema.tables) → IsTrue pair) → AreCounted db stored → IsOwned db (owned_by stored one pair)
+    → (ArePairs db.schema (checks_among db.schema) → IsTrue pair) → AreCounted db stored → IsOwned db (owned_by stored one pair)
 owned_is db (One lanes counted) one pair sound ours theirs are = λ s is.
     both_true one counted (ours (by_places db.schema is.form_checks is.queue_checks is.lanes_checks is.schema)) (are sound s is)
 owned_is db (Pair first second counted) one pair sound ours theirs are = (
-  λ sides is. both_true pair counted (theirs (pairs_by_places db.schema is.checks is.schema)) (are.0 sound sides is),
+  λ sides is. both_true pair counted (theirs (pairs_by_places db.schema is.checks is.schema is.behind)) (are.0 sound sides is),
   are.1 sound,
 )
 
@@ -106,18 +111,23 @@ pub numbered_by : (stored : Stored) (one pair : Bool) → number_of (owned_by st
 numbered_by (One lanes counted) one pair = refl
 numbered_by (Pair first second counted) one pair = refl
 
--- the last two of six tables
-pub two_last : (ts : List Table) (d a b : Table) → length ts ≡ 6 → a ≡ slice_index_or ts 4 a → b ≡ slice_index_or ts 5 b → a ≡ queue_b_with a.checks
-    → b ≡ lanes_b_with b.checks → drop 4 ts ≡ queue_b_with (slice_index_or ts 4 d).checks ∷ lanes_b_with (slice_index_or ts 5 d).checks ∷ []
-two_last [] d a b long = absurd (omega (arith, long))
-two_last (t ∷ []) d a b long = absurd (omega (arith, long))
-two_last (t ∷ u ∷ []) d a b long = absurd (omega (arith, long))
-two_last (t ∷ u ∷ v ∷ []) d a b long = absurd (omega (arith, long))
-two_last (t ∷ u ∷ v ∷ w ∷ []) d a b long = absurd (omega (arith, long))
-two_last (t ∷ u ∷ v ∷ w ∷ x ∷ []) d a b long = absurd (omega (arith, long))
-two_last (t ∷ u ∷ v ∷ w ∷ x ∷ y ∷ []) d a b long = λ rows lanes rows_is lanes_is.
-    ap₂ (λ (p q : Table). p ∷ q ∷ []) (subst (λ (p : Table). p ≡ queue_b_with p.checks) rows rows_is) (subst (λ (p : Table). p ≡ lanes_b_with p.checks) lanes lanes_is)
-two_last (t ∷ u ∷ v ∷ w ∷ x ∷ y ∷ z ∷ ts) d a b long = absurd (omega (arith, long))
+-- it is what the queries show
+pub read_by : {S : Type 0} (g : Ghosts S) (db : Database) (stored : Stored) (one pair : Bool) → AreRead g db stored → AreRead g db (owned_by stored one pair)
+read_by g db (One lanes counted) one pair are = are
+read_by g db (Pair first second counted) one pair are = are
+
+-- the fifth and the sixth of six tables and more
+pub two_more : (ts : List Table) (d a b : Table) → 6 ≤ length ts → a ≡ slice_index_or ts 4 a → b ≡ slice_index_or ts 5 b → a ≡ queue_b_with a.checks
+    → b ≡ lanes_b_with b.checks
+    → drop 4 ts ≡ queue_b_with (slice_index_or ts 4 d).checks ∷ lanes_b_with (slice_index_or ts 5 d).checks ∷ drop 6 ts
+two_more [] d a b long = absurd (omega (arith, long))
+two_more (t ∷ []) d a b long = absurd (omega (arith, long))
+two_more (t ∷ u ∷ []) d a b long = absurd (omega (arith, long))
+two_more (t ∷ u ∷ v ∷ []) d a b long = absurd (omega (arith, long))
+two_more (t ∷ u ∷ v ∷ w ∷ []) d a b long = absurd (omega (arith, long))
+two_more (t ∷ u ∷ v ∷ w ∷ x ∷ []) d a b long = absurd (omega (arith, long))
+two_more (t ∷ u ∷ v ∷ w ∷ x ∷ y ∷ ts) d a b long = λ rows lanes rows_is lanes_is.
+    ap₂ (λ (p q : Table). p ∷ q ∷ ts) (subst (λ (p : Table). p ≡ queue_b_with p.checks) rows rows_is) (subst (λ (p : Table). p ≡ lanes_b_with p.checks) lanes lanes_is)
 
 -- ---- what is made of it
 

@@ -1,5 +1,5 @@
 -- What is so of the schema of a queue for two centres, and of its trees as one side sees them.
-use Rattle.std.proofs.Common.{◌≡◌, ◌≢◌, ◌⊎◌, inl, inr, not, ℕ, zero, suc, List, [], ◌∷◌, true, false, Some, refl, sym, subst, arith, ap, length}
+use Rattle.std.proofs.Common.{◌≡◌, ◌≢◌, ◌⊎◌, inl, inr, not, ℕ, zero, suc, ◌<◌, List, [], ◌∷◌, true, false, Some, refl, sym, subst, arith, ap, length}
 use Rattle.std.specs.Prelude.{codes, slice_get}
 use Rattle.sqlite_tied.specs.Compute.{everything}
 use Rattle.sqlite_schema.specs.declared.schema.Keys.TheVariants.{Enforced}
@@ -19,16 +19,28 @@ use Rattle.sqlite_rules.specs.Action.{works}
 use Rattle.dnp_eventbuf.specs.EventBuffer.{EventBuffer}
 use Rattle.dnp_store.specs.declared.queue_side.QueueSide.{QueueSide}
 use Rattle.dnp_store.specs.declared.queue_side.QueueSide.TheVariants.{First, Second}
-use Rattle.dnp_store.specs.Tables.{HaveOwnIds, count_row, counts_of, sequence, table_of}
-use Rattle.dnp_store.specs.QueueTables.{Figures, HoldsLanes, lanes_columns, queue_columns}
-use Rattle.dnp_store.specs.PairTables.{Checks, CountSides, HoldsSide, IsForm2, IsOfSides, beside, lanes_tree, pair_schema, rows_name, rows_tree}
+use Rattle.dnp_store.specs.Tables.{AreBehind, HaveOwnIds, count_row, counts_of, form_with, sequence, table_of}
+use Rattle.dnp_store.specs.QueueTables.{Figures, HoldsLanes, lanes_columns, lanes_with, queue_columns, queue_with}
+use Rattle.dnp_store.specs.PairTables.{Checks, CountSides, HoldsSide, IsForm2, IsOfSides, beside, lanes_b_with, lanes_tree, pair_names, pair_schema, queue_b_with, rows_name, rows_tree}
+use Rattle.dnp_store.proofs.Apart.{AreTrees, quiet_behind}
 use Rattle.dnp_store.proofs.Counting.{PutsAt, PutsAll, PutsIn, PutsAllIn}
 use Rattle.dnp_store.proofs.Recounting.{AreApart, Recounts, counted_so, others_so, table_so}
 
--- no table refers to another
-pub quiet_pair : (c : Checks) (db : Trees) (e : Edit) → works (pair_schema c) Enforced 0 e.table.tree (taken_by db e) e.news ≡ []
-unfolding everything
-quiet_pair c db e = refl
+-- no table refers to a queue's own
+pub quiet_pair : (c : Checks) → AreBehind pair_names c.more → (db : Trees) (e : Edit) → e.table.tree < 6
+    → works (pair_schema c) Enforced 0 e.table.tree (taken_by db e) e.news ≡ []
+quiet_pair c behind db e low =
+    quiet_behind (pair_schema c) (form_with c.form ∷ queue_with c.queue ∷ sequence ∷ lanes_with c.lanes ∷ queue_b_with c.queue_b ∷ lanes_b_with c.lanes_b ∷ [])
+    c.more.tables e.table.tree (taken_by db e) e.news refl (refl, (refl, (refl, (refl, (refl, (refl, tt)))))) behind low
+
+pub trees_pair : (c : Checks) → AreTrees 6 (pair_schema c).tables
+trees_pair c zero low = (form_with c.form, inl refl, refl)
+trees_pair c (suc zero) low = (queue_with c.queue, inr (inl refl), refl)
+trees_pair c (suc (suc zero)) low = (sequence, inr (inr (inl refl)), refl)
+trees_pair c (suc (suc (suc zero))) low = (lanes_with c.lanes, inr (inr (inr (inl refl))), refl)
+trees_pair c (suc (suc (suc (suc zero)))) low = (queue_b_with c.queue_b, inr (inr (inr (inr (inl refl)))), refl)
+trees_pair c (suc (suc (suc (suc (suc zero))))) low = (lanes_b_with c.lanes_b, inr (inr (inr (inr (inr (inl refl))))), refl)
+trees_pair c (suc (suc (suc (suc (suc (suc t)))))) low = absurd (omega (arith, low))
 
 pub listed_pair : (c : Checks) → counters_of (pair_schema c) ≡ Some sequence
 unfolding everything
@@ -46,6 +58,14 @@ rows_with side c = table_of (rows_name side) (rows_tree side) queue_columns true
 pub rows_there : (side : QueueSide) (c : Checks) → slice_get (pair_schema c).tables (rows_tree side) ≡ Some (rows_with side c)
 rows_there First c = refl
 rows_there Second c = refl
+
+pub rows_low : (side : QueueSide) → rows_tree side < 6
+rows_low First = omega arith
+rows_low Second = omega arith
+
+pub lanes_low : (side : QueueSide) → lanes_tree side < 6
+lanes_low First = omega arith
+lanes_low Second = omega arith
 
 pub rows_apart : (side : QueueSide) → rows_tree side ≢ 2
 rows_apart First e = absurd (omega arith)
@@ -86,47 +106,49 @@ view side db (suc (suc (suc zero))) = db (lanes_tree side)
 view side db (suc (suc (suc (suc t)))) = []
 
 -- its rows and its count change
-puts_else : (side : QueueSide) (db now : Trees) → ((t : ℕ) → t ≢ rows_tree side → t ≢ 2 → now t ≡ db t) → (t : ℕ) → t ≢ 1 → t ≢ 2
+puts_else : (side : QueueSide) (db now : Trees) → ((t : ℕ) → t < 6 → t ≢ rows_tree side → t ≢ 2 → now t ≡ db t) → (t : ℕ) → t < 4 → t ≢ 1 → t ≢ 2
     → view side now t ≡ view side db t
-puts_else First db now same zero a b = same 0 (λ e. absurd (omega arith)) (λ e. absurd (omega arith))
-puts_else Second db now same zero a b = same 0 (λ e. absurd (omega arith)) (λ e. absurd (omega arith))
-puts_else side db now same (suc zero) a b = absurd (a refl)
-puts_else side db now same (suc (suc zero)) a b = absurd (b refl)
-puts_else First db now same (suc (suc (suc zero))) a b = same 3 (λ e. absurd (omega arith)) (λ e. absurd (omega arith))
-puts_else Second db now same (suc (suc (suc zero))) a b = same 5 (λ e. absurd (omega arith)) (λ e. absurd (omega arith))
-puts_else side db now same (suc (suc (suc (suc t)))) a b = refl
+puts_else First db now same zero low a b = same 0 (omega arith) (λ e. absurd (omega arith)) (λ e. absurd (omega arith))
+puts_else Second db now same zero low a b = same 0 (omega arith) (λ e. absurd (omega arith)) (λ e. absurd (omega arith))
+puts_else side db now same (suc zero) low a b = absurd (a refl)
+puts_else side db now same (suc (suc zero)) low a b = absurd (b refl)
+puts_else First db now same (suc (suc (suc zero))) low a b = same 3 (omega arith) (λ e. absurd (omega arith)) (λ e. absurd (omega arith))
+puts_else Second db now same (suc (suc (suc zero))) low a b = same 5 (omega arith) (λ e. absurd (omega arith)) (λ e. absurd (omega arith))
+puts_else side db now same (suc (suc (suc (suc t)))) low a b = refl
 
-pub puts_seen : (side : QueueSide) (db : Trees) (rest : SqlRow) (n : ℕ) (now : Trees) → PutsIn (rows_name side) (rows_tree side) db rest n now
-    → PutsAt (rows_name side) (view side db) rest n (view side now)
+pub puts_seen : (side : QueueSide) (db : Trees) (rest : SqlRow) (n : ℕ) (now : Trees) → PutsIn 6 (rows_name side) (rows_tree side) db rest n now
+    → PutsAt 4 (rows_name side) (view side db) rest n (view side now)
 puts_seen side db rest n now puts =
     record { table = puts.table; count = counted_so (rows_name side) (db 2) (now 2) _ puts.count; others = puts_else side db now puts.others }
 
-pub puts_all_seen : (side : QueueSide) (db : Trees) (rests : List SqlRow) (n : ℕ) (now : Trees) → PutsAllIn (rows_name side) (rows_tree side) db rests n now
-    → PutsAll (rows_name side) (view side db) rests n (view side now)
+pub puts_all_seen : (side : QueueSide) (db : Trees) (rests : List SqlRow) (n : ℕ) (now : Trees) → PutsAllIn 6 (rows_name side) (rows_tree side) db rests n now
+    → PutsAll 4 (rows_name side) (view side db) rests n (view side now)
 puts_all_seen side db rests n now puts =
     record { table = puts.table; count = counted_so (rows_name side) (db 2) (now 2) _ puts.count; others = puts_else side db now puts.others }
 
 -- its rows alone change
-pub rows_seen : (side : QueueSide) (db now : Trees) → ((t : ℕ) → t ≢ rows_tree side → now t ≡ db t) → (t : ℕ) → t ≢ 1 → view side now t ≡ view side db t
-rows_seen First db now same zero a = same 0 (λ e. absurd (omega arith))
-rows_seen Second db now same zero a = same 0 (λ e. absurd (omega arith))
-rows_seen side db now same (suc zero) a = absurd (a refl)
-rows_seen First db now same (suc (suc zero)) a = ap (counts_of (rows_name First)) (same 2 (λ e. absurd (omega arith)))
-rows_seen Second db now same (suc (suc zero)) a = ap (counts_of (rows_name Second)) (same 2 (λ e. absurd (omega arith)))
-rows_seen First db now same (suc (suc (suc zero))) a = same 3 (λ e. absurd (omega arith))
-rows_seen Second db now same (suc (suc (suc zero))) a = same 5 (λ e. absurd (omega arith))
-rows_seen side db now same (suc (suc (suc (suc t)))) a = refl
+pub rows_seen : (side : QueueSide) (db now : Trees) → ((t : ℕ) → t < 6 → t ≢ rows_tree side → now t ≡ db t) → (t : ℕ) → t < 4 → t ≢ 1
+    → view side now t ≡ view side db t
+rows_seen First db now same zero low a = same 0 (omega arith) (λ e. absurd (omega arith))
+rows_seen Second db now same zero low a = same 0 (omega arith) (λ e. absurd (omega arith))
+rows_seen side db now same (suc zero) low a = absurd (a refl)
+rows_seen First db now same (suc (suc zero)) low a = ap (counts_of (rows_name First)) (same 2 (omega arith) (λ e. absurd (omega arith)))
+rows_seen Second db now same (suc (suc zero)) low a = ap (counts_of (rows_name Second)) (same 2 (omega arith) (λ e. absurd (omega arith)))
+rows_seen First db now same (suc (suc (suc zero))) low a = same 3 (omega arith) (λ e. absurd (omega arith))
+rows_seen Second db now same (suc (suc (suc zero))) low a = same 5 (omega arith) (λ e. absurd (omega arith))
+rows_seen side db now same (suc (suc (suc (suc t)))) low a = refl
 
 -- its lanes' figures alone change
-pub lanes_seen : (side : QueueSide) (db now : Trees) → ((t : ℕ) → t ≢ lanes_tree side → now t ≡ db t) → (t : ℕ) → t ≢ 3 → view side now t ≡ view side db t
-lanes_seen First db now same zero a = same 0 (λ e. absurd (omega arith))
-lanes_seen Second db now same zero a = same 0 (λ e. absurd (omega arith))
-lanes_seen First db now same (suc zero) a = same 1 (λ e. absurd (omega arith))
-lanes_seen Second db now same (suc zero) a = same 4 (λ e. absurd (omega arith))
-lanes_seen First db now same (suc (suc zero)) a = ap (counts_of (rows_name First)) (same 2 (λ e. absurd (omega arith)))
-lanes_seen Second db now same (suc (suc zero)) a = ap (counts_of (rows_name Second)) (same 2 (λ e. absurd (omega arith)))
-lanes_seen side db now same (suc (suc (suc zero))) a = absurd (a refl)
-lanes_seen side db now same (suc (suc (suc (suc t)))) a = refl
+pub lanes_seen : (side : QueueSide) (db now : Trees) → ((t : ℕ) → t < 6 → t ≢ lanes_tree side → now t ≡ db t) → (t : ℕ) → t < 4 → t ≢ 3
+    → view side now t ≡ view side db t
+lanes_seen First db now same zero low a = same 0 (omega arith) (λ e. absurd (omega arith))
+lanes_seen Second db now same zero low a = same 0 (omega arith) (λ e. absurd (omega arith))
+lanes_seen First db now same (suc zero) low a = same 1 (omega arith) (λ e. absurd (omega arith))
+lanes_seen Second db now same (suc zero) low a = same 4 (omega arith) (λ e. absurd (omega arith))
+lanes_seen First db now same (suc (suc zero)) low a = ap (counts_of (rows_name First)) (same 2 (omega arith) (λ e. absurd (omega arith)))
+lanes_seen Second db now same (suc (suc zero)) low a = ap (counts_of (rows_name Second)) (same 2 (omega arith) (λ e. absurd (omega arith)))
+lanes_seen side db now same (suc (suc (suc zero))) low a = absurd (a refl)
+lanes_seen side db now same (suc (suc (suc (suc t)))) low a = refl
 
 -- ---- what a statement for one side spares
 
@@ -166,18 +188,18 @@ sides_so side before after top h sides = record {
 
 -- rows are put in on one side
 pub puts_spare : (side : QueueSide) (db now : Trees) (top : ℕ) → Recounts (rows_name side) (db 2) top (now 2)
-    → ((t : ℕ) → t ≢ rows_tree side → t ≢ 2 → now t ≡ db t) → Spares side db now
+    → ((t : ℕ) → t < 6 → t ≢ rows_tree side → t ≢ 2 → now t ≡ db t) → Spares side db now
 puts_spare First db now top count same = record {
-  form = same 0 (λ e. absurd (omega arith)) (λ e. absurd (omega arith));
-  rows = same 4 (λ e. absurd (omega arith)) (λ e. absurd (omega arith));
-  lanes = same 5 (λ e. absurd (omega arith)) (λ e. absurd (omega arith));
+  form = same 0 (omega arith) (λ e. absurd (omega arith)) (λ e. absurd (omega arith));
+  rows = same 4 (omega arith) (λ e. absurd (omega arith)) (λ e. absurd (omega arith));
+  lanes = same 5 (omega arith) (λ e. absurd (omega arith)) (λ e. absurd (omega arith));
   counts = others_so (rows_name First) (rows_name Second) (db 2) (now 2) top count (names_apart First);
   ids = sides_so First (db 2) (now 2) top count;
 }
 puts_spare Second db now top count same = record {
-  form = same 0 (λ e. absurd (omega arith)) (λ e. absurd (omega arith));
-  rows = same 1 (λ e. absurd (omega arith)) (λ e. absurd (omega arith));
-  lanes = same 3 (λ e. absurd (omega arith)) (λ e. absurd (omega arith));
+  form = same 0 (omega arith) (λ e. absurd (omega arith)) (λ e. absurd (omega arith));
+  rows = same 1 (omega arith) (λ e. absurd (omega arith)) (λ e. absurd (omega arith));
+  lanes = same 3 (omega arith) (λ e. absurd (omega arith)) (λ e. absurd (omega arith));
   counts = others_so (rows_name Second) (rows_name First) (db 2) (now 2) top count (names_apart Second);
   ids = sides_so Second (db 2) (now 2) top count;
 }
@@ -186,13 +208,13 @@ puts_spare Second db now top count same = record {
 abbrev pub IsOfSide : QueueSide → ℕ → Type 0
 IsOfSide side tree = (tree ≢ 0) × (tree ≢ 2) × (tree ≢ rows_tree (beside side)) × (tree ≢ lanes_tree (beside side))
 
-pub one_spares : (side : QueueSide) (tree : ℕ) (db now : Trees) → IsOfSide side tree → ((t : ℕ) → t ≢ tree → now t ≡ db t) → Spares side db now
+pub one_spares : (side : QueueSide) (tree : ℕ) (db now : Trees) → IsOfSide side tree → ((t : ℕ) → t < 6 → t ≢ tree → now t ≡ db t) → Spares side db now
 one_spares side tree db now of same =
-    let counts : now 2 ≡ db 2 = same 2 (λ e. of.1 (sym e)) in
+    let counts : now 2 ≡ db 2 = same 2 (omega arith) (λ e. of.1 (sym e)) in
     record {
-      form = same 0 (λ e. of.0 (sym e));
-      rows = same (rows_tree (beside side)) (λ e. of.2 (sym e));
-      lanes = same (lanes_tree (beside side)) (λ e. of.3 (sym e));
+      form = same 0 (omega arith) (λ e. of.0 (sym e));
+      rows = same (rows_tree (beside side)) (rows_low (beside side)) (λ e. of.2 (sym e));
+      lanes = same (lanes_tree (beside side)) (lanes_low (beside side)) (λ e. of.3 (sym e));
       counts = λ table. ap (counts_of (rows_name (beside side))) counts;
       ids = λ table. subst CountSides (sym counts) table;
     }

@@ -15,11 +15,13 @@ pub pair_of : (side : QueueSide) (others s : EventBuffer) (db : Database) → Is
 pair_of First others s db h = record {
   checks = h.holds.checks;
   schema = h.holds.schema;
+  behind = h.holds.behind;
   holds = record { form = h.holds.form; counts = h.holds.counts; first = side_in First others s db h; second = h.holds.rest };
 }
 pair_of Second others s db h = record {
   checks = h.holds.checks;
   schema = h.holds.schema;
+  behind = h.holds.behind;
   holds = record { form = h.holds.form; counts = h.holds.counts; first = h.holds.rest; second = side_in Second others s db h };
 }
 
@@ -29,6 +31,7 @@ for_of First others s db h = record {
   holds = record {
     checks = h.checks;
     schema = h.schema;
+    behind = h.behind;
     form = h.holds.form;
     counts = h.holds.counts;
     lanes = h.holds.first.lanes;
@@ -41,6 +44,7 @@ for_of Second others s db h = record {
   holds = record {
     checks = h.checks;
     schema = h.schema;
+    behind = h.behind;
     form = h.holds.form;
     counts = h.holds.counts;
     lanes = h.holds.second.lanes;

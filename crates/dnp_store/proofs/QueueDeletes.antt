@@ -1,6 +1,6 @@
 -- What a DELETE takes out of a queue's table.
 use Rattle.std.proofs.lemmas.Simd.{map-map}
-use Rattle.std.proofs.Common.{◌≡◌, ◌≢◌, ℕ, pos, negsuc, List, [], ◌∷◌, ◌++◌, map, filter, Bool, true, false, not, cond, None, Ok, Option, refl, sym, ap, ap₂, subst, subst₂, ◌∙◌, ◌&&◌, nat_le, ◌==◌}
+use Rattle.std.proofs.Common.{◌≡◌, ◌<◌, ◌≢◌, ℕ, pos, negsuc, List, [], ◌∷◌, ◌++◌, map, filter, Bool, true, false, not, cond, None, Ok, Option, refl, sym, ap, ap₂, subst, subst₂, ◌∙◌, ◌&&◌, nat_le, ◌==◌}
 use Rattle.std.specs.List.{list_all, AllByRecursion}
 use Rattle.std.specs.List.Sorted.{IsPermutation}
 use Rattle.std.specs.Prelude.{flat_map}
@@ -34,13 +34,15 @@ use Rattle.sqlite.proofs.Callers.{command_of, statement_of, runs_as, one_step}
 use Rattle.sqlite_rules.specs.Calls.{ids_of}
 use Rattle.sqlite_schema.specs.declared.schema.Keys.TheVariants.{Enforced}
 use Rattle.dnp_store.specs.QueueTables.{queue_columns, Queued, queued_row}
-use Rattle.dnp_store.specs.PairTables.{Checks, pair_schema, rows_name, rows_tree}
+use Rattle.dnp_store.specs.PairTables.{Checks, pair_names, pair_schema, rows_name, rows_tree}
 use Rattle.dnp_store.proofs.Statements.{IsRead, command_read, plain_read, at_table, went, written, same_value}
 use Rattle.dnp_store.proofs.Without.{HasInt, deleted}
 use Rattle.dnp_store.proofs.Counting as counting
 use Rattle.dnp_store.specs.declared.queue_side.QueueSide.{QueueSide}
 use Rattle.dnp_store.specs.declared.queue_side.QueueSide.TheVariants.{First, Second}
-use Rattle.dnp_store.proofs.PairSchema.{quiet_pair, rows_checks, rows_read, rows_there, rows_with}
+use Rattle.dnp_store.proofs.PairSchema.{quiet_pair, rows_checks, rows_low, rows_read, rows_there, rows_with, trees_pair}
+use Rattle.dnp_store.proofs.Apart.{others_kept}
+use Rattle.dnp_store.specs.Tables.{AreBehind}
 
 abbrev pub delete_text : QueueSide → List ℕ
 delete_text = rows_delete
@@ -134,18 +136,18 @@ have_int [] = tt
 have_int (x ∷ xs) = ((pos x.id, refl), have_int xs)
 
 -- the rows of a lane up to an id leave the table, and no other tree changes
-pub record Takes (tree : ℕ) (db : Trees) (number upto : ℕ) (xs : List Queued) (now : Trees) : Type 0 where
+pub record Takes (many tree : ℕ) (db : Trees) (number upto : ℕ) (xs : List Queued) (now : Trees) : Type 0 where
   pub table : IsPermutation (map queued_row (filter (stays number upto) xs)) (now tree)
-  pub others : (t : ℕ) → t ≢ tree → now t ≡ db t
+  pub others : (t : ℕ) → t < many → t ≢ tree → now t ≡ db t
 
-takes : (side : QueueSide) (c : Checks) (limit : Option ℕ) (number upto : ℕ) (xs : List Queued) (db : Trees) (a : Written)
+takes : (side : QueueSide) (c : Checks) → AreBehind pair_names c.more → (limit : Option ℕ) (number upto : ℕ) (xs : List Queued) (db : Trees) (a : Written)
     → IsPermutation (map queued_row xs) (db (rows_tree side))
     → id_rows.Rise (λ (x : Queued). x.id) queued_cells xs
     → Deletes (counting.task (rows_name side) (rows_tree side) queue_columns (rows_checks side c) (pair_schema c) limit (delete_params number upto))
     (record { lets = []; body = query (rows_tree side) }) db (Ok a)
-    → Takes (rows_tree side) db number upto xs a.trees
+    → Takes 6 (rows_tree side) db number upto xs a.trees
 unfolding everything
-takes side c limit number upto xs db a is rise h =
+takes side c behind limit number upto xs db a is rise h =
     let tree = rows_tree side in
     let params = delete_params number upto in
     let queried = went h in
@@ -153,7 +155,7 @@ takes side c limit number upto xs db a is rise h =
     let edited_to = went queried.2 in
     let out = same_value edited_to.2 in
     let edit = edit_of db (rows_with side c) (ids_of queried.0) Given 0 [] in
-    let step = one_step (pair_schema c) Enforced db edited_to.0 edit (quiet_pair c db edit) edited_to.1 in
+    let step = one_step (pair_schema c) Enforced db edited_to.0 edit (quiet_pair c behind db edit (rows_low side)) edited_to.1 in
     let table = id_rows.is_table (λ (x : Queued). x.id) queued_cells xs rise in
     let rest : Row → Bool = λ r. not (is_taken_by params r) in
     let gone : a.trees tree ≡ filter rest (db tree) = ap (λ (w : Written). w.trees tree) out ∙ step.rows
@@ -161,14 +163,15 @@ takes side c limit number upto xs db a is rise h =
     ∙ deleted (is_taken_by params) (map queued_row xs) (db tree) found.0 table (have_int xs) is found.1 in
     record {
       table = subst₂ IsPermutation (left number upto xs) (sym gone) (IsPermutation-filter rest (map queued_row xs) (db tree) is);
-      others = λ t not_it. ap (λ (w : Written). w.trees t) out ∙ step.others t not_it tt;
+      others = λ t low not_it. ap (λ (w : Written). w.trees t) out ∙ others_kept (pair_schema c) 6 (trees_pair c) db edited_to.0 edit step t low not_it;
     }
 
-pub deletes : (side : QueueSide) (old new : State) (c : Checks) (number upto count : ℕ) (xs : List Queued) → old.now.schema ≡ pair_schema c
+pub deletes : (side : QueueSide) (old new : State) (c : Checks) → AreBehind pair_names c.more → (number upto count : ℕ) (xs : List Queued)
+    → old.now.schema ≡ pair_schema c
     → IsPermutation (map queued_row xs) (old.now.trees (rows_tree side))
     → id_rows.Rise (λ (x : Queued). x.id) queued_cells xs → Executes (delete_text side) (delete_params number upto) old new (Ok count)
-    → (new.now.schema ≡ pair_schema c) × Takes (rows_tree side) old.now.trees number upto xs new.now.trees
-deletes side old new c number upto count xs has is rise h =
+    → (new.now.schema ≡ pair_schema c) × Takes 6 (rows_tree side) old.now.trees number upto xs new.now.trees
+deletes side old new c behind number upto count xs has is rise h =
     let params = delete_params number upto in
     let command = Delete (rows_tree side) (record { lets = []; body = query (rows_tree side) }) in
     let w = runs_as (delete_text side) params old new (pair_schema c) has command (delete_is side c) (delete_plain side c) count h in
@@ -178,5 +181,5 @@ deletes side old new c number upto count xs has is rise h =
     let on = at_table (λ t. OnRows (record task { table = t }) (mode_of old) None command old.now.trees) (pair_schema c).tables (rows_tree side)
     (rows_with side c) (Ok (w.tally, new.now)) (rows_there side c) does in
     let done = written task (mode_of old) command old.now.trees w.tally new.now on in
-    let took = takes side c old.step_limit number upto xs old.now.trees done.0 is rise done.1 in
-    (ap (λ (d : Database). d.schema) done.2, subst (λ (d : Database). Takes (rows_tree side) old.now.trees number upto xs d.trees) (sym done.2) took)
+    let took = takes side c behind old.step_limit number upto xs old.now.trees done.0 is rise done.1 in
+    (ap (λ (d : Database). d.schema) done.2, subst (λ (d : Database). Takes 6 (rows_tree side) old.now.trees number upto xs d.trees) (sym done.2) took)

@@ -21,7 +21,7 @@ use Rattle.dnp_store.specs.steps.Pairs.{HoldsFor}
 use Rattle.dnp_store.specs.steps.Steps.{added, all_added}
 use Rattle.dnp_store.specs.declared.queue_side.QueueSide.{QueueSide}
 use Rattle.dnp_store.specs.declared.queue_side.QueueSide.TheVariants.{First, Second}
-use Rattle.dnp_store.proofs.PairSchema.{listed_pair, quiet_pair, rows_checks, rows_there, rows_apart, view, puts_all_seen, puts_spare, spared}
+use Rattle.dnp_store.proofs.PairSchema.{listed_pair, quiet_pair, rows_apart, rows_checks, rows_low, rows_there, trees_pair, view, puts_all_seen, puts_spare, spared}
 use Rattle.dnp_store.proofs.IdRows as id_rows
 use Rattle.dnp_store.proofs.Counting.{PutsAll}
 use Rattle.dnp_store.proofs.Sixteen as sixteen
@@ -50,16 +50,16 @@ abbrev pub queued_all : List LaneRow → List Queued
 queued_all = map (queued_for 0)
 
 all_put : (name : List ℕ) (x : LaneRow) (xs : List LaneRow) (db now : Trees) (s : EventBuffer) (fs : List Figures) → HoldsUnder name db s fs
-    → length s.lanes ≡ LANES → AllByRecursion FitsLane (x ∷ xs) → PutsAll name db (rests_of (queued_all (x ∷ xs))) s.last_id now
+    → length s.lanes ≡ LANES → AllByRecursion FitsLane (x ∷ xs) → PutsAll 4 name db (rests_of (queued_all (x ∷ xs))) s.last_id now
     → HoldsUnder name now (all_added s (x ∷ xs)) fs
 all_put name x [] db now s fs h nine carried puts =
     put name db now s fs x h nine (lane_low x.lane) carried.0 (record { table = puts.table; count = puts.count; others = puts.others })
 all_put name x (y ∷ ys) db now s fs h nine carried puts =
     let rest = whole_cells (queued_for 0 x) in
     let mid = sixteen.mid_of name db rest s.last_id in
-    let one = put name db mid s fs x h nine (lane_low x.lane) carried.0 (sixteen.puts_one name db rest s.last_id) in
+    let one = put name db mid s fs x h nine (lane_low x.lane) carried.0 (sixteen.puts_one name db rest s.last_id 4) in
     all_put name y ys mid now (added s x) fs one (nine_added s (x ∷ []) ∙ nine) carried.1
-    (sixteen.puts_more name db rest s.last_id (rests_of (queued_all (y ∷ ys))) now puts)
+    (sixteen.puts_more name db rest s.last_id 4 (rests_of (queued_all (y ∷ ys))) now puts)
 
 pub holds_16 : (side : QueueSide) (old new : State) (others s : EventBuffer) (fs : List Figures) (xs : List LaneRow) (count : ℕ) → length s.lanes ≡ LANES
     → length xs ≡ 16 → AllByRecursion FitsLane xs → Executes (insert_text_16 side) (params_of (queued_all xs)) old new (Ok count)
@@ -71,13 +71,14 @@ holds_16 side old new others s fs (x ∷ xs) count nine long carried ran h =
     let db = old.now.trees in
     let under = id_rows.are_under (λ (y : Queued). y.id) queued_cells h.lanes.queued s.last_id (db (rows_tree side)) h.lanes.up_to_last h.lanes.queue_is in
     let next = id_rows.next_is (db (rows_tree side)) s.last_id under in
-    let did = sixteen.inserts_16_in name (rows_tree side) queue_columns (rows_checks side c) (pair_schema c) (listed_pair c) (quiet_pair c) (λ t. tt)
-    (rows_there side c) (rows_apart side) old new (insert_text_16 side) (queued_all (x ∷ xs)) s.last_id next.0 count (insert_is_16 side c)
+    let did = sixteen.inserts_16_in name (rows_tree side) queue_columns (rows_checks side c) (pair_schema c) 6 (listed_pair c) (quiet_pair c h.behind)
+    (trees_pair c) (rows_low side) (omega arith) (rows_there side c) (rows_apart side) old new (insert_text_16 side) (queued_all (x ∷ xs)) s.last_id next.0 count (insert_is_16 side c)
     (insert_plain_16 side c) (insert_casts side c) (length-map (x ∷ xs) (queued_for 0) ∙ long) h.schema h.lanes.counted under next.1 next.2 ran in
     let spares = puts_spare side db new.now.trees _ did.1.count did.1.others in
     record {
       checks = c;
       schema = did.0;
+      behind = h.behind;
       form = subst IsForm2 (sym spares.form) h.form;
       counts = spares.ids h.counts;
       lanes = all_put name x xs (view side db) (view side new.now.trees) s fs h.lanes nine carried (puts_all_seen side db _ s.last_id new.now.trees did.1);

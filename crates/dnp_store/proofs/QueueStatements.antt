@@ -1,5 +1,5 @@
 -- What the statements of a queue make of its tables.
-use Rattle.std.proofs.Common.{◌≡◌, ℕ, ◌+◌, ◌≤◌, pos, List, [], ◌∷◌, Option, Some, None, Ok, refl}
+use Rattle.std.proofs.Common.{◌≡◌, ℕ, ◌+◌, ◌≤◌, pos, List, [], ◌∷◌, Option, Some, None, Ok, refl, arith}
 use Rattle.sqlite_tied.specs.Compute.{everything}
 use Rattle.sqlite.specs.declared.types.Value.TheVariants.{Null, Int}
 use Rattle.sqlite.specs.Command.TheVariants.{Insert}
@@ -14,13 +14,13 @@ use Rattle.sqlite.specs.Given.{IsPlain}
 use Rattle.sqlite.specs.State.{State, Executes}
 use Rattle.sqlite.proofs.Callers.{command_of}
 use Rattle.dnp_store.specs.Texts.{rows_insert}
-use Rattle.dnp_store.specs.Tables.{or_null, counts_of, IsCounted}
+use Rattle.dnp_store.specs.Tables.{AreBehind, or_null, counts_of, IsCounted}
 use Rattle.dnp_store.specs.QueueTables.{queue_columns, Queued}
-use Rattle.dnp_store.specs.PairTables.{Checks, pair_schema, rows_name, rows_tree}
+use Rattle.dnp_store.specs.PairTables.{Checks, pair_names, pair_schema, rows_name, rows_tree}
 use Rattle.dnp_store.specs.declared.queue_side.QueueSide.{QueueSide}
 use Rattle.dnp_store.specs.declared.queue_side.QueueSide.TheVariants.{First, Second}
 use Rattle.dnp_store.proofs.Inserting.{inserts_in}
-use Rattle.dnp_store.proofs.PairSchema.{listed_pair, quiet_pair, rows_with, rows_checks, rows_there, rows_apart}
+use Rattle.dnp_store.proofs.PairSchema.{listed_pair, quiet_pair, rows_with, rows_apart, rows_checks, rows_low, rows_there, trees_pair}
 use Rattle.dnp_store.proofs.Counting.{cast_int, cast_null, PutsIn}
 use Rattle.dnp_store.proofs.Statements.{IsRead, command_read, plain_read}
 
@@ -63,11 +63,11 @@ insert_sources side c limit db x rows h = h.1
 pub insert_casts : (side : QueueSide) (c : Checks) (x : Queued) → cast_row (rows_with side c) (Null ∷ whole_cells x) ≡ Null ∷ whole_cells x
 insert_casts side c x = rw (cast_null, cast_int (pos x.lane), cast_int (pos x.index), cast_int (pos x.flags), cast_int x.value, cast_time x.time)
 
-pub inserts : (side : QueueSide) (old new : State) (c : Checks) (x : Queued) (n m count : ℕ) → old.now.schema ≡ pair_schema c
+pub inserts : (side : QueueSide) (old new : State) (c : Checks) → AreBehind pair_names c.more → (x : Queued) (n m count : ℕ) → old.now.schema ≡ pair_schema c
     → IsCounted (rows_name side) (counts_of (rows_name side) (old.now.trees 2)) n
     → Rattle.sqlite.specs.Edit.next_rowid (old.now.trees (rows_tree side)) ≡ pos m → m ≤ n + 1 → Executes (insert_text side) (insert_params x) old new (Ok count)
-    → (new.now.schema ≡ pair_schema c) × PutsIn (rows_name side) (rows_tree side) old.now.trees (whole_cells x) n new.now.trees
-inserts side old new c x n m count has counted next low h =
-    inserts_in (rows_name side) (rows_tree side) queue_columns (rows_checks side c) (pair_schema c) (listed_pair c) (quiet_pair c) (λ t. tt) (rows_there side c)
-    (rows_apart side) old new (insert_text side) (insert_params x) (Null ∷ whole_cells x) (whole_cells x) (Values insert_terms 7) n m count
+    → (new.now.schema ≡ pair_schema c) × PutsIn 6 (rows_name side) (rows_tree side) old.now.trees (whole_cells x) n new.now.trees
+inserts side old new c behind x n m count has counted next low h =
+    inserts_in 6 (rows_name side) (rows_tree side) queue_columns (rows_checks side c) (pair_schema c) (listed_pair c) (quiet_pair c behind) (trees_pair c)
+    (rows_low side) (omega arith) (rows_there side c) (rows_apart side) old new (insert_text side) (insert_params x) (Null ∷ whole_cells x) (whole_cells x) (Values insert_terms 7) n m count
     (insert_is side c) (insert_plain side c) (insert_sources side c old.step_limit old.now.trees x) (insert_casts side c x) has counted next low h

@@ -77,11 +77,12 @@ insert_holds side old new others s fs x count nine low carried ran h =
     let tree = rows_tree side in
     let under = id_rows.are_under (λ (y : Queued). y.id) queued_cells h.lanes.queued s.last_id (db tree) h.lanes.up_to_last h.lanes.queue_is in
     let next = id_rows.next_is (db tree) s.last_id under in
-    let did = inserts side old new h.checks (queued_for (s.last_id + 1) x) s.last_id next.0 count h.schema h.lanes.counted next.1 next.2 ran in
+    let did = inserts side old new h.checks h.behind (queued_for (s.last_id + 1) x) s.last_id next.0 count h.schema h.lanes.counted next.1 next.2 ran in
     let spares = puts_spare side db new.now.trees _ did.1.count did.1.others in
     record {
       checks = h.checks;
       schema = did.0;
+      behind = h.behind;
       form = subst IsForm2 (sym spares.form) h.form;
       counts = spares.ids h.counts;
       lanes = put (rows_name side) (view side db) (view side new.now.trees) s fs x h.lanes nine low carried
@@ -96,11 +97,12 @@ pub take_holds : (side : QueueSide) (old new : State) (others s : EventBuffer) (
 take_holds side old new others s fs number upto count nine low ran h =
     let db = old.now.trees in
     let now = new.now.trees in
-    let did = deletes side old new h.checks number upto count h.lanes.queued h.schema h.lanes.queue_is h.lanes.rise ran in
+    let did = deletes side old new h.checks h.behind number upto count h.lanes.queued h.schema h.lanes.queue_is h.lanes.rise ran in
     let spares = one_spares side (rows_tree side) db now (rows_of_side side) did.1.others in
     record {
       checks = h.checks;
       schema = did.0;
+      behind = h.behind;
       form = subst IsForm2 (sym spares.form) h.form;
       counts = spares.ids h.counts;
       lanes = took (rows_name side) (view side db) (view side now) s fs number upto h.lanes nine low
@@ -115,11 +117,12 @@ pub note_holds : (side : QueueSide) (old new : State) (others s : EventBuffer) (
 note_holds side old new others s fs number lost count raised nine low ran h =
     let db = old.now.trees in
     let now = new.now.trees in
-    let did = updates side old new h.checks number lost count raised fs h.schema h.lanes.lanes_is (omega (arith, h.lanes.nine)) ran in
+    let did = updates side old new h.checks h.behind number lost count raised fs h.schema h.lanes.lanes_is (omega (arith, h.lanes.nine)) ran in
     let spares = one_spares side (lanes_tree side) db now (lanes_of_side side) did.1.others in
     record {
       checks = h.checks;
       schema = did.0;
+      behind = h.behind;
       form = subst IsForm2 (sym spares.form) h.form;
       counts = spares.ids h.counts;
       lanes = noted_in (rows_name side) (view side db) (view side now) s fs number lost raised h.lanes nine low

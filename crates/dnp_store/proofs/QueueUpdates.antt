@@ -37,14 +37,16 @@ use Rattle.sqlite_rules.specs.Calls.{ids_of}
 use Rattle.sqlite_schema.specs.declared.schema.Keys.TheVariants.{Enforced}
 use Rattle.dnp_store.specs.Texts.{lanes_update}
 use Rattle.dnp_store.specs.QueueTables.{Figures, no_figures, figures_cells, figures_rows}
-use Rattle.dnp_store.specs.PairTables.{Checks, lanes_tree, pair_schema}
+use Rattle.dnp_store.specs.PairTables.{Checks, lanes_tree, pair_names, pair_schema}
 use Rattle.dnp_store.proofs.Statements.{IsRead, command_read, plain_read, at_table, went, written, same_value}
 use Rattle.dnp_store.proofs.Counting.{cast_int, cast_null}
 use Rattle.dnp_store.proofs.Recounting.{others_left}
 use Rattle.dnp_store.proofs.IdRows.{is_less, put_apart}
 use Rattle.dnp_store.specs.declared.queue_side.QueueSide.{QueueSide}
 use Rattle.dnp_store.specs.declared.queue_side.QueueSide.TheVariants.{First, Second}
-use Rattle.dnp_store.proofs.PairSchema.{lanes_of, lanes_read, lanes_there, quiet_pair}
+use Rattle.dnp_store.proofs.PairSchema.{lanes_low, lanes_of, lanes_read, lanes_there, quiet_pair, trees_pair}
+use Rattle.dnp_store.proofs.Apart.{others_kept}
+use Rattle.dnp_store.specs.Tables.{AreBehind}
 use Rattle.dnp_store.proofs.QueueDeletes.{passes_on, and_true}
 use Rattle.dnp_store.proofs.Tests.{eq_holds, has_is, is_same, is_other}
 
@@ -171,9 +173,9 @@ abbrev pub noted_as : Figures → ℕ → Bool → Figures
 noted_as f lost raised = record { capacity = f.capacity; lost = lost; raised = raised }
 
 -- one lane's figures are replaced, and no other tree changes
-pub record Notes (tree : ℕ) (db : Trees) (number lost : ℕ) (raised : Bool) (fs : List Figures) (now : Trees) : Type 0 where
+pub record Notes (many tree : ℕ) (db : Trees) (number lost : ℕ) (raised : Bool) (fs : List Figures) (now : Trees) : Type 0 where
   pub table : IsPermutation (figures_rows 0 (set fs number (noted_as (slice_index_or fs number no_figures) lost raised))) (now tree)
-  pub others : (t : ℕ) → t ≢ tree → now t ≡ db t
+  pub others : (t : ℕ) → t < many → t ≢ tree → now t ≡ db t
 
 abbrev task : QueueSide → Checks → Option ℕ → Row → Task
 task side c limit params = record { limit = limit; keys = Enforced; schema = pair_schema c; table = lanes_of side c; params = params }
@@ -181,13 +183,14 @@ task side c limit params = record { limit = limit; keys = Enforced; schema = pai
 casts : (side : QueueSide) (c : Checks) (number : ℕ) (f : Figures) → cast_row (lanes_of side c) (cells_row number f) ≡ cells_row number f
 casts side c number f = rw (cast_int (pos number), cast_null, cast_int (pos f.capacity), cast_int (pos f.lost), cast_int (if f.raised then pos 1 else pos 0)) refl
 
-notes : (side : QueueSide) (c : Checks) (limit : Option ℕ) (number lost : ℕ) (raised : Bool) (fs : List Figures) (db : Trees) (a : Written)
+notes : (side : QueueSide) (c : Checks) → AreBehind pair_names c.more
+    → (limit : Option ℕ) (number lost : ℕ) (raised : Bool) (fs : List Figures) (db : Trees) (a : Written)
     → IsPermutation (figures_rows 0 fs) (db (lanes_tree side)) → number < length fs
     → Updates (task side c limit (update_params number lost raised)) (record { lets = []; body = query (lanes_tree side) }) (update_params number lost raised)
     db (Ok a)
-    → Notes (lanes_tree side) db number lost raised fs a.trees
+    → Notes 6 (lanes_tree side) db number lost raised fs a.trees
 unfolding everything made
-notes side c limit number lost raised fs db a is low h =
+notes side c behind limit number lost raised fs db a is low h =
     let tree = lanes_tree side in
     let params = update_params number lost raised in
     let old = slice_index_or fs number no_figures in
@@ -203,21 +206,23 @@ notes side c limit number lost raised fs db a is low h =
     let edited_to = went queried.2 in
     let out = same_value edited_to.2 in
     let edit = λ (rs : List Row). edit_of db (lanes_of side c) (ids_of rs) Given 1 rs in
-    let step = one_step (pair_schema c) Enforced db edited_to.0 (edit queried.0) (quiet_pair c db (edit queried.0)) edited_to.1 in
+    let step = one_step (pair_schema c) Enforced db edited_to.0 (edit queried.0) (quiet_pair c behind db (edit queried.0) (lanes_low side)) edited_to.1 in
     let row = cells_row number new in
     let made_of : a.trees tree ≡ put_row row (without_rowid (pos number) (db tree)) = ap (λ (w : Written). w.trees tree) out ∙ step.rows
     ∙ ap (λ rs. put_all (Rattle.sqlite.specs.Edit.without_all (db tree) (edit rs).gone) (edit rs).news) rows
     ∙ ap (λ r. put_row r (without_rowid (pos number) (db tree))) (casts side c number new) in
     record {
       table = subst₂ IsPermutation (replaced number number 0 new fs (omega arith) low) (sym made_of) (put_in_turn (figures_cells new) number (figures_rows 0 fs) (db tree) is);
-      others = λ t not_it. ap (λ (w : Written). w.trees t) out ∙ step.others t not_it tt;
+      others = λ t low not_it. ap (λ (w : Written). w.trees t) out
+          ∙ others_kept (pair_schema c) 6 (trees_pair c) db edited_to.0 (edit queried.0) step t low not_it;
     }
 
-pub updates : (side : QueueSide) (old new : State) (c : Checks) (number lost count : ℕ) (raised : Bool) (fs : List Figures) → old.now.schema ≡ pair_schema c
+pub updates : (side : QueueSide) (old new : State) (c : Checks) → AreBehind pair_names c.more → (number lost count : ℕ) (raised : Bool) (fs : List Figures)
+    → old.now.schema ≡ pair_schema c
     → IsPermutation (figures_rows 0 fs) (old.now.trees (lanes_tree side))
     → number < length fs → Executes (update_text side) (update_params number lost raised) old new (Ok count)
-    → (new.now.schema ≡ pair_schema c) × Notes (lanes_tree side) old.now.trees number lost raised fs new.now.trees
-updates side old new c number lost count raised fs has is low h =
+    → (new.now.schema ≡ pair_schema c) × Notes 6 (lanes_tree side) old.now.trees number lost raised fs new.now.trees
+updates side old new c behind number lost count raised fs has is low h =
     let params = update_params number lost raised in
     let command = Update (lanes_tree side) (record { lets = []; body = query (lanes_tree side) }) in
     let w = runs_as (update_text side) params old new (pair_schema c) has command (update_is side c) (update_plain side c) count h in
@@ -227,7 +232,7 @@ updates side old new c number lost count raised fs has is low h =
     let on = at_table (λ t. OnRows (record the_task { table = t }) (mode_of old) None command old.now.trees) (pair_schema c).tables (lanes_tree side)
     (lanes_of side c) (Ok (w.tally, new.now)) (lanes_there side c) does in
     let done = written the_task (mode_of old) command old.now.trees w.tally new.now on in
-    let took = notes side c old.step_limit number lost raised fs old.now.trees done.0 is low done.1 in (
+    let took = notes side c behind old.step_limit number lost raised fs old.now.trees done.0 is low done.1 in (
       ap (λ (d : Database). d.schema) done.2,
-      subst (λ (d : Database). Notes (lanes_tree side) old.now.trees number lost raised fs d.trees) (sym done.2) took,
+      subst (λ (d : Database). Notes 6 (lanes_tree side) old.now.trees number lost raised fs d.trees) (sym done.2) took,
     )

@@ -27,7 +27,7 @@ use Rattle.dnp_store.specs.declared.queue_side.QueueSide.TheVariants.{First, Sec
 use Rattle.dnp_store.specs.declared.store_kind.StoreKind.TheVariants.{Queue, Journal}
 use Rattle.dnp_store.specs.steps.JournalShown.{HasNoEvent}
 use Rattle.dnp_store.specs.Refusals.{IsRefused, IsUnread}
-use Rattle.dnp_store.specs.Texts.{IsMaking, IsOwn, lanes_update, rows_delete, rows_insert, rows_insert_16}
+use Rattle.dnp_store.specs.Texts.{IsOwn, lanes_update, rows_delete, rows_insert, rows_insert_16}
 use Rattle.dnp_store.proofs.Statements.{same_value}
 use Rattle.dnp_store.proofs.Standing.{survives_itself}
 
@@ -64,17 +64,6 @@ module _ {S : Type 0} (g : Ghosts S) (kind : StoreKind) where
     after = new;
     early = survives_itself (state g old);
     refused = inl (inside, inl (sql, params, own, ran));
-    late = survives_itself (state g new);
-  }
-
-  -- one that makes a table
-  pub by_making : (old new : Held S) (sql : List ℕ) (params : Row) (e : Error) → IsMaking kind sql → IsTrue (state g old).in_transaction
-      → ExecutesInside 0 sql params (state g old) (state g new) (Err e) → IsRefused g kind old new e
-  by_making old new sql params e making inside ran = record {
-    before = old;
-    after = new;
-    early = survives_itself (state g old);
-    refused = inr (inr (inside, sql, params, making, ran));
     late = survives_itself (state g new);
   }
 
@@ -121,7 +110,7 @@ by_query g kind old new sql params (Err e) own fails = record {
   before = old;
   after = new;
   early = survives_itself (state g old);
-  refused = inr (inl (sql, params, own, fails));
+  refused = inr (sql, params, own, fails);
   late = survives_itself (state g new);
 }
 
@@ -137,13 +126,6 @@ pub unread_of : {S : Type 0} (g : Ghosts S) (old new : Held S) (rows : List Row)
 unread_of g old new rows Form told wrong shown = (shown.0, shown.1, rows, shown.2, shown.3, wrong refl)
 unread_of g old new rows Memory told wrong shown = tt
 unread_of g old new rows (Failed e) told wrong shown = elim told [ inl is ↦ absurd cc | inr is ↦ absurd cc ]
-
--- what is so of each store
-pub any_kind : {S : Type 0} (g : Ghosts S) (kind : StoreKind) (old mid new : Held S) (r : Result (Unit {0}) Error)
-    → Survives (state g old) (state g mid) (λ _. ⊥)
-    → IfErr r (λ e. (kind : StoreKind) → IsRefused g kind mid new e) → IfErr r (IsRefused g kind old new)
-any_kind g kind old mid new (Ok _) one two = tt
-any_kind g kind old mid new (Err e) one two = refused_after g kind old mid new e one (two kind)
 
 -- what the last step answers, after others that went well
 pub refused_last : {S : Type 0} (g : Ghosts S) (kind : StoreKind) (old mid new : Held S) (r : Result (Unit {0}) Error)

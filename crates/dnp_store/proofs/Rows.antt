@@ -19,13 +19,13 @@ use Rattle.dnp_store.specs.QueueTables.{queue_schema, queue_columns, lanes_colum
 use Rattle.dnp_store.specs.steps.Shown.{ShowsFigures}
 use Rattle.dnp_store.specs.declared.store_kind.StoreKind.{StoreKind}
 use Rattle.dnp_store.specs.declared.store_kind.StoreKind.TheVariants.{Queue}
-use Rattle.dnp_store.specs.steps.Stores.{columns_of, rows_with, schema_for}
+use Rattle.dnp_store.specs.steps.Stores.{More, columns_of, rows_with, schema_for}
 
 pub and_left : (a b : Bool) → (a && b) ≡ true → a ≡ true
 and_left true b h = refl
 and_left false b h = absurd cc
 
-and_right : (a b : Bool) → (a && b) ≡ true → b ≡ true
+pub and_right : (a b : Bool) → (a && b) ≡ true → b ≡ true
 and_right true b h = h
 and_right false b h = absurd cc
 
@@ -56,7 +56,7 @@ pub typed : (key : Option ℕ) (columns : List Column) (other : Row → Bool) (r
 typed key columns other [] h = tt
 typed key columns other (r ∷ rows) h = (and_left _ _ h.0, typed key columns other rows h.1)
 
-module _ (kind : StoreKind) (db : Database) (f r m : List Term) (has : db.schema ≡ schema_for kind f r m) (sound : IsDatabase db) where
+module _ (kind : StoreKind) (db : Database) (f r : List Term) (m : More kind) (has : db.schema ≡ schema_for kind f r m) (sound : IsDatabase db) where
   rules_hold : IsDatabase (record { schema = schema_for kind f r m; trees = db.trees })
   rules_hold = subst (λ (s : Schema). IsDatabase (record { schema = s; trees = db.trees })) has sound
 

@@ -2,21 +2,19 @@
 use Rattle.std.proofs.Common.{◌≡◌, ℕ, ◌+◌, ◌<◌, ◌≤◌, List, [], ◌∷◌, map, drop, length, get_or, IsTrue, Ok, Err, Result, arith, refl, sym, ap, subst, ◌∙◌}
 use Rattle.std.proofs.Math.ListN.{drop_of_length-le}
 use Rattle.std.proofs.lemmas.List.{drop_more, get_or-map, length-map}
-use Rattle.std.specs.List.{AllByRecursion}
 use Rattle.std.specs.Prelude.{IfErr, IsErr, IsErrAnd, OnOk}
 use Rattle.std.specs.Borrow.{Bor, MutBor}
 use Rattle.sqlite_trees.specs.declared.store.Store.{Ghosts}
 use Rattle.sqlite.specs.Held.{Held, state}
 use Rattle.sqlite.specs.Order.{Row}
-use Rattle.sqlite.specs.State.{State, Executes, ExecutesInside, Survives}
+use Rattle.sqlite.specs.State.{State, Executes, ExecutesInside}
 use Rattle.sqlite.specs.declared.error.Error.{Error}
 use Rattle.dnp_store.specs.declared.store_kind.StoreKind.{StoreKind}
 use Rattle.dnp_store.specs.Refusals.{IsRefused}
-use Rattle.dnp_store.specs.Texts.{IsMaking, IsOwn}
+use Rattle.dnp_store.specs.Texts.{IsOwn}
 use Rattle.dnp_store.specs.steps.Inside.{IsStep}
 use Rattle.dnp_store.specs.steps.Making.{ExecuteAll}
-use Rattle.sqlite_trees.proofs.ListLemmas.{all-get_or}
-use Rattle.dnp_store.proofs.Refusing.{by_making, by_statement, refused_after}
+use Rattle.dnp_store.proofs.Refusing.{by_statement}
 
 -- what follows of a statement that ran
 pub ran_then : (old new : State) (sql : List ℕ) (params : Row) (Q : Type 0) (r : Result (Unit {0}) Error)
@@ -71,21 +69,3 @@ none_left g all texts i old now past before =
     let mapped = texts_in texts in
     let empty : drop i mapped ≡ [] = drop_of_length-le mapped (omega (arith, past, length-map texts (λ (t : Bor (List ℕ)). t.now))) in
     before now (subst (λ (xs : List (List ℕ)). ExecuteAll g xs now now) (sym empty) refl)
-
--- one of them was refused, after others
-pub one_refused : {S : Type 0} (g : Ghosts S) (old now next : Held S) (texts : List (Bor (List ℕ))) (i : ℕ) (d : Bor (List ℕ)) (e : Error) → i < length texts
-    → Survives (state g old) (state g now) (λ _. ⊥)
-    → IsTrue (state g now).in_transaction × ExecutesInside 0 (get_or texts i d).now [] (state g now) (state g next) (Err e)
-    → (kind : StoreKind) → AllByRecursion (IsMaking kind) (texts_in texts) → IsRefused g kind old next e
-one_refused g old now next texts i d e low before refused kind own =
-    let mapped = texts_in texts in
-    let long : i < length mapped = omega (arith, low, length-map texts (λ (t : Bor (List ℕ)). t.now)) in
-    let here : get_or mapped i [] ≡ (get_or texts i d).now = get_or-map (λ (t : Bor (List ℕ)). t.now) texts i d [] low in
-    refused_after g kind old now next e before
-    (by_making g kind now next (get_or texts i d).now [] e (subst (IsMaking kind) here (all-get_or (IsMaking kind) mapped i [] own long)) refused.0 refused.1)
-
-pub making_told : {S : Type 0} (g : Ghosts S) (kind : StoreKind) (old new : Held S) (texts : List (List ℕ)) (r : Result (Unit {0}) Error)
-    → AllByRecursion (IsMaking kind) texts
-    → IfErr r (λ e. (kind : StoreKind) → AllByRecursion (IsMaking kind) texts → IsRefused g kind old new e) → IfErr r (IsRefused g kind old new)
-making_told g kind old new texts (Ok _) own h = tt
-making_told g kind old new texts (Err e) own h = h kind own

@@ -33,7 +33,7 @@ use Rattle.sqlite_trees.proofs.ListLemmas.{IsPermutation-same}
 use Rattle.dnp_objects.specs.declared.limits.TheConstants.{LANES}
 use Rattle.dnp_eventbuf.specs.EventBuffer.{EventBuffer, empty_buffer}
 use Rattle.dnp_store.specs.Texts.{form_update, lanes_b_insert}
-use Rattle.dnp_store.specs.Tables.{HaveOwnIds, IsCounted, count_row, counts_of, form_with, schema_of}
+use Rattle.dnp_store.specs.Tables.{HaveOwnIds, IsCounted, count_row, counts_of, form_with, no_schema, only, schema_of}
 use Rattle.dnp_store.specs.QueueTables.{Figures, HoldsIn, HoldsLanes, HoldsBuffer, IsForm1, figures_cells, figures_rows, lanes_with, queue_schema, queue_with}
 use Rattle.dnp_store.specs.PairTables.{CountSides, IsOfSides, lanes_b_with, migrated, pair_schema, queue_b_with, rows_name}
 use Rattle.dnp_store.specs.Schemas.{checks_of_lanes_b, checks_of_queue_b, lanes_b_text, queue_b_text, table_of_text}
@@ -79,7 +79,7 @@ abbrev b_checks : List Term
 b_checks = (table_of_text (table_defined_by queue_b_text)).checks
 
 abbrev four_schema : List Term → List Term → List Term → List Term → Schema
-four_schema f q l b = schema_of f (queue_with q) (lanes_with l ∷ queue_b_with b ∷ [])
+four_schema f q l b = schema_of f (queue_with q) (only (lanes_with l ∷ queue_b_with b ∷ []))
 
 queue_b_put : (f q l b : List Term) → created (queue_schema f q l) (treeless (queue_b_with b)) ≡ four_schema f q l b
 unfolding everything
@@ -124,7 +124,7 @@ abbrev lb_checks : List Term
 lb_checks = (table_of_text (table_defined_by lanes_b_text)).checks
 
 abbrev five_schema : List Term → List Term → List Term → List Term → List Term → Schema
-five_schema f q l b lb = pair_schema (record { form = f; queue = q; lanes = l; queue_b = b; lanes_b = lb })
+five_schema f q l b lb = pair_schema (record { form = f; queue = q; lanes = l; queue_b = b; lanes_b = lb; more = no_schema })
 
 lanes_b_put : (f q l b lb : List Term) → created (four_schema f q l b) (treeless (lanes_b_with lb)) ≡ five_schema f q l b lb
 unfolding everything
@@ -207,7 +207,7 @@ lane_put f q l limit number capacity db a h =
     let edit = λ (rows : List Row). edit_of db (lanes_of Second c) [] Chosen 0 rows in
     let news : (edit sourced.0).news ≡ row ∷ [] =
     ap (λ rows. (edit rows).news) source ∙ rw (cast_int (pos number), cast_null, cast_int (pos capacity), cast_int (pos 0)) refl in
-    let step = one_step (pair_schema c) Enforced db edited_to.0 (edit sourced.0) (quiet_pair c db (edit sourced.0)) edited_to.1 in
+    let step = one_step (pair_schema c) Enforced db edited_to.0 (edit sourced.0) (quiet_pair c refl db (edit sourced.0) (omega arith)) edited_to.1 in
     let last : next.0 ≡ edited_to.0 = same_value next.1 in
     record {
       table = ap (λ (w : Written). w.trees 5) out ∙ ap (λ (t : Trees). t 5) last ∙ step.rows ∙ ap (put_all (db 5)) news;
@@ -295,7 +295,7 @@ renumbered f q l limit id db a is h =
     let edited_to = went queried.2 in
     let out = same_value edited_to.2 in
     let edit = λ (rs : List Row). edit_of db (form_with f) (ids_of rs) Given 1 rs in
-    let step = one_step (pair_schema c) Enforced db edited_to.0 (edit queried.0) (quiet_pair c db (edit queried.0)) edited_to.1 in
+    let step = one_step (pair_schema c) Enforced db edited_to.0 (edit queried.0) (quiet_pair c refl db (edit queried.0) (omega arith)) edited_to.1 in
     let cast : cast_row (form_with f) new ≡ new = rw (cast_int id, cast_int (pos 2)) refl in
     let put : a.trees 0 ≡ put_row new (without_rowid id (db 0)) = ap (λ (w : Written). w.trees 0) out ∙ step.rows
     ∙ ap (λ rs. put_all (without_all (db 0) (edit rs).gone) (edit rs).news) rows ∙ ap (λ (r : Row). put_row r (without_rowid id (db 0))) cast in

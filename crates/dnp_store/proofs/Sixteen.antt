@@ -19,7 +19,6 @@ use Rattle.sqlite.specs.Table.{Table}
 use Rattle.sqlite_schema.specs.declared.schema.Column.{Column}
 use Rattle.sqlite_schema.specs.declared.schema.Keys.TheVariants.{Enforced}
 use Rattle.sqlite_rules.specs.Action.{works}
-use Rattle.sqlite_rules.specs.Edit.{IsNoIndex}
 use Rattle.std.specs.Prelude.{slice_get}
 use Rattle.sqlite.specs.Cast.{cast_row}
 use Rattle.sqlite.specs.Edit.{Edit, next_rowid, taken_by}
@@ -27,10 +26,11 @@ use Rattle.sqlite.specs.Listing.{understood}
 use Rattle.sqlite.specs.Given.{IsPlain}
 use Rattle.sqlite.specs.State.{State, Executes}
 use Rattle.sqlite.proofs.Callers.{command_of}
-use Rattle.dnp_store.specs.Tables.{count_row, counts_of, sequence, table_of, IsCounted}
+use Rattle.dnp_store.specs.Tables.{AreBehind, count_row, counts_of, sequence, table_of, IsCounted}
 use Rattle.dnp_store.specs.QueueTables.{Queued}
 use Rattle.dnp_store.specs.declared.store_kind.StoreKind.{StoreKind}
-use Rattle.dnp_store.specs.steps.Stores.{columns_of, name_of, rows_with, schema_for}
+use Rattle.dnp_store.specs.steps.Stores.{More, columns_of, more_with, name_of, names_of, rows_with, schema_for}
+use Rattle.dnp_store.proofs.Apart.{AreTrees}
 use Rattle.dnp_store.proofs.Tests.{is_other}
 use Rattle.dnp_store.proofs.IdRows.{IsUnder}
 use Rattle.dnp_store.proofs.Counting.{PutsAt, PutsAll, PutsAllIn, puts_all_at}
@@ -139,33 +139,35 @@ module _ (name : List ℕ) (tree : ℕ) (columns : List Column) (checks : List T
   cast_all stays [] = refl
   cast_all stays (x ∷ xs) = ap₂ (λ (r : Row) (rs : List Row). r ∷ rs) (stays x) (cast_all stays xs)
 
-  pub inserts_16_in : (is_listed : counters_of schema ≡ Some sequence)
-      → (is_quiet : (db : Trees) (e : Edit) → works schema Enforced 0 e.table.tree (taken_by db e) e.news ≡ [])
-      → (unindexed : (t : ℕ) → IsNoIndex schema t) → slice_get schema.tables tree ≡ Some table → tree ≢ 2
+  pub inserts_16_in : (many : ℕ) (is_listed : counters_of schema ≡ Some sequence)
+      → (is_quiet : (db : Trees) (e : Edit) → e.table.tree < many → works schema Enforced 0 e.table.tree (taken_by db e) e.news ≡ [])
+      → (are_trees : AreTrees many schema.tables) → tree < many → 2 < many → slice_get schema.tables tree ≡ Some table → tree ≢ 2
       → (old new : State) (text : List ℕ) (xs : List Queued) (n next count : ℕ)
       → command_of (understood schema text) ≡ Insert tree (Values terms_16 7) → IsPlain (understood schema text)
       → ((x : Queued) → Stays x) → length xs ≡ 16 → old.now.schema ≡ schema
       → IsCounted name (counts_of name (old.now.trees 2)) n → AllByRecursion (IsUnder n) (old.now.trees tree)
       → next_rowid (old.now.trees tree) ≡ pos next → next ≤ n + 1 → Executes text (params_of xs) old new (Ok count)
-      → (new.now.schema ≡ schema) × PutsAllIn name tree old.now.trees (rests_of xs) n new.now.trees
-  inserts_16_in is_listed is_quiet unindexed there apart old new text xs n next count is plain stays long has counted under next_is low h =
-      inserting.inserts_all_in name tree columns checks schema is_listed is_quiet unindexed there apart old new text (params_of xs) (rests_of xs)
+      → (new.now.schema ≡ schema) × PutsAllIn many name tree old.now.trees (rests_of xs) n new.now.trees
+  inserts_16_in many is_listed is_quiet are_trees own counts there apart old new text xs n next count is plain stays long has counted under next_is low h =
+      inserting.inserts_all_in many name tree columns checks schema is_listed is_quiet are_trees own counts there apart old new text (params_of xs) (rests_of xs)
       (Values terms_16 7) n next count is plain
       (λ rows sourced. ap (map (λ s. cast_row table (drop 0 s))) (given_16 old.step_limit old.now.trees xs long rows sourced) ∙ cast_all stays xs)
       (omega (arith, long_rests xs)) has counted under next_is low h
 
 -- into the rows of a store that has one such table
-pub inserts_16 : (kind : StoreKind) (f r m : List Term) (old new : State) (text : List ℕ) (xs : List Queued) (n next count : ℕ)
+pub inserts_16 : (kind : StoreKind) (f r : List Term) (m : More kind) → AreBehind (names_of kind) (more_with kind m)
+    → (old new : State) (text : List ℕ) (xs : List Queued) (n next count : ℕ)
     → command_of (understood (schema_for kind f r m) text) ≡ Insert 1 (Values terms_16 7) → IsPlain (understood (schema_for kind f r m) text)
     → ((x : Queued) → cast_row (rows_with kind r) (Null ∷ whole_cells x) ≡ Null ∷ whole_cells x) → length xs ≡ 16 → old.now.schema ≡ schema_for kind f r m
     → IsCounted (name_of kind) (old.now.trees 2) n → AllByRecursion (IsUnder n) (old.now.trees 1)
     → next_rowid (old.now.trees 1) ≡ pos next → next ≤ n + 1 → Executes text (params_of xs) old new (Ok count)
-    → (new.now.schema ≡ schema_for kind f r m) × PutsAll (name_of kind) old.now.trees (rests_of xs) n new.now.trees
-inserts_16 kind f r m old new text xs n next count is plain stays long has counted under next_is low h =
+    → (new.now.schema ≡ schema_for kind f r m) × PutsAll 3 (name_of kind) old.now.trees (rests_of xs) n new.now.trees
+inserts_16 kind f r m behind old new text xs n next count is plain stays long has counted under next_is low h =
     let name = name_of kind in
-    let did = inserts_16_in name 1 (columns_of kind) r (schema_for kind f r m) (inserting.listed kind f r m) (inserting.quiet kind f r m) (λ t. tt) refl
+    let did = inserts_16_in name 1 (columns_of kind) r (schema_for kind f r m) 3 (inserting.listed kind f r m) (inserting.quiet kind f r m behind)
+    (inserting.trees kind f r m) (omega arith) (omega arith) refl
     (λ e. absurd (omega arith)) old new text xs n next count is plain stays long has (named_alone name (old.now.trees 2) n counted) under next_is low h in
-    (did.0, puts_all_at name old.now.trees (rests_of xs) n new.now.trees counted did.1)
+    (did.0, puts_all_at 3 name old.now.trees (rests_of xs) n new.now.trees counted did.1)
 
 -- ---- as if one by one
 
@@ -177,13 +179,13 @@ module _ (name : List ℕ) (db : Trees) (rest : Row) (n : ℕ) where
   mid_other : (t : ℕ) → t ≢ 1 → t ≢ 2 → mid_of t ≡ db t
   mid_other t not_1 not_2 = rw (is_other t 1 not_1, is_other t 2 not_2) refl
 
-  pub puts_one : PutsAt name db rest n mid_of
-  puts_one = record { table = refl; count = inr (pos 1, refl); others = mid_other }
+  pub puts_one : (many : ℕ) → PutsAt many name db rest n mid_of
+  puts_one many = record { table = refl; count = inr (pos 1, refl); others = λ t low. mid_other t }
 
   -- and what the others make of them
-  pub puts_more : (rests : List Row) (now : Trees) → PutsAll name db (rest ∷ rests) n now → PutsAll name mid_of rests (n + 1) now
-  puts_more rests now puts = record {
+  pub puts_more : (many : ℕ) (rests : List Row) (now : Trees) → PutsAll many name db (rest ∷ rests) n now → PutsAll many name mid_of rests (n + 1) now
+  puts_more many rests now puts = record {
     table = puts.table;
     count = subst (λ (k : ℕ). IsCounted name (now 2) k) (let e : n + suc (length rests) ≡ n + 1 + length rests = omega arith in e) puts.count;
-    others = λ t not_1 not_2. puts.others t not_1 not_2 ∙ sym (mid_other t not_1 not_2);
+    others = λ t low not_1 not_2. puts.others t low not_1 not_2 ∙ sym (mid_other t not_1 not_2);
   }

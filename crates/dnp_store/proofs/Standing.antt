@@ -9,6 +9,7 @@ use Rattle.sqlite.specs.Tree.{Trees}
 use Rattle.sqlite.specs.declared.error.Error.{Error}
 use Rattle.sqlite.specs.State.{State, IsNotRun, KeepsCommit, Survives}
 use Rattle.sqlite.proofs.InsideLemmas.{unchanged_keeps}
+use Rattle.dnp_store.specs.Tables.{no_schema}
 use Rattle.dnp_store.specs.PairTables.{Checks, pair_schema, IsPair, HoldsPair, Sides}
 use Rattle.dnp_store.specs.QueueKept.{QueueStands}
 
@@ -52,6 +53,6 @@ keeps_open old new sql params e refused is_open = let k = keeps_commit old new s
 -- what is so of a queue's database is so of its trees
 pub on_trees : (a b : Sides) → ((db : Database) → IsPair db a → IsPair db b) → (trees : Trees) → HoldsPair trees a → HoldsPair trees b
 on_trees a b turn trees h =
-    let none : Checks = record { form = []; queue = []; lanes = []; queue_b = []; lanes_b = [] } in
+    let none : Checks = record { form = []; queue = []; lanes = []; queue_b = []; lanes_b = []; more = no_schema } in
     let db : Database = record { schema = pair_schema none; trees = trees } in
-    (turn db (record { checks = none; schema = refl; holds = h })).holds
+    (turn db (record { checks = none; schema = refl; behind = refl; holds = h })).holds

@@ -93,6 +93,7 @@ pub same_queue : (side : QueueSide) (others : EventBuffer) (db : Database) (s t 
 same_queue side others db s t fs h same last = record {
   checks = h.checks;
   schema = h.schema;
+  behind = h.behind;
   form = h.form;
   counts = h.counts;
   lanes = same_buffer (rows_name side) (db.trees (rows_tree side)) (counts_of (rows_name side) (db.trees 2)) (db.trees (lanes_tree side)) s t fs h.lanes same

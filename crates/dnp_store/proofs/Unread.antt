@@ -26,7 +26,7 @@ use Rattle.dnp_store.specs.declared.fault.Unread.TheVariants.{Failed, Form, Memo
 use Rattle.dnp_store.specs.QueueTables.{IsForm1}
 use Rattle.dnp_store.specs.declared.store_kind.StoreKind.{StoreKind}
 use Rattle.dnp_store.specs.steps.Shown.{ShowsForm1}
-use Rattle.dnp_store.specs.steps.Stores.{schema_for}
+use Rattle.dnp_store.specs.steps.Stores.{More, schema_for}
 use Rattle.dnp_store.proofs.Opening.{form_is, form_plain, form_query, form_terms, listed, shown_by}
 
 cause_read : (cause : StoreError) → is_unread (store_error cause) ≡ false
@@ -103,7 +103,7 @@ told_of (Err x) e f is told = let same : x ≡ f = cc in sym is.1 ∙ same
 
 -- ---- `form` with the number 1 is shown so
 
-pub form_shown : (old new : State) (rows : List Row) (kind : StoreKind) (f r m : List Term) → old.now.schema ≡ schema_for kind f r m
+pub form_shown : (old new : State) (rows : List Row) (kind : StoreKind) (f r : List Term) (m : More kind) → old.now.schema ≡ schema_for kind f r m
     → Shown form_query [] old new rows → IsForm1 (old.now.trees 0) → (id : ℤ) × ShowsForm1 rows id
 form_shown old new rows kind f r m has shown form =
     let read = reads_as form_query [] old new (schema_for kind f r m) has _ (form_is kind f r m).0 (form_plain kind f r m) (form_is kind f r m).1 rows shown in

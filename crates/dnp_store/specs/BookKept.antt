@@ -16,7 +16,7 @@ pub record BookValue (S : Type 0) : Type 0 where
   pub conn : Held S
   pub ledger : Ledger
   pub stopped : Bool
-  -- the database had no other tables as the book began
+  -- its tables were the database's first as the book began, and the others leave them alone
   pub owned : Bool
 
 abbrev pub kept_code : {S : Type 0} → Coded S → Coded (BookValue S)
@@ -43,7 +43,7 @@ pub record BookInvariant {S : Type 0} (g : Ghosts S) (conn : Held S) (ledger : L
   pub stands : stopped ≡ false → IsTrue owned → HasCleanDisk (state g conn) → BookStands (state g conn) ledger
 
 -- so far the disk has given back what was written, nobody else has written, the book has not answered Device, and the
--- database had no other tables
+-- book's own tables come first in the database
 abbrev pub IsHonestBook : {S : Type 0} → Ghosts S → BookValue S → Type 0
 IsHonestBook g b = HasCleanDisk (state g b.conn) × (b.stopped ≡ false) × IsTrue b.owned
 

@@ -20,7 +20,7 @@ use Rattle.dnp_controls.specs.declared.book.Entry.{Entry}
 use Rattle.dnp_controls.specs.declared.book.State.{State}
 use Rattle.dnp_controls.specs.declared.book.State.TheVariants.{Pending, Spent, Finished}
 use Rattle.dnp_controls.specs.Book.{IsSoundLedger, Ledger}
-use Rattle.dnp_store.specs.Tables.{column_of, table_of, schema_of, IsCounted}
+use Rattle.dnp_store.specs.Tables.{AreBehind, column_of, table_of, schema_of, IsCounted}
 use Rattle.dnp_store.specs.QueueTables.{IsForm1}
 
 -- ---- the tables
@@ -35,8 +35,12 @@ book_columns =
 abbrev pub book_with : List Term → Table
 book_with checks = table_of (codes "control") 1 book_columns true true checks
 
-abbrev pub book_schema : List Term → List Term → Schema
-book_schema form control = schema_of form (book_with control) []
+abbrev pub book_names : List (List ℕ)
+book_names = codes "form" ∷ codes "control" ∷ codes "sqlite_sequence" ∷ []
+
+-- its own tables come first
+abbrev pub book_schema : List Term → List Term → Schema → Schema
+book_schema form control more = schema_of form (book_with control) more
 
 -- ---- a row of `control`: a command by its kind and its fields, 0 for those that the kind doesn't have
 
@@ -116,9 +120,11 @@ pub record HoldsBook (db : Trees) (book : Ledger) : Type 0 where
   pub entries : IsPermutation (map entry_row book.entries) (db 1)
   pub counted : IsCounted (codes "control") (db 2) book.last_id
 
--- the database is a book's, and holds these entries
+-- the database's first tables are a book's, what stands behind leaves them alone, and they hold these entries
 pub record IsBook (db : Database) (book : Ledger) : Type 0 where
   pub form_checks : List Term
   pub control_checks : List Term
-  pub schema : db.schema ≡ book_schema form_checks control_checks
+  pub more : Schema
+  pub schema : db.schema ≡ book_schema form_checks control_checks more
+  pub behind : AreBehind book_names more
   pub holds : HoldsBook db.trees book

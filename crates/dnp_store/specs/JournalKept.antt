@@ -15,7 +15,7 @@ pub record JournalValue (S : Type 0) : Type 0 where
   pub last_id : ℕ
   pub count : ℕ
   pub stopped : Bool
-  -- the database had no other tables as the journal began
+  -- its tables were the database's first as the journal began, and the others leave them alone
   pub owned : Bool
 
 abbrev pub kept_code : {S : Type 0} → Coded S → Coded (JournalValue S)
@@ -44,7 +44,7 @@ pub record JournalInvariant {S : Type 0} (g : Ghosts S) (conn : Held S) (last co
   pub count_is : stopped ≡ false → IsTrue owned → HasCleanDisk (state g conn) → count ≡ length (archive_of g conn last).rows
 
 -- so far the disk has given back what was written, nobody else has written, the journal has not answered Device, and the
--- database had no other tables
+-- journal's own tables come first in the database
 abbrev pub IsHonestJournal : {S : Type 0} → Ghosts S → JournalValue S → Type 0
 IsHonestJournal g j = HasCleanDisk (state g j.conn) × (j.stopped ≡ false) × IsTrue j.owned
 

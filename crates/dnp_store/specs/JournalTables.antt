@@ -18,7 +18,7 @@ use Rattle.sqlite_schema.specs.declared.schema.Column.{Column}
 use Rattle.dnp_objects.specs.declared.limits.TheConstants.{MAX_ID, MAX_TIME}
 use Rattle.dnp_eventbuf.specs.declared.numbered.Numbered.{Numbered}
 use Rattle.dnp_eventbuf.specs.Archive.{Archive}
-use Rattle.dnp_store.specs.Tables.{column_of, table_of, schema_of, IsCounted}
+use Rattle.dnp_store.specs.Tables.{AreBehind, column_of, table_of, schema_of, IsCounted}
 use Rattle.dnp_store.specs.QueueTables.{Queued, queued_row, event_of, kind_in, IsForm1}
 
 -- ---- the tables
@@ -31,8 +31,12 @@ journal_columns =
 abbrev pub journal_with : List Term → Table
 journal_with checks = table_of (codes "journal") 1 journal_columns true true checks
 
-abbrev pub journal_schema : List Term → List Term → Schema
-journal_schema form journal = schema_of form (journal_with journal) []
+abbrev pub journal_names : List (List ℕ)
+journal_names = codes "form" ∷ codes "journal" ∷ codes "sqlite_sequence" ∷ []
+
+-- its own tables come first
+abbrev pub journal_schema : List Term → List Term → Schema → Schema
+journal_schema form journal more = schema_of form (journal_with journal) more
 
 -- ---- the events that the tables hold: a row of `journal` is one of `queue`, with its kind's number (0 binary, 1 counter,
 -- 2 analog) in place of its lane's
@@ -52,11 +56,13 @@ pub record HoldsArchive (db : Trees) (a : Archive) : Type 0 where
   pub in_range : AllByRecursion (IsLogged a.last_id) logged
   pub rows : a.rows ≡ map event_of logged
 
--- the database is a journal's, and holds these events
+-- the database's first tables are a journal's, what stands behind leaves them alone, and they hold these events
 pub record IsJournal (db : Database) (a : Archive) : Type 0 where
   pub form_checks : List Term
   pub journal_checks : List Term
-  pub schema : db.schema ≡ journal_schema form_checks journal_checks
+  pub more : Schema
+  pub schema : db.schema ≡ journal_schema form_checks journal_checks more
+  pub behind : AreBehind journal_names more
   pub holds : HoldsArchive db.trees a
 
 -- each value of an event is in its column's range

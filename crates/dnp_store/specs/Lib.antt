@@ -13,6 +13,8 @@ pub mod Schemas
 pub mod Faults
 pub mod Texts
 pub mod Added
+pub mod Undone
 pub mod Refusals
+pub mod Showing
 -- Words of private steps.
 pub mod steps

@@ -14,7 +14,7 @@ use Rattle.dnp_objects.specs.declared.lane.LaneRow.{LaneRow}
 use Rattle.dnp_eventbuf.specs.EventBuffer.{EventBuffer, empty_buffer, with_rows}
 use Rattle.dnp_store.specs.declared.queue_side.QueueSide.{QueueSide}
 use Rattle.dnp_store.specs.declared.queue_side.QueueSide.TheVariants.{First, Second}
-use Rattle.dnp_store.specs.Tables.{HaveOwnIds, table_of, schema_of, counts_of}
+use Rattle.dnp_store.specs.Tables.{AreBehind, HaveOwnIds, before, table_of, schema_of, counts_of}
 use Rattle.dnp_store.specs.QueueTables.{Figures, HoldsLanes, IsQueue, is_raised, lanes_columns, lanes_with, queue_columns, queue_with}
 
 -- ---- the tables: those of one centre's lanes, and two more of their form for the other's
@@ -25,16 +25,23 @@ queue_b_with checks = table_of (codes "queue_b") 4 queue_columns true true check
 abbrev pub lanes_b_with : List Term → Table
 lanes_b_with checks = table_of (codes "lanes_b") 5 lanes_columns true false checks
 
--- the CHECKs that stand on the five tables
+-- their names, and that of the table in which AUTOINCREMENT counts
+abbrev pub pair_names : List (List ℕ)
+pair_names =
+    codes "form" ∷ codes "queue" ∷ codes "sqlite_sequence" ∷ codes "lanes" ∷ codes "queue_b" ∷ codes "lanes_b" ∷ []
+
+-- the CHECKs that stand on the five tables, and what stands behind them
 pub record Checks : Type 0 where
   pub form : List Term
   pub queue : List Term
   pub lanes : List Term
   pub queue_b : List Term
   pub lanes_b : List Term
+  pub more : Schema
 
+-- they come first
 abbrev pub pair_schema : Checks → Schema
-pair_schema c = schema_of c.form (queue_with c.queue) (lanes_with c.lanes ∷ queue_b_with c.queue_b ∷ lanes_b_with c.lanes_b ∷ [])
+pair_schema c = schema_of c.form (queue_with c.queue) (before (lanes_with c.lanes ∷ queue_b_with c.queue_b ∷ lanes_b_with c.lanes_b ∷ []) c.more)
 
 -- ---- where a side stands: its rows and their table's name, and the figures of its lanes
 
@@ -110,10 +117,12 @@ pub record HoldsPair (db : Trees) (sides : Sides) : Type 0 where
   pub first : HoldsSide First db sides.first
   pub second : HoldsSide Second db sides.second
 
--- the database is that of a queue for two centres, and holds these lanes
+-- the database's first tables are those of a queue for two centres, what stands behind leaves them alone, and they hold these
+-- lanes
 pub record IsPair (db : Database) (sides : Sides) : Type 0 where
   pub checks : Checks
   pub schema : db.schema ≡ pair_schema checks
+  pub behind : AreBehind pair_names checks.more
   pub holds : HoldsPair db.trees sides
 
 -- ---- from the form for one centre to that for two

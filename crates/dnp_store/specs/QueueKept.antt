@@ -15,7 +15,7 @@ pub record QueueValue (S : Type 0) : Type 0 where
   pub conn : Held S
   pub sides : Sides
   pub stopped : Bool
-  -- the database had no other tables as the queue began
+  -- its tables were the database's first as the queue began, and the others leave them alone
   pub owned : Bool
 
 abbrev pub kept_code : {S : Type 0} → Coded S → Coded (QueueValue S)
@@ -41,7 +41,7 @@ pub record QueueInvariant {S : Type 0} (g : Ghosts S) (conn : Held S) (sides : S
   pub stands : stopped ≡ false → IsTrue owned → HasCleanDisk (state g conn) → QueueStands (state g conn) sides
 
 -- so far the disk has given back what was written, nobody else has written, the queue has not answered Device, and the
--- database had no other tables
+-- queue's own tables come first in the database
 abbrev pub IsHonestQueue : {S : Type 0} → Ghosts S → QueueValue S → Type 0
 IsHonestQueue g q = HasCleanDisk (state g q.conn) × (q.stopped ≡ false) × IsTrue q.owned
 

@@ -18,7 +18,7 @@ use Rattle.dnp_objects.specs.declared.row.Kind.TheVariants.{Binary, Counter, Ana
 use Rattle.dnp_eventbuf.specs.declared.numbered.Numbered.{Numbered}
 use Rattle.dnp_eventbuf.specs.EventBuffer.{LaneState, EventBuffer, lane_at}
 pub use Rattle.dnp_store.specs.declared.figures.Figures.{Figures}
-use Rattle.dnp_store.specs.Tables.{or_null, column_of, table_of, schema_of, IsCounted}
+use Rattle.dnp_store.specs.Tables.{only, or_null, column_of, table_of, schema_of, IsCounted}
 
 -- ---- the tables
 
@@ -39,7 +39,7 @@ abbrev pub queue_with : List Term → Table
 queue_with checks = table_of (codes "queue") 1 queue_columns true true checks
 
 abbrev pub queue_schema : List Term → List Term → List Term → Schema
-queue_schema form queue lanes = schema_of form (queue_with queue) (lanes_with lanes ∷ [])
+queue_schema form queue lanes = schema_of form (queue_with queue) (only (lanes_with lanes ∷ []))
 
 -- ---- a row of `queue`: its id, its lane's number and an event, whose kind is the lane's
 

@@ -8,7 +8,7 @@ use Rattle.sqlite_resolve.specs.Compile.{table_defined_by}
 use Rattle.sqlite_resolve.specs.declared.error.CompileError.{CompileError}
 use Rattle.dnp_store.specs.declared.store_kind.StoreKind.{StoreKind}
 use Rattle.dnp_store.specs.declared.store_kind.StoreKind.TheVariants.{Queue, Journal, Book}
-use Rattle.dnp_store.specs.Tables.{no_table}
+use Rattle.dnp_store.specs.Tables.{no_schema, no_table}
 use Rattle.dnp_store.specs.QueueTables.{queue_schema}
 use Rattle.dnp_store.specs.PairTables.{pair_schema}
 use Rattle.dnp_store.specs.JournalTables.{journal_schema}
@@ -91,10 +91,11 @@ made_pair = pair_schema (record {
   lanes = checks_of_lanes;
   queue_b = checks_of_queue_b;
   lanes_b = checks_of_lanes_b;
+  more = no_schema;
 })
 
 abbrev pub made_journal : Schema
-made_journal = journal_schema checks_of_form (checks_of_rows Journal)
+made_journal = journal_schema checks_of_form (checks_of_rows Journal) no_schema
 
 abbrev pub made_book : Schema
-made_book = book_schema checks_of_form (checks_of_rows Book)
+made_book = book_schema checks_of_form (checks_of_rows Book) no_schema

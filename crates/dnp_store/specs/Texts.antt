@@ -4,7 +4,14 @@ use Rattle.dnp_store.specs.declared.queue_side.QueueSide.{QueueSide}
 use Rattle.dnp_store.specs.declared.queue_side.QueueSide.TheVariants.{First, Second}
 use Rattle.dnp_store.specs.declared.store_kind.StoreKind.{StoreKind}
 use Rattle.dnp_store.specs.declared.store_kind.StoreKind.TheVariants.{Queue, Journal, Book}
-use Rattle.dnp_store.specs.Schemas.{form_text, lanes_b_text, lanes_text, queue_b_text, rows_text}
+
+-- ---- those by which each store looks at its tables
+
+abbrev pub form_select : List ℕ
+form_select = codes "SELECT rowid, number FROM form ORDER BY rowid"
+
+abbrev pub sequence_select : List ℕ
+sequence_select = codes "SELECT rowid, name, seq FROM sqlite_sequence ORDER BY rowid"
 
 -- ---- those of a queue
 
@@ -52,6 +59,9 @@ journal_insert_16 = codes "INSERT INTO journal (kind, point, flags, value, time)
 abbrev pub journal_select : List ℕ
 journal_select = codes "SELECT id, kind, point, flags, value, time FROM journal WHERE id > ?1 ORDER BY id LIMIT ?2"
 
+abbrev pub journal_count : List ℕ
+journal_count = codes "SELECT count(*) FROM journal"
+
 -- ---- those of a book
 
 abbrev pub book_insert : List ℕ
@@ -60,6 +70,9 @@ book_insert =
 
 abbrev pub book_update : List ℕ
 book_update = codes "UPDATE control SET state = ?2, status = ?3 WHERE id = ?1"
+
+abbrev pub book_select : List ℕ
+book_select = codes "SELECT id, target, kind, point, code, count, on_ms, off_ms, value, state, status FROM control ORDER BY id"
 
 -- ---- those that fill new tables
 
@@ -89,11 +102,3 @@ texts_of Book = book_insert ∷ book_update ∷ []
 -- the text is one of them
 abbrev pub IsOwn : StoreKind → List ℕ → Type 0
 IsOwn kind sql = (k : ℕ) × (slice_get (texts_of kind) k ≡ Some sql)
-
--- one of those that make tables asks for nothing
-abbrev pub making_of : StoreKind → List (List ℕ)
-making_of kind =
-    form_text ∷ rows_text kind ∷ form_insert ∷ lanes_text ∷ lanes_insert ∷ [] ∷ queue_b_text ∷ lanes_b_text ∷ lanes_b_insert ∷ form_update ∷ []
-
-abbrev pub IsMaking : StoreKind → List ℕ → Type 0
-IsMaking kind sql = (k : ℕ) × (slice_get (making_of kind) k ≡ Some sql)

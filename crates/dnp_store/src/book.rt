@@ -30,8 +30,8 @@ pub struct ControlBook<S: Alter> {
     pub(crate) first: usize,
     /// Whether the book has answered Device.
     pub(crate) stopped: bool,
-    /// Whether the database had no other tables as the book began: what a statement means is known for no
-    /// others.
+    /// Whether the database's first tables were the book's own as it began, and the others leave them alone: what
+    /// a statement means is known for no others.
     pub(crate) owned: bool,
 }
 

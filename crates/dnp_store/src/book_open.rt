@@ -1,6 +1,6 @@
 //! How a book of controls in a SQL database begins, and what stands at its end.
 
-ghost use Rattle.std.specs.Prelude.{◌≡◌, ◌≢◌, ◌&&◌, ◌↔◌, ◌≤◌, [], false, not, All, IsTrue, IfOk, IfErr, IsErrAnd, ◌⊎◌, Err};
+ghost use Rattle.std.specs.Prelude.{◌≡◌, ◌≢◌, ◌&&◌, ◌↔◌, ◌≤◌, [], false, not, All, IsTrue, IfOk, IfErr, IsErrAnd, OnOk, ◌⊎◌, Err};
 ghost use Rattle.sqlite.specs.Held.{Held, state};
 ghost use Rattle.sqlite.specs.State.{HasCleanDisk, Survives};
 ghost use Rattle.sqlite.specs.Steps.{IsEmpty, over_memory};
@@ -11,8 +11,9 @@ ghost use Rattle.dnp_store.specs.steps.BookShown.{IsBookFound};
 ghost use Rattle.dnp_store.specs.Added.{LeavesMade, MakeAll, making_tables};
 ghost use Rattle.dnp_store.specs.BookKept.{IsHonestBook, LeavesBook, BookStands};
 ghost use Rattle.dnp_store.specs.BookTables.{FitsControl, HoldsBook, IsBook, IsStorable};
-ghost use Rattle.dnp_store.specs.Refusals.{IsLost, IsTaken};
+ghost use Rattle.dnp_store.specs.Refusals.{IsNumbered, IsTaken, LosesMaking};
 ghost use Rattle.dnp_store.specs.Schemas.{made_book};
+ghost use Rattle.dnp_store.specs.Showing.{HasEntries};
 ghost use Rattle.dnp_store.specs.Tables.{no_schema};
 
 use crate::book::ControlBook;
@@ -23,8 +24,8 @@ use dnp_controls::Entry;
 use sqlite::{Alter, Connection, MemStore};
 use std::alloc::Global;
 
-/// What the database holds of a book, where the connection serves still, and whether nothing else stands there. The entries
-/// come into a list, which is empty.
+/// What the database holds of a book, where the connection serves still, and whether its tables come first and are left
+/// alone by the others. The entries come into a list, which is empty.
 fn find_book<S: Alter>(
     conn: &mut Connection<S>,
     entries: &mut Vec<Entry>,
@@ -32,6 +33,8 @@ fn find_book<S: Alter>(
     requires { entries.old.items ≡ [] }
     ensures found { IsFound S.Store (λ old new found. IsTrue found.1 → IsBookFound old new entries.new.items found.0.last_id) conn.old conn.new result }
     ensures alone { HasCleanDisk (state S.Store conn.new) → IfOk result (λ found. (book : Ledger) → IsSoundLedger book → IsBook (state S.Store conn.old).committed book → IsTrue found.1) }
+    ensures numbered { HasCleanDisk (state S.Store conn.new) → OnOk result (IsNumbered S.Store 1 (state S.Store conn.old).committed) }
+    ensures entries { HasCleanDisk (state S.Store conn.new) → OnOk result (HasEntries S.Store entries.new.items (state S.Store conn.old).committed) }
     ensures wrong_form { HasCleanDisk (state S.Store conn.new) → IfErr result (λ fault. fault ≡ OpenFault.WrongForm → IsTrue conn.old.in_transaction
         ⊎ ((book : Ledger) → IsStorable book → IsBook (state S.Store conn.old).committed book → ⊥)) }
     ensures sound { IfOk result (λ found. IsSoundLedger (record { entries = entries.new.items; last_id = found.0.last_id }) × (found.0.last_id ≤ limits.MAX_ID)) }
@@ -65,8 +68,9 @@ impl<S: Alter> ControlBook<S> {
         ensures made { IfOk result (λ b. Survives (state S.Store conn) (state S.Store b.conn) (LeavesMade S.Store (making_tables StoreKind.Book) (λ db. HoldsBook db empty_ledger) (state S.Store conn).now)) }
         ensures left { IfErr result (λ e. Survives (state S.Store conn) (state S.Store e.1) (LeavesMade S.Store (making_tables StoreKind.Book) (λ db. HoldsBook db empty_ledger) (state S.Store conn).now)) }
         ensures handed_back { IfErr result (λ e. (e.1.in_transaction ≡ conn.in_transaction) × (e.1.step_limit ≡ conn.step_limit)) }
-        ensures device { IfErr result (λ e. HasCleanDisk (state S.Store e.1) → e.0 ≡ OpenFault.Device → IsLost S.Store StoreKind.Book conn e.1) }
-        ensures taken { IfErr result (λ e. HasCleanDisk (state S.Store e.1) → e.0 ≡ OpenFault.WrongForm → IsTrue conn.in_transaction ⊎ IsTaken S.Store StoreKind.Book conn e.1) }
+        ensures device { IfErr result (λ e. HasCleanDisk (state S.Store e.1) → e.0 ≡ OpenFault.Device → LosesMaking S.Store (making_tables StoreKind.Book) conn e.1) }
+        ensures taken { IfErr result (λ e. HasCleanDisk (state S.Store e.1) → e.0 ≡ OpenFault.WrongForm → IsTrue conn.in_transaction ⊎ IsTaken S.Store (making_tables StoreKind.Book) conn e.1) }
+        ensures current { IfErr result (λ e. e.0 ≢ OpenFault.OldForm) }
     {
         let mut conn = conn;
         match begin_tables(&mut conn, StoreKind::Book) {
@@ -105,6 +109,8 @@ impl<S: Alter> ControlBook<S> {
         ensures left { IfErr result (λ e. Survives (state S.Store conn) (state S.Store e.1) (λ _. ⊥)) }
         ensures handed_back { IfErr result (λ e. (e.1.in_transaction ≡ conn.in_transaction) × (e.1.step_limit ≡ conn.step_limit)) }
         ensures current { IfErr result (λ e. e.0 ≢ OpenFault.OldForm) }
+        ensures numbered { IfOk result (λ b. HasCleanDisk (state S.Store b.conn) → IsNumbered S.Store 1 (state S.Store conn).committed) }
+        ensures entries { IfOk result (λ b. HasCleanDisk (state S.Store b.conn) → HasEntries S.Store b.ledger.entries (state S.Store conn).committed) }
         ensures wrong_form { IfErr result (λ e. HasCleanDisk (state S.Store e.1) → e.0 ≡ OpenFault.WrongForm → IsTrue conn.in_transaction
             ⊎ ((book : Ledger) → IsStorable book → IsBook (state S.Store conn).committed book → ⊥)) }
     {
@@ -123,8 +129,9 @@ impl<S: Alter> ControlBook<S> {
         }
     }
 
-    /// Whether the database had no tables but the book's own as it began or opened. Where it had, the book works
-    /// alike, and answers by its entries in memory; of those in the database nothing is promised.
+    /// Whether the book's own tables were the first of the database as it began or opened: the others, if there are any,
+    /// came later, no foreign key of theirs names one of its own, and `sqlite_sequence` counts for it alone. Where it is
+    /// not so, the book works alike, and answers by its entries in memory; of those in the database nothing is promised.
     pub fn owns_database(&self) -> bool
         ensures { result ≡ self.now.owned }
     {
@@ -148,8 +155,9 @@ impl ControlBook<MemStore> {
     pub fn in_memory(alloc: Global) -> Result<ControlBook<MemStore>, OpenFault>
         ensures honest { IfOk result (IsHonestBook over_memory) }
         ensures empty { IfOk result (λ b. b.ledger ≡ empty_ledger) }
-        ensures device { result ≡ Err OpenFault.Device → (old new : Held MemStore) × IsEmpty (state over_memory old) × IsLost over_memory StoreKind.Book old new }
-        ensures taken { result ≡ Err OpenFault.WrongForm → (old new : Held MemStore) × IsEmpty (state over_memory old) × IsTaken over_memory StoreKind.Book old new }
+        ensures device { result ≡ Err OpenFault.Device → (old new : Held MemStore) × IsEmpty (state over_memory old) × LosesMaking over_memory (making_tables StoreKind.Book) old new }
+        ensures taken { result ≡ Err OpenFault.WrongForm → (old new : Held MemStore) × IsEmpty (state over_memory old) × IsTaken over_memory (making_tables StoreKind.Book) old new }
+        ensures current { result ≢ Err OpenFault.OldForm }
     {
         let Ok(conn) = Connection::open_in_memory(alloc) else {
             return Err(OpenFault::Memory);
@@ -160,7 +168,7 @@ impl ControlBook<MemStore> {
         }
     }
 
-    /// Whether the book is honest still: it has not answered Device, and its database is its own. So what
+    /// Whether the book is honest still: it has not answered Device, and its tables are its own. So what
     /// was promised under that premise held up to this moment.
     pub fn is_well(&self) -> bool
         ensures well { IsTrue result → IsHonestBook over_memory self.now }

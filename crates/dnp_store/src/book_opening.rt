@@ -3,17 +3,22 @@
 ghost use Rattle.std.specs.Prelude.{◌≡◌, ◌≤◌, ◌↔◌, ◌⊎◌, ⊤, ℕ, false, All, IsTrue, Err, Ok, OnOk, IfErr, IfOk, List, [], codes};
 ghost use Rattle.sqlite.specs.Effect.{IsDatabase};
 ghost use Rattle.sqlite.specs.Held.{state};
+ghost use Rattle.sqlite.specs.Schema.{Schema};
 ghost use Rattle.sqlite.specs.State.{HasCleanDisk, Survives};
 ghost use Rattle.sqlite.specs.Term.{Term};
 ghost use Rattle.dnp_objects.specs.declared.limits.TheConstants as limits;
 ghost use Rattle.dnp_controls.specs.declared.book.Entry.{Entry};
 ghost use Rattle.dnp_controls.specs.Book.{IsSoundLedger, Ledger};
 ghost use Rattle.dnp_store.specs.Faults.{is_wrong};
+ghost use Rattle.dnp_store.specs.Refusals.{IsNumbered};
+ghost use Rattle.dnp_store.specs.Showing.{AreShown, HasEntries};
 ghost use Rattle.dnp_store.specs.steps.Inside.{IsInside, IsStep};
 ghost use Rattle.dnp_store.specs.steps.BookShown.{EntriesRise, FindsBook, HoldsEntries, ShowEntries};
 ghost use Rattle.dnp_store.specs.steps.Shown.{ShowIds, ShowsCount};
-ghost use Rattle.dnp_store.specs.BookTables.{FitsControl, IsBook, IsStorable, book_schema};
+ghost use Rattle.dnp_store.specs.BookTables.{FitsControl, IsBook, IsStorable, book_names, book_schema};
+ghost use Rattle.dnp_store.specs.Tables.{AreBehind};
 ghost use Rattle.dnp_store.specs.steps.Stores.{Denies, Reads};
+ghost use Rattle.dnp_store.specs.Texts.{book_select};
 
 use crate::book_decoding::{are_in_order, put_entries};
 use crate::decoding::last_used;
@@ -42,6 +47,7 @@ fn read_controls<S: Alter>(tx: &mut Transaction<'_, S>) -> Result<Vec<Row>, Erro
         → ShowEntries rows.items entries → HoldsEntries db entries)) }
     ensures shown { HasCleanDisk (state S.Store tx.new.conn.now) → IfOk result (λ rows. Reads StoreKind.Book (state S.Store tx.old.conn.now) (state S.Store tx.new.conn.now) (λ db. (book : Ledger)
         → IsSoundLedger book → HoldsEntries db book.entries → ShowEntries rows.items book.entries)) }
+    ensures answered { HasCleanDisk (state S.Store tx.new.conn.now) → IfOk result (λ rows. AreShown S.Store book_select (state S.Store tx.old.conn.now).now rows.items) }
     ensures denies { HasCleanDisk (state S.Store tx.new.conn.now) → IfErr result (λ e. Denies StoreKind.Book (state S.Store tx.old.conn.now) (Unread.Failed e) (λ _. ⊤)) }
 {
     list(
@@ -85,10 +91,12 @@ fn read_all<S: Alter>(
     ensures range { IfOk result (λ found. found.last_id ≤ limits.MAX_ID) }
     ensures sound { IfOk result (λ found. IsSoundLedger (record { entries = entries.new.items; last_id = found.last_id })) }
     ensures fit { IfOk result (λ _. All FitsControl entries.new.items) }
-    ensures read { HasCleanDisk (state S.Store tx.new.conn.now) → IfOk result (λ found. IsTrue found.counted → (f c : List Term) → IsDatabase (state S.Store tx.old.conn.now).now
-        → (state S.Store tx.old.conn.now).now.schema ≡ book_schema f c → FindsBook (state S.Store tx.old.conn.now).now entries.new.items found.last_id) }
+    ensures read { HasCleanDisk (state S.Store tx.new.conn.now) → IfOk result (λ found. IsTrue found.counted → (f c : List Term) (more : Schema) → AreBehind book_names more
+        → IsDatabase (state S.Store tx.old.conn.now).now → (state S.Store tx.old.conn.now).now.schema ≡ book_schema f c more → FindsBook (state S.Store tx.old.conn.now).now entries.new.items found.last_id) }
     ensures alone { HasCleanDisk (state S.Store tx.new.conn.now) → IfOk result (λ found. (book : Ledger) → IsSoundLedger book → IsDatabase (state S.Store tx.old.conn.now).now
         → IsBook (state S.Store tx.old.conn.now).now book → IsTrue found.counted) }
+    ensures numbered { HasCleanDisk (state S.Store tx.new.conn.now) → OnOk result (IsNumbered S.Store 1 (state S.Store tx.old.conn.now).now) }
+    ensures entries { HasCleanDisk (state S.Store tx.new.conn.now) → OnOk result (HasEntries S.Store entries.new.items (state S.Store tx.old.conn.now).now) }
     ensures denies { HasCleanDisk (state S.Store tx.new.conn.now) → IfErr result (λ unread. IsTrue (is_wrong unread) → IsTrue (state S.Store tx.old.conn.now).is_open
         × ((book : Ledger) → IsStorable book → IsDatabase (state S.Store tx.old.conn.now).now → IsBook (state S.Store tx.old.conn.now).now book → ⊥)) }
 {
@@ -109,7 +117,7 @@ fn owned_by(found: Result<FoundBook, Unread>, ours: bool) -> Result<(FoundBook, 
     }
 }
 
-/// What the tables hold, and whether the database has the tables of a book and nothing else. The entries come
+/// What the tables hold, and whether a book's tables come first and are left alone by the others. The entries come
 /// into a list, which is empty.
 pub(crate) fn read_book<S: Alter>(
     conn: &mut Connection<S>,
@@ -123,6 +131,8 @@ pub(crate) fn read_book<S: Alter>(
     ensures fit { IfOk result (λ _. All FitsControl entries.new.items) }
     ensures read { HasCleanDisk (state S.Store conn.new) → IfOk result (λ found. IsTrue found.1 → FindsBook (state S.Store conn.old).committed entries.new.items found.0.last_id) }
     ensures alone { HasCleanDisk (state S.Store conn.new) → IfOk result (λ found. (book : Ledger) → IsSoundLedger book → IsBook (state S.Store conn.old).committed book → IsTrue found.1) }
+    ensures numbered { HasCleanDisk (state S.Store conn.new) → OnOk result (IsNumbered S.Store 1 (state S.Store conn.old).committed) }
+    ensures entries { HasCleanDisk (state S.Store conn.new) → OnOk result (HasEntries S.Store entries.new.items (state S.Store conn.old).committed) }
     ensures denies { HasCleanDisk (state S.Store conn.new) → IfErr result (λ unread. IsTrue (is_wrong unread) → (book : Ledger) → IsStorable book → IsBook (state S.Store conn.old).committed book → ⊥) }
     ensures same { HasCleanDisk (state S.Store conn.new) → IsTrue (state S.Store conn.new).is_open
         → IsTrue (state S.Store conn.old).is_open × ((state S.Store conn.new).committed ≡ (state S.Store conn.old).committed) }

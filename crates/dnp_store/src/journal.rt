@@ -1,6 +1,6 @@
 //! A journal in a SQL database.
 
-ghost use Rattle.std.specs.Prelude.{◌≡◌, ◌≢◌, ◌≤◌, ◌+◌, false, true, IsTrue, [], All, IfOk, IfErr, OnOk, OnErr, IsOkAnd, length, ◌⊎◌};
+ghost use Rattle.std.specs.Prelude.{◌≡◌, ◌≢◌, ◌<◌, ◌≤◌, ◌+◌, min, false, true, IsTrue, [], All, IfOk, IfErr, OnOk, OnErr, IsOkAnd, length, ◌⊎◌};
 ghost use Rattle.sqlite.specs.Held.{state};
 ghost use Rattle.sqlite.specs.State.{HasCleanDisk};
 ghost use Rattle.dnp_objects.specs.Events.{IsEvent};
@@ -8,6 +8,7 @@ ghost use Rattle.dnp_eventbuf.specs.Archive.{IsSoundArchive, passes_limit, rows_
 ghost use Rattle.dnp_eventbuf.specs.SinkCalls.{IsJournalCall, IsSinkCall};
 ghost use Rattle.dnp_store.specs.JournalKept.{IsHonestJournal, LeavesJournal, LeavesEitherJournal, held_archive};
 ghost use Rattle.dnp_store.specs.Refusals.{IsLost, LosesReading};
+ghost use Rattle.dnp_store.specs.Showing.{HasRows};
 
 use crate::fault::{fault, is_lost};
 use crate::journal_reading::{is_lost_unread, read_over};
@@ -30,8 +31,8 @@ pub struct Journal<S: Alter> {
     pub(crate) count: u64,
     /// Whether the journal has answered Device.
     pub(crate) stopped: bool,
-    /// Whether the database had no other tables as the journal began: what a statement means is known for
-    /// no others.
+    /// Whether the database's first tables were the journal's own as it began, and the others leave them alone:
+    /// what a statement means is known for no others.
     pub(crate) owned: bool,
 }
 
@@ -151,6 +152,7 @@ impl<S: Alter> JournalStore for Journal<S> {
         ensures call { IsJournalCall (IsHonestJournal S.Store) (λ j. j.stopped) (held_archive S.Store) self.old self.new result }
         ensures rows { IsHonestJournal S.Store self.new → IfOk result (λ rows. rows.items ≡ rows_over (held_archive S.Store self.old) from most) }
         ensures same { IsHonestJournal S.Store self.new → OnOk result (held_archive S.Store self.new ≡ held_archive S.Store self.old) }
+        ensures shown { HasCleanDisk (state S.Store self.new.conn) → from < self.old.last_id → IfOk result (λ rows. HasRows S.Store from (min most self.old.count) rows.items (state S.Store self.old.conn).now) }
         ensures kept { (self.new.last_id ≡ self.old.last_id) × (self.new.count ≡ self.old.count) }
         ensures owned { self.new.owned ≡ self.old.owned }
         ensures limit { self.new.conn.step_limit ≡ self.old.conn.step_limit }

@@ -3,15 +3,19 @@
 ghost use Rattle.std.specs.Prelude.{◌≡◌, ◌≤◌, ◌↔◌, ℕ, false, IsTrue, Err, Ok, OnOk, IfErr, IfOk, List, codes};
 ghost use Rattle.sqlite.specs.Effect.{IsDatabase};
 ghost use Rattle.sqlite.specs.Held.{state};
+ghost use Rattle.sqlite.specs.Schema.{Schema};
 ghost use Rattle.sqlite.specs.State.{HasCleanDisk, Survives};
 ghost use Rattle.sqlite.specs.Term.{Term};
 ghost use Rattle.dnp_objects.specs.declared.limits.TheConstants as limits;
 ghost use Rattle.dnp_eventbuf.specs.Archive.{Archive};
 ghost use Rattle.dnp_store.specs.Faults.{is_wrong};
+ghost use Rattle.dnp_store.specs.Refusals.{IsNumbered};
+ghost use Rattle.dnp_store.specs.Showing.{HasEvents};
 ghost use Rattle.dnp_store.specs.steps.Inside.{IsInside, IsStep};
 ghost use Rattle.dnp_store.specs.steps.JournalShown.{Finds};
 ghost use Rattle.dnp_store.specs.steps.Shown.{ShowsCount};
-ghost use Rattle.dnp_store.specs.JournalTables.{IsJournal, IsStorableArchive, journal_schema};
+ghost use Rattle.dnp_store.specs.JournalTables.{IsJournal, IsStorableArchive, journal_names, journal_schema};
+ghost use Rattle.dnp_store.specs.Tables.{AreBehind};
 
 use crate::decoding::last_noted;
 use crate::fault::Unread;
@@ -70,10 +74,12 @@ fn read_all<S: Alter>(tx: &mut Transaction<'_, S>, alloc: Global) -> Result<Foun
     ensures step { IsStep S.Store tx.old.conn tx.new.conn result }
     ensures open { HasCleanDisk (state S.Store tx.new.conn.now) → OnOk result (IsTrue (state S.Store tx.old.conn.now).is_open) }
     ensures range { IfOk result (λ found. (found.last_id ≤ limits.MAX_ID) × (found.count ≤ found.last_id)) }
-    ensures read { HasCleanDisk (state S.Store tx.new.conn.now) → IfOk result (λ found. IsTrue found.counted → (f j : List Term) → IsDatabase (state S.Store tx.old.conn.now).now
-        → (state S.Store tx.old.conn.now).now.schema ≡ journal_schema f j → Finds (state S.Store tx.old.conn.now).now found.last_id found.count) }
+    ensures read { HasCleanDisk (state S.Store tx.new.conn.now) → IfOk result (λ found. IsTrue found.counted → (f j : List Term) (more : Schema) → AreBehind journal_names more
+        → IsDatabase (state S.Store tx.old.conn.now).now → (state S.Store tx.old.conn.now).now.schema ≡ journal_schema f j more → Finds (state S.Store tx.old.conn.now).now found.last_id found.count) }
     ensures alone { HasCleanDisk (state S.Store tx.new.conn.now) → IfOk result (λ found. (a : Archive) → IsDatabase (state S.Store tx.old.conn.now).now
         → IsJournal (state S.Store tx.old.conn.now).now a → IsTrue found.counted) }
+    ensures numbered { HasCleanDisk (state S.Store tx.new.conn.now) → OnOk result (IsNumbered S.Store 1 (state S.Store tx.old.conn.now).now) }
+    ensures events { HasCleanDisk (state S.Store tx.new.conn.now) → IfOk result (λ found. HasEvents S.Store found.count (state S.Store tx.old.conn.now).now) }
     ensures denies { HasCleanDisk (state S.Store tx.new.conn.now) → IfErr result (λ unread. IsTrue (is_wrong unread) → IsTrue (state S.Store tx.old.conn.now).is_open
         × ((a : Archive) → IsStorableArchive a → IsDatabase (state S.Store tx.old.conn.now).now → IsJournal (state S.Store tx.old.conn.now).now a → ⊥)) }
 {
@@ -82,7 +88,7 @@ fn read_all<S: Alter>(tx: &mut Transaction<'_, S>, alloc: Global) -> Result<Foun
     found_in(&counts, logged)
 }
 
-/// What the tables hold, and whether the database has the tables of a journal and nothing else.
+/// What the tables hold, and whether a journal's tables come first and are left alone by the others.
 pub(crate) fn read_journal<S: Alter>(
     conn: &mut Connection<S>,
     alloc: Global,
@@ -92,6 +98,8 @@ pub(crate) fn read_journal<S: Alter>(
     ensures range { IfOk result (λ found. (found.0.last_id ≤ limits.MAX_ID) × (found.0.count ≤ found.0.last_id)) }
     ensures read { HasCleanDisk (state S.Store conn.new) → IfOk result (λ found. IsTrue found.1 → Finds (state S.Store conn.old).committed found.0.last_id found.0.count) }
     ensures alone { HasCleanDisk (state S.Store conn.new) → IfOk result (λ found. (a : Archive) → IsJournal (state S.Store conn.old).committed a → IsTrue found.1) }
+    ensures numbered { HasCleanDisk (state S.Store conn.new) → OnOk result (IsNumbered S.Store 1 (state S.Store conn.old).committed) }
+    ensures events { HasCleanDisk (state S.Store conn.new) → IfOk result (λ found. HasEvents S.Store found.0.count (state S.Store conn.old).committed) }
     ensures denies { HasCleanDisk (state S.Store conn.new) → IfErr result (λ unread. IsTrue (is_wrong unread) → (a : Archive) → IsStorableArchive a → IsJournal (state S.Store conn.old).committed a → ⊥) }
     ensures same { HasCleanDisk (state S.Store conn.new) → IsTrue (state S.Store conn.new).is_open
         → IsTrue (state S.Store conn.old).is_open × ((state S.Store conn.new).committed ≡ (state S.Store conn.old).committed) }

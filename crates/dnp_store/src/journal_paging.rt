@@ -10,6 +10,8 @@ ghost use Rattle.dnp_objects.specs.declared.limits.TheConstants as limits;
 ghost use Rattle.dnp_eventbuf.specs.Archive.{Archive};
 ghost use Rattle.dnp_store.specs.JournalTables.{HoldsArchive};
 ghost use Rattle.dnp_eventbuf.specs.declared.numbered.Numbered.{Numbered};
+ghost use Rattle.dnp_store.specs.Showing.{AreShown, HasEvents};
+ghost use Rattle.dnp_store.specs.Texts.{journal_count};
 ghost use Rattle.dnp_store.specs.steps.Inside.{IsInside, IsStep};
 ghost use Rattle.dnp_store.specs.steps.JournalShown.{AreInOrder, Gathers, HasCount, LogsMany, ShowEvents};
 ghost use Rattle.dnp_store.specs.steps.JournalPages.{AreSeen, HoldsStorable, IsPage, ShowFirst, ShowsNumber, ShowsPage};
@@ -45,6 +47,7 @@ fn read_page<S: Alter>(tx: &mut Transaction<'_, S>, from: u64) -> Result<Vec<Row
         → ShowEvents rows.items events → AreInOrder from last events → from ≤ last → Gathers (db 1) from count → Gathers (db 1) last (count + length events))) }
     ensures shown { HasCleanDisk (state S.Store tx.new.conn.now) → IfOk result (λ rows. Reads StoreKind.Journal (state S.Store tx.old.conn.now) (state S.Store tx.new.conn.now)
         (λ db. (a : Archive) → HoldsArchive db a → ShowFirst rows.items a from)) }
+    ensures same { HasCleanDisk (state S.Store tx.new.conn.now) → OnOk result ((state S.Store tx.new.conn.now).now ≡ (state S.Store tx.old.conn.now).now) }
     ensures denies { HasCleanDisk (state S.Store tx.new.conn.now) → IfErr result (λ e. Denies StoreKind.Journal (state S.Store tx.old.conn.now) (Unread.Failed e) (λ _. ⊤)) }
 {
     let from = from as i64;
@@ -89,6 +92,7 @@ fn read_more<S: Alter>(
         (λ db. (a : Archive) → HoldsArchive db a → AreSeen a so_far.last so_far.count → AreSeen a more.last more.count)) }
     ensures end { HasCleanDisk (state S.Store tx.new.conn.now) → IfOk result (λ more. Reads StoreKind.Journal (state S.Store tx.old.conn.now) (state S.Store tx.new.conn.now)
         (λ db. (a : Archive) → HoldsArchive db a → AreSeen a so_far.last so_far.count → more.count ≡ so_far.count → so_far.count ≡ length a.rows)) }
+    ensures same { HasCleanDisk (state S.Store tx.new.conn.now) → OnOk result ((state S.Store tx.new.conn.now).now ≡ (state S.Store tx.old.conn.now).now) }
     ensures denies { HasCleanDisk (state S.Store tx.new.conn.now) → IfErr result (λ unread. Denies StoreKind.Journal (state S.Store tx.old.conn.now) unread HoldsStorable) }
 {
     let rows = read_page(tx, so_far.last)?;
@@ -104,6 +108,7 @@ fn read_count<S: Alter>(tx: &mut Transaction<'_, S>) -> Result<Vec<Row>, Error>
         (λ db. (n : ℕ) → column (slice_index_or rows.items 0 []) 0 ≡ Int (pos n) → HasCount (db 1) n)) }
     ensures shown { HasCleanDisk (state S.Store tx.new.conn.now) → IfOk result (λ rows. Reads StoreKind.Journal (state S.Store tx.old.conn.now) (state S.Store tx.new.conn.now)
         (λ db. length (db 1) ≤ limits.MAX_ID → ShowsNumber rows.items (length (db 1)))) }
+    ensures answered { HasCleanDisk (state S.Store tx.new.conn.now) → IfOk result (λ rows. AreShown S.Store journal_count (state S.Store tx.old.conn.now).now rows.items) }
     ensures denies { HasCleanDisk (state S.Store tx.new.conn.now) → IfErr result (λ e. Denies StoreKind.Journal (state S.Store tx.old.conn.now) (Unread.Failed e) (λ _. ⊤)) }
 {
     list(tx, "SELECT count(*) FROM journal")
@@ -139,6 +144,7 @@ fn gather<S: Alter>(tx: &mut Transaction<'_, S>, alloc: Global) -> Result<Gather
         (λ db. Gathers (db 1) found.last found.count)) }
     ensures all { HasCleanDisk (state S.Store tx.new.conn.now) → IfOk result (λ found. Reads StoreKind.Journal (state S.Store tx.old.conn.now) (state S.Store tx.new.conn.now)
         (λ db. (a : Archive) → HoldsArchive db a → found.count ≡ length a.rows)) }
+    ensures same { HasCleanDisk (state S.Store tx.new.conn.now) → OnOk result ((state S.Store tx.new.conn.now).now ≡ (state S.Store tx.old.conn.now).now) }
     ensures denies { HasCleanDisk (state S.Store tx.new.conn.now) → IfErr result (λ unread. Denies StoreKind.Journal (state S.Store tx.old.conn.now) unread HoldsStorable) }
 {
     let mut so_far = Gathered { last: 0, count: 0 };
@@ -164,6 +170,7 @@ pub(crate) fn read_logged<S: Alter>(
         (λ db. (last : ℕ) → found.last ≤ last → LogsMany db found.count last)) }
     ensures top { HasCleanDisk (state S.Store tx.new.conn.now) → IfOk result (λ found. Reads StoreKind.Journal (state S.Store tx.old.conn.now) (state S.Store tx.new.conn.now)
         (λ db. (a : Archive) → HoldsArchive db a → found.last ≤ a.last_id)) }
+    ensures events { HasCleanDisk (state S.Store tx.new.conn.now) → IfOk result (λ found. HasEvents S.Store found.count (state S.Store tx.old.conn.now).now) }
     ensures denies { HasCleanDisk (state S.Store tx.new.conn.now) → IfErr result (λ unread. Denies StoreKind.Journal (state S.Store tx.old.conn.now) unread HoldsStorable) }
 {
     let found = gather(tx, alloc)?;

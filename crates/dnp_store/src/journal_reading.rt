@@ -1,6 +1,7 @@
 //! The events of a journal with ids over a number.
 
-ghost use Rattle.std.specs.Prelude.{◌≡◌, ◌≤◌, ◌⊎◌, false, IsTrue, OnOk, IfOk, IfErr, ℕ, List};
+ghost use Rattle.std.specs.Prelude.{◌≡◌, ◌≤◌, ◌⊎◌, false, IsTrue, OnOk, IfOk, IfErr, ℕ, List, [], ◌∷◌, pos};
+ghost use Rattle.sqlite.specs.declared.types.Value.TheVariants.{Int};
 ghost use Rattle.sqlite.specs.Held.{state};
 ghost use Rattle.sqlite.specs.Order.{Row as SqlRow};
 ghost use Rattle.sqlite.specs.State.{HasCleanDisk, Shown, Survives};
@@ -9,7 +10,8 @@ ghost use Rattle.dnp_eventbuf.specs.Archive.{Archive, rows_over};
 ghost use Rattle.dnp_store.specs.Faults.{RefusesNothing, is_out_of_memory};
 ghost use Rattle.dnp_store.specs.JournalKept.{JournalStands};
 ghost use Rattle.dnp_store.specs.Refusals.{IsRefused, IsUnread};
-ghost use Rattle.dnp_store.specs.Texts.{IsOwn};
+ghost use Rattle.dnp_store.specs.Showing.{HasRows};
+ghost use Rattle.dnp_store.specs.Texts.{IsOwn, journal_select};
 ghost use Rattle.dnp_store.specs.steps.JournalShown.{ShowOver};
 
 use crate::fault::{Unread, is_lost, loses, serves};
@@ -29,6 +31,7 @@ fn query_over<S: Alter>(conn: &mut Connection<S>, from: u64, most: u64) -> Resul
     ensures held { HasCleanDisk (state S.Store conn.new) → HasCleanDisk (state S.Store conn.old) }
     ensures refused { HasCleanDisk (state S.Store conn.new) → IfErr result (IsRefused S.Store StoreKind.Journal conn.old conn.new) }
     ensures shown { HasCleanDisk (state S.Store conn.new) → IfOk result (λ rows. (sql : List ℕ) × (params : SqlRow) × IsOwn StoreKind.Journal sql × Shown sql params (state S.Store conn.old) (state S.Store conn.new) rows.items) }
+    ensures answered { HasCleanDisk (state S.Store conn.new) → IfOk result (λ rows. Shown journal_select (Int (pos from) ∷ Int (pos most) ∷ []) (state S.Store conn.old) (state S.Store conn.new) rows.items) }
     ensures read { HasCleanDisk (state S.Store conn.new) → IfOk result (λ rows. (a : Archive) → JournalStands (state S.Store conn.old) a → ShowOver rows.items a from most) }
     ensures open { HasCleanDisk (state S.Store conn.new) → OnOk result ((a : Archive) → JournalStands (state S.Store conn.old) a → IsTrue (state S.Store conn.new).is_open) }
     ensures same { HasCleanDisk (state S.Store conn.new) → (a : Archive) → JournalStands (state S.Store conn.old) a → IsTrue (state S.Store conn.new).is_open → (state S.Store conn.new).committed ≡ (state S.Store conn.old).committed }
@@ -57,6 +60,7 @@ pub(crate) fn read_over<S: Alter>(
     ensures limit { conn.new.step_limit ≡ conn.old.step_limit }
     ensures held { HasCleanDisk (state S.Store conn.new) → HasCleanDisk (state S.Store conn.old) }
     ensures unread { HasCleanDisk (state S.Store conn.new) → IfErr result (IsUnread S.Store conn.old conn.new) }
+    ensures has { HasCleanDisk (state S.Store conn.new) → OnOk result (HasRows S.Store from most events.new.items (state S.Store conn.old).now) }
     ensures read { HasCleanDisk (state S.Store conn.new) → OnOk result ((a : Archive) → JournalStands (state S.Store conn.old) a → events.new.items ≡ rows_over a from most) }
     ensures open { HasCleanDisk (state S.Store conn.new) → OnOk result ((a : Archive) → JournalStands (state S.Store conn.old) a → IsTrue (state S.Store conn.new).is_open) }
     ensures same { HasCleanDisk (state S.Store conn.new) → (a : Archive) → JournalStands (state S.Store conn.old) a → IsTrue (state S.Store conn.new).is_open → (state S.Store conn.new).committed ≡ (state S.Store conn.old).committed }

@@ -1,10 +1,11 @@
 //! Laws of the words of `specs/`: each function does nothing, and its contract is a law.
 
-ghost use Rattle.std.specs.Prelude.{◌≡◌, ◌⊎◌, ℕ, List, Some, codes, find};
+ghost use Rattle.std.specs.Prelude.{◌≡◌, ◌≢◌, ◌⊎◌, ℕ, List, Some, codes, find};
 ghost use Rattle.sqlite.specs.Effect.{Database};
 ghost use Rattle.sqlite.specs.Tree.{Trees};
 ghost use Rattle.sqlite.specs.Table.{Table};
 ghost use Rattle.sqlite_schema.specs.Names.{same_name};
+ghost use Rattle.dnp_controls.specs.declared.book.Entry.{Entry};
 ghost use Rattle.dnp_controls.specs.Book.{Ledger, IsSoundLedger as IsSoundBook};
 ghost use Rattle.dnp_eventbuf.specs.Archive.{Archive};
 ghost use Rattle.dnp_eventbuf.specs.Sound.{IsSoundBuffer};
@@ -14,8 +15,12 @@ ghost use Rattle.dnp_store.specs.declared.store_kind.StoreKind.{StoreKind};
 ghost use Rattle.dnp_store.specs.BookTables.{HoldsBook};
 ghost use Rattle.dnp_store.specs.JournalTables.{HoldsArchive};
 ghost use Rattle.dnp_store.specs.QueueKept.{AreSound};
+ghost use Rattle.dnp_store.specs.Refusals.{IsNumbered};
+ghost use Rattle.dnp_store.specs.Showing.{HasEntries, HasEvents};
 ghost use Rattle.dnp_store.specs.PairTables.{HoldsPair, Sides};
 ghost use Rattle.dnp_store.specs.QueueTables.{HoldsBuffer};
+ghost use Rattle.dnp_store.specs.Tables.{no_schema};
+ghost use Rattle.dnp_store.specs.Undone.{Appends, Calls, Turns, Writes};
 
 use sqlite::Alter;
 
@@ -51,4 +56,20 @@ pub fn making_lists_other_tables<S: Alter>()
     ensures tables { (kind : StoreKind) (before after : Database) → MakeAll S.Store (making_tables kind) before after → ListsTables before after }
     ensures queue { (first second : List ℕ) (before after : Database) → MakeAll S.Store (making_queue first second) before after → ListsTables before after }
     ensures second { (capacities : List ℕ) (before after : Database) → MakeAll S.Store (making_second capacities) before after → ListsTables before after }
+{}
+
+/// What a writing call made of lanes, of a journal or of a book no later calls undo: they lead back to what stood before only where it
+/// changed nothing. So a step whose second call is refused after its first changed the store can't leave it as it was, as the
+/// clauses on refusals want it.
+pub fn no_call_undoes_another()
+    ensures lanes { (count : ℕ) (before between after : EventBuffer) → Writes before between → Calls Writes count between after → after ≡ before → between ≡ before }
+    ensures journal { (count : ℕ) (before between after : Archive) → Appends before between → Calls Appends count between after → after ≡ before → between ≡ before }
+    ensures book { (count : ℕ) (before between after : Ledger) → Turns before between → Calls Turns count between after → after ≡ before → between ≡ before }
+{}
+
+/// A database without tables shows no number of a form, no events and no entries: so no store opens on one.
+pub fn an_empty_database_shows_nothing<S: Alter>()
+    ensures form { (n : ℕ) (db : Database) → IsNumbered S.Store n db → db.schema ≢ no_schema }
+    ensures events { (count : ℕ) (db : Database) → HasEvents S.Store count db → db.schema ≢ no_schema }
+    ensures entries { (entries : List Entry) (db : Database) → HasEntries S.Store entries db → db.schema ≢ no_schema }
 {}

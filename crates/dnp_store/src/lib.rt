@@ -1,6 +1,7 @@
 //! Event lanes, a journal and a book of controls that outlive a power cut: stores in SQL databases.
 #![tactic(auto)]
 
+mod behind;
 mod book;
 mod book_calls;
 mod book_columns;

@@ -13,9 +13,10 @@ ghost use Rattle.dnp_store.specs.QueueKept.{AreSound, IsHonestQueue, LeavesQueue
 ghost use Rattle.dnp_store.specs.PairTables.{HoldsPair, IsPair, Sides, migrated};
 ghost use Rattle.dnp_store.specs.QueueOpens.{HoldsOne, HoldsTwo};
 ghost use Rattle.dnp_store.specs.QueueTables.{IsQueue, IsUncounted, queue_schema};
-ghost use Rattle.dnp_store.specs.Refusals.{IsLost, IsNumbered, IsTaken};
+ghost use Rattle.dnp_store.specs.Refusals.{IsNumbered, IsTaken, LosesMaking};
 ghost use Rattle.dnp_store.specs.Schemas.{made_pair};
-ghost use Rattle.dnp_store.specs.steps.Beginning.{IsMade, IsServed, IsTold};
+ghost use Rattle.dnp_store.specs.Showing.{HasOne, HasSides};
+ghost use Rattle.dnp_store.specs.steps.Beginning.{IsMade, IsServed, IsTold, TellsTaken};
 ghost use Rattle.dnp_store.specs.steps.Stores.{HasNumber, IsFresh};
 ghost use Rattle.dnp_store.specs.Tables.{no_schema};
 
@@ -133,7 +134,8 @@ pub(crate) fn told<S: Alter>(
     done: Result<(), Error>,
 ) -> Result<(), OpenFault>
     requires { conn.old.in_transaction ≡ false }
-    ensures { IsTold S.Store conn.old conn.new done result }
+    ensures told { IsTold S.Store conn.old conn.new done result }
+    ensures free { TellsTaken done result }
 {
     match done {
         Ok(()) => Ok(()),
@@ -164,7 +166,7 @@ pub(crate) fn begin_tables<S: Alter>(
     conn: &mut Connection<S>,
     kind: StoreKind,
 ) -> Result<bool, OpenFault>
-    ensures { IsMade S.Store kind (making_tables kind) IsFresh (λ s. IsTrue s.is_open × HasNumber kind s.committed) (λ owned. owned) conn.old conn.new result }
+    ensures { IsMade S.Store (making_tables kind) IsFresh (λ s. IsTrue s.is_open × HasNumber kind s.committed) (λ owned. owned) conn.old conn.new result }
 {
     if !conn.is_autocommit() {
         return Err(OpenFault::WrongForm);
@@ -203,8 +205,9 @@ impl<S: Alter> Queue<S> {
         ensures made { IfOk result (λ q. Survives (state S.Store conn) (state S.Store q.conn) (LeavesMade S.Store (making_queue first second) (λ db. HoldsPair db (record { first = empty_buffer first; second = empty_buffer second })) (state S.Store conn).now)) }
         ensures left { IfErr result (λ e. Survives (state S.Store conn) (state S.Store e.1) (LeavesMade S.Store (making_queue first second) (λ db. HoldsPair db (record { first = empty_buffer first; second = empty_buffer second })) (state S.Store conn).now)) }
         ensures handed_back { IfErr result (λ e. (e.1.in_transaction ≡ conn.in_transaction) × (e.1.step_limit ≡ conn.step_limit)) }
-        ensures device { IfErr result (λ e. HasCleanDisk (state S.Store e.1) → e.0 ≡ OpenFault.Device → IsLost S.Store StoreKind.Queue conn e.1) }
-        ensures taken { IfErr result (λ e. HasCleanDisk (state S.Store e.1) → e.0 ≡ OpenFault.WrongForm → IsTrue conn.in_transaction ⊎ IsTaken S.Store StoreKind.Queue conn e.1) }
+        ensures device { IfErr result (λ e. HasCleanDisk (state S.Store e.1) → e.0 ≡ OpenFault.Device → LosesMaking S.Store (making_queue first second) conn e.1) }
+        ensures taken { IfErr result (λ e. HasCleanDisk (state S.Store e.1) → e.0 ≡ OpenFault.WrongForm → IsTrue conn.in_transaction ⊎ IsTaken S.Store (making_queue first second) conn e.1) }
+        ensures current { IfErr result (λ e. e.0 ≢ OpenFault.OldForm) }
     {
         let mut conn = conn;
         match make_lanes(&mut conn, alloc, &first, &second) {
@@ -238,6 +241,7 @@ impl<S: Alter> Queue<S> {
         ensures handed_back { IfErr result (λ e. (e.1.in_transaction ≡ conn.in_transaction) × (e.1.step_limit ≡ conn.step_limit)) }
         ensures owned { IfOk result (λ q. HasCleanDisk (state S.Store q.conn) → (sides : Sides) → IsPair (state S.Store conn).committed sides → IsTrue q.owned) }
         ensures current { IfOk result (λ q. HasCleanDisk (state S.Store q.conn) → IsNumbered S.Store 2 (state S.Store conn).committed) }
+        ensures lanes { IfOk result (λ q. HasCleanDisk (state S.Store q.conn) → HasSides S.Store q.sides (state S.Store conn).committed) }
         ensures numbered { IfErr result (λ e. HasCleanDisk (state S.Store e.1) → e.0 ≡ OpenFault.OldForm → IsNumbered S.Store 1 (state S.Store conn).committed) }
         ensures old_form { IfErr result (λ e. HasCleanDisk (state S.Store e.1) → e.0 ≡ OpenFault.OldForm → (f q l : List Term) → (state S.Store conn).committed.schema ≡ queue_schema f q l
             → (buffer : EventBuffer) × IsUncounted (state S.Store conn).committed buffer) }
@@ -276,6 +280,8 @@ impl<S: Alter> Queue<S> {
         ensures serves { IfOk result (λ q. q.stopped ≡ false) }
         ensures current { IfErr result (λ e. e.0 ≢ OpenFault.OldForm) }
         ensures owned { IfOk result (λ q. HasCleanDisk (state S.Store q.conn) → (sides : Sides) → IsPair (state S.Store conn).committed sides → IsTrue q.owned) }
+        ensures lanes { IfOk result (λ q. HasCleanDisk (state S.Store q.conn) → HasSides S.Store q.sides (state S.Store conn).committed
+            ⊎ HasOne S.Store capacities q.sides (state S.Store conn).committed) }
         ensures owned_old { IfOk result (λ q. HasCleanDisk (state S.Store q.conn) → (buffer : EventBuffer) → IsQueue (state S.Store conn).committed buffer → IsTrue q.owned) }
         ensures migrated { IfOk result (λ q. HasCleanDisk (state S.Store q.conn) → IsTrue q.owned → (buffer : EventBuffer) → IsSoundBuffer buffer → IsQueue (state S.Store conn).committed buffer → q.sides ≡ migrated buffer capacities) }
         ensures kept { IfOk result (λ q. HasCleanDisk (state S.Store q.conn) → IsTrue q.owned → (sides : Sides) → AreSound sides → IsPair (state S.Store conn).committed sides → q.sides ≡ sides) }
@@ -313,8 +319,9 @@ impl<S: Alter> Queue<S> {
         !self.stopped
     }
 
-    /// Whether the database had no tables but the queue's own as it began or opened. Where it had, the queue works
-    /// alike, and answers by its rows in memory; of those in the database nothing is promised.
+    /// Whether the queue's own tables were the first of the database as it began or opened: the others, if there are any,
+    /// came later, no foreign key of theirs names one of its own, and `sqlite_sequence` counts for it alone. Where it is
+    /// not so, the queue works alike, and answers by its rows in memory; of those in the database nothing is promised.
     pub fn owns_database(&self) -> bool
         ensures { result ≡ self.now.owned }
     {
@@ -335,8 +342,9 @@ impl Queue<MemStore> {
         requires second { All (λ capacity. (1 ≤ capacity) × (capacity ≤ MAX_CAPACITY)) second }
         ensures honest { IfOk result (IsHonestQueue over_memory) }
         ensures empty { IfOk result (λ q. q.sides ≡ record { first = empty_buffer first; second = empty_buffer second }) }
-        ensures device { result ≡ Err OpenFault.Device → (old new : Held MemStore) × IsEmpty (state over_memory old) × IsLost over_memory StoreKind.Queue old new }
-        ensures taken { result ≡ Err OpenFault.WrongForm → (old new : Held MemStore) × IsEmpty (state over_memory old) × IsTaken over_memory StoreKind.Queue old new }
+        ensures device { result ≡ Err OpenFault.Device → (old new : Held MemStore) × IsEmpty (state over_memory old) × LosesMaking over_memory (making_queue first second) old new }
+        ensures taken { result ≡ Err OpenFault.WrongForm → (old new : Held MemStore) × IsEmpty (state over_memory old) × IsTaken over_memory (making_queue first second) old new }
+        ensures current { result ≢ Err OpenFault.OldForm }
     {
         let Ok(conn) = Connection::open_in_memory(alloc) else {
             return Err(OpenFault::Memory);
@@ -347,7 +355,7 @@ impl Queue<MemStore> {
         }
     }
 
-    /// Whether the queue is honest still: it has not answered Device, and its database is its own. So what
+    /// Whether the queue is honest still: it has not answered Device, and its tables are its own. So what
     /// was promised under that premise held up to this moment.
     pub fn is_well(&self) -> bool
         ensures well { IsTrue result → IsHonestQueue over_memory self.now }

@@ -34,8 +34,8 @@ pub struct Queue<S: Alter> {
     pub(crate) second: PlainLanes,
     /// Whether the queue has answered Device.
     pub(crate) stopped: bool,
-    /// Whether the database had no other tables as the queue began: what a statement means is known for
-    /// no others.
+    /// Whether the database's first tables were the queue's own as it began, and the others leave them alone: what
+    /// a statement means is known for no others.
     pub(crate) owned: bool,
 }
 

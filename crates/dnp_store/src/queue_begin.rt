@@ -11,7 +11,7 @@ ghost use Rattle.dnp_store.specs.QueueOpens.{HoldsOne, HoldsTwo};
 ghost use Rattle.dnp_store.specs.steps.Beginning.{AreFound, AreMade, AreMigrated};
 ghost use Rattle.dnp_store.specs.steps.Seconds.{Opens, has_second_name};
 ghost use Rattle.dnp_store.specs.Refusals.{IsNumbered};
-ghost use Rattle.dnp_store.specs.steps.Stored.{IsOwned, IsStored, number_of};
+ghost use Rattle.dnp_store.specs.steps.Stored.{AreRead, IsOwned, IsStored, number_of};
 
 use crate::open::{OpenFault, is_bare, served, told, written};
 use crate::queue_opening::{Stored, read_stored};
@@ -69,6 +69,7 @@ fn find_stored<S: Alter>(conn: &mut Connection<S>, alloc: Global) -> Result<Stor
     ensures read { HasCleanDisk (state S.Store conn.new) → IfOk result (IsStored (state S.Store conn.old).committed) }
     ensures owned { HasCleanDisk (state S.Store conn.new) → IfOk result (IsOwned (state S.Store conn.old).committed) }
     ensures numbered { HasCleanDisk (state S.Store conn.new) → IfOk result (λ stored. IsNumbered S.Store (number_of stored) (state S.Store conn.old).committed) }
+    ensures has { HasCleanDisk (state S.Store conn.new) → IfOk result (AreRead S.Store (state S.Store conn.old).committed) }
     ensures open { HasCleanDisk (state S.Store conn.new) → OnOk result (IsTrue (state S.Store conn.new).is_open) }
     ensures wrong_form { HasCleanDisk (state S.Store conn.new) → result ≡ Err OpenFault.WrongForm
         → HoldsTwo (state S.Store conn.old).committed ⊎ HoldsOne (state S.Store conn.old).committed → ⊥ }
@@ -124,7 +125,7 @@ fn second_made<S: Alter>(
     make_second_tables(conn, capacities)
 }
 
-/// The lanes for both centres that the database holds, and whether nothing else stands there.
+/// The lanes for both centres that the database holds, and whether their tables come first and are left alone by the others.
 pub(crate) fn open_lanes<S: Alter>(
     conn: &mut Connection<S>,
     alloc: Global,

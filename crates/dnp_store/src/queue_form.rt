@@ -1,14 +1,16 @@
 //! Whether a database has the tables of a queue.
 
-ghost use Rattle.std.specs.Prelude.{◌≡◌, IsTrue, true, false, List, [], ◌∷◌, None, Some, if◌then◌else◌, length, map, take, drop};
+ghost use Rattle.std.specs.Prelude.{◌≡◌, ◌≤◌, ◌++◌, IsTrue, true, false, List, [], ◌∷◌, None, Some, if◌then◌else◌, length, map, drop};
 ghost use Rattle.sqlite.specs.Held.{state};
 ghost use Rattle.sqlite.specs.Kind.TheVariants.{Integer, Any};
 ghost use Rattle.sqlite.specs.State.{IsLive};
-ghost use Rattle.dnp_store.specs.PairTables.{lanes_b_with, pair_schema, queue_b_with};
+ghost use Rattle.dnp_store.specs.PairTables.{lanes_b_with, pair_names, pair_schema, queue_b_with};
 ghost use Rattle.dnp_store.specs.QueueTables.{lanes_columns, lanes_with, queue_columns, queue_schema, queue_with};
-ghost use Rattle.dnp_store.specs.steps.Pairs.{checks_among};
-ghost use Rattle.dnp_store.specs.Tables.{column_of, table_of, form_with, sequence, checks_at};
+ghost use Rattle.dnp_store.specs.steps.Pairs.{checks_among, six_tables};
+ghost use Rattle.dnp_store.specs.Tables.{AreBehind, after_tables, checks_at, column_of, form_with, sequence, table_of};
 
+use crate::behind::are_behind;
+use crate::store_kind::StoreKind;
 use sqlite::{Alter, Connection};
 use sqlite_schema::schema::{Column, Kind, Stamps, Table};
 use sqlite_value::keys::Collation;
@@ -148,11 +150,11 @@ fn are_tables(tables: &[Table]) -> bool
         && is_lanes(&tables[3], "lanes", 3)
 }
 
-/// Whether the first four of six tables are those of a queue's first centre.
+/// Whether the first four of six tables or more are those of a queue's first centre.
 fn are_first_tables(tables: &[Table]) -> bool
-    requires { length tables.now ≡ 6 }
-    ensures form { IsTrue result → take 4 tables.now ≡ form_with (checks_at tables.now 0) ∷ queue_with (checks_at tables.now 1) ∷ sequence ∷ lanes_with (checks_at tables.now 3) ∷ [] }
-    ensures found { take 4 tables.now ≡ form_with (checks_at tables.now 0) ∷ queue_with (checks_at tables.now 1) ∷ sequence ∷ lanes_with (checks_at tables.now 3) ∷ [] → IsTrue result }
+    requires { 6 ≤ length tables.now }
+    ensures form { IsTrue result → tables.now ≡ form_with (checks_at tables.now 0) ∷ queue_with (checks_at tables.now 1) ∷ sequence ∷ lanes_with (checks_at tables.now 3) ∷ drop 4 tables.now }
+    ensures found { tables.now ≡ form_with (checks_at tables.now 0) ∷ queue_with (checks_at tables.now 1) ∷ sequence ∷ lanes_with (checks_at tables.now 3) ∷ drop 4 tables.now → IsTrue result }
 {
     is_form(&tables[0])
         && is_queue(&tables[1], "queue", 1)
@@ -160,21 +162,22 @@ fn are_first_tables(tables: &[Table]) -> bool
         && is_lanes(&tables[3], "lanes", 3)
 }
 
-/// Whether the last two of six tables are those of its second centre.
+/// Whether the two after them are those of its second centre.
 fn are_last_tables(tables: &[Table]) -> bool
-    requires { length tables.now ≡ 6 }
-    ensures form { IsTrue result → drop 4 tables.now ≡ queue_b_with (checks_at tables.now 4) ∷ lanes_b_with (checks_at tables.now 5) ∷ [] }
-    ensures found { drop 4 tables.now ≡ queue_b_with (checks_at tables.now 4) ∷ lanes_b_with (checks_at tables.now 5) ∷ [] → IsTrue result }
+    requires { 6 ≤ length tables.now }
+    ensures form { IsTrue result → drop 4 tables.now ≡ queue_b_with (checks_at tables.now 4) ∷ lanes_b_with (checks_at tables.now 5) ∷ drop 6 tables.now }
+    ensures found { drop 4 tables.now ≡ queue_b_with (checks_at tables.now 4) ∷ lanes_b_with (checks_at tables.now 5) ∷ drop 6 tables.now → IsTrue result }
 {
     is_queue(&tables[4], "queue_b", 4) && is_lanes(&tables[5], "lanes_b", 5)
 }
 
-/// Whether the tables are those of a queue for two centres.
+/// Whether the first tables are those of a queue for two centres.
 fn are_pair_tables(tables: &[Table]) -> bool
-    ensures form { IsTrue result → tables.now ≡ (pair_schema (checks_among tables.now)).tables }
-    ensures found { tables.now ≡ (pair_schema (checks_among tables.now)).tables → IsTrue result }
+    ensures many { IsTrue result → 6 ≤ length tables.now }
+    ensures form { IsTrue result → tables.now ≡ six_tables tables.now ++ drop 6 tables.now }
+    ensures found { tables.now ≡ six_tables tables.now ++ drop 6 tables.now → IsTrue result }
 {
-    tables.len() == 6 && are_first_tables(tables) && are_last_tables(tables)
+    tables.len() >= 6 && are_first_tables(tables) && are_last_tables(tables)
 }
 
 /// Whether the database has the tables of a queue for one centre, and no others.
@@ -189,14 +192,14 @@ pub(crate) fn is_of_queue<S: Alter>(conn: &Connection<S>) -> bool
     are_tables(schema.tables.as_slice()) && schema.indexes.is_empty() && schema.views.is_empty()
 }
 
-/// Whether the database has the tables of a queue for two centres, and no others.
+/// Whether the database has the tables of a queue for two centres first, and the others came after them and leave them alone.
 pub(crate) fn is_of_pair<S: Alter>(conn: &Connection<S>) -> bool
     ensures live { IsLive (state S.Store conn.now) }
-    ensures schema { IsTrue result → (state S.Store conn.now).now.schema ≡ pair_schema (checks_among (state S.Store conn.now).now.schema.tables) }
-    ensures found { (state S.Store conn.now).now.schema ≡ pair_schema (checks_among (state S.Store conn.now).now.schema.tables) → IsTrue result }
+    ensures schema { IsTrue result → (state S.Store conn.now).now.schema ≡ pair_schema (checks_among (state S.Store conn.now).now.schema) }
+    ensures behind { IsTrue result → AreBehind pair_names (after_tables 6 (state S.Store conn.now).now.schema) }
+    ensures found { (state S.Store conn.now).now.schema ≡ pair_schema (checks_among (state S.Store conn.now).now.schema)
+        → AreBehind pair_names (after_tables 6 (state S.Store conn.now).now.schema) → IsTrue result }
 {
-    let schema = conn.schema();
-    are_pair_tables(schema.tables.as_slice())
-        && schema.indexes.is_empty()
-        && schema.views.is_empty()
+    let tables = conn.schema().tables.as_slice();
+    are_pair_tables(tables) && are_behind(&tables[6..], StoreKind::Queue)
 }

@@ -8,7 +8,7 @@ ghost use Rattle.dnp_store.specs.QueueOpens.{HoldsOne, HoldsTwo};
 ghost use Rattle.dnp_store.specs.steps.Inside.{IsInside, IsStep};
 ghost use Rattle.dnp_store.specs.steps.QueueDenied.{DeniesQueue};
 ghost use Rattle.dnp_store.specs.Refusals.{IsNumbered};
-ghost use Rattle.dnp_store.specs.steps.Stored.{AreCounted, IsOwned, IsShown, IsStored, number_of, owned_by};
+ghost use Rattle.dnp_store.specs.steps.Stored.{AreCounted, AreRead, IsOwned, IsShown, IsStored, number_of, owned_by};
 
 use crate::fault::Unread;
 use crate::queue_form::{is_of_pair, is_of_queue};
@@ -31,7 +31,7 @@ pub(crate) fn both(one: bool, other: bool) -> bool
 pub(crate) enum Stored {
     /// The lanes of a queue for one centre, and whether nothing else stands there.
     One(PlainLanes, bool),
-    /// The lanes of a queue for two centres, and whether nothing else stands there.
+    /// The lanes of a queue for two centres, and whether its tables come first and are left alone by the others.
     Pair(PlainLanes, PlainLanes, bool),
 }
 
@@ -43,6 +43,7 @@ fn read_numbered<S: Alter>(tx: &mut Transaction<'_, S>, alloc: Global) -> Result
     ensures read { HasCleanDisk (state S.Store tx.new.conn.now) → IfOk result (IsShown (state S.Store tx.old.conn.now).now) }
     ensures counted { HasCleanDisk (state S.Store tx.new.conn.now) → IfOk result (AreCounted (state S.Store tx.old.conn.now).now) }
     ensures numbered { HasCleanDisk (state S.Store tx.new.conn.now) → IfOk result (λ stored. IsNumbered S.Store (number_of stored) (state S.Store tx.old.conn.now).now) }
+    ensures has { HasCleanDisk (state S.Store tx.new.conn.now) → IfOk result (AreRead S.Store (state S.Store tx.old.conn.now).now) }
     ensures denies { HasCleanDisk (state S.Store tx.new.conn.now) → IfErr result (DeniesQueue (state S.Store tx.old.conn.now)) }
 {
     match read_number(tx)? {
@@ -68,7 +69,8 @@ fn owned_by(stored: Stored, one: bool, pair: bool) -> Stored
     }
 }
 
-/// What the database of a queue holds, and whether it has the tables of such a queue and nothing else.
+/// What the database of a queue holds, and whether the tables of such a queue are its own: for one centre, where nothing
+/// else stands there; for two, where they come first and are left alone by the others.
 pub(crate) fn read_stored<S: Alter>(
     conn: &mut Connection<S>,
     alloc: Global,
@@ -78,6 +80,7 @@ pub(crate) fn read_stored<S: Alter>(
     ensures read { HasCleanDisk (state S.Store conn.new) → IfOk result (IsStored (state S.Store conn.old).committed) }
     ensures owned { HasCleanDisk (state S.Store conn.new) → IfOk result (IsOwned (state S.Store conn.old).committed) }
     ensures numbered { HasCleanDisk (state S.Store conn.new) → IfOk result (λ stored. IsNumbered S.Store (number_of stored) (state S.Store conn.old).committed) }
+    ensures has { HasCleanDisk (state S.Store conn.new) → IfOk result (AreRead S.Store (state S.Store conn.old).committed) }
     ensures denies { HasCleanDisk (state S.Store conn.new) → IfErr result (λ unread. IsTrue (is_wrong unread)
         → HoldsTwo (state S.Store conn.old).committed ⊎ HoldsOne (state S.Store conn.old).committed → ⊥) }
     ensures same { HasCleanDisk (state S.Store conn.new) → IsTrue (state S.Store conn.new).is_open

@@ -13,7 +13,8 @@ ghost use Rattle.dnp_store.specs.QueueOpens.{MayStand};
 ghost use Rattle.dnp_store.specs.QueueTables.{Figures as FiguresValue, figures_rows};
 ghost use Rattle.dnp_store.specs.steps.Pairs.{HasSide, HoldsAmong, ReadsSide};
 ghost use Rattle.dnp_store.specs.steps.QueueDenied.{CanStand, DeniesSide, SideStands};
-ghost use Rattle.dnp_store.specs.steps.Shown.{AreNine, PutBack, Restores, ShowIds};
+ghost use Rattle.dnp_store.specs.steps.Shown.{AreNine, PutBack, Restores, ShowIds, ShowNine};
+ghost use Rattle.dnp_store.specs.Showing.{AreShown};
 ghost use Rattle.dnp_store.specs.Texts.{lanes_select, rows_select};
 
 use crate::decoding::all_figures;
@@ -45,6 +46,8 @@ pub(crate) fn read_figures<S: Alter>(
     ensures in_range { IfOk result AreNine }
     ensures read { HasCleanDisk (state S.Store tx.new.conn.now) → IfOk result (λ figures. ReadsSide side (state S.Store tx.old.conn.now) (state S.Store tx.new.conn.now)
         (λ db. IsPermutation (figures_rows 0 figures) (db (lanes_tree side)))) }
+    ensures shown { HasCleanDisk (state S.Store tx.new.conn.now) → IfOk result (λ figures. (rows : List SqlRow) × AreShown S.Store (lanes_select side) (state S.Store tx.old.conn.now).now rows × ShowNine rows figures) }
+    ensures same { HasCleanDisk (state S.Store tx.new.conn.now) → OnOk result ((state S.Store tx.new.conn.now).now ≡ (state S.Store tx.old.conn.now).now) }
     ensures denies { HasCleanDisk (state S.Store tx.new.conn.now) → IfErr result (λ unread. DeniesSide side (state S.Store tx.old.conn.now) unread (SideStands side)) }
 {
     let rows = list(tx, lanes_query(side))?;
@@ -65,6 +68,8 @@ pub(crate) fn read_queued<S: Alter>(
         (λ db. (noting : List SqlRow) (s : EventBuffer) → HoldsAmong side db noting s → ShowIds rows.items s.last_id)) }
     ensures puts { HasCleanDisk (state S.Store tx.new.conn.now) → IfOk result (λ rows. HasSide side (state S.Store tx.old.conn.now).now.schema → (counts : List SqlRow) (s : EventBuffer) (figures : List FiguresValue) → MayStand s
         → HoldsAmong side (state S.Store tx.old.conn.now).now.trees counts s → IsPermutation (figures_rows 0 figures) ((state S.Store tx.old.conn.now).now.trees (lanes_tree side)) → CanStand figures rows.items) }
+    ensures answered { HasCleanDisk (state S.Store tx.new.conn.now) → IfOk result (λ rows. AreShown S.Store (rows_select side) (state S.Store tx.old.conn.now).now rows.items) }
+    ensures same { HasCleanDisk (state S.Store tx.new.conn.now) → OnOk result ((state S.Store tx.new.conn.now).now ≡ (state S.Store tx.old.conn.now).now) }
     ensures denies { HasCleanDisk (state S.Store tx.new.conn.now) → IfErr result (λ e. DeniesSide side (state S.Store tx.old.conn.now) (Unread.Failed e) (λ _. ⊤)) }
 {
     list(tx, rows_query(side))

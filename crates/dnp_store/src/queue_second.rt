@@ -1,12 +1,12 @@
 //! The tables for the second centre, beside those of a queue for one.
 
-ghost use Rattle.std.specs.Prelude.{◌≡◌, OnOk, List, [], map, IfErr};
+ghost use Rattle.std.specs.Prelude.{◌≡◌, ◌++◌, OnOk, List, [], map, IfErr};
 ghost use Rattle.sqlite.specs.Held.{state};
 ghost use Rattle.sqlite.specs.State.{HasCleanDisk};
 ghost use Rattle.sqlite.specs.Term.{Term};
 ghost use Rattle.dnp_eventbuf.specs.EventBuffer.{EventBuffer};
 ghost use Rattle.dnp_store.specs.Added.{MakeAll, making_lanes, making_second};
-ghost use Rattle.dnp_store.specs.Refusals.{IsRefused};
+ghost use Rattle.dnp_store.specs.Refusals.{IsStopped, RefusesOne, asking};
 ghost use Rattle.dnp_store.specs.steps.Inside.{IsInside, IsStep};
 ghost use Rattle.dnp_store.specs.steps.Making.{fresh};
 ghost use Rattle.dnp_store.specs.steps.Seconds.{HasSecond, IsSecond, has_second_name};
@@ -35,7 +35,7 @@ fn put_lanes_b<S: Alter>(
 ) -> Result<(), Error>
     requires inside { IsInside S.Store tx.old.conn }
     ensures step { IsStep S.Store tx.old.conn tx.new.conn result }
-    ensures refused { HasCleanDisk (state S.Store tx.new.conn.now) → IfErr result (IsRefused S.Store StoreKind.Queue tx.old.conn.now tx.new.conn.now) }
+    ensures refused { HasCleanDisk (state S.Store tx.new.conn.now) → IfErr result (IsStopped S.Store (RefusesOne S.Store (making_lanes lanes_b_insert 0 capacities.now)) tx.old.conn.now tx.new.conn.now) }
     ensures made { HasCleanDisk (state S.Store tx.new.conn.now) → OnOk result ((f q l : List Term) (s : EventBuffer)
         → HasSecond f q l s [] (state S.Store tx.old.conn.now).now → HasSecond f q l s (map fresh capacities.now) (state S.Store tx.new.conn.now).now) }
     ensures added { HasCleanDisk (state S.Store tx.new.conn.now) → OnOk result (MakeAll S.Store (making_lanes lanes_b_insert 0 capacities.now) (state S.Store tx.old.conn.now).now (state S.Store tx.new.conn.now).now) }
@@ -60,7 +60,7 @@ pub(crate) fn make_second<S: Alter>(
 ) -> Result<(), Error>
     requires inside { IsInside S.Store tx.old.conn }
     ensures step { IsStep S.Store tx.old.conn tx.new.conn result }
-    ensures refused { HasCleanDisk (state S.Store tx.new.conn.now) → IfErr result (IsRefused S.Store StoreKind.Queue tx.old.conn.now tx.new.conn.now) }
+    ensures refused { HasCleanDisk (state S.Store tx.new.conn.now) → IfErr result (IsStopped S.Store (RefusesOne S.Store (making_second capacities.now ++ asking)) tx.old.conn.now tx.new.conn.now) }
     ensures made { HasCleanDisk (state S.Store tx.new.conn.now) → OnOk result ((f q l : List Term) (s : EventBuffer) → (state S.Store tx.old.conn.now).now.schema ≡ queue_schema f q l
         → HoldsBuffer (state S.Store tx.old.conn.now).now.trees s → IsSecond f q l (migrated s capacities.now) (state S.Store tx.new.conn.now).now) }
     ensures added { HasCleanDisk (state S.Store tx.new.conn.now) → OnOk result (MakeAll S.Store (making_second capacities.now) (state S.Store tx.old.conn.now).now (state S.Store tx.new.conn.now).now) }

@@ -7,6 +7,7 @@ ghost use Rattle.sqlite.specs.Order.{Row as SqlRow};
 ghost use Rattle.dnp_objects.specs.declared.limits.TheConstants as limits;
 ghost use Rattle.dnp_eventbuf.specs.EventBuffer.{EventBuffer};
 ghost use Rattle.dnp_store.specs.PairTables.{CountSides, HoldsPair, HoldsSide, Sides, rows_name};
+ghost use Rattle.dnp_store.specs.Showing.{HasLanes, HasSides};
 ghost use Rattle.dnp_store.specs.Tables.{IsCounted};
 ghost use Rattle.dnp_store.specs.steps.Inside.{IsInside, IsStep};
 ghost use Rattle.dnp_store.specs.steps.Pairs.{CountsTwo, HoldsAmong, ReadsPair, ReadsSide};
@@ -71,6 +72,8 @@ fn read_side<S: Alter>(
         (λ db. (noting : List SqlRow) × HoldsAmong side db noting found.0)) }
     ensures counted { HasCleanDisk (state S.Store tx.new.conn.now) → IfOk result (λ found. ReadsSide side (state S.Store tx.old.conn.now) (state S.Store tx.new.conn.now)
         (λ db. IsNoted (rows_name side) counts.now noted → (noting : List SqlRow) (s : EventBuffer) → HoldsAmong side db noting s → s.last_id ≡ noted → IsTrue found.1)) }
+    ensures has { HasCleanDisk (state S.Store tx.new.conn.now) → IfOk result (λ found. HasLanes S.Store side found.0 (state S.Store tx.old.conn.now).now) }
+    ensures same { HasCleanDisk (state S.Store tx.new.conn.now) → OnOk result ((state S.Store tx.new.conn.now).now ≡ (state S.Store tx.old.conn.now).now) }
     ensures denies { HasCleanDisk (state S.Store tx.new.conn.now) → IfErr result (λ unread. DeniesSide side (state S.Store tx.old.conn.now) unread (SideStandsBy side counts.now)) }
 {
     let figures = read_figures(tx, side)?;
@@ -92,6 +95,7 @@ pub(crate) fn read_one<S: Alter>(
         (λ db. (noting : List SqlRow) × HoldsAmong QueueSide.First db noting found.0)) }
     ensures counted { HasCleanDisk (state S.Store tx.new.conn.now) → IfOk result (λ found. Reads StoreKind.Queue (state S.Store tx.old.conn.now) (state S.Store tx.new.conn.now)
         (λ db. (s : EventBuffer) → HoldsAmong QueueSide.First db (db 2) s → IsTrue found.1)) }
+    ensures has { HasCleanDisk (state S.Store tx.new.conn.now) → IfOk result (λ found. HasLanes S.Store QueueSide.First found.0 (state S.Store tx.old.conn.now).now) }
     ensures denies { HasCleanDisk (state S.Store tx.new.conn.now) → IfErr result (λ unread. Denies StoreKind.Queue (state S.Store tx.old.conn.now) unread OneStands) }
 {
     let counts = read_counts(tx)?;
@@ -114,6 +118,7 @@ fn read_both<S: Alter>(
         (λ db. CountsTwo (db 2) noted.0 noted.1 → HoldsSide QueueSide.First db found.0 × HoldsSide QueueSide.Second db found.1)) }
     ensures counted { HasCleanDisk (state S.Store tx.new.conn.now) → IfOk result (λ found. ReadsPair (state S.Store tx.old.conn.now) (state S.Store tx.new.conn.now)
         (λ db. IsNoted (rows_name QueueSide.First) counts.now noted.0 → IsNoted (rows_name QueueSide.Second) counts.now noted.1 → (sides : Sides) → HoldsPair db sides → sides.first.last_id ≡ noted.0 → sides.second.last_id ≡ noted.1 → IsTrue found.2)) }
+    ensures has { HasCleanDisk (state S.Store tx.new.conn.now) → IfOk result (λ found. HasSides S.Store (record { first = found.0; second = found.1 }) (state S.Store tx.old.conn.now).now) }
     ensures denies { HasCleanDisk (state S.Store tx.new.conn.now) → IfErr result (λ unread. DeniesPair (state S.Store tx.old.conn.now) unread
         (λ db. SideStandsBy QueueSide.First counts.now db × SideStandsBy QueueSide.Second counts.now db)) }
 {
@@ -134,6 +139,7 @@ pub(crate) fn read_sides<S: Alter>(
         (λ db. CountSides (db 2) × HoldsSide QueueSide.First db found.0 × HoldsSide QueueSide.Second db found.1)) }
     ensures counted { HasCleanDisk (state S.Store tx.new.conn.now) → IfOk result (λ found. ReadsPair (state S.Store tx.old.conn.now) (state S.Store tx.new.conn.now)
         (λ db. (sides : Sides) → HoldsPair db sides → IsTrue found.2)) }
+    ensures has { HasCleanDisk (state S.Store tx.new.conn.now) → IfOk result (λ found. HasSides S.Store (record { first = found.0; second = found.1 }) (state S.Store tx.old.conn.now).now) }
     ensures denies { HasCleanDisk (state S.Store tx.new.conn.now) → IfErr result (λ unread. DeniesPair (state S.Store tx.old.conn.now) unread TwoStand) }
 {
     let counts = read_counts(tx)?;

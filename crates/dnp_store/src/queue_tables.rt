@@ -5,7 +5,7 @@ ghost use Rattle.sqlite.specs.Held.{state};
 ghost use Rattle.sqlite.specs.State.{HasCleanDisk, Survives};
 ghost use Rattle.dnp_eventbuf.specs.EventBuffer.{EventBuffer, empty_buffer};
 ghost use Rattle.dnp_store.specs.Added.{AreMadeBy, LeavesMade, MakeAll, making_lanes, making_queue, making_second, making_tables};
-ghost use Rattle.dnp_store.specs.Refusals.{IsRefused};
+ghost use Rattle.dnp_store.specs.Refusals.{IsStopped, IsUnmade, RefusesOne, asking};
 ghost use Rattle.dnp_store.specs.steps.Inside.{IsInside, IsStep};
 ghost use Rattle.dnp_store.specs.QueueKept.{QueueStands};
 ghost use Rattle.dnp_store.specs.steps.Making.{HasLanes, fresh};
@@ -26,7 +26,7 @@ use sqlite::{Alter, Connection, Error, Transaction, params};
 fn put_lanes<S: Alter>(tx: &mut Transaction<'_, S>, capacities: &[u32; LANES]) -> Result<(), Error>
     requires inside { IsInside S.Store tx.old.conn }
     ensures step { IsStep S.Store tx.old.conn tx.new.conn result }
-    ensures refused { HasCleanDisk (state S.Store tx.new.conn.now) → IfErr result (IsRefused S.Store StoreKind.Queue tx.old.conn.now tx.new.conn.now) }
+    ensures refused { HasCleanDisk (state S.Store tx.new.conn.now) → IfErr result (IsStopped S.Store (RefusesOne S.Store (making_lanes lanes_insert 0 capacities.now)) tx.old.conn.now tx.new.conn.now) }
     ensures made { HasCleanDisk (state S.Store tx.new.conn.now) → OnOk result (HasLanes (state S.Store tx.old.conn.now).now [] → HasLanes (state S.Store tx.new.conn.now).now (map fresh capacities.now)) }
     ensures added { HasCleanDisk (state S.Store tx.new.conn.now) → OnOk result (MakeAll S.Store (making_lanes lanes_insert 0 capacities.now) (state S.Store tx.old.conn.now).now (state S.Store tx.new.conn.now).now) }
 {
@@ -46,7 +46,7 @@ fn put_lanes<S: Alter>(tx: &mut Transaction<'_, S>, capacities: &[u32; LANES]) -
 fn make_all<S: Alter>(tx: &mut Transaction<'_, S>, capacities: &[u32; LANES]) -> Result<(), Error>
     requires inside { IsInside S.Store tx.old.conn }
     ensures step { IsStep S.Store tx.old.conn tx.new.conn result }
-    ensures refused { HasCleanDisk (state S.Store tx.new.conn.now) → IfErr result (IsRefused S.Store StoreKind.Queue tx.old.conn.now tx.new.conn.now) }
+    ensures refused { HasCleanDisk (state S.Store tx.new.conn.now) → IfErr result (IsStopped S.Store (RefusesOne S.Store (making_tables StoreKind.Queue ++ ((lanes_text, []) ∷ making_lanes lanes_insert 0 capacities.now))) tx.old.conn.now tx.new.conn.now) }
     ensures made { HasCleanDisk (state S.Store tx.new.conn.now) → OnOk result ((state S.Store tx.old.conn.now).now.schema ≡ no_schema → HasLanes (state S.Store tx.new.conn.now).now (map fresh capacities.now)) }
     ensures added { HasCleanDisk (state S.Store tx.new.conn.now) → OnOk result (MakeAll S.Store (making_tables StoreKind.Queue ++ ((lanes_text, []) ∷ making_lanes lanes_insert 0 capacities.now)) (state S.Store tx.old.conn.now).now (state S.Store tx.new.conn.now).now) }
 {
@@ -67,7 +67,7 @@ fn make_pair<S: Alter>(
 ) -> Result<(), Error>
     requires inside { IsInside S.Store tx.old.conn }
     ensures step { IsStep S.Store tx.old.conn tx.new.conn result }
-    ensures refused { HasCleanDisk (state S.Store tx.new.conn.now) → IfErr result (IsRefused S.Store StoreKind.Queue tx.old.conn.now tx.new.conn.now) }
+    ensures refused { HasCleanDisk (state S.Store tx.new.conn.now) → IfErr result (IsStopped S.Store (RefusesOne S.Store (making_queue first.now second.now ++ asking)) tx.old.conn.now tx.new.conn.now) }
     ensures made { HasCleanDisk (state S.Store tx.new.conn.now) → OnOk result ((state S.Store tx.old.conn.now).now.schema ≡ no_schema
         → IsSecond checks_of_form (checks_of_rows StoreKind.Queue) checks_of_lanes (migrated (empty_buffer first.now) second.now) (state S.Store tx.new.conn.now).now) }
     ensures added { HasCleanDisk (state S.Store tx.new.conn.now) → OnOk result (MakeAll S.Store (making_queue first.now second.now) (state S.Store tx.old.conn.now).now (state S.Store tx.new.conn.now).now) }
@@ -87,7 +87,7 @@ pub(crate) fn write_tables<S: Alter>(
     ensures ok { HasCleanDisk (state S.Store conn.new) → (state S.Store conn.old).now.schema ≡ no_schema → OnOk result (QueueStands (state S.Store conn.new) (record { first = empty_buffer first.now; second = empty_buffer second.now })) }
     ensures schema { HasCleanDisk (state S.Store conn.new) → (state S.Store conn.old).now.schema ≡ no_schema → OnOk result ((state S.Store conn.new).committed.schema ≡ made_pair) }
     ensures err { HasCleanDisk (state S.Store conn.new) → IsTrue (state S.Store conn.new).is_open → OnErr result (IsTrue (state S.Store conn.old).is_open × ((state S.Store conn.new).committed ≡ (state S.Store conn.old).committed)) }
-    ensures refused { HasCleanDisk (state S.Store conn.new) → IfErr result (IsRefused S.Store StoreKind.Queue conn.old conn.new) }
+    ensures refused { HasCleanDisk (state S.Store conn.new) → IfErr result (IsUnmade S.Store (making_queue first.now second.now) conn.old conn.new) }
     ensures added { HasCleanDisk (state S.Store conn.new) → OnOk result (MakeAll S.Store (making_queue first.now second.now) (state S.Store conn.old).now (state S.Store conn.new).committed) }
     ensures survives { Survives (state S.Store conn.old) (state S.Store conn.new) (LeavesMade S.Store (making_queue first.now second.now)
         (λ db. HoldsPair db (record { first = empty_buffer first.now; second = empty_buffer second.now })) (state S.Store conn.old).now) }
@@ -107,7 +107,7 @@ pub(crate) fn write_second<S: Alter>(
     ensures idle { conn.new.in_transaction ≡ false }
     ensures ok { HasCleanDisk (state S.Store conn.new) → (s : EventBuffer) → Opens (state S.Store conn.old) s → OnOk result (QueueStands (state S.Store conn.new) (migrated s capacities.now)) }
     ensures err { HasCleanDisk (state S.Store conn.new) → IsTrue (state S.Store conn.new).is_open → OnErr result (IsTrue (state S.Store conn.old).is_open × ((state S.Store conn.new).committed ≡ (state S.Store conn.old).committed)) }
-    ensures refused { HasCleanDisk (state S.Store conn.new) → IfErr result (IsRefused S.Store StoreKind.Queue conn.old conn.new) }
+    ensures refused { HasCleanDisk (state S.Store conn.new) → IfErr result (IsUnmade S.Store (making_second capacities.now) conn.old conn.new) }
     ensures added { HasCleanDisk (state S.Store conn.new) → OnOk result (MakeAll S.Store (making_second capacities.now) (state S.Store conn.old).now (state S.Store conn.new).committed) }
     ensures settled { IsTrue (state S.Store conn.old).is_open → (state S.Store conn.old).now ≡ (state S.Store conn.old).committed }
     ensures survives { Survives (state S.Store conn.old) (state S.Store conn.new) (λ db. ((s : EventBuffer) → Opens (state S.Store conn.old) s → HoldsPair db (migrated s capacities.now))

@@ -2,6 +2,7 @@
 
 ghost use Rattle.std.specs.Prelude.{◌≡◌};
 ghost use Rattle.dnp_store.specs.Schemas.{rows_text};
+ghost use Rattle.dnp_store.specs.steps.Stores.{name_of};
 
 /// Which store a database is for.
 #[derive(Clone, Copy)]
@@ -12,6 +13,17 @@ pub(crate) enum StoreKind {
     Journal,
     /// A book of controls.
     Book,
+}
+
+/// The name of the table of a store's rows.
+pub(crate) fn rows_name(kind: StoreKind) -> &'static str
+    ensures { result.now ≡ name_of kind }
+{
+    match kind {
+        StoreKind::Queue => "queue",
+        StoreKind::Journal => "journal",
+        StoreKind::Book => "control",
+    }
 }
 
 /// The statement that makes the table of a store's rows.

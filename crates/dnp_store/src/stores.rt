@@ -1,14 +1,13 @@
 //! What all stores do alike inside a transaction: they look at the number of their form and at the last id
 //! used, and make the tables that each of them begins with.
 
-ghost use Rattle.std.specs.Prelude.{◌≡◌, ◌↔◌, ◌⊎◌, ⊤, ℕ, List, map, IsTrue, false, OnOk, OnErr, IfOk, [], ◌≢◌, Ok, Err, IfErr, ℤ, codes};
-ghost use Rattle.std.specs.List.{AllByRecursion};
+ghost use Rattle.std.specs.Prelude.{◌≡◌, ◌++◌, ◌↔◌, ◌⊎◌, ⊤, ℕ, List, map, IsTrue, false, OnOk, OnErr, IfOk, [], ◌≢◌, Ok, Err, IfErr, ℤ, codes};
 ghost use Rattle.sqlite.specs.Held.{state};
 ghost use Rattle.sqlite.specs.Order.{Row as SqlRow};
 ghost use Rattle.sqlite.specs.State.{Executes, ExecutesInside, FailsToQuery, HasCleanDisk, IsTooLate, Shown, Survives};
 ghost use Rattle.sqlite.specs.Values.{bound};
 ghost use Rattle.dnp_store.specs.Added.{LeavesMade, MakeAll, making_tables};
-ghost use Rattle.dnp_store.specs.Refusals.{IsNumbered, IsRefused};
+ghost use Rattle.dnp_store.specs.Refusals.{IsNumbered, IsStopped, IsUnmade, RefusesOne, asking};
 ghost use Rattle.dnp_store.specs.steps.Inside.{IsInside, IsStep};
 ghost use Rattle.dnp_store.specs.PairTables.{IsForm, rows_name};
 ghost use Rattle.dnp_objects.specs.declared.limits.TheConstants as limits;
@@ -17,10 +16,9 @@ ghost use Rattle.dnp_store.specs.QueueTables.{IsForm1};
 ghost use Rattle.dnp_store.specs.steps.Pairs.{CountsTwo, ReadsPair};
 ghost use Rattle.dnp_store.specs.steps.QueueDenied.{DeniesPair};
 ghost use Rattle.dnp_store.specs.steps.Shown.{IsMost, ShowsCount, ShowsForm1, ShowsTwo};
-ghost use Rattle.dnp_store.specs.steps.Making.{ExecuteAll};
+ghost use Rattle.dnp_store.specs.steps.Making.{ExecuteAll, bare};
 ghost use Rattle.dnp_store.specs.steps.Stores.{Denies, HasNumber, IsFresh, Reads};
 ghost use Rattle.dnp_store.specs.Tables.{IsCounted, no_schema};
-ghost use Rattle.dnp_store.specs.Texts.{IsMaking};
 
 use crate::decoding::{form1, number_of};
 use crate::fault::Unread;
@@ -68,6 +66,8 @@ pub(crate) fn read_form<S: Alter>(tx: &mut Transaction<'_, S>) -> Result<(), Unr
     ensures read { HasCleanDisk (state S.Store tx.new.conn.now) → OnOk result ((kind : StoreKind) → Reads kind (state S.Store tx.old.conn.now) (state S.Store tx.new.conn.now) (λ db. IsForm1 (db 0))) }
     ensures named { result ≢ Err Unread.Memory }
     ensures denies { HasCleanDisk (state S.Store tx.new.conn.now) → IfErr result (λ unread. (kind : StoreKind) → Denies kind (state S.Store tx.old.conn.now) unread (λ db. IsForm1 (db 0))) }
+    ensures numbered { HasCleanDisk (state S.Store tx.new.conn.now) → OnOk result (IsNumbered S.Store 1 (state S.Store tx.old.conn.now).now) }
+    ensures same { HasCleanDisk (state S.Store tx.new.conn.now) → OnOk result ((state S.Store tx.new.conn.now).now ≡ (state S.Store tx.old.conn.now).now) }
     ensures wrong { HasCleanDisk (state S.Store tx.new.conn.now) → result ≡ Err Unread.Form → (rows : List SqlRow)
         × Shown (codes "SELECT rowid, number FROM form ORDER BY rowid") [] (state S.Store tx.old.conn.now) (state S.Store tx.new.conn.now) rows × ((id : ℤ) → ShowsForm1 rows id → ⊥) }
 {
@@ -86,6 +86,7 @@ pub(crate) fn read_number<S: Alter>(tx: &mut Transaction<'_, S>) -> Result<u64, 
     ensures shown { HasCleanDisk (state S.Store tx.new.conn.now) → IfOk result (λ n. IsNumbered S.Store n (state S.Store tx.old.conn.now).now) }
     ensures read { HasCleanDisk (state S.Store tx.new.conn.now) → IfOk result (λ n. Reads StoreKind.Queue (state S.Store tx.old.conn.now) (state S.Store tx.new.conn.now) (λ db. IsForm n (db 0))) }
     ensures read_pair { HasCleanDisk (state S.Store tx.new.conn.now) → IfOk result (λ n. ReadsPair (state S.Store tx.old.conn.now) (state S.Store tx.new.conn.now) (λ db. IsForm n (db 0))) }
+    ensures same { HasCleanDisk (state S.Store tx.new.conn.now) → OnOk result ((state S.Store tx.new.conn.now).now ≡ (state S.Store tx.old.conn.now).now) }
     ensures denies { HasCleanDisk (state S.Store tx.new.conn.now) → IfErr result (λ unread. Denies StoreKind.Queue (state S.Store tx.old.conn.now) unread (λ db. (n : ℕ) × IsForm n (db 0))) }
     ensures denies_pair { HasCleanDisk (state S.Store tx.new.conn.now) → IfErr result (λ unread. DeniesPair (state S.Store tx.old.conn.now) unread (λ db. (n : ℕ) × IsForm n (db 0))) }
 {
@@ -109,6 +110,7 @@ pub(crate) fn read_counts<S: Alter>(tx: &mut Transaction<'_, S>) -> Result<Vec<R
     ensures denies_pair { HasCleanDisk (state S.Store tx.new.conn.now) → IfErr result (λ e. DeniesPair (state S.Store tx.old.conn.now) (Unread.Failed e) (λ _. ⊤)) }
     ensures in_range { HasCleanDisk (state S.Store tx.new.conn.now) → IfOk result (λ rows. Reads StoreKind.Queue (state S.Store tx.old.conn.now) (state S.Store tx.new.conn.now)
         (λ db. NotesInRange (db 2) → IsMost (rows_name QueueSide.First) rows.items limits.MAX_ID)) }
+    ensures same { HasCleanDisk (state S.Store tx.new.conn.now) → OnOk result ((state S.Store tx.new.conn.now).now ≡ (state S.Store tx.old.conn.now).now) }
 {
     list(
         tx,
@@ -123,6 +125,8 @@ pub(crate) fn read_begun<S: Alter>(tx: &mut Transaction<'_, S>) -> Result<Vec<Ro
     ensures open { HasCleanDisk (state S.Store tx.new.conn.now) → OnOk result (IsTrue (state S.Store tx.old.conn.now).is_open) }
     ensures read { HasCleanDisk (state S.Store tx.new.conn.now) → IfOk result (λ rows. (kind : StoreKind) → Reads kind (state S.Store tx.old.conn.now) (state S.Store tx.new.conn.now)
         (λ db. IsForm1 (db 0) × ((table : List ℕ) (n : ℕ) → ShowsCount table rows.items n ↔ IsCounted table (db 2) n))) }
+    ensures numbered { HasCleanDisk (state S.Store tx.new.conn.now) → OnOk result (IsNumbered S.Store 1 (state S.Store tx.old.conn.now).now) }
+    ensures same { HasCleanDisk (state S.Store tx.new.conn.now) → OnOk result ((state S.Store tx.new.conn.now).now ≡ (state S.Store tx.old.conn.now).now) }
     ensures denies { HasCleanDisk (state S.Store tx.new.conn.now) → IfErr result (λ unread. (kind : StoreKind) → Denies kind (state S.Store tx.old.conn.now) unread (λ db. IsForm1 (db 0))) }
 {
     read_form(tx)?;
@@ -133,8 +137,7 @@ pub(crate) fn read_begun<S: Alter>(tx: &mut Transaction<'_, S>) -> Result<Vec<Ro
 pub(crate) fn run_all<S: Alter>(tx: &mut Transaction<'_, S>, texts: &[&str]) -> Result<(), Error>
     requires inside { IsInside S.Store tx.old.conn }
     ensures step { IsStep S.Store tx.old.conn tx.new.conn result }
-    ensures refused { HasCleanDisk (state S.Store tx.new.conn.now) → IfErr result (λ e. (kind : StoreKind)
-        → AllByRecursion (IsMaking kind) (map (λ text. text.now) texts.now) → IsRefused S.Store kind tx.old.conn.now tx.new.conn.now e) }
+    ensures refused { HasCleanDisk (state S.Store tx.new.conn.now) → IfErr result (IsStopped S.Store (RefusesOne S.Store (map bare (map (λ text. text.now) texts.now))) tx.old.conn.now tx.new.conn.now) }
     ensures ran { HasCleanDisk (state S.Store tx.new.conn.now) → OnOk result (ExecuteAll S.Store (map (λ text. text.now) texts.now) tx.old.conn.now tx.new.conn.now) }
 {
     for text in texts {
@@ -150,7 +153,7 @@ pub(crate) fn make_tables<S: Alter>(
 ) -> Result<(), Error>
     requires inside { IsInside S.Store tx.old.conn }
     ensures step { IsStep S.Store tx.old.conn tx.new.conn result }
-    ensures refused { HasCleanDisk (state S.Store tx.new.conn.now) → IfErr result (IsRefused S.Store kind tx.old.conn.now tx.new.conn.now) }
+    ensures refused { HasCleanDisk (state S.Store tx.new.conn.now) → IfErr result (IsStopped S.Store (RefusesOne S.Store (making_tables kind)) tx.old.conn.now tx.new.conn.now) }
     ensures made { HasCleanDisk (state S.Store tx.new.conn.now) → OnOk result ((state S.Store tx.old.conn.now).now.schema ≡ no_schema → HasNumber kind (state S.Store tx.new.conn.now).now) }
     ensures added { HasCleanDisk (state S.Store tx.new.conn.now) → OnOk result (MakeAll S.Store (making_tables kind) (state S.Store tx.old.conn.now).now (state S.Store tx.new.conn.now).now) }
 {
@@ -167,7 +170,7 @@ pub(crate) fn make_tables<S: Alter>(
 pub(crate) fn keep_probe<S: Alter>(tx: &mut Transaction<'_, S>) -> Result<(), Error>
     requires inside { IsInside S.Store tx.old.conn }
     ensures step { IsStep S.Store tx.old.conn tx.new.conn result }
-    ensures refused { HasCleanDisk (state S.Store tx.new.conn.now) → IfErr result (λ e. (kind : StoreKind) → IsRefused S.Store kind tx.old.conn.now tx.new.conn.now e) }
+    ensures refused { HasCleanDisk (state S.Store tx.new.conn.now) → IfErr result (IsStopped S.Store (RefusesOne S.Store asking) tx.old.conn.now tx.new.conn.now) }
     ensures same { HasCleanDisk (state S.Store tx.new.conn.now) → OnOk result ((state S.Store tx.new.conn.now).now ≡ (state S.Store tx.old.conn.now).now) }
 {
     match tx.prepare("") {
@@ -180,7 +183,7 @@ pub(crate) fn keep_probe<S: Alter>(tx: &mut Transaction<'_, S>) -> Result<(), Er
 fn make_store<S: Alter>(tx: &mut Transaction<'_, S>, kind: StoreKind) -> Result<(), Error>
     requires inside { IsInside S.Store tx.old.conn }
     ensures step { IsStep S.Store tx.old.conn tx.new.conn result }
-    ensures refused { HasCleanDisk (state S.Store tx.new.conn.now) → IfErr result (IsRefused S.Store kind tx.old.conn.now tx.new.conn.now) }
+    ensures refused { HasCleanDisk (state S.Store tx.new.conn.now) → IfErr result (IsStopped S.Store (RefusesOne S.Store (making_tables kind ++ asking)) tx.old.conn.now tx.new.conn.now) }
     ensures made { HasCleanDisk (state S.Store tx.new.conn.now) → OnOk result ((state S.Store tx.old.conn.now).now.schema ≡ no_schema → HasNumber kind (state S.Store tx.new.conn.now).now) }
     ensures added { HasCleanDisk (state S.Store tx.new.conn.now) → OnOk result (MakeAll S.Store (making_tables kind) (state S.Store tx.old.conn.now).now (state S.Store tx.new.conn.now).now) }
 {
@@ -195,7 +198,7 @@ pub(crate) fn write_tables<S: Alter>(conn: &mut Connection<S>, kind: StoreKind) 
     ensures ok { HasCleanDisk (state S.Store conn.new) → (state S.Store conn.old).now.schema ≡ no_schema
         → OnOk result (IsTrue (state S.Store conn.new).is_open × HasNumber kind (state S.Store conn.new).committed) }
     ensures err { HasCleanDisk (state S.Store conn.new) → IsTrue (state S.Store conn.new).is_open → OnErr result (IsTrue (state S.Store conn.old).is_open × ((state S.Store conn.new).committed ≡ (state S.Store conn.old).committed)) }
-    ensures refused { HasCleanDisk (state S.Store conn.new) → IfErr result (IsRefused S.Store kind conn.old conn.new) }
+    ensures refused { HasCleanDisk (state S.Store conn.new) → IfErr result (IsUnmade S.Store (making_tables kind) conn.old conn.new) }
     ensures added { HasCleanDisk (state S.Store conn.new) → OnOk result (MakeAll S.Store (making_tables kind) (state S.Store conn.old).now (state S.Store conn.new).committed) }
     ensures survives { Survives (state S.Store conn.old) (state S.Store conn.new) (LeavesMade S.Store (making_tables kind) IsFresh (state S.Store conn.old).now) }
 {

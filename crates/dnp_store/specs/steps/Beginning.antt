@@ -12,16 +12,15 @@ use Rattle.dnp_eventbuf.specs.EventBuffer.{EventBuffer, empty_buffer}
 use Rattle.dnp_store.specs.declared.fault.Unread.{Unread}
 use Rattle.dnp_store.specs.declared.open.OpenFault.{OpenFault}
 use Rattle.dnp_store.specs.declared.open.OpenFault.TheVariants.{Device, OldForm, WrongForm}
-use Rattle.dnp_store.specs.declared.store_kind.StoreKind.{StoreKind}
-use Rattle.dnp_store.specs.declared.store_kind.StoreKind.TheVariants.{Queue}
 use Rattle.dnp_store.specs.Added.{LeavesMade, LeavesSecond, MakeAll, Statement, making_queue, making_second}
 use Rattle.dnp_store.specs.Faults.{RefusesNothing, is_memory, is_taken, is_wrong}
 use Rattle.dnp_store.specs.QueueKept.{AreSound, QueueStands}
 use Rattle.dnp_store.specs.PairTables.{HoldsPair, IsPair, Sides, migrated}
 use Rattle.dnp_store.specs.QueueOpens.{HoldsOne, HoldsTwo}
 use Rattle.dnp_store.specs.QueueTables.{IsQueue, IsUncounted, queue_schema}
-use Rattle.dnp_store.specs.Refusals.{IsLost, IsNumbered, IsTaken}
+use Rattle.dnp_store.specs.Refusals.{IsNumbered, IsTaken, LosesMaking}
 use Rattle.dnp_store.specs.Schemas.{made_pair}
+use Rattle.dnp_store.specs.Showing.{HasOne, HasSides}
 use Rattle.dnp_store.specs.Tables.{no_schema}
 
 -- ---- what answers where tables were to be made
@@ -42,6 +41,10 @@ pub record IsTold {S : Type 0} (g : Ghosts S) (old new : Held S) (done : Result 
   pub same : HasCleanDisk (state g new) → IsTrue (state g new).is_open
       → IsTrue (state g old).is_open × ((state g new).committed ≡ (state g old).committed)
   pub survives : Survives (state g old) (state g new) (λ _. ⊥)
+
+-- the name of a table is told as taken where the database said so
+abbrev pub TellsTaken : Result (Unit {0}) Error → Result (Unit {0}) OpenFault → Type 0
+TellsTaken done result = IfErr result (λ fault. fault ≡ Device → (error : Error) → done ≡ Err error → is_taken error ≡ false)
 
 -- ---- what answers where a store was read
 
@@ -74,14 +77,15 @@ pub record IsFound {S A : Type 0} (g : Ghosts S) (Finds : Database → State →
   pub found : HasCleanDisk (state g new) → IfOk result (Finds (state g old).committed (state g new))
 
 -- its tables are made by these statements, and the answer tells whether there were others
-pub record IsMade {S A : Type 0} (g : Ghosts S) (kind : StoreKind) (its : List Statement) (Fresh : Trees → Type 0) (Made : State → Type 0) (owned : A → Bool)
+pub record IsMade {S A : Type 0} (g : Ghosts S) (its : List Statement) (Fresh : Trees → Type 0) (Made : State → Type 0) (owned : A → Bool)
     (old new : Held S) (result : Result A OpenFault) : Type 0 where
   pub begins : Begins g (LeavesMade g its Fresh (state g old).now) old new result
   pub added : HasCleanDisk (state g new) → OnOk result (MakeAll g its (state g old).now (state g new).committed)
   pub alone : IfOk result (λ found. IsTrue (owned found) ↔ ((state g old).now.schema ≡ no_schema))
   pub made : HasCleanDisk (state g new) → (state g old).now.schema ≡ no_schema → OnOk result (Made (state g new))
-  pub device : HasCleanDisk (state g new) → result ≡ Err Device → IsLost g kind old new
-  pub taken : HasCleanDisk (state g new) → result ≡ Err WrongForm → IsTrue old.in_transaction ⊎ IsTaken g kind old new
+  pub device : HasCleanDisk (state g new) → result ≡ Err Device → LosesMaking g its old new
+  pub taken : HasCleanDisk (state g new) → result ≡ Err WrongForm → IsTrue old.in_transaction ⊎ IsTaken g its old new
+  pub current : IfErr result (λ fault. fault ≢ OldForm)
 
 -- ---- the lanes of a queue that begins, for the first centre and for the second, and whether the database is its own
 
@@ -101,6 +105,7 @@ pub record AreFound {S : Type 0} (g : Ghosts S) (old new : Held S) (result : Res
   pub stands : HasCleanDisk (state g new) → IfOk result (λ found. IsTrue found.2 → QueueStands (state g new) (sides_in found))
   pub owned : HasCleanDisk (state g new) → IfOk result (λ found. (sides : Sides) → IsPair (state g old).committed sides → IsTrue found.2)
   pub current : HasCleanDisk (state g new) → OnOk result (IsNumbered g 2 (state g old).committed)
+  pub lanes : HasCleanDisk (state g new) → IfOk result (λ found. HasSides g (sides_in found) (state g old).committed)
   pub numbered : HasCleanDisk (state g new) → result ≡ Err OldForm → IsNumbered g 1 (state g old).committed
   pub old_form : HasCleanDisk (state g new) → result ≡ Err OldForm → (f q l : List Term) → (state g old).committed.schema ≡ queue_schema f q l
       → (buffer : EventBuffer) × IsUncounted (state g old).committed buffer
@@ -124,12 +129,14 @@ pub record AreMigrated {S : Type 0} (g : Ghosts S) (capacities : List ℕ) (old 
       → sides_in found ≡ sides)
   pub owned : HasCleanDisk (state g new) → IfOk result (λ found. (sides : Sides) → IsPair (state g old).committed sides → IsTrue found.2)
   pub owned_old : HasCleanDisk (state g new) → IfOk result (λ found. (buffer : EventBuffer) → IsQueue (state g old).committed buffer → IsTrue found.2)
+  pub lanes : HasCleanDisk (state g new) → IfOk result (λ found. HasSides g (sides_in found) (state g old).committed
+      ⊎ HasOne g capacities (sides_in found) (state g old).committed)
   pub wrong : HasCleanDisk (state g new) → result ≡ Err WrongForm
       → IsTrue old.in_transaction ⊎ (HoldsTwo (state g old).committed ⊎ HoldsOne (state g old).committed → ⊥)
 
 -- they were made
 pub record AreMade {S : Type 0} (g : Ghosts S) (first second : List ℕ) (old new : Held S) (result : Result Found OpenFault) : Type 0 where
-  pub is : IsMade g Queue (making_queue first second) (λ db. HoldsPair db (empty_sides first second)) (λ s. QueueStands s (empty_sides first second) × (s.committed.schema ≡ made_pair))
+  pub is : IsMade g (making_queue first second) (λ db. HoldsPair db (empty_sides first second)) (λ s. QueueStands s (empty_sides first second) × (s.committed.schema ≡ made_pair))
       (λ found. found.2)
       old new result
   pub empty : IfOk result (λ found. sides_in found ≡ empty_sides first second)

@@ -5,10 +5,15 @@ use Rattle.sqlite.specs.Held.{Held, state}
 use Rattle.sqlite.specs.State.{Executes}
 use Rattle.sqlite.specs.Term.{Term}
 use Rattle.sqlite.specs.Effect.{Database}
+use Rattle.dnp_store.specs.Added.{Statement}
 use Rattle.dnp_store.specs.QueueTables.{queue_schema, Figures, figures_rows}
 use Rattle.dnp_store.specs.declared.store_kind.StoreKind.TheVariants.{Queue}
 use Rattle.dnp_store.specs.Schemas.{checks_of_form, checks_of_lanes, checks_of_rows}
 use Rattle.dnp_store.specs.steps.Stores.{IsFresh}
+
+-- a statement without parameters
+abbrev pub bare : List ℕ → Statement
+bare text = (text, [])
 
 -- the texts ran, one after the other
 abbrev pub ExecuteAll : {S : Type 0} → Ghosts S → List (List ℕ) → Held S → Held S → Type 0

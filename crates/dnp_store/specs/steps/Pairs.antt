@@ -1,5 +1,5 @@
 -- Words of private steps: the database of a queue for two centres, as a statement for one of them finds and leaves it.
-use Rattle.std.specs.Prelude.{◌≡◌, ◌⊎◌, ℕ, List}
+use Rattle.std.specs.Prelude.{◌≡◌, ◌⊎◌, ℕ, List, [], ◌∷◌}
 use Rattle.sqlite.specs.Table.{Table}
 use Rattle.sqlite.specs.Term.{Term}
 use Rattle.sqlite.specs.Schema.{Schema}
@@ -10,14 +10,15 @@ use Rattle.sqlite.specs.State.{State}
 use Rattle.dnp_eventbuf.specs.EventBuffer.{EventBuffer}
 use Rattle.dnp_store.specs.declared.queue_side.QueueSide.{QueueSide}
 use Rattle.dnp_store.specs.declared.queue_side.QueueSide.TheVariants.{First, Second}
-use Rattle.dnp_store.specs.Tables.{IsCounted, checks_at, counts_of}
-use Rattle.dnp_store.specs.QueueTables.{Figures, HoldsLanes, is_raised, queue_schema}
-use Rattle.dnp_store.specs.PairTables.{Checks, CountSides, HoldsOn, HoldsSide, IsForm2, Sides, beside, lanes_tree, pair_schema, rows_name, rows_tree}
+use Rattle.dnp_store.specs.Tables.{AreBehind, IsCounted, after_tables, checks_at, counts_of, form_with, sequence}
+use Rattle.dnp_store.specs.QueueTables.{Figures, HoldsLanes, is_raised, lanes_with, queue_schema, queue_with}
+use Rattle.dnp_store.specs.PairTables.{Checks, CountSides, HoldsOn, HoldsSide, IsForm2, Sides, beside, lanes_b_with, lanes_tree, pair_names, pair_schema, queue_b_with, rows_name, rows_tree}
 
 -- it holds these lanes on this side, with these figures, and others on the other side
 pub record HoldsFor (side : QueueSide) (others : EventBuffer) (db : Database) (s : EventBuffer) (figures : List Figures) : Type 0 where
   pub checks : Checks
   pub schema : db.schema ≡ pair_schema checks
+  pub behind : AreBehind pair_names checks.more
   pub form : IsForm2 (db.trees 0)
   pub counts : CountSides (db.trees 2)
   pub lanes : HoldsOn side db.trees s figures
@@ -34,14 +35,21 @@ abbrev pub sides_of : QueueSide → EventBuffer → EventBuffer → Sides
 sides_of First s others = record { first = s; second = others }
 sides_of Second s others = record { first = others; second = s }
 
--- the CHECKs on a queue's tables, which stand in their order
-abbrev pub checks_among : List Table → Checks
-checks_among tables = record {
-  form = checks_at tables 0;
-  queue = checks_at tables 1;
-  lanes = checks_at tables 3;
-  queue_b = checks_at tables 4;
-  lanes_b = checks_at tables 5;
+-- its six tables, with the CHECKs that stand at their places
+abbrev pub six_tables : List Table → List Table
+six_tables tables =
+    form_with (checks_at tables 0) ∷ queue_with (checks_at tables 1) ∷ sequence ∷ lanes_with (checks_at tables 3)
+    ∷ queue_b_with (checks_at tables 4) ∷ lanes_b_with (checks_at tables 5) ∷ []
+
+-- the CHECKs on a queue's tables, which stand first and in their order, and what stands behind
+abbrev pub checks_among : Schema → Checks
+checks_among schema = record {
+  form = checks_at schema.tables 0;
+  queue = checks_at schema.tables 1;
+  lanes = checks_at schema.tables 3;
+  queue_b = checks_at schema.tables 4;
+  lanes_b = checks_at schema.tables 5;
+  more = after_tables 6 schema;
 }
 
 -- a queue's database shows this of its trees, and stays as it was

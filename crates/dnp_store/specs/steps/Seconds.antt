@@ -6,7 +6,7 @@ use Rattle.sqlite.specs.State.{State}
 use Rattle.sqlite.specs.Term.{Term}
 use Rattle.sqlite.specs.Effect.{Database}
 use Rattle.dnp_eventbuf.specs.EventBuffer.{EventBuffer}
-use Rattle.dnp_store.specs.Tables.{schema_of}
+use Rattle.dnp_store.specs.Tables.{no_schema, only, schema_of}
 use Rattle.dnp_store.specs.QueueTables.{Figures, HoldsBuffer, IsQueue, figures_rows, lanes_with, queue_with}
 use Rattle.dnp_store.specs.PairTables.{Checks, HoldsPair, Sides, pair_schema, queue_b_with}
 use Rattle.dnp_store.specs.Schemas.{checks_of_lanes_b, checks_of_queue_b}
@@ -17,11 +17,11 @@ has_second_name schema = is_used schema (codes "queue_b") || is_used schema (cod
 
 -- the CHECKs of a queue for one centre, and those of the tables for the second
 abbrev pub with_second : List Term → List Term → List Term → Checks
-with_second f q l = record { form = f; queue = q; lanes = l; queue_b = checks_of_queue_b; lanes_b = checks_of_lanes_b }
+with_second f q l = record { form = f; queue = q; lanes = l; queue_b = checks_of_queue_b; lanes_b = checks_of_lanes_b; more = no_schema }
 
 -- beside the lanes for one centre stands `queue_b`, which is empty
 pub record HasQueueB (f q l : List Term) (s : EventBuffer) (db : Database) : Type 0 where
-  pub schema : db.schema ≡ schema_of f (queue_with q) (lanes_with l ∷ queue_b_with checks_of_queue_b ∷ [])
+  pub schema : db.schema ≡ schema_of f (queue_with q) (only (lanes_with l ∷ queue_b_with checks_of_queue_b ∷ []))
   pub holds : HoldsBuffer db.trees s
   pub empty : db.trees 4 ≡ []
 

@@ -14,10 +14,11 @@ use Rattle.dnp_store.specs.declared.fault.Unread.{Unread}
 use Rattle.dnp_store.specs.declared.store_kind.StoreKind.{StoreKind}
 use Rattle.dnp_store.specs.Faults.{is_wrong}
 use Rattle.dnp_store.specs.declared.store_kind.StoreKind.TheVariants.{Queue, Journal, Book}
-use Rattle.dnp_store.specs.Tables.{table_of, form_with, schema_of}
+use Rattle.dnp_store.specs.Tables.{form_with, no_schema, only, schema_of, table_of}
 use Rattle.dnp_store.specs.QueueTables.{queue_columns, lanes_with}
-use Rattle.dnp_store.specs.JournalTables.{journal_columns}
-use Rattle.dnp_store.specs.BookTables.{book_columns}
+use Rattle.dnp_store.specs.JournalTables.{journal_columns, journal_names}
+use Rattle.dnp_store.specs.BookTables.{book_columns, book_names}
+use Rattle.dnp_store.specs.PairTables.{pair_names}
 use Rattle.dnp_store.specs.Schemas.{checks_of_form, checks_of_rows}
 
 -- ---- their schemas
@@ -27,6 +28,12 @@ name_of Queue = codes "queue"
 name_of Journal = codes "journal"
 name_of Book = codes "control"
 
+-- and those of all tables of a store
+abbrev pub names_of : StoreKind → List (List ℕ)
+names_of Queue = pair_names
+names_of Journal = journal_names
+names_of Book = book_names
+
 abbrev pub columns_of : StoreKind → List Column
 columns_of Queue = queue_columns
 columns_of Journal = journal_columns
@@ -35,12 +42,18 @@ columns_of Book = book_columns
 abbrev pub rows_with : StoreKind → List Term → Table
 rows_with kind checks = table_of (name_of kind) 1 (columns_of kind) true true checks
 
-abbrev pub more_with : StoreKind → List Term → List Table
-more_with Queue checks = lanes_with checks ∷ []
-more_with Journal checks = []
-more_with Book checks = []
+-- what stands behind them: of a queue the CHECKs of its lanes' table tell it, of a journal and a book it may be anything
+abbrev pub More : StoreKind → Type 0
+More Queue = List Term
+More Journal = Schema
+More Book = Schema
 
-abbrev pub schema_for : StoreKind → List Term → List Term → List Term → Schema
+abbrev pub more_with : (kind : StoreKind) → More kind → Schema
+more_with Queue checks = only (lanes_with checks ∷ [])
+more_with Journal more = more
+more_with Book more = more
+
+abbrev pub schema_for : (kind : StoreKind) → List Term → List Term → More kind → Schema
 schema_for kind form rows more = schema_of form (rows_with kind rows) (more_with kind more)
 
 -- ---- what queries show of them
@@ -48,13 +61,13 @@ schema_for kind form rows more = schema_of form (rows_with kind rows) (more_with
 -- a store's database shows this of its trees, and stays as it was
 abbrev pub Reads : StoreKind → State → State → (Trees → Type 0) → Type 0
 Reads kind old new P =
-    (form rows more : List Term) → IsDatabase old.now → old.now.schema ≡ schema_for kind form rows more → (new.now ≡ old.now) × P old.now.trees
+    (form rows : List Term) (more : More kind) → IsDatabase old.now → old.now.schema ≡ schema_for kind form rows more → (new.now ≡ old.now) × P old.now.trees
 
 -- why they could not be read: the connection was open, and under the schema of such a store its trees don't hold this
 abbrev pub Denies : StoreKind → State → Unread → (Trees → Type 0) → Type 0
 Denies kind old unread P = IsTrue (is_wrong unread)
     → IsTrue old.is_open
-    × ((form rows more : List Term) → IsDatabase old.now → old.now.schema ≡ schema_for kind form rows more → P old.now.trees → ⊥)
+    × ((form rows : List Term) (more : More kind) → IsDatabase old.now → old.now.schema ≡ schema_for kind form rows more → P old.now.trees → ⊥)
 
 -- ---- how they are made
 
@@ -74,7 +87,7 @@ pub record HasTables (kind : StoreKind) (db : Database) : Type 0 where
   pub rows : List Term
   pub form_by : form ≡ checks_of_form
   pub rows_by : rows ≡ checks_of_rows kind
-  pub schema : db.schema ≡ schema_of form (rows_with kind rows) []
+  pub schema : db.schema ≡ schema_of form (rows_with kind rows) no_schema
   pub empty : (db.trees 0 ≡ []) × (db.trees 1 ≡ []) × (db.trees 2 ≡ [])
 
 abbrev pub number_row : Row
@@ -90,5 +103,5 @@ pub record HasNumber (kind : StoreKind) (db : Database) : Type 0 where
   pub rows : List Term
   pub form_by : form ≡ checks_of_form
   pub rows_by : rows ≡ checks_of_rows kind
-  pub schema : db.schema ≡ schema_of form (rows_with kind rows) []
+  pub schema : db.schema ≡ schema_of form (rows_with kind rows) no_schema
   pub holds : IsFresh db.trees

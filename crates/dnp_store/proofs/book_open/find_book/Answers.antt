@@ -6,7 +6,7 @@ use Rattle.dnp_store.specs.declared.book_opening.FoundBook.{FoundBook}
 use Rattle.dnp_store.specs.steps.BookShown.{FindsBook}
 use Rattle.dnp_store.proofs.Beginning.{found_inside, found_read}
 use Rattle.dnp_store.proofs.BookOpening.{found_again}
-use Rattle.dnp_store.proofs.Outcomes.{at_ok}
+use Rattle.dnp_store.proofs.Outcomes.{at_ok, at_ok_on, on_each}
 use Rattle.dnp_store.proofs.Stepping.{if_ok}
 use Rattle.dnp_store.proofs.Unread.{at_err, err_each}
 use Rattle.dnp_store.proofs.book_open.find_book.Goals as goal
@@ -51,3 +51,13 @@ returns-then-not-is_autocommit-clause-wrong_form g c clean told =
 
 pub returns-clause-fit : goal.returns-clause-fit
 returns-clause-fit g c = if_ok _ _ c.served.result (λ found is. at_ok _ c.read_book-read.result found is c.read_book-read.ensures.fit) c.served.ensures.handed
+
+pub returns-clause-numbered : goal.returns-clause-numbered
+returns-clause-numbered g c clean =
+    let early : HasCleanDisk (state g.S.Store c.read_book-read.new.conn) = omega (arith, clean, c.served.ensures.survives.clean) in
+    on_each _ _ c.served.result (λ found is. at_ok_on _ c.read_book-read.result found is (c.read_book-read.ensures.numbered early)) c.served.ensures.handed
+
+pub returns-clause-entries : goal.returns-clause-entries
+returns-clause-entries g c clean =
+    let early : HasCleanDisk (state g.S.Store c.read_book-read.new.conn) = omega (arith, clean, c.served.ensures.survives.clean) in
+    on_each _ _ c.served.result (λ found is. at_ok_on _ c.read_book-read.result found is (c.read_book-read.ensures.entries early)) c.served.ensures.handed

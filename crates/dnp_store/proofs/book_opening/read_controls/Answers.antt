@@ -1,7 +1,8 @@
 use Rattle.sqlite.specs.Held.{state}
-use Rattle.std.proofs.Common.{[]}
+use Rattle.std.proofs.Common.{[], refl}
 use Rattle.dnp_store.specs.BookTables.{book_schema}
 use Rattle.dnp_store.proofs.BookOpening.{control_plain, control_query, controls_if}
+use Rattle.dnp_store.proofs.Stepping.{if_ok}
 use Rattle.dnp_store.proofs.Unread.{if_err, means_nothing}
 use Rattle.dnp_store.proofs.BookShowing.{entries_if}
 use Rattle.dnp_store.proofs.book_opening.read_controls.Goals as goal
@@ -20,4 +21,8 @@ returns-clause-denies g c clean =
     let new = state g.S.Store c.list.new.tx.conn.now in
     if_err _ _ c.list.result (λ e refused told.
     let none = means_nothing old new control_query [] e told refused in
-    (none.is_open, λ f r m sound has any. none.none (book_schema f r) has (control_plain f r))) (c.list.ensures.refused clean)
+    (none.is_open, λ f r m sound has any. none.none (book_schema f r m) has (control_plain f r m))) (c.list.ensures.refused clean)
+
+pub returns-clause-answered : goal.returns-clause-answered
+returns-clause-answered g c clean =
+    if_ok _ _ c.list.result (λ rows shown. record { old = c.args.tx.now.conn.now; new = c.list.new.tx.conn.now; of = refl; shown = shown }) (c.list.ensures.shown clean)

@@ -6,7 +6,7 @@ use Rattle.dnp_store.specs.declared.journal_opening.Found.{Found}
 use Rattle.dnp_store.specs.steps.JournalShown.{Finds}
 use Rattle.dnp_store.proofs.Beginning.{found_inside, found_read}
 use Rattle.dnp_store.proofs.JournalStanding.{found_again}
-use Rattle.dnp_store.proofs.Outcomes.{at_ok}
+use Rattle.dnp_store.proofs.Outcomes.{at_ok, at_ok_on, on_each}
 use Rattle.dnp_store.proofs.Stepping.{if_ok}
 use Rattle.dnp_store.proofs.Unread.{at_err, err_each}
 use Rattle.dnp_store.proofs.journal_open.find_journal.Goals as goal
@@ -43,3 +43,13 @@ pub returns-then-not-is_autocommit-clause-wrong_form : goal.returns-then-not-is_
 returns-then-not-is_autocommit-clause-wrong_form g c clean told =
     let inside : IsTrue c.args.conn.now.in_transaction = search rules in
     inl inside
+
+pub returns-clause-numbered : goal.returns-clause-numbered
+returns-clause-numbered g c clean =
+    let early : HasCleanDisk (state g.S.Store c.read_journal-read.new.conn) = omega (arith, clean, c.served.ensures.survives.clean) in
+    on_each _ _ c.served.result (λ found is. at_ok_on _ c.read_journal-read.result found is (c.read_journal-read.ensures.numbered early)) c.served.ensures.handed
+
+pub returns-clause-events : goal.returns-clause-events
+returns-clause-events g c clean =
+    let early : HasCleanDisk (state g.S.Store c.read_journal-read.new.conn) = omega (arith, clean, c.served.ensures.survives.clean) in
+    if_ok _ _ c.served.result (λ found is. at_ok _ c.read_journal-read.result found is (c.read_journal-read.ensures.events early)) c.served.ensures.handed

@@ -3,11 +3,13 @@ use Rattle.sqlite.specs.State.{HasCleanDisk}
 use Rattle.sqlite.specs.Held.{state}
 use Rattle.sqlite.specs.Effect.{Database, IsDatabase}
 use Rattle.dnp_store.specs.JournalTables.{IsJournal}
+use Rattle.dnp_store.specs.Refusals.{IsNumbered}
+use Rattle.dnp_store.specs.Showing.{HasEvents}
 use Rattle.dnp_store.specs.declared.store_kind.StoreKind.TheVariants.{Journal}
 use Rattle.dnp_store.specs.steps.JournalShown.{Finds}
 use Rattle.dnp_store.proofs.Alone.{its_own}
 use Rattle.dnp_store.proofs.Ending.{survives_undone, kept_undone}
-use Rattle.dnp_store.proofs.Outcomes.{at_ok, at_ok_on, if_both}
+use Rattle.dnp_store.proofs.Outcomes.{at_ok, at_ok_on, if_both, on_each}
 use Rattle.dnp_store.proofs.Stepping.{if_ok}
 use Rattle.dnp_store.proofs.Unread.{at_err, if_err}
 use Rattle.dnp_store.proofs.journal_opening.read_journal.Goals as goal
@@ -34,7 +36,7 @@ returns-clause-read g c clean =
     let sound : IsDatabase begun.now = subst IsDatabase (sym now_is) (c.is_of_three-ours.ensures.live is_open).0 in
     let schema = ap (λ (d : Database). d.schema) now_is ∙ c.is_of_three-ours.ensures.schema (parts.0 all).0 in
     subst (λ (d : Database). Finds d owned.0.last_id owned.0.count) (now_is ∙ settled)
-    (at_ok _ c.read_all-found.result owned.0 is (c.read_all-found.ensures.read early) (parts.0 all).1 _ _ sound schema))
+    (at_ok _ c.read_all-found.result owned.0 is (c.read_all-found.ensures.read early) (parts.0 all).1 _ _ _ (c.is_of_three-ours.ensures.behind (parts.0 all).0) sound schema))
     c.owned_by.ensures.found c.owned_by.ensures.owned
 
 pub returns-clause-alone : goal.returns-clause-alone
@@ -56,7 +58,8 @@ returns-clause-alone g c clean =
     let here : IsJournal old.now a = subst (λ (d : Database). IsJournal d a) (sym settled) holds in
     let begins : IsJournal begun.now a = subst (λ (d : Database). IsJournal d a) (sym now_is) here in
     let counted = at_ok _ c.read_all-found.result owned.0 is (c.read_all-found.ensures.alone early) a sure begins in
-    parts.1 (c.is_of_three-ours.ensures.found (its_own old.now.schema Journal here.form_checks here.journal_checks here.schema), counted))
+    let own = its_own old.now.schema Journal here.form_checks here.journal_checks here.more here.schema here.behind in
+    parts.1 (c.is_of_three-ours.ensures.found own.0 own.1, counted))
     c.owned_by.ensures.found c.owned_by.ensures.owned
 
 pub returns-clause-range : goal.returns-clause-range
@@ -91,3 +94,38 @@ returns-clause-denies g c clean =
     let settled : old.now ≡ old.committed = c.is_autocommit.ensures.settled idle is_open in
     let sure : IsDatabase begun.now = subst IsDatabase (sym now_is) (c.is_of_three-ours.ensures.live is_open).0 in
     no.1 a storable sure (subst (λ (d : Database). IsJournal d a) (sym (now_is ∙ settled)) holds)) c.owned_by.ensures.refused
+
+pub returns-clause-numbered : goal.returns-clause-numbered
+returns-clause-numbered g c clean =
+    let old = state g.S.Store c.args.conn.now in
+    let begun = state g.S.Store c.transaction-tx.result.conn.now in
+    let mid = state g.S.Store c.read_all-found.new.tx.conn.now in
+    let end = state g.S.Store c.rollback.new.self.0 in
+    let same = rolled g c in
+    let late : HasCleanDisk end = subst (λ h. HasCleanDisk (state g.S.Store h)) (sym same) clean in
+    let early : HasCleanDisk mid = omega (arith, late, c.rollback.ensures.survives.clean) in
+    let now_is : begun.now ≡ old.now = ap (λ h. (state g.S.Store h).now) c.transaction-tx.ensures.begun in
+    let open_is : begun.is_open ≡ old.is_open = ap (λ h. (state g.S.Store h).is_open) c.transaction-tx.ensures.begun in
+    let idle : IsTrue c.is_autocommit.result = c.is_autocommit.ensures.value ∙ ap not c.requires.idle in
+    on_each _ _ c.owned_by.result (λ owned is.
+    let is_open : IsTrue old.is_open = subst IsTrue open_is (at_ok_on _ c.read_all-found.result owned.0 is (c.read_all-found.ensures.open early)) in
+    let settled : old.now ≡ old.committed = c.is_autocommit.ensures.settled idle is_open in
+    subst (IsNumbered g.S.Store 1) (now_is ∙ settled) (at_ok_on _ c.read_all-found.result owned.0 is (c.read_all-found.ensures.numbered early))) c.owned_by.ensures.found
+
+pub returns-clause-events : goal.returns-clause-events
+returns-clause-events g c clean =
+    let old = state g.S.Store c.args.conn.now in
+    let begun = state g.S.Store c.transaction-tx.result.conn.now in
+    let mid = state g.S.Store c.read_all-found.new.tx.conn.now in
+    let end = state g.S.Store c.rollback.new.self.0 in
+    let same = rolled g c in
+    let late : HasCleanDisk end = subst (λ h. HasCleanDisk (state g.S.Store h)) (sym same) clean in
+    let early : HasCleanDisk mid = omega (arith, late, c.rollback.ensures.survives.clean) in
+    let now_is : begun.now ≡ old.now = ap (λ h. (state g.S.Store h).now) c.transaction-tx.ensures.begun in
+    let open_is : begun.is_open ≡ old.is_open = ap (λ h. (state g.S.Store h).is_open) c.transaction-tx.ensures.begun in
+    let idle : IsTrue c.is_autocommit.result = c.is_autocommit.ensures.value ∙ ap not c.requires.idle in
+    if_ok _ _ c.owned_by.result (λ owned is.
+    let is_open : IsTrue old.is_open = subst IsTrue open_is (at_ok_on _ c.read_all-found.result owned.0 is (c.read_all-found.ensures.open early)) in
+    let settled : old.now ≡ old.committed = c.is_autocommit.ensures.settled idle is_open in
+    subst (HasEvents g.S.Store owned.0.count) (now_is ∙ settled)
+    (at_ok _ c.read_all-found.result owned.0 is (c.read_all-found.ensures.events early))) c.owned_by.ensures.found

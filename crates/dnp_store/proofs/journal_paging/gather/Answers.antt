@@ -19,6 +19,7 @@ pages-init g c = record {
   few = omega arith;
   read = λ clean f j m sound has. (refl, none_yet _);
   seen = λ clean f j m sound has. (refl, λ a holds. none_seen _ a holds);
+  same = λ clean. refl;
 }
 
 pub pages-preserved : goal.pages-preserved
@@ -43,6 +44,9 @@ pages-preserved g c =
           let was = c.pages.invariant.seen early f j m sound has in
           let did = c.in_ok-more.ensures.seen clean f j m (subst IsDatabase (sym was.0) sound) (ap (λ (d : Database). d.schema) was.0 ∙ has) in
           (did.0 ∙ was.0, λ a holds. did.1 a (subst (λ (d : Database). HoldsArchive d.trees a) (sym was.0) holds) (was.1 a holds));
+      same = λ clean.
+          let early : HasCleanDisk mid = omega (arith, clean, c.read_more.ensures.step.survives.clean) in
+          c.in_ok-more.ensures.same clean ∙ c.pages.invariant.same early;
     }
 
 pub returns-then-more-so_far-clause-read : goal.returns-then-more-so_far-clause-read
@@ -84,3 +88,8 @@ pub returns-then-more-so_far-clause-step : goal.returns-then-more-so_far-clause-
 returns-then-more-so_far-clause-step g c =
     step_as g.S.Store c.args.tx.now.conn c.read_more.new.tx.conn _ _
     (step_then g.S.Store c.args.tx.now.conn c.pages.tx.conn c.read_more.new.tx.conn _ _ c.pages.invariant.step c.in_ok-more.ensures.step)
+
+pub returns-then-more-so_far-clause-same : goal.returns-then-more-so_far-clause-same
+returns-then-more-so_far-clause-same g c clean =
+    let early : HasCleanDisk (state g.S.Store c.pages.tx.conn.now) = omega (arith, clean, c.read_more.ensures.step.survives.clean) in
+    c.in_ok-more.ensures.same clean ∙ c.pages.invariant.same early

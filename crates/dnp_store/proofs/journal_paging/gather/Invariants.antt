@@ -1,4 +1,4 @@
-use Rattle.std.proofs.Common.{◌≤◌, ◌-◌}
+use Rattle.std.proofs.Common.{◌≡◌, ◌≤◌, ◌-◌}
 use Rattle.sqlite.specs.State.{HasCleanDisk}
 use Rattle.sqlite.specs.Held.{state}
 use Rattle.dnp_objects.specs.declared.limits.TheConstants.{MAX_ID}
@@ -22,6 +22,7 @@ invariant-pages g l =
       few : l.so_far.count ≤ l.so_far.last;
       read : HasCleanDisk now → Reads Journal old now (λ db. Gathers (db 1) l.so_far.last l.so_far.count);
       seen : HasCleanDisk now → Reads Journal old now (λ db. (a : Archive) → HoldsArchive db a → AreSeen a l.so_far.last l.so_far.count);
+      same : HasCleanDisk now → now.now ≡ old.now;
     }
 
 -- each page but the last has a row, and there are no more rows than ids

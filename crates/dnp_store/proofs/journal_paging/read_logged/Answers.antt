@@ -113,3 +113,13 @@ returns-clause-denies g c clean =
           let low : length (mid.now.trees 1) ≤ MAX_ID = omega (arith, kept, many, few, holds.storable.last_in_range) in
           no (subst₂ ShowsNumber (sym c.deref.ensures.value) same (counted.1 low))),
     )) c.if_counted.ensures.wrong
+
+pub returns-clause-events : goal.returns-clause-events
+returns-clause-events g c clean =
+    let early : HasCleanDisk (state g.S.Store c.gather.new.tx.conn.now) = omega (arith, clean, c.read_count.ensures.step.survives.clean) in
+    let answer = c.in_ok-counted.ensures.answered clean in
+    if_both_on _ _ _ c.if_counted.result (λ told shown is. record {
+      rows = c.in_ok-counted.counted.items;
+      shown = record { old = answer.old; new = answer.new; of = answer.of ∙ c.in_ok-found.ensures.same early; shown = answer.shown };
+      many = subst₂ (λ (rows : List Row) (t : Gathered). column (get_or rows 0 []) 0 ≡ Int (pos t.count)) c.deref.ensures.value (sym is) shown;
+    }) c.if_counted.ensures.shown c.if_counted.ensures.same

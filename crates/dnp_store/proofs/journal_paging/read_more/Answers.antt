@@ -77,3 +77,6 @@ returns-clause-denies g c clean =
           (got.1 holds.archive holds.holds) in
           c.with_page.ensures.wrong told (subst (λ rs. IsPage rs before.last) (sym c.deref.ensures.value) page)),
     ))
+
+pub returns-clause-same : goal.returns-clause-same
+returns-clause-same g c clean = on_any _ c.with_page.result (c.in_ok-rows.ensures.same clean)

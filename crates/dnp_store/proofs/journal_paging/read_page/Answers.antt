@@ -4,6 +4,9 @@ use Rattle.std.proofs.lemmas.Int.{to_z_pos}
 use Rattle.sqlite.specs.declared.types.Value.TheVariants.{Int}
 use Rattle.sqlite.specs.State.{HasCleanDisk}
 use Rattle.sqlite.specs.Held.{state}
+use Rattle.dnp_store.specs.Texts.{journal_select}
+use Rattle.dnp_store.proofs.Outcomes.{on_each}
+use Rattle.dnp_store.proofs.Selecting.{page_selects, stays}
 use Rattle.dnp_store.proofs.Reading.{was_open, is_inside, keeps}
 use Rattle.dnp_store.proofs.QueueSteps.{delete_bound}
 use Rattle.dnp_store.proofs.JournalPaging.{page_if}
@@ -50,4 +53,9 @@ returns-clause-denies g c clean =
     let new = state g.S.Store c.query_all.new.self.conn.now in
     if_err _ _ c.query_all.result (λ e refused told.
     let none = means_nothing old new over_text _ e told refused in
-    (none.is_open, λ f j m sound has any. none.none (journal_schema f j) has (over_plain f j))) (c.query_all.ensures.err clean)
+    (none.is_open, λ f j m sound has any. none.none (journal_schema f j m) has (over_plain f j m))) (c.query_all.ensures.err clean)
+
+pub returns-clause-same : goal.returns-clause-same
+returns-clause-same g c clean =
+    on_each _ _ c.query_all.result (λ rows shown. stays journal_select _ (state g.S.Store c.args.tx.now.conn.now) (state g.S.Store c.query_all.new.self.conn.now)
+    rows.items page_selects shown) (c.query_all.ensures.ok clean)

@@ -39,3 +39,8 @@ returns-clause-wrong_form g c clean told holds =
     let early : HasCleanDisk (state g.S.Store c.read_stored-read.new.conn) = omega (arith, clean, c.served.ensures.survives.clean) in
     let wrong = c.served.ensures.wrong told in
     at_err _ c.read_stored-read.result wrong.0 wrong.1 (c.read_stored-read.ensures.denies early) wrong.2 holds
+
+pub returns-clause-has : goal.returns-clause-has
+returns-clause-has g c clean =
+    let early : HasCleanDisk (state g.S.Store c.read_stored-read.new.conn) = omega (arith, clean, c.served.ensures.survives.clean) in
+    if_ok _ _ c.served.result (λ stored is. at_ok _ c.read_stored-read.result stored is (c.read_stored-read.ensures.has early)) c.served.ensures.handed

@@ -2,7 +2,6 @@ use Rattle.std.proofs.Common.{rules, ◌≡◌, IsTrue, false, Ok, Err, Result, 
 use Rattle.std.specs.Prelude.{OnOk}
 use Rattle.sqlite.specs.declared.error.Error.{Error}
 use Rattle.dnp_eventbuf.specs.EventBuffer.{EventBuffer}
-use Rattle.dnp_store.specs.declared.store_kind.StoreKind.TheVariants.{Queue}
 use Rattle.dnp_store.specs.Added.{making_queue}
 use Rattle.dnp_store.specs.steps.Beginning.{Found, IsTold}
 use Rattle.dnp_store.proofs.Beginning.{made_inside, made_memory, made_not, made_well}
@@ -15,19 +14,19 @@ and_too X Y (Err e) x y = tt
 pub returns-then-not-is_autocommit : goal.returns-then-not-is_autocommit
 returns-then-not-is_autocommit g c =
     let inside : IsTrue c.args.conn.now.in_transaction = search rules in
-    record { is = made_inside g.S.Store Queue (making_queue c.args.first.now c.args.second.now) _ _ _ c.args.conn.now inside; empty = tt }
+    record { is = made_inside g.S.Store (making_queue c.args.first.now c.args.second.now) _ _ _ c.args.conn.now inside; empty = tt }
 
 pub returns-in_default : goal.returns-in_default
 returns-in_default g c =
     let idle : c.args.conn.now.in_transaction ≡ false = search rules in
-    record { is = made_memory g.S.Store Queue (making_queue c.args.first.now c.args.second.now) _ _ _ c.args.conn.now idle; empty = tt }
+    record { is = made_memory g.S.Store (making_queue c.args.first.now c.args.second.now) _ _ _ c.args.conn.now idle; empty = tt }
 
 pub returns-in-Err : goal.returns-in-Err
 returns-in-Err g c =
     let idle : c.args.conn.now.in_transaction ≡ false = search rules in
     record {
-      is = made_not g.S.Store Queue (making_queue c.args.first.now c.args.second.now) _ _ _ c.args.conn.now c.write_tables-done.new.conn c.told.new.conn c.write_tables-done.result idle
-          c.write_tables-done.ensures.err c.write_tables-done.ensures.refused c.write_tables-done.ensures.survives c.told.result _ c.in-Err.is c.told.ensures;
+      is = made_not g.S.Store (making_queue c.args.first.now c.args.second.now) _ _ _ c.args.conn.now c.write_tables-done.new.conn c.told.new.conn c.write_tables-done.result idle
+          c.write_tables-done.ensures.err c.write_tables-done.ensures.refused c.write_tables-done.ensures.survives c.told.result _ c.in-Err.is c.told.ensures.told c.told.ensures.free;
       empty = tt;
     }
 
@@ -35,9 +34,9 @@ pub returns-in-Ok-told : goal.returns-in-Ok-told
 returns-in-Ok-told g c =
     let idle : c.args.conn.now.in_transaction ≡ false = search rules in
     let told : IsTold g.S.Store c.write_tables-done.new.conn c.told.new.conn c.write_tables-done.result (Ok tt) =
-    subst (IsTold g.S.Store c.write_tables-done.new.conn c.told.new.conn c.write_tables-done.result) c.in-Ok-told.is c.told.ensures in
+    subst (IsTold g.S.Store c.write_tables-done.new.conn c.told.new.conn c.write_tables-done.result) c.in-Ok-told.is c.told.ensures.told in
     record {
-      is = made_well g.S.Store Queue (making_queue c.args.first.now c.args.second.now) _ _ (λ (found : Found). found.2) c.args.conn.now c.write_tables-done.new.conn c.told.new.conn c.write_tables-done.result idle
+      is = made_well g.S.Store (making_queue c.args.first.now c.args.second.now) _ _ (λ (found : Found). found.2) c.args.conn.now c.write_tables-done.new.conn c.told.new.conn c.write_tables-done.result idle
           c.write_tables-done.ensures.err c.write_tables-done.ensures.refused c.write_tables-done.ensures.survives
           (c.in-Ok.ours, c.in-Ok.others, c.is_bare-owned.result) c.is_bare-owned.ensures told
           c.write_tables-done.ensures.added (λ clean bare. and_too _ _ c.write_tables-done.result (c.write_tables-done.ensures.ok clean bare) (c.write_tables-done.ensures.schema clean bare));

@@ -5,13 +5,15 @@ use Rattle.sqlite.specs.Effect.{Database}
 use Rattle.dnp_eventbuf.specs.Sound.{IsSoundBuffer}
 use Rattle.dnp_eventbuf.specs.EventBuffer.{EventBuffer, empty_buffer}
 use Rattle.dnp_store.specs.declared.open.OpenFault.TheVariants.{Memory}
+use Rattle.dnp_store.specs.declared.queue_opening.Stored.{Stored}
 use Rattle.dnp_store.specs.declared.queue_opening.Stored.TheVariants.{One, Pair}
+use Rattle.dnp_store.specs.Refusals.{IsNumbered}
 use Rattle.dnp_store.specs.Added.{MakeAll, making_second}
 use Rattle.dnp_store.specs.QueueKept.{QueueStands}
 use Rattle.dnp_store.specs.PairTables.{IsPair}
 use Rattle.dnp_store.specs.QueueTables.{IsQueue}
 use Rattle.dnp_store.specs.steps.Seconds.{Opens}
-use Rattle.dnp_store.specs.steps.Stored.{IsOwned, IsStored}
+use Rattle.dnp_store.specs.steps.Stored.{AreRead, IsOwned, IsStored, number_of}
 use Rattle.dnp_store.proofs.Beginning.{begins_before, begins_inside, begins_refused, begins_well, no_fault}
 use Rattle.dnp_store.proofs.Refusing.{same_err}
 use Rattle.dnp_store.proofs.Once.{one_pair}
@@ -34,6 +36,7 @@ returns-then-not-is_autocommit g c =
       same = λ clean. tt;
       owned = λ clean. tt;
       owned_old = λ clean. tt;
+      lanes = λ clean. tt;
       wrong = λ clean told. inl inside;
     }
 
@@ -50,6 +53,7 @@ returns-in_default g c =
       same = λ clean. tt;
       owned = λ clean. tt;
       owned_old = λ clean. tt;
+      lanes = λ clean. tt;
       wrong = λ clean told. absurd (let no = told in cc);
     }
 
@@ -67,6 +71,7 @@ returns-in-Err g c =
       same = λ clean. tt;
       owned = λ clean. tt;
       owned_old = λ clean. tt;
+      lanes = λ clean. tt;
       wrong = λ clean told. inr (c.find_stored.ensures.wrong_form clean (c.in-Err.is ∙ ap Err (same_err told)));
     }
 
@@ -99,6 +104,7 @@ returns-in-Ok-Pair g c =
           (subst (IsOwned old.committed) c.in-Ok-Pair.field-0-is (c.in-Ok-Pair.ensures.owned clean)).0;
       owned_old = λ clean buffer is.
           absurd ((subst (IsOwned old.committed) c.in-Ok-Pair.field-0-is (c.in-Ok-Pair.ensures.owned clean)).1 buffer is);
+      lanes = λ clean. inl (subst (AreRead g.S.Store old.committed) c.in-Ok-Pair.field-0-is (c.in-Ok-Pair.ensures.has clean));
       wrong = λ clean told. absurd (no_fault _ _ told);
     }
 
@@ -127,6 +133,7 @@ returns-in-Err-second_made g c =
       same = λ clean. tt;
       owned = λ clean. tt;
       owned_old = λ clean. tt;
+      lanes = λ clean. tt;
       wrong = λ clean told. inr (λ holds. elim holds [
         | inl two ↦ (subst (IsStored old.committed) c.in-Ok-One.field-0-is (c.in-Ok-One.ensures.read (early clean))).no_pair two.sides two.is
         | inr one ↦
@@ -174,5 +181,10 @@ returns-in-Ok-second_made g c =
       same = λ clean own sides sound is. absurd ((stored (early clean)).no_pair sides is);
       owned = λ clean sides is. absurd ((stored (early clean)).no_pair sides is);
       owned_old = λ clean. subst (IsOwned old.committed) c.in-Ok-One.field-0-is (c.in-Ok-One.ensures.owned (early clean));
+      lanes = λ clean. inr (record {
+        number = subst (λ (found : Stored). IsNumbered g.S.Store (number_of found) old.committed) c.in-Ok-One.field-0-is (c.in-Ok-One.ensures.numbered (early clean));
+        first = subst (AreRead g.S.Store old.committed) c.in-Ok-One.field-0-is (c.in-Ok-One.ensures.has (early clean));
+        second = bare;
+      });
       wrong = λ clean told. absurd (no_fault _ _ told);
     }

@@ -6,7 +6,7 @@ use Rattle.dnp_store.specs.declared.queue_opening.Stored.{Stored}
 use Rattle.dnp_store.specs.declared.queue_opening.Stored.TheVariants.{One, Pair}
 use Rattle.dnp_store.specs.Refusals.{IsNumbered}
 use Rattle.dnp_store.specs.PairTables.{IsPair}
-use Rattle.dnp_store.specs.steps.Stored.{IsOwned, IsStored, number_of}
+use Rattle.dnp_store.specs.steps.Stored.{AreRead, IsOwned, IsStored, number_of}
 use Rattle.dnp_store.proofs.Beginning.{begins_inside, begins_refused, begins_well, no_fault}
 use Rattle.dnp_store.proofs.Refusing.{same_err}
 use Rattle.dnp_store.proofs.queue_begin.open_lanes.Goals as goal
@@ -20,6 +20,7 @@ returns-then-not-is_autocommit g c =
       stands = λ clean. tt;
       owned = λ clean. tt;
       current = λ clean. tt;
+      lanes = λ clean. tt;
       numbered = λ clean told. absurd (let no = told in cc);
       old_form = λ clean told. absurd (let no = told in cc);
       not_old = λ clean told. absurd (let no = told in cc);
@@ -37,6 +38,7 @@ returns-in-Err g c =
       stands = λ clean. tt;
       owned = λ clean. tt;
       current = λ clean. tt;
+      lanes = λ clean. tt;
       numbered = λ clean told. absurd (c.in-Err.ensures.current (same_err told));
       old_form = λ clean told. absurd (c.in-Err.ensures.current (same_err told));
       not_old = λ clean told. absurd (c.in-Err.ensures.current (same_err told));
@@ -64,6 +66,7 @@ returns-in-Ok-Pair g c =
       owned = λ clean.
           (subst (IsOwned old.committed) c.in-Ok-Pair.field-0-is (c.in-Ok-Pair.ensures.owned clean)).0;
       current = λ clean. subst (λ (stored : Stored). IsNumbered g.S.Store (number_of stored) old.committed) c.in-Ok-Pair.field-0-is (c.in-Ok-Pair.ensures.numbered clean);
+      lanes = λ clean. subst (AreRead g.S.Store old.committed) c.in-Ok-Pair.field-0-is (c.in-Ok-Pair.ensures.has clean);
       numbered = λ clean told. absurd (no_fault _ _ told);
       old_form = λ clean told. absurd (no_fault _ _ told);
       not_old = λ clean told. absurd (no_fault _ _ told);
@@ -85,6 +88,7 @@ returns-in-Ok-One g c =
       stands = λ clean. tt;
       owned = λ clean. tt;
       current = λ clean. tt;
+      lanes = λ clean. tt;
       numbered = λ clean told.
           subst (λ (found : Stored). IsNumbered g.S.Store (number_of found) old.committed) c.in-Ok-One.field-0-is (c.in-Ok-One.ensures.numbered clean);
       old_form = λ clean told f q l has. (c.in-Ok-One._lanes, (stored clean).stands f q l has);

@@ -10,6 +10,7 @@ use Rattle.dnp_store.proofs.PairOpening.{among_queue, no_number, shown_one, unco
 use Rattle.dnp_store.specs.steps.Pairs.{HoldsAmong}
 use Rattle.dnp_store.specs.steps.QueueDenied.{OneStands, TwoStand}
 use Rattle.dnp_store.proofs.QueueDenying.{neither, one_number, one_stands, two_stand}
+use Rattle.dnp_store.specs.Showing.{HasLanes, HasSides}
 use Rattle.dnp_store.proofs.Stepping.{step_then, step_as}
 use Rattle.dnp_store.proofs.Unread.{err_on}
 use Rattle.dnp_store.proofs.queue_opening.read_numbered.Goals as goal
@@ -80,7 +81,7 @@ returns-in_ok-first-in-2-clause-numbered g c clean =
     subst (λ (n : ℕ). IsNumbered g.S.Store n old.now) number (c.in_ok-read_number.ensures.shown early)
 
 pub returns-in_ok-first-in-2-clause-read : goal.returns-in_ok-first-in-2-clause-read
-returns-in_ok-first-in-2-clause-read g c clean counted checks sound has =
+returns-in_ok-first-in-2-clause-read g c clean counted checks behind sound has =
     let old = state g.S.Store c.args.tx.now.conn.now in
     let one = state g.S.Store c.read_number.new.tx.conn.now in
     let early : HasCleanDisk one = omega (arith, clean, c.read_sides.ensures.step.survives.clean) in
@@ -94,6 +95,7 @@ returns-in_ok-first-in-2-clause-read g c clean counted checks sound has =
     record {
       checks = checks;
       schema = has;
+      behind = behind;
       holds = record {
         form = subst (λ (n : ℕ). IsForm n (old.now.trees 0)) number r.1;
         counts = found.0;
@@ -181,3 +183,14 @@ returns-in_default-clause-denies g c clean told =
           not_one (one_number (old.now.trees 0) n 1 (c.in_ok-read_number.ensures.read clean is.form_checks is.queue_checks is.lanes_checks sound is.schema).1
           is.form)),
     )
+
+pub returns-in_ok-lanes-in-1-clause-has : goal.returns-in_ok-lanes-in-1-clause-has
+returns-in_ok-lanes-in-1-clause-has g c clean =
+    let early : HasCleanDisk (state g.S.Store c.read_number.new.tx.conn.now) = omega (arith, clean, c.read_one.ensures.step.survives.clean) in
+    subst (HasLanes g.S.Store First c.in_ok-lanes-in-1.lanes) (c.in_ok-read_number.ensures.same early) (c.in_ok-lanes-in-1.ensures.has clean)
+
+pub returns-in_ok-first-in-2-clause-has : goal.returns-in_ok-first-in-2-clause-has
+returns-in_ok-first-in-2-clause-has g c clean =
+    let early : HasCleanDisk (state g.S.Store c.read_number.new.tx.conn.now) = omega (arith, clean, c.read_sides.ensures.step.survives.clean) in
+    subst (HasSides g.S.Store (record { first = c.in_ok-first-in-2.first; second = c.in_ok-first-in-2.second })) (c.in_ok-read_number.ensures.same early)
+    (c.in_ok-first-in-2.ensures.has clean)

@@ -3,9 +3,9 @@ use Rattle.sqlite.specs.State.{HasCleanDisk}
 use Rattle.sqlite.specs.Held.{state}
 use Rattle.sqlite.specs.Effect.{Database, IsDatabase}
 use Rattle.dnp_store.specs.QueueOpens.{HoldsOne, HoldsTwo}
-use Rattle.dnp_store.specs.steps.Stored.{AreCounted, IsOwned, IsShown, IsStored, number_of}
+use Rattle.dnp_store.specs.steps.Stored.{AreCounted, AreRead, IsOwned, IsShown, IsStored, number_of}
 use Rattle.dnp_store.specs.Refusals.{IsNumbered}
-use Rattle.dnp_store.proofs.PairOpening.{numbered_by, owned_is, stored_is}
+use Rattle.dnp_store.proofs.PairOpening.{numbered_by, owned_is, read_by, stored_is}
 use Rattle.dnp_store.proofs.Ending.{survives_undone, kept_undone}
 use Rattle.dnp_store.proofs.Unread.{err_on}
 use Rattle.dnp_store.proofs.queue_opening.read_stored.Goals as goal
@@ -35,7 +35,7 @@ returns-clause-read g c clean =
     let sound : IsDatabase old.now = (c.is_of_queue-one.ensures.live is_open).0 in
     let shown : IsShown old.now c.in_ok-stored.stored = subst (λ (d : Database). IsShown d c.in_ok-stored.stored) now_is (c.in_ok-stored.ensures.read early) in
     let stored : IsStored old.now _ = stored_is old.now c.in_ok-stored.stored c.is_of_queue-one.result c.is_of_pair-pair.result _ sound
-    c.is_of_queue-one.ensures.schema c.is_of_pair-pair.ensures.schema shown in
+    c.is_of_queue-one.ensures.schema (λ is. (c.is_of_pair-pair.ensures.schema is, c.is_of_pair-pair.ensures.behind is)) shown in
     subst (λ (d : Database). IsStored d c.owned_by.result) settled (subst (IsStored old.now) (sym c.owned_by.ensures) stored)
 
 pub returns-clause-owned : goal.returns-clause-owned
@@ -56,7 +56,7 @@ returns-clause-owned g c clean =
     let are : AreCounted old.now c.in_ok-stored.stored =
     subst (λ (d : Database). AreCounted d c.in_ok-stored.stored) now_is (c.in_ok-stored.ensures.counted early) in
     let own : IsOwned old.now _ = owned_is old.now c.in_ok-stored.stored c.is_of_queue-one.result c.is_of_pair-pair.result sound
-    c.is_of_queue-one.ensures.found c.is_of_pair-pair.ensures.found are in
+    c.is_of_queue-one.ensures.found (λ own. c.is_of_pair-pair.ensures.found own.0 own.1) are in
     subst (λ (d : Database). IsOwned d c.owned_by.result) settled (subst (IsOwned old.now) (sym c.owned_by.ensures) own)
 
 pub returns-clause-numbered : goal.returns-clause-numbered
@@ -124,3 +124,23 @@ returns-in_err-stored-clause-denies g c clean =
     let settled : old.now ≡ old.committed = c.is_autocommit.ensures.settled idle is_open in
     let sound : IsDatabase begun.now = subst IsDatabase (sym now_is) (c.is_of_queue-one.ensures.live is_open).0 in
     no.1 sound (subst (λ (d : Database). HoldsTwo d ⊎ HoldsOne d) (sym (now_is ∙ settled)) holds))
+
+pub returns-clause-has : goal.returns-clause-has
+returns-clause-has g c clean =
+    let old = state g.S.Store c.args.conn.now in
+    let begun = state g.S.Store c.transaction-tx.result.conn.now in
+    let mid = state g.S.Store c.read_numbered.new.tx.conn.now in
+    let end = state g.S.Store c.rollback.new.self.0 in
+    let same = rolled g c in
+    let late : HasCleanDisk end = subst (λ h. HasCleanDisk (state g.S.Store h)) (sym same) clean in
+    let early : HasCleanDisk mid = omega (arith, late, c.rollback.ensures.survives.clean) in
+    let now_is : begun.now ≡ old.now = ap (λ h. (state g.S.Store h).now) c.transaction-tx.ensures.begun in
+    let open_is : begun.is_open ≡ old.is_open = ap (λ h. (state g.S.Store h).is_open) c.transaction-tx.ensures.begun in
+    let is_open : IsTrue old.is_open = subst IsTrue open_is (c.in_ok-stored.ensures.open early) in
+    let idle : IsTrue c.is_autocommit.result = c.is_autocommit.ensures.value ∙ ap not c.requires.idle in
+    let settled : old.now ≡ old.committed = c.is_autocommit.ensures.settled idle is_open in
+    let are : AreRead g.S.Store old.now c.in_ok-stored.stored =
+    subst (λ (d : Database). AreRead g.S.Store d c.in_ok-stored.stored) now_is (c.in_ok-stored.ensures.has early) in
+    subst (λ (d : Database). AreRead g.S.Store d c.owned_by.result) settled
+    (subst (AreRead g.S.Store old.now) (sym c.owned_by.ensures)
+    (read_by g.S.Store old.now c.in_ok-stored.stored c.is_of_queue-one.result c.is_of_pair-pair.result are))

@@ -8,9 +8,11 @@ use Rattle.dnp_store.specs.steps.Seconds.{HasSecond}
 use Rattle.dnp_store.specs.Texts.{lanes_b_insert}
 use Rattle.dnp_store.proofs.Adding.{LanesOn}
 use Rattle.dnp_store.proofs.Stepping.{AreSteps}
+use Rattle.dnp_store.proofs.Stopping.{StopsLanes}
 use Rattle.dnp_store.proofs.queue_second.put_lanes_b.Given as goal
 
--- the lanes so far stand there, and with those that are still to come all of them are put in
+-- the lanes so far stand there, with those that are still to come all of them are put in, and a refusal of one of those is one
+-- of all of them
 abbrev pub invariant-loop-number : goal.invariant-loop-number
 invariant-loop-number g l =
     let old = state g.S.Store l.fn.tx.conn.now in
@@ -18,6 +20,7 @@ invariant-loop-number g l =
     record {
       step : AreSteps g.S.Store l.fn.tx.conn l.tx.conn;
       ran : HasCleanDisk now → LanesOn g.S.Store lanes_b_insert l.capacities l.number old.now now.now;
+      stops : HasCleanDisk now → StopsLanes g.S.Store lanes_b_insert l.capacities l.number old.now now.now;
       made : HasCleanDisk now → (f q b : List Term) (s : EventBuffer) → HasSecond f q b s [] old.now
           → HasSecond f q b s (map fresh (take l.number l.capacities)) now.now;
     }

@@ -9,6 +9,7 @@ use Rattle.dnp_store.specs.declared.queue_side.QueueSide.TheVariants.{First, Sec
 use Rattle.dnp_store.specs.steps.Pairs.{HasSide, HoldsAmong}
 use Rattle.dnp_store.specs.steps.QueueDenied.{SideStandsBy}
 use Rattle.dnp_store.proofs.PairReading.{among_of, holds_side}
+use Rattle.dnp_store.specs.Showing.{HasLanes}
 use Rattle.dnp_store.proofs.Stepping.{step_then, step_as}
 use Rattle.dnp_store.proofs.Running.{step_too}
 use Rattle.dnp_store.proofs.Unread.{err_on}
@@ -78,3 +79,10 @@ returns-in_err-second-clause-denies g c clean =
           no.1 (subst IsDatabase (sym same) sound) (subst (λ (d : Database). HasSide Second d.schema) (sym same) (inl (checks, has)))
           (subst (λ (d : Database). SideStandsBy Second c.args.counts.now d.trees) (sym same) stands.1)),
     ))
+
+pub returns-clause-has : goal.returns-clause-has
+returns-clause-has g c clean =
+    let clean_1 : HasCleanDisk (state g.S.Store c.read_side.new.tx.conn.now) = omega (arith, clean, c.read_side-2.ensures.step.survives.clean) in (
+      c.in_ok-first.ensures.has clean_1,
+      subst (HasLanes g.S.Store Second c.in_ok-second.second) (c.in_ok-first.ensures.same clean_1) (c.in_ok-second.ensures.has clean),
+    )

@@ -11,6 +11,7 @@ use Rattle.dnp_store.specs.steps.Pairs.{HasSide, HoldsAmong}
 use Rattle.dnp_objects.specs.declared.limits.TheConstants.{MAX_ID}
 use Rattle.dnp_store.specs.steps.Shown.{IsMost, IsNoted, ShowsCount}
 use Rattle.dnp_store.proofs.PairNoting.{of_one}
+use Rattle.dnp_store.specs.Showing.{HasLanes}
 use Rattle.dnp_store.proofs.Stepping.{step_then, step_as}
 use Rattle.dnp_store.proofs.Running.{step_too}
 use Rattle.dnp_store.proofs.Unread.{err_on}
@@ -109,3 +110,8 @@ returns-in_err-lanes-clause-denies g c clean =
             noted = subst (λ (rs : List Row). IsMost (rows_name First) rs MAX_ID) (sym c.deref-2.ensures.value) most;
           })),
     ))
+
+pub returns-clause-has : goal.returns-clause-has
+returns-clause-has g c clean =
+    let clean_1 : HasCleanDisk (state g.S.Store c.read_counts.new.tx.conn.now) = omega (arith, clean, c.read_side.ensures.step.survives.clean) in
+    subst (HasLanes g.S.Store First c.in_ok-lanes.lanes) (c.in_ok-counts.ensures.same clean_1) (c.in_ok-lanes.ensures.has clean)

@@ -12,7 +12,7 @@ use Rattle.dnp_store.specs.steps.Pairs.{HasSide, HoldsAmong, ReadsSide}
 use Rattle.dnp_store.specs.steps.QueueDenied.{CanStand}
 use Rattle.dnp_store.specs.steps.Shown.{IsNoted, IsPutBack, ShowIds}
 use Rattle.dnp_store.proofs.PairReading.{holds_among, holds_some}
-use Rattle.dnp_store.proofs.Outcomes.{at_ok, ok_itself}
+use Rattle.dnp_store.proofs.Outcomes.{at_ok, ok_itself, on_any}
 use Rattle.dnp_store.proofs.Restoring.{PutsBack}
 use Rattle.dnp_store.proofs.Stepping.{if_ok, step_then, step_as}
 use Rattle.dnp_store.proofs.Running.{step_too}
@@ -144,3 +144,29 @@ returns-clause-denies g c clean =
           (subst (λ (d : Database). IsPermutation (figures_rows 0 figures) (d.trees (lanes_tree side))) (sym same) r1.1) in
           c.put_back.ensures.wrong told stands.noted (subst (λ (xs : List Row). CanStand figures xs) (sym c.deref.ensures.value) can)),
     ))
+
+pub returns-clause-has : goal.returns-clause-has
+returns-clause-has g c clean =
+    let clean_1 : HasCleanDisk (state g.S.Store c.read_figures.new.tx.conn.now) = omega (arith, clean, c.read_queued.ensures.step.survives.clean) in
+    let figures = c.in_ok-figures.figures in
+    let put = subst (λ (xs : List Row). IfOk c.put_back.result (λ found. IsPutBack figures xs c.args.noted found.0 found.1)) c.deref.ensures.value
+    c.put_back.ensures.put in
+    let lines = c.in_ok-figures.ensures.shown clean_1 in
+    let rows = c.in_ok-rows.ensures.answered clean in
+    if_ok _ _ c.put_back.result (λ found is. record {
+      figures = figures;
+      lines = lines.0;
+      lines_shown = lines.1;
+      nine = lines.2;
+      rows = c.in_ok-rows.rows.items;
+      rows_shown = record { old = rows.old; new = rows.new; of = rows.of ∙ c.in_ok-figures.ensures.same clean_1; shown = rows.shown };
+      last = is.last;
+      bare = is.bare;
+      begun = is.begun;
+      restored = is.restored;
+    }) put
+
+pub returns-clause-same : goal.returns-clause-same
+returns-clause-same g c clean =
+    let clean_1 : HasCleanDisk (state g.S.Store c.read_figures.new.tx.conn.now) = omega (arith, clean, c.read_queued.ensures.step.survives.clean) in
+    on_any _ c.put_back.result (c.in_ok-rows.ensures.same clean ∙ c.in_ok-figures.ensures.same clean_1)

@@ -12,6 +12,7 @@ use Rattle.dnp_store.proofs.QueueDenying.{most_more}
 use Rattle.dnp_store.proofs.PairNoting.{of_two}
 use Rattle.dnp_store.proofs.PairSchema.{rows_differ}
 use Rattle.dnp_store.specs.PairTables.{HoldsPair}
+use Rattle.dnp_store.specs.Showing.{HasSides}
 use Rattle.dnp_store.proofs.Stepping.{step_then, step_as}
 use Rattle.dnp_store.proofs.Running.{step_too}
 use Rattle.dnp_store.proofs.PairReading.{among_of}
@@ -133,3 +134,9 @@ returns-in_err-first-clause-denies g c clean =
             },
           )),
     ))
+
+pub returns-clause-has : goal.returns-clause-has
+returns-clause-has g c clean =
+    let clean_1 : HasCleanDisk (state g.S.Store c.read_counts.new.tx.conn.now) = omega (arith, clean, c.read_both.ensures.step.survives.clean) in
+    subst (HasSides g.S.Store (record { first = c.in_ok-first.first; second = c.in_ok-first.second })) (c.in_ok-counts.ensures.same clean_1)
+    (c.in_ok-first.ensures.has clean)

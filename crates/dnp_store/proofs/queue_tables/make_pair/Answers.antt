@@ -1,4 +1,4 @@
-use Rattle.std.proofs.Common.{rules, ◌≡◌, ◌++◌, [], ◌∷◌, length, arith}
+use Rattle.std.proofs.Common.{rules, ◌≡◌, ◌++◌, [], ◌∷◌, length, arith, subst, sym, append_assoc}
 use Rattle.sqlite.specs.State.{HasCleanDisk}
 use Rattle.sqlite.specs.Held.{state}
 use Rattle.dnp_objects.specs.declared.limits.TheConstants.{LANES}
@@ -6,11 +6,12 @@ use Rattle.dnp_eventbuf.specs.EventBuffer.{empty_buffer}
 use Rattle.dnp_store.specs.Schemas.{checks_of_form, checks_of_lanes, checks_of_rows, lanes_text}
 use Rattle.dnp_store.specs.declared.store_kind.StoreKind.TheVariants.{Queue}
 use Rattle.dnp_store.specs.Added.{making_lanes, making_second, making_tables}
+use Rattle.dnp_store.specs.Refusals.{RefusesOne, asking}
 use Rattle.dnp_store.specs.Texts.{lanes_insert}
 use Rattle.dnp_store.proofs.Adding.{made_then}
 use Rattle.dnp_store.proofs.Filling.{made_empty, made_of}
-use Rattle.dnp_store.proofs.Refusing.{refused_last}
 use Rattle.dnp_store.proofs.Stepping.{on_then, step_then}
+use Rattle.dnp_store.proofs.Stopping.{one_first, one_later, stopped_as, stopped_last}
 use Rattle.dnp_store.proofs.Running.{err_too, step_too}
 use Rattle.dnp_store.proofs.queue_tables.make_pair.Goals as goal
 
@@ -43,11 +44,25 @@ returns-clause-step g c =
 
 pub returns-clause-refused : goal.returns-clause-refused
 returns-clause-refused g c clean =
-    refused_last g.S.Store Queue c.args.tx.now.conn.now c.make_all.new.tx.conn.now c.make_second.new.tx.conn.now c.make_second.result
-    c.make_all.ensures.step.survives (c.make_second.ensures.refused clean)
+    let old = c.args.tx.now.conn.now in
+    let mid = c.make_all.new.tx.conn.now in
+    let early : HasCleanDisk (state g.S.Store mid) = omega (arith, clean, c.make_second.ensures.step.survives.clean) in
+    let one = making_tables Queue ++ ((lanes_text, []) ∷ making_lanes lanes_insert 0 c.args.first.now) in
+    let two = making_second c.args.second.now in
+    stopped_last g.S.Store (RefusesOne g.S.Store (two ++ asking)) (RefusesOne g.S.Store ((one ++ two) ++ asking)) old mid c.make_second.new.tx.conn.now c.make_second.result
+    c.make_all.ensures.step.survives
+    (λ before after e it. subst (λ its. RefusesOne g.S.Store its (state g.S.Store old).now before after e) (sym (append_assoc one two asking))
+    (one_later g.S.Store one (two ++ asking) (state g.S.Store old).now (state g.S.Store mid).now before after e (c.in_ok-make_all.ensures.added early) it))
+    (c.make_second.ensures.refused clean)
 
 pub returns-in_err-make_all-clause-refused : goal.returns-in_err-make_all-clause-refused
-returns-in_err-make_all-clause-refused g c clean = err_too _ c.from_residual.result _ c.from_residual.ensures (c.in_err-make_all.ensures.refused clean)
+returns-in_err-make_all-clause-refused g c clean =
+    let one = making_tables Queue ++ ((lanes_text, []) ∷ making_lanes lanes_insert 0 c.args.first.now) in
+    let two = making_second c.args.second.now in
+    err_too _ c.from_residual.result _ c.from_residual.ensures
+    (stopped_as g.S.Store (RefusesOne g.S.Store one) (RefusesOne g.S.Store ((one ++ two) ++ asking)) c.args.tx.now.conn.now c.make_all.new.tx.conn.now _
+    (λ before after it. one_first g.S.Store (one ++ two) asking _ before after _ (one_first g.S.Store one two _ before after _ it))
+    (c.in_err-make_all.ensures.refused clean))
 
 pub returns-in_err-make_all-clause-step : goal.returns-in_err-make_all-clause-step
 returns-in_err-make_all-clause-step g c = step_too g.S.Store _ _ _ c.from_residual.result c.from_residual.ensures c.in_err-make_all.ensures.step

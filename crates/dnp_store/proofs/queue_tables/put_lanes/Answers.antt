@@ -10,8 +10,8 @@ use Rattle.dnp_store.specs.Texts.{lanes_insert}
 use Rattle.dnp_store.proofs.Filling.{lane_made, lane_text, length_fresh}
 use Rattle.dnp_store.proofs.Adding.{lanes_left, one_lane}
 use Rattle.dnp_store.proofs.Stepping.{step_then, step_none}
-use Rattle.dnp_store.specs.declared.store_kind.StoreKind.TheVariants.{Queue}
-use Rattle.dnp_store.proofs.Refusing.{by_making, refused_after}
+use Rattle.dnp_store.proofs.Standing.{survives_itself}
+use Rattle.dnp_store.proofs.Stopping.{lane_ran, lane_refused}
 use Rattle.dnp_store.proofs.Running.{err_too, step_too}
 use Rattle.dnp_store.proofs.queue_tables.put_lanes.Goals as goal
 
@@ -31,6 +31,15 @@ loop-number-preserved g c =
           ap₂ (λ (a b : Value). bound_value a ∷ bound_value b ∷ []) c.params-to_sql.ensures c.params-to_sql-in-loop-number.ensures in
           one_lane g.S.Store lanes_insert all number ran.0 (state g.S.Store c.args.tx.now.conn.now).now c.loop-number.tx.conn.now c.run.new.tx.conn.now
           (omega (arith, low, nine)) (subst (λ ps. Executes lanes_insert ps mid new (Ok ran.0)) given ran.1) (c.loop-number.invariant.ran early);
+      stops = λ clean.
+          let early : HasCleanDisk mid = omega (arith, c.run.ensures.step.survives.clean) in
+          let nine : length all ≡ LANES = search rules in
+          let low : number < LANES = omega arith in
+          let ran = c.in_ok-run.ensures.ran clean in
+          let given =
+          ap₂ (λ (a b : Value). bound_value a ∷ bound_value b ∷ []) c.params-to_sql.ensures c.params-to_sql-in-loop-number.ensures in
+          lane_ran g.S.Store lanes_insert all number (state g.S.Store c.args.tx.now.conn.now).now c.loop-number.tx.conn.now c.run.new.tx.conn.now
+          (omega (arith, low, nine)) (c.loop-number.invariant.stops early) ran.0 (subst (λ ps. Executes lanes_insert ps mid new (Ok ran.0)) given ran.1);
       made = λ clean.
           let early : HasCleanDisk mid = omega (arith, c.run.ensures.step.survives.clean) in
           let was = c.loop-number.invariant.made early in
@@ -50,10 +59,24 @@ loop-number-preserved g c =
 
 pub returns-in_err-run-clause-refused : goal.returns-in_err-run-clause-refused
 returns-in_err-run-clause-refused g c clean =
+    let mid = state g.S.Store c.loop-number.tx.conn.now in
+    let new = state g.S.Store c.run.new.tx.conn.now in
+    let number = c.loop-number.number in
+    let all = c.args.capacities.now in
+    let early : HasCleanDisk mid = omega (arith, c.run.ensures.step.survives.clean) in
+    let nine : length all ≡ LANES = search rules in
+    let low : number < LANES = omega arith in
     let told = c.in_err-run.ensures.refused clean in
-    let here = refused_after g.S.Store Queue c.args.tx.now.conn.now c.loop-number.tx.conn.now c.run.new.tx.conn.now _ c.loop-number.invariant.step.survives
-    (by_making g.S.Store Queue c.loop-number.tx.conn.now c.run.new.tx.conn.now _ _ _ (4, refl) told.0 told.1) in
-    err_too _ c.from_residual.result _ c.from_residual.ensures here
+    let given =
+    ap₂ (λ (a b : Value). bound_value a ∷ bound_value b ∷ []) c.params-to_sql.ensures c.params-to_sql-in-loop-number.ensures in
+    err_too _ c.from_residual.result _ c.from_residual.ensures (record {
+      before = c.loop-number.tx.conn.now;
+      after = c.run.new.tx.conn.now;
+      early = c.loop-number.invariant.step.survives;
+      refused = lane_refused g.S.Store lanes_insert all number (state g.S.Store c.args.tx.now.conn.now).now c.loop-number.tx.conn.now c.run.new.tx.conn.now
+          (omega (arith, low, nine)) (c.loop-number.invariant.stops early) _ _ given told.0 told.1;
+      late = survives_itself new;
+    })
 
 pub returns-in_err-run-clause-step : goal.returns-in_err-run-clause-step
 returns-in_err-run-clause-step g c =
@@ -62,7 +85,7 @@ returns-in_err-run-clause-step g c =
     step_too g.S.Store _ _ _ c.from_residual.result c.from_residual.ensures here
 
 pub loop-number-init : goal.loop-number-init
-loop-number-init g c = record { step = step_none g.S.Store c.args.tx.now.conn c.requires.inside; ran = λ clean last rest. rest; made = λ clean has. has }
+loop-number-init g c = record { step = step_none g.S.Store c.args.tx.now.conn c.requires.inside; ran = λ clean last rest. rest; stops = λ clean before after e rest. rest; made = λ clean has. has }
 
 pub returns-clause-added : goal.returns-clause-added
 returns-clause-added g c clean =

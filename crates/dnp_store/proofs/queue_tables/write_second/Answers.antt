@@ -7,11 +7,10 @@ use Rattle.dnp_eventbuf.specs.EventBuffer.{EventBuffer}
 use Rattle.dnp_store.specs.QueueTables.{HoldsBuffer, IsQueue, queue_schema}
 use Rattle.dnp_store.specs.PairTables.{HoldsPair, IsPair, migrated}
 use Rattle.dnp_store.specs.steps.Seconds.{IsSecond, Opens}
-use Rattle.dnp_store.specs.declared.store_kind.StoreKind.TheVariants.{Queue}
 use Rattle.dnp_store.specs.Added.{AreMadeBy, MakeAll, making_second}
 use Rattle.dnp_store.proofs.Adding.{both_too}
 use Rattle.dnp_store.proofs.Statements.{second}
-use Rattle.dnp_store.proofs.Ending.{end_err, end_ok, end_refused, end_survives}
+use Rattle.dnp_store.proofs.Ending.{end_err, end_ok, end_survives, end_unmade}
 use Rattle.dnp_store.proofs.Standing.{stands_if}
 use Rattle.dnp_store.proofs.Stepping.{on_then}
 use Rattle.dnp_store.proofs.queue_tables.write_second.Goals as goal
@@ -36,7 +35,7 @@ done : (g : _) (c : goal.After-conn-1 g) → ((f q l : List Term) (s : EventBuff
 done g c went s stood =
     let was = subst (λ d. IsQueue d s) (sym (settled g c stood.is_open)) stood.holds in
     let it = went was.form_checks was.queue_checks was.lanes_checks s was.schema was.holds in
-    record { checks = _; schema = it.schema; holds = it.holds }
+    record { checks = _; schema = it.schema; behind = refl; holds = it.holds }
 
 pub returns-clause-ok : goal.returns-clause-ok
 returns-clause-ok g c clean s stood =
@@ -77,5 +76,5 @@ returns-clause-err g c = end_err g.S.Store c.args.conn.now c.conn-1.given.0 c.tr
     c.transaction-tx.ensures.begun (ended g c) c.make_second-done.ensures.step c.end.ensures
 
 pub returns-clause-refused : goal.returns-clause-refused
-returns-clause-refused g c = end_refused g.S.Store c.args.conn.now c.conn-1.given.0 c.transaction-tx.result.conn c.make_second-done.new.tx.conn c.end.new.tx.0 c.make_second-done.result c.end.result
-    c.transaction-tx.ensures.begun (ended g c) c.make_second-done.ensures.step c.end.ensures Queue c.make_second-done.ensures.refused
+returns-clause-refused g c = end_unmade g.S.Store c.args.conn.now c.conn-1.given.0 c.transaction-tx.result.conn c.make_second-done.new.tx.conn c.end.new.tx.0 c.make_second-done.result c.end.result
+    c.transaction-tx.ensures.begun (ended g c) c.make_second-done.ensures.step c.end.ensures (making_second c.args.capacities.now) c.make_second-done.ensures.refused (added g c)

@@ -1,4 +1,4 @@
-use Rattle.std.proofs.Common.{rules, ◌≡◌, ℕ, List, ap, subst, ◌∙◌}
+use Rattle.std.proofs.Common.{rules, ◌≡◌, ℕ, List, ap, subst, ◌∙◌, refl}
 use Rattle.std.specs.Prelude.{OnOk}
 use Rattle.sqlite.specs.Held.{state}
 use Rattle.sqlite.specs.Tree.{Trees}
@@ -11,7 +11,7 @@ use Rattle.dnp_store.specs.PairTables.{HoldsPair, IsPair, Sides, migrated}
 use Rattle.dnp_store.specs.steps.Seconds.{IsSecond}
 use Rattle.dnp_store.specs.declared.store_kind.StoreKind.TheVariants.{Queue}
 use Rattle.dnp_store.proofs.Adding.{leaves_made}
-use Rattle.dnp_store.proofs.Ending.{end_err, end_ok, end_refused, end_survives}
+use Rattle.dnp_store.proofs.Ending.{end_err, end_ok, end_survives, end_unmade}
 use Rattle.dnp_store.proofs.Standing.{stands_if}
 use Rattle.dnp_store.proofs.Statements.{second}
 use Rattle.dnp_store.proofs.Stepping.{on_then}
@@ -36,7 +36,7 @@ returns-clause-ok g c clean none =
     (end_ok g.S.Store c.args.conn.now c.conn-1.given.0 c.transaction-tx.result.conn c.make_pair-done.new.tx.conn c.end.new.tx.0 c.make_pair-done.result c.end.result
     c.transaction-tx.ensures.begun (ended g c) c.make_pair-done.ensures.step c.end.ensures (λ d. IsPair d b)
     (λ early. on_then (IsSecond checks_of_form (checks_of_rows Queue) checks_of_lanes (empties c.args.first.now c.args.second.now) _) (IsPair _ b) c.make_pair-done.result
-    (λ it. record { checks = _; schema = it.schema; holds = it.holds }) (made g c none early)) clean)
+    (λ it. record { checks = _; schema = it.schema; behind = refl; holds = it.holds }) (made g c none early)) clean)
 
 -- the transaction began with what the connection shows
 added : (g : _) (c : goal.After-conn-1 g) → HasCleanDisk (state g.S.Store c.make_pair-done.new.tx.conn.now)
@@ -76,5 +76,5 @@ returns-clause-err g c = end_err g.S.Store c.args.conn.now c.conn-1.given.0 c.tr
     c.transaction-tx.ensures.begun (ended g c) c.make_pair-done.ensures.step c.end.ensures
 
 pub returns-clause-refused : goal.returns-clause-refused
-returns-clause-refused g c = end_refused g.S.Store c.args.conn.now c.conn-1.given.0 c.transaction-tx.result.conn c.make_pair-done.new.tx.conn c.end.new.tx.0 c.make_pair-done.result c.end.result
-    c.transaction-tx.ensures.begun (ended g c) c.make_pair-done.ensures.step c.end.ensures Queue c.make_pair-done.ensures.refused
+returns-clause-refused g c = end_unmade g.S.Store c.args.conn.now c.conn-1.given.0 c.transaction-tx.result.conn c.make_pair-done.new.tx.conn c.end.new.tx.0 c.make_pair-done.result c.end.result
+    c.transaction-tx.ensures.begun (ended g c) c.make_pair-done.ensures.step c.end.ensures (making_queue c.args.first.now c.args.second.now) c.make_pair-done.ensures.refused (added g c)

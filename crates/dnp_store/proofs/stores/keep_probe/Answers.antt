@@ -3,8 +3,8 @@ use Rattle.sqlite.specs.State.{HasCleanDisk}
 use Rattle.sqlite.specs.Held.{state}
 use Rattle.sqlite.proofs.InsideLemmas.{unchanged_keeps, not_run_inside}
 use Rattle.dnp_store.proofs.Standing.{keeps_commit}
-use Rattle.dnp_store.specs.declared.store_kind.StoreKind.{StoreKind}
-use Rattle.dnp_store.proofs.Refusing.{by_making}
+use Rattle.dnp_store.specs.Refusals.{RefusesOne, asking}
+use Rattle.dnp_store.proofs.Stopping.{stopped_here}
 use Rattle.dnp_store.proofs.stores.keep_probe.Goals as goal
 
 pub returns-in-Ok-clause-step : goal.returns-in-Ok-clause-step
@@ -36,5 +36,5 @@ returns-in-Err-clause-refused g c clean =
     let old = state g.S.Store c.args.tx.now.conn.now in
     let new = state g.S.Store c.prepare.new.self.conn.now in
     let was : HasCleanDisk old = omega (arith, clean, c.prepare.ensures.survives.clean) in
-    λ (kind : StoreKind). by_making g.S.Store kind c.args.tx.now.conn.now c.prepare.new.self.conn.now [] [] _ (5, refl) (c.requires.inside was)
-    (not_run_inside old new 0 false [] [] _ (c.in-Err.ensures.err clean []))
+    stopped_here g.S.Store (RefusesOne g.S.Store asking) c.args.tx.now.conn.now c.prepare.new.self.conn.now _
+    (inl (refl, c.requires.inside was, not_run_inside old new 0 false [] [] _ (c.in-Err.ensures.err clean [])))

@@ -1,11 +1,10 @@
-use Rattle.std.proofs.Common.{[], ◌∷◌, Some, ap, refl, subst, sym}
-use Rattle.std.specs.List.{AllByRecursion}
+use Rattle.std.proofs.Common.{[], ◌∷◌, subst}
+use Rattle.std.specs.Prelude.{IfErr}
+use Rattle.dnp_store.specs.Refusals.{IsStopped, RefusesOne}
 use Rattle.dnp_store.specs.Schemas.{form_text, rows_text}
-use Rattle.dnp_store.specs.Texts.{IsMaking}
 use Rattle.dnp_store.specs.steps.Making.{ExecuteAll}
 use Rattle.dnp_store.proofs.Adding.{made_texts}
 use Rattle.dnp_store.proofs.Numbering.{began, number_text}
-use Rattle.dnp_store.proofs.Running.{making_told}
 use Rattle.dnp_store.proofs.Stepping.{on_then}
 use Rattle.dnp_store.proofs.stores.make_tables.Goals as goal
 
@@ -30,7 +29,7 @@ returns-clause-added g c clean =
 
 pub returns-clause-refused : goal.returns-clause-refused
 returns-clause-refused g c clean =
-    let own : AllByRecursion (IsMaking c.args.kind) (form_text ∷ c.rows_text.result.now ∷ number_text ∷ []) =
-    ((0, refl), ((1, ap Some (sym c.rows_text.ensures)), ((2, refl), tt))) in
-    making_told g.S.Store c.args.kind c.args.tx.now.conn.now c.run_all.new.tx.conn.now (form_text ∷ c.rows_text.result.now ∷ number_text ∷ [])
-    c.run_all.result own (c.run_all.ensures.refused clean)
+    let old = c.args.tx.now.conn.now in
+    let new = c.run_all.new.tx.conn.now in
+    subst (λ text. IfErr c.run_all.result (IsStopped g.S.Store (RefusesOne g.S.Store ((form_text, []) ∷ (text, []) ∷ (number_text, []) ∷ [])) old new))
+    c.rows_text.ensures (c.run_all.ensures.refused clean)

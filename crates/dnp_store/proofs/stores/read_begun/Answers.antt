@@ -50,3 +50,13 @@ returns-in_err-read_counts-clause-denies g c clean =
           (let one = c.in_ok-read_form.ensures.read early kind f r m sound has in
           no.1 f r m (subst IsDatabase (sym one.0) sound) (ap (λ (d : Database). d.schema) one.0 ∙ has) tt),
     ))
+
+pub returns-clause-numbered : goal.returns-clause-numbered
+returns-clause-numbered g c clean =
+    let early : HasCleanDisk (state g.S.Store c.read_form.new.tx.conn.now) = omega (arith, clean, c.read_counts.ensures.step.survives.clean) in
+    c.in_ok-read_form.ensures.numbered early
+
+pub returns-clause-same : goal.returns-clause-same
+returns-clause-same g c clean =
+    let early : HasCleanDisk (state g.S.Store c.read_form.new.tx.conn.now) = omega (arith, clean, c.read_counts.ensures.step.survives.clean) in
+    c.in_ok-read_counts.ensures.same clean ∙ c.in_ok-read_form.ensures.same early

@@ -1,6 +1,9 @@
 use Rattle.sqlite.specs.Held.{state}
 use Rattle.std.proofs.Common.{[]}
 use Rattle.dnp_store.specs.steps.Stores.{schema_for}
+use Rattle.dnp_store.specs.Texts.{sequence_select}
+use Rattle.dnp_store.proofs.Outcomes.{on_each}
+use Rattle.dnp_store.proofs.Selecting.{counts_select, stays}
 use Rattle.dnp_store.proofs.Opening.{count_plain, count_query, counts_if}
 use Rattle.dnp_store.proofs.Unread.{if_err, means_nothing}
 use Rattle.dnp_store.proofs.PairCounting.{two_if, count_plain as pair_count_plain}
@@ -35,3 +38,8 @@ returns-clause-denies_pair g c clean =
 pub returns-clause-in_range : goal.returns-clause-in_range
 returns-clause-in_range g c clean =
     most_if (state g.S.Store c.args.tx.now.conn.now) (state g.S.Store c.list.new.tx.conn.now) c.list.result (c.list.ensures.shown clean)
+
+pub returns-clause-same : goal.returns-clause-same
+returns-clause-same g c clean =
+    on_each _ _ c.list.result (λ rows shown. stays sequence_select [] (state g.S.Store c.args.tx.now.conn.now) (state g.S.Store c.list.new.tx.conn.now) rows.items
+    counts_select shown) (c.list.ensures.shown clean)

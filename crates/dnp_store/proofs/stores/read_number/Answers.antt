@@ -4,6 +4,8 @@ use Rattle.dnp_store.specs.steps.Shown.{ShowsForm}
 use Rattle.dnp_store.specs.PairTables.{pair_schema}
 use Rattle.dnp_store.specs.declared.store_kind.StoreKind.TheVariants.{Queue}
 use Rattle.dnp_store.specs.steps.Stores.{schema_for}
+use Rattle.dnp_store.specs.Texts.{form_select}
+use Rattle.dnp_store.proofs.Selecting.{form_selects, stays}
 use Rattle.dnp_store.proofs.Opening.{form_plain, form_query, reads_number}
 use Rattle.dnp_store.proofs.PairReading.{form_plain as pair_form_plain, reads_pair_number}
 use Rattle.dnp_store.proofs.QueueShowing.{pair_number, queue_number}
@@ -73,3 +75,8 @@ returns-clause-denies_pair g c clean told =
           let is = c.number_of.ensures.found form.0 (subst (λ rs. ShowsForm rs form.0) (sym c.deref.ensures.value) shows) in
           let none = c.in-None.is in absurd cc),
     )
+
+pub returns-in-Some-clause-same : goal.returns-in-Some-clause-same
+returns-in-Some-clause-same g c clean =
+    stays form_select [] (state g.S.Store c.args.tx.now.conn.now) (state g.S.Store c.list.new.tx.conn.now) c.in_ok-rows.rows.items form_selects
+    (c.in_ok-rows.ensures.shown clean)

@@ -6,7 +6,7 @@ use Rattle.dnp_store.specs.Added.{LeavesMade, MakeAll, making_tables}
 use Rattle.dnp_store.specs.Tables.{no_schema}
 use Rattle.dnp_store.specs.steps.Stores.{HasNumber, IsFresh}
 use Rattle.dnp_store.proofs.Adding.{leaves_made}
-use Rattle.dnp_store.proofs.Ending.{end_err, end_ok, end_refused, end_survives}
+use Rattle.dnp_store.proofs.Ending.{end_err, end_ok, end_survives, end_unmade}
 use Rattle.dnp_store.proofs.Statements.{second}
 use Rattle.dnp_store.proofs.Stepping.{on_then}
 use Rattle.dnp_store.proofs.stores.write_tables.Goals as goal
@@ -51,5 +51,5 @@ returns-clause-err g c = end_err g.S.Store c.args.conn.now c.conn-1.given.0 c.tr
     c.transaction-tx.ensures.begun (ended g c) c.make_store-done.ensures.step c.end.ensures
 
 pub returns-clause-refused : goal.returns-clause-refused
-returns-clause-refused g c = end_refused g.S.Store c.args.conn.now c.conn-1.given.0 c.transaction-tx.result.conn c.make_store-done.new.tx.conn c.end.new.tx.0 c.make_store-done.result c.end.result
-    c.transaction-tx.ensures.begun (ended g c) c.make_store-done.ensures.step c.end.ensures c.args.kind c.make_store-done.ensures.refused
+returns-clause-refused g c = end_unmade g.S.Store c.args.conn.now c.conn-1.given.0 c.transaction-tx.result.conn c.make_store-done.new.tx.conn c.end.new.tx.0 c.make_store-done.result c.end.result
+    c.transaction-tx.ensures.begun (ended g c) c.make_store-done.ensures.step c.end.ensures (making_tables c.args.kind) c.make_store-done.ensures.refused (made g c)

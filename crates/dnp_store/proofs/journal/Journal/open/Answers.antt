@@ -40,3 +40,9 @@ returns-in-Err-clause-handed_back g c = (c.in-Err.ensures.found.begins.kept, c.i
 
 pub returns-in-Err-clause-current : goal.returns-in-Err-clause-current
 returns-in-Err-clause-current g c = c.in-Err.ensures.found.current
+
+pub returns-in-Ok-clause-numbered : goal.returns-in-Ok-clause-numbered
+returns-in-Ok-clause-numbered g c = c.in-Ok.ensures.numbered
+
+pub returns-in-Ok-clause-events : goal.returns-in-Ok-clause-events
+returns-in-Ok-clause-events g c = c.in-Ok.ensures.events

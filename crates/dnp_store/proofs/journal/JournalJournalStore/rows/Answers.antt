@@ -1,4 +1,4 @@
-use Rattle.std.proofs.Common.{rules, ◌≡◌, ◌⊎◌, ◌≤◌, ℕ, min, false, true, inr, IsTrue, arith, ap, refl, sym, subst, ◌∙◌}
+use Rattle.std.proofs.Common.{rules, ◌≡◌, ◌⊎◌, ◌<◌, ◌≤◌, ℕ, min, false, true, inr, IsTrue, arith, ap, refl, sym, subst, ◌∙◌}
 use Rattle.sqlite.specs.State.{HasCleanDisk}
 use Rattle.sqlite.specs.Held.{state}
 use Rattle.dnp_eventbuf.specs.Archive.{IsSoundArchive, rows_over}
@@ -6,6 +6,7 @@ use Rattle.dnp_store.specs.JournalKept.{JournalValue, IsHonestJournal, archive_o
 use Rattle.dnp_store.proofs.JournalCalls.{call_done, call_lost, count_on, stands_on}
 use Rattle.dnp_store.proofs.JournalStanding.{journal_stopped, sound_kept, same_archive, sound_still, over_none, over_few, smaller}
 use Rattle.dnp_store.specs.Refusals.{LosesReading}
+use Rattle.dnp_store.specs.Showing.{HasRows}
 use Rattle.dnp_store.proofs.Refusing.{lost_if}
 use Rattle.dnp_store.proofs.journal.JournalJournalStore.rows.Goals as goal
 use Rattle.dnp_store.proofs.journal.JournalJournalStore.rows.Goals.{After-drop-rows, In_default}
@@ -124,3 +125,14 @@ returns-in-Err-clause-device g c clean told =
 
 pub returns-then-self-clause-call : goal.returns-then-self-clause-call
 returns-then-self-clause-call g c = journal_stopped g.S.Store _ _ c.self.view_is c.if-self.true
+
+pub returns-then-from-self-clause-shown : goal.returns-then-from-self-clause-shown
+returns-then-from-self-clause-shown g c clean below =
+    absurd (subst (λ (k : JournalValue _). c.args.from < k.last_id → ⊥) c.self.view_is (λ low. omega (arith, c.if-from-self.true, low)) below)
+
+-- what was read is what the query shows
+pub returns-clause-shown : goal.returns-clause-shown
+returns-clause-shown g c clean below =
+    let is : c.min-few.result ≡ min c.args.most c.self.inside.count = search rules in
+    subst (λ (k : JournalValue _). HasRows g.S.Store c.args.from (min c.args.most k.count) c.read_over.new.events.items (state g.S.Store k.conn).now) c.self.view_is
+    (subst (λ (n : ℕ). HasRows g.S.Store c.args.from n c.read_over.new.events.items (state g.S.Store c.self.inside.conn).now) is (c.in_default.ensures.has clean))

@@ -46,3 +46,6 @@ returns-in-Ok-clause-added g c = c.in-Ok.ensures.added
 
 pub returns-in-Err-clause-wrong_form : goal.returns-in-Err-clause-wrong_form
 returns-in-Err-clause-wrong_form g c clean told = c.in-Err.ensures.wrong clean (ap Err told)
+
+pub returns-in-Ok-clause-lanes : goal.returns-in-Ok-clause-lanes
+returns-in-Ok-clause-lanes g c = c.in-Ok.ensures.lanes

@@ -40,3 +40,6 @@ returns-in-Ok-clause-not_new g c = c.in-Ok.ensures.is_new
 
 pub returns-in-Err-clause-wrong_form : goal.returns-in-Err-clause-wrong_form
 returns-in-Err-clause-wrong_form g c clean told = c.in-Err.ensures.wrong clean (ap Err told)
+
+pub returns-in-Ok-clause-lanes : goal.returns-in-Ok-clause-lanes
+returns-in-Ok-clause-lanes g c = c.in-Ok.ensures.lanes
