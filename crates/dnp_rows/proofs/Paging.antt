@@ -8,7 +8,6 @@ use Rattle.std.proofs.lemmas.Bool.Decides.{Decides-ltb}
 use Rattle.std.proofs.lemmas.List.{take-append-drop}
 use Rattle.std.proofs.lemmas.List.Elements.{filter-append}
 use Rattle.dnp_rows.specs.declared.item.Item.{Item}
-use Rattle.dnp_rows.specs.declared.line.Form.{Form}
 use Rattle.dnp_rows.specs.Lines.{AreLines}
 use Rattle.dnp_rows.specs.Lines.AreLines.{NoMore, GoesOn}
 use Rattle.dnp_rows.specs.Pages.{id_of, over, last_id, AreRising}
@@ -136,28 +135,28 @@ still_to_come from last printed xs more rising so_far is =
 
 -- ---- their lines
 
-pub lines_more : {form : Form} {xs ys : List Item} {a b : List ℕ} → AreLines form xs a → AreLines form ys b → AreLines form (xs ++ ys) (a ++ b)
-lines_more {form} {ys = ys} {b = b} NoMore more = more
-lines_more {form} {ys = ys} {b = b} (GoesOn item items line lines is rest) more =
-    subst (AreLines form (item ∷ items ++ ys)) (sym (append_assoc line lines b))
+pub lines_more : {IsOf : Item → List ℕ → Type 0} {xs ys : List Item} {a b : List ℕ} → AreLines IsOf xs a → AreLines IsOf ys b → AreLines IsOf (xs ++ ys) (a ++ b)
+lines_more {IsOf} {ys = ys} {b = b} NoMore more = more
+lines_more {IsOf} {ys = ys} {b = b} (GoesOn item items line lines is rest) more =
+    subst (AreLines IsOf (item ∷ items ++ ys)) (sym (append_assoc line lines b))
     (GoesOn item (items ++ ys) line (lines ++ b) is (lines_more rest more))
 
 -- ---- pages, one after the other
 
 -- rows are printed, and a page of those that are still to come is at hand
-pub record Printed (form : Form) (from last : ℕ) (xs page : List Item) (held now : Option (List ℕ)) : Type 0 where
+pub record Printed (IsOf : Item → List ℕ → Type 0) (from last : ℕ) (xs page : List Item) (held now : Option (List ℕ)) : Type 0 where
   pub rows : List Item
   pub lines : List ℕ
-  pub spelt : AreLines form rows lines
+  pub spelt : AreLines IsOf rows lines
   pub written : Appends held now lines
   pub rising : AreRising 0 xs
   pub left : rows ++ over last xs ≡ over from xs
   pub to : last ≡ last_id from rows
   pub next : page ≡ take 1000 (over last xs)
 
-pub nothing_printed : (form : Form) (from : ℕ) (xs page : List Item) (held : Option (List ℕ)) → AreRising 0 xs → page ≡ take 1000 (over from xs)
-    → Printed form from from xs page held held
-nothing_printed form from xs page held rising next = record {
+pub nothing_printed : (IsOf : Item → List ℕ → Type 0) (from : ℕ) (xs page : List Item) (held : Option (List ℕ)) → AreRising 0 xs → page ≡ take 1000 (over from xs)
+    → Printed IsOf from from xs page held held
+nothing_printed IsOf from xs page held rising next = record {
   rows = [];
   lines = [];
   spelt = NoMore;
@@ -168,10 +167,10 @@ nothing_printed form from xs page held rising next = record {
   next = next;
 }
 
-pub page_printed : (form : Form) (from last later : ℕ) (xs more page after : List Item) (lines : List ℕ) (held now upon : Option (List ℕ))
-    → Printed form from last xs page held now → later ≡ last_id last page → AreLines form page lines → Appends now upon lines
-    → AreRising 0 (xs ++ more) → after ≡ take 1000 (over later (xs ++ more)) → Printed form from later (xs ++ more) after held upon
-page_printed form from last later xs more page after lines held now upon done is spelt written rising next =
+pub page_printed : (IsOf : Item → List ℕ → Type 0) (from last later : ℕ) (xs more page after : List Item) (lines : List ℕ) (held now upon : Option (List ℕ))
+    → Printed IsOf from last xs page held now → later ≡ last_id last page → AreLines IsOf page lines → Appends now upon lines
+    → AreRising 0 (xs ++ more) → after ≡ take 1000 (over later (xs ++ more)) → Printed IsOf from later (xs ++ more) after held upon
+page_printed IsOf from last later xs more page after lines held now upon done is spelt written rising next =
     let to : later ≡ last_id from (done.rows ++ page) =
     is ∙ ap (λ (n : ℕ). last_id n page) done.to ∙ sym (last-append from done.rows page) in
     let left : (done.rows ++ page) ++ over later xs ≡ over from xs =

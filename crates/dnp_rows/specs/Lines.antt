@@ -1,6 +1,6 @@
 -- Definition: the line in which a stored row is printed: its id, and then its parts. 34 is '"', 44 is ',', 58 is ':', 45 is
 -- '-', 32 is ' ', 123 and 125 are braces, and 13 and 10 end a line.
-use Rattle.std.specs.Prelude.{◌≡◌, ℕ, ℤ, ◌/◌, ◌%◌, ◌+◌, nat_lt, if◌then◌else◌, List, [], ◌∷◌, ◌++◌, codes, Option, None, Some}
+use Rattle.std.specs.Prelude.{◌≡◌, ℕ, ℤ, ◌/◌, ◌%◌, ◌+◌, nat_lt, ◌==◌, if◌then◌else◌, List, [], ◌∷◌, ◌++◌, codes, Option, None, Some}
 use Rattle.std.specs.Fmt.{decimal, signed_decimal}
 use Rattle.std.specs.Option.{IfSome}
 use Rattle.dnp_objects.specs.declared.row.Row.{Row}
@@ -20,6 +20,9 @@ use Rattle.dnp_rows.specs.declared.item.Store.{Store}
 use Rattle.dnp_rows.specs.declared.item.Store.TheVariants as store
 use Rattle.dnp_rows.specs.declared.line.Form.{Form}
 use Rattle.dnp_rows.specs.declared.line.Form.TheVariants.{Text, Csv, Json}
+use Rattle.dnp_rows.specs.declared.line.Whose.{Whose}
+use Rattle.dnp_rows.specs.declared.line.Whose.TheVariants.{Anyone, Centre, Concentrator}
+use Rattle.dnp_orders.specs.Statuses.{status_name}
 use Rattle.dnp_rows.specs.declared.line.Said.{Said}
 use Rattle.dnp_rows.specs.declared.line.Said.TheVariants.{Unsaid, Bare, Named}
 
@@ -29,9 +32,9 @@ use Rattle.dnp_rows.specs.declared.line.Said.TheVariants.{Unsaid, Bare, Named}
 abbrev pub part : Form → Said → List ℕ → List ℕ → List ℕ → List ℕ → List ℕ
 part Json said name text json csv = 44 ∷ 34 ∷ name ++ 34 ∷ 58 ∷ json
 part Csv said name text json csv = 44 ∷ csv
-part Text Unsaid name text json csv = []
-part Text Bare name text json csv = 32 ∷ text
-part Text Named name text json csv = 32 ∷ name ++ 32 ∷ text
+part (Text whose) Unsaid name text json csv = []
+part (Text whose) Bare name text json csv = 32 ∷ text
+part (Text whose) Named name text json csv = 32 ∷ name ++ 32 ∷ text
 
 abbrev pub number : Form → Said → List ℕ → List ℕ → List ℕ
 number form said name digits = part form said name digits digits digits
@@ -47,18 +50,18 @@ none form said name = part form said name (45 ∷ []) (codes "null") []
 abbrev pub absent : Form → List ℕ
 absent Json = []
 absent Csv = 44 ∷ []
-absent Text = []
+absent (Text whose) = []
 
 -- what a line begins with, and ends in
 abbrev pub begins : Form → ℕ → List ℕ
 begins Json id = codes "{\"id\":" ++ decimal id
 begins Csv id = decimal id
-begins Text id = decimal id
+begins (Text whose) id = decimal id
 
 abbrev pub ends : Form → List ℕ
 ends Json = 125 ∷ 10 ∷ []
 ends Csv = 13 ∷ 10 ∷ []
-ends Text = 10 ∷ []
+ends (Text whose) = 10 ∷ []
 
 -- ---- events
 
@@ -90,9 +93,10 @@ point_parts form row =
     word form Bare (codes "kind") (kind_name row.kind) ++ number form Bare (codes "index") (decimal row.index)
     ++ number form Bare (codes "value") (signed_decimal row.value) ++ word form Bare (codes "flags") (octet_text row.flags)
 
-abbrev pub event_line : Form → Event → List ℕ → List ℕ
-event_line form e utc =
-    begins form e.id ++ queued_parts form e.queued ++ point_parts form e.row ++ time_parts form e.row.time utc ++ ends form
+-- behind its own parts stand those that name what it is of, where people call that something
+abbrev pub event_line : Form → Event → List ℕ → List ℕ → List ℕ
+event_line form e utc named =
+    begins form e.id ++ queued_parts form e.queued ++ point_parts form e.row ++ time_parts form e.row.time utc ++ named ++ ends form
 
 -- ---- controls
 
@@ -109,32 +113,83 @@ command_parts form (Block index code count on off) =
 command_parts form (Set16 index value) = setpoint_parts form (codes "set16") index value
 command_parts form (Set32 index value) = setpoint_parts form (codes "set32") index value
 
-abbrev pub state_parts : Form → State → List ℕ
-state_parts form Pending = word form Bare (codes "state") (codes "pending") ++ none form Unsaid (codes "status")
-state_parts form Spent = word form Bare (codes "state") (codes "spent") ++ none form Unsaid (codes "status")
-state_parts form (Finished status) =
+-- the station that answers the one whose book it is
+abbrev pub next_below : Whose → List ℕ
+next_below Anyone = codes "the next station below"
+next_below Centre = codes "the concentrator"
+next_below Concentrator = codes "the substation"
+
+-- what is known of a control that was answered: a concentrator takes it and hands it on, and a substation operates
+abbrev pub done_words : Whose → List ℕ
+done_words Anyone = codes "finished: answered by "
+done_words Centre = codes "taken by "
+done_words Concentrator = codes "operated by "
+
+abbrev pub refused_words : Whose → List ℕ
+refused_words Anyone = codes "finished: answered by "
+refused_words Centre = codes "refused by "
+refused_words Concentrator = codes "refused by "
+
+-- a status in brackets, with its name
+abbrev pub status_words : ℕ → List ℕ
+status_words status = codes " (status " ++ decimal status ++ 32 ∷ status_name status ++ codes ")"
+
+abbrev pub answered_words : Whose → ℕ → List ℕ
+answered_words whose status = if status == 0 then done_words whose else refused_words whose
+
+-- a book notes FORMAT_ERROR, 3, also of an answer that does not repeat the control
+abbrev pub unlike_words : Whose → ℕ → List ℕ
+unlike_words Anyone status = []
+unlike_words Centre status = if status == 3 then codes ", or answered with something else" else []
+unlike_words Concentrator status = if status == 3 then codes ", or answered with something else" else []
+
+-- how far a control is, in plain text
+abbrev pub state_words : Whose → State → List ℕ
+state_words Anyone Pending = codes "pending"
+state_words Centre Pending = codes "pending: no OPERATE was sent to the concentrator yet"
+state_words Concentrator Pending = codes "pending: no OPERATE was sent to the substation yet"
+state_words Anyone Spent = codes "spent"
+state_words Centre Spent = codes "spent: sent to the concentrator, and its answer is not known"
+state_words Concentrator Spent = codes "spent: sent to the substation, and its answer is not known"
+state_words Anyone (Finished status) = answered_words Anyone status ++ next_below Anyone ++ unlike_words Anyone status ++ status_words status
+state_words Centre (Finished status) = answered_words Centre status ++ next_below Centre ++ unlike_words Centre status ++ status_words status
+state_words Concentrator (Finished status) = answered_words Concentrator status ++ next_below Concentrator ++ unlike_words Concentrator status ++ status_words status
+
+abbrev pub state_columns : Form → State → List ℕ
+state_columns form Pending = word form Bare (codes "state") (codes "pending") ++ none form Unsaid (codes "status")
+state_columns form Spent = word form Bare (codes "state") (codes "spent") ++ none form Unsaid (codes "status")
+state_columns form (Finished status) =
     word form Bare (codes "state") (codes "finished") ++ number form Named (codes "status") (decimal status)
 
-abbrev pub control_line : Form → Entry → List ℕ
-control_line form e =
+abbrev pub state_parts : Form → State → List ℕ
+state_parts Json state = state_columns Json state
+state_parts Csv state = state_columns Csv state
+state_parts (Text whose) state = 32 ∷ state_words whose state
+
+abbrev pub control_line : Form → Entry → List ℕ → List ℕ
+control_line form e named =
     begins form e.id ++ number form Named (codes "target") (decimal e.target) ++ command_parts form e.command
-    ++ state_parts form e.state ++ ends form
+    ++ state_parts form e.state ++ named ++ ends form
 
 -- ---- lines
 
--- this is the line of a row; a time is spelt in UTC
-abbrev pub IsLine : Form → Item → List ℕ → Type 0
-IsLine form (Happened e) line = (utc : List ℕ) × IfSome e.row.time (λ time. IsUtc time utc) × (line ≡ event_line form e utc)
-IsLine form (Control e) line = line ≡ control_line form e
+-- this is the line of a row that is named so; a time is spelt in UTC
+abbrev pub IsLine : Form → List ℕ → Item → List ℕ → Type 0
+IsLine form named (Happened e) line = (utc : List ℕ) × IfSome e.row.time (λ time. IsUtc time utc) × (line ≡ event_line form e utc named)
+IsLine form named (Control e) line = line ≡ control_line form e named
+
+-- a row is printed so, where each is named in such a way
+abbrev pub IsPrinted : Form → (Item → List ℕ → Type 0) → Item → List ℕ → Type 0
+IsPrinted form IsNamed item line = (named : List ℕ) × IsNamed item named × IsLine form named item line
 
 -- each row has its line, and they stand one after the other
-pub data AreLines (form : Form) : List Item → List ℕ → Type 0 where
-  NoMore : AreLines form [] []
-  GoesOn : (item : Item) (items : List Item) (line lines : List ℕ) → IsLine form item line → AreLines form items lines
-      → AreLines form (item ∷ items) (line ++ lines)
+pub data AreLines (IsOf : Item → List ℕ → Type 0) : List Item → List ℕ → Type 0 where
+  NoMore : AreLines IsOf [] []
+  GoesOn : (item : Item) (items : List Item) (line lines : List ℕ) → IsOf item line → AreLines IsOf items lines
+      → AreLines IsOf (item ∷ items) (line ++ lines)
 
--- the head line of CSV, which names the columns
-abbrev pub head_line : Store → List ℕ
-head_line store.Journal = codes "id,kind,index,value,flags,time,utc\r\n"
-head_line store.Queue = codes "id,centre,class,kind,index,value,flags,time,utc\r\n"
-head_line store.Controls = codes "id,target,command,index,code,count,on_ms,off_ms,value,state,status\r\n"
+-- the head of CSV, which names the columns
+abbrev pub head_names : Store → List ℕ
+head_names store.Journal = codes "id,kind,index,value,flags,time,utc"
+head_names store.Queue = codes "id,centre,class,kind,index,value,flags,time,utc"
+head_names store.Controls = codes "id,target,command,index,code,count,on_ms,off_ms,value,state,status"

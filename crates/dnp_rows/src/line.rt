@@ -3,21 +3,33 @@
 ghost use Rattle.std.specs.Prelude.{◌≡◌, List, ℕ, ◌++◌, OnOk, IfSome};
 ghost use Rattle.dnp_rows.specs.Dates.{IsUtc};
 ghost use Rattle.dnp_rows.specs.Lines as spec;
-ghost use Rattle.dnp_rows.specs.Lines.{IsLine, AreLines, begins, ends, number, word, absent, queued_parts, time_parts, event_line, control_line};
+ghost use Rattle.dnp_rows.specs.Lines.{IsLine, IsPrinted, AreLines, begins, ends, number, word, absent, queued_parts, time_parts, event_line, control_line};
 
 use crate::command::{put_command, put_state};
 use crate::item::{Event, Item, Queued, Store};
+use crate::naming::Naming;
 use crate::text::{make_utc, octet_digits, put_number};
 use dnp_controls::Entry;
 use dnp_objects::{Kind, Row};
 use itoa::Integer;
 use std::alloc::{AllocError, Global};
 
+/// Whose book of controls it is, as plain text says what became of them.
+#[derive(Clone, Copy, Debug, PartialEq, Eq)]
+pub enum Whose {
+    /// It isn't said.
+    Anyone,
+    /// A centre's, which the concentrator answers.
+    Centre,
+    /// A concentrator's, which substations answer.
+    Concentrator,
+}
+
 /// How rows are printed.
 #[derive(Clone, Copy, Debug, PartialEq, Eq)]
 pub enum Form {
     /// As words with a space between them.
-    Text,
+    Text(Whose),
     /// As records of CSV (RFC 4180).
     Csv,
     /// As JSON objects.
@@ -35,16 +47,14 @@ pub(crate) enum Said {
     Named,
 }
 
-/// The head line of CSV.
-pub fn head_line(store: Store) -> &'static [u8]
-    ensures { result.now ≡ spec.head_line store }
+/// The head of CSV, without what ends its line.
+pub fn head_names(store: Store) -> &'static [u8]
+    ensures { result.now ≡ spec.head_names store }
 {
     match store {
-        Store::Journal => b"id,kind,index,value,flags,time,utc\r\n",
-        Store::Queue => b"id,centre,class,kind,index,value,flags,time,utc\r\n",
-        Store::Controls => {
-            b"id,target,command,index,code,count,on_ms,off_ms,value,state,status\r\n"
-        }
+        Store::Journal => b"id,kind,index,value,flags,time,utc",
+        Store::Queue => b"id,centre,class,kind,index,value,flags,time,utc",
+        Store::Controls => b"id,target,command,index,code,count,on_ms,off_ms,value,state,status",
     }
 }
 
@@ -84,12 +94,12 @@ fn put_part(
             out.extend_from_slice(b",")?;
             out.extend_from_slice(value.csv)
         }
-        (Form::Text, Said::Unsaid) => Ok(()),
-        (Form::Text, Said::Bare) => {
+        (Form::Text(_), Said::Unsaid) => Ok(()),
+        (Form::Text(_), Said::Bare) => {
             out.extend_from_slice(b" ")?;
             out.extend_from_slice(value.text)
         }
-        (Form::Text, Said::Named) => {
+        (Form::Text(_), Said::Named) => {
             out.extend_from_slice(b" ")?;
             out.extend_from_slice(name.as_bytes())?;
             out.extend_from_slice(b" ")?;
@@ -162,7 +172,7 @@ pub(crate) fn put_absent(out: &mut Vec<u8>, form: Form) -> Result<(), AllocError
 {
     match form {
         Form::Csv => out.extend_from_slice(b","),
-        Form::Json | Form::Text => Ok(()),
+        Form::Json | Form::Text(_) => Ok(()),
     }
 }
 
@@ -183,7 +193,7 @@ fn put_end(out: &mut Vec<u8>, form: Form) -> Result<(), AllocError>
     out.extend_from_slice(match form {
         Form::Json => b"}\n",
         Form::Csv => b"\r\n",
-        Form::Text => b"\n",
+        Form::Text(_) => b"\n",
     })
 }
 
@@ -235,25 +245,33 @@ fn put_point(out: &mut Vec<u8>, form: Form, row: &Row) -> Result<(), AllocError>
     put_word(out, form, Said::Bare, "flags", &octet_digits(row.flags))
 }
 
-/// Puts the line of an event, the text of whose time in UTC is at hand.
-fn put_event(out: &mut Vec<u8>, form: Form, event: &Event, utc: &[u8]) -> Result<(), AllocError>
-    ensures { OnOk result (out.new.items ≡ out.old.items ++ event_line form event.now utc.now) }
+/// Puts the line of an event that is named so, the text of whose time in UTC is at hand.
+fn put_event(
+    out: &mut Vec<u8>,
+    form: Form,
+    event: &Event,
+    utc: &[u8],
+    named: &[u8],
+) -> Result<(), AllocError>
+    ensures { OnOk result (out.new.items ≡ out.old.items ++ event_line form event.now utc.now named.now) }
 {
     put_begin(out, form, event.id)?;
     put_queued(out, form, event.queued)?;
     put_point(out, form, &event.row)?;
     put_time(out, form, event.row.time, utc)?;
+    out.extend_from_slice(named)?;
     put_end(out, form)
 }
 
-/// Puts the line of a control.
-fn put_control(out: &mut Vec<u8>, form: Form, entry: &Entry) -> Result<(), AllocError>
-    ensures { OnOk result (out.new.items ≡ out.old.items ++ control_line form entry.now) }
+/// Puts the line of a control that is named so.
+fn put_control(out: &mut Vec<u8>, form: Form, entry: &Entry, named: &[u8]) -> Result<(), AllocError>
+    ensures { OnOk result (out.new.items ≡ out.old.items ++ control_line form entry.now named.now) }
 {
     put_begin(out, form, entry.id)?;
     put_integer(out, form, Said::Named, "target", entry.target)?;
     put_command(out, form, &entry.command)?;
     put_state(out, form, entry.state)?;
+    out.extend_from_slice(named)?;
     put_end(out, form)
 }
 
@@ -267,36 +285,40 @@ fn make_time(out: &mut Vec<u8>, time: Option<u64>) -> Result<(), AllocError>
     }
 }
 
-/// Puts the line of a row at the end of the octets. In between, the room for texts is used. An error says that memory ran out.
+/// Puts the line of a row that is named so at the end of the octets. In between, the room for texts is used. An error says that memory ran
+/// out.
 pub fn put_line(
     out: &mut Vec<u8>,
     room: &mut Vec<u8>,
     form: Form,
+    named: &[u8],
     item: &Item,
 ) -> Result<(), AllocError>
-    ensures { OnOk result ((line : List ℕ) × IsLine form item.now line × (out.new.items ≡ out.old.items ++ line)) }
+    ensures { OnOk result ((line : List ℕ) × IsLine form named.now item.now line × (out.new.items ≡ out.old.items ++ line)) }
 {
     match item {
         Item::Event(event) => {
             make_time(room, event.row.time)?;
-            put_event(out, form, event, room)
+            put_event(out, form, event, room, named)
         }
-        Item::Control(entry) => put_control(out, form, entry),
+        Item::Control(entry) => put_control(out, form, entry, named),
     }
 }
 
 /// Puts the lines of rows at the end of the octets. An error says that memory ran out.
-pub(crate) fn put_lines(
+pub(crate) fn put_lines<N: Naming>(
     alloc: Global,
     out: &mut Vec<u8>,
     form: Form,
+    names: &N,
     items: &[Item],
 ) -> Result<(), AllocError>
-    ensures { OnOk result ((lines : List ℕ) × AreLines form items.now lines × (out.new.items ≡ out.old.items ++ lines)) }
+    ensures { OnOk result ((lines : List ℕ) × AreLines (IsPrinted form (N.is_named names.now)) items.now lines × (out.new.items ≡ out.old.items ++ lines)) }
 {
     let mut room = Vec::new(alloc);
     for item in items {
-        put_line(out, &mut room, form, item)?;
+        let named = names.name(item);
+        put_line(out, &mut room, form, named, item)?;
     }
     Ok(())
 }

@@ -2,12 +2,13 @@
 
 ghost use Rattle.std.specs.Prelude.{◌≡◌, List, ℕ, OnOk, IfOk, IfErr, IfSome, IsSome};
 ghost use Rattle.std.specs.Io.KnownBytes.{Appends};
-ghost use Rattle.dnp_rows.specs.Lines.{AreLines};
+ghost use Rattle.dnp_rows.specs.Lines.{AreLines, IsPrinted};
 ghost use Rattle.dnp_rows.specs.Pages.{over, last_id, AreRising};
 
 use crate::fault::PrintFault;
 use crate::item::Item;
 use crate::line::{Form, put_lines};
+use crate::naming::Naming;
 use crate::source::Source;
 use std::alloc::Global;
 use std::io::Write;
@@ -31,11 +32,12 @@ fn last_in_order(items: &[Item], from: u64) -> Option<u64>
     Some(last)
 }
 
-/// Prints rows whose ids rise from over this one on, each in a line, so that they are out as the call ends, and gives the id
+/// Prints rows whose ids rise from over this one on, each in a line with its name, so that they are out as the call ends, and gives the id
 /// of the last.
-fn print_page<W: Write>(
+fn print_page<N: Naming, W: Write>(
     alloc: Global,
     form: Form,
+    names: &N,
     from: u64,
     items: &[Item],
     out: &mut W,
@@ -43,13 +45,13 @@ fn print_page<W: Write>(
     ensures rising { OnOk result (AreRising from items.now) }
     ensures out_of_order { IfErr result (λ fault. fault ≡ PrintFault.OutOfOrder → ¬ AreRising from items.now) }
     ensures last { IfOk result (λ last. last ≡ last_id from items.now) }
-    ensures lines { OnOk result ((lines : List ℕ) × AreLines form items.now lines × Appends (W.contents out.old) (W.contents out.new) lines) }
+    ensures lines { OnOk result ((lines : List ℕ) × AreLines (IsPrinted form (N.is_named names.now)) items.now lines × Appends (W.contents out.old) (W.contents out.new) lines) }
 {
     let Some(last) = last_in_order(items, from) else {
         return Err(PrintFault::OutOfOrder);
     };
     let mut lines = Vec::new(alloc);
-    if put_lines(alloc, &mut lines, form, items).is_err() {
+    if put_lines(alloc, &mut lines, form, names, items).is_err() {
         return Err(PrintFault::Memory);
     }
     if let Err(cause) = out.write_all(&lines) {
@@ -63,20 +65,21 @@ fn print_page<W: Write>(
 
 /// Prints the rows over an id, each in a line, in the order of their ids, until none is left, and gives the id of the last:
 /// the rows over that one are those that come later.
-pub fn print_over<S: Source, W: Write>(
+pub fn print_over<S: Source, N: Naming, W: Write>(
     source: &mut S,
     alloc: Global,
     form: Form,
+    names: &N,
     from: u64,
     out: &mut W,
 ) -> Result<u64, PrintFault>
-    ensures lines { S.honest source.new → OnOk result ((lines : List ℕ) × AreLines form (over from (S.items source.new)) lines × Appends (W.contents out.old) (W.contents out.new) lines) }
+    ensures lines { S.honest source.new → OnOk result ((lines : List ℕ) × AreLines (IsPrinted form (N.is_named names.now)) (over from (S.items source.new)) lines × Appends (W.contents out.old) (W.contents out.new) lines) }
     ensures last { S.honest source.new → IfOk result (λ last. last ≡ last_id from (over from (S.items source.new))) }
 {
     let mut last = from;
     let mut page = source.items_over(alloc, last, PAGE)?;
     while !page.is_empty() {
-        last = print_page(alloc, form, last, &page, out)?;
+        last = print_page(alloc, form, names, last, &page, out)?;
         page = source.items_over(alloc, last, PAGE)?;
     }
     Ok(last)

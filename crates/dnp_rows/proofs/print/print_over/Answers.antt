@@ -1,12 +1,13 @@
 use Rattle.std.proofs.Common.{◌<◌, List, length, take, sym, ap, subst, ◌∙◌, arith}
 use Rattle.dnp_rows.specs.declared.item.Item.{Item}
+use Rattle.dnp_rows.specs.Lines.{IsPrinted}
 use Rattle.dnp_rows.specs.Pages.{over, AreRising}
 use Rattle.dnp_rows.proofs.Paging.{Printed, nothing_printed, page_printed, page_goes_on}
 use Rattle.dnp_rows.proofs.print.print_over.Goals as goal
 
 pub loop-alloc-init : goal.loop-alloc-init
 loop-alloc-init g c = λ honest.
-    nothing_printed c.args.form c.args.from _ _ (g.W.Write.contents c.args.out.now) (c.in_ok-page.ensures.rising honest) (c.in_ok-page.ensures.items honest)
+    nothing_printed (IsPrinted c.args.form (g.N.Naming.is_named c.args.names.now)) c.args.from _ _ (g.W.Write.contents c.args.out.now) (c.in_ok-page.ensures.rising honest) (c.in_ok-page.ensures.items honest)
 
 pub loop-alloc-smaller : goal.loop-alloc-smaller
 loop-alloc-smaller g c =
@@ -26,8 +27,8 @@ loop-alloc-preserved g c = λ honest.
     let held = g.W.Write.contents c.args.out.now in
     let now = g.W.Write.contents c.loop-alloc.out in
     let upon = g.W.Write.contents c.print_page.new.out in
-    subst (λ (xs : List Item). Printed c.args.form c.args.from last xs page held upon) (sym grown)
-    (page_printed c.args.form c.args.from c.loop-alloc.last last (items c.loop-alloc.source) more c.loop-alloc.page.items page lines held now upon done
+    subst (λ (xs : List Item). Printed (IsPrinted c.args.form (g.N.Naming.is_named c.args.names.now)) c.args.from last xs page held upon) (sym grown)
+    (page_printed (IsPrinted c.args.form (g.N.Naming.is_named c.args.names.now)) c.args.from c.loop-alloc.last last (items c.loop-alloc.source) more c.loop-alloc.page.items page lines held now upon done
     (rw c.deref.ensures.value at c.in_ok-last.ensures.last) (rw c.deref.ensures.value at spelt) wrote
     (subst (AreRising 0) grown (c.in_ok-page-2.ensures.rising honest))
     (c.in_ok-page-2.ensures.items honest ∙ ap (λ (xs : List Item). take 1000 (over last xs)) grown))

@@ -1,4 +1,5 @@
 use Rattle.std.proofs.Common.{◌-◌, ◌^◌}
+use Rattle.dnp_rows.specs.Lines.{IsPrinted}
 use Rattle.dnp_rows.proofs.Paging.{Printed}
 use Rattle.dnp_rows.proofs.print.print_over.Given as goal
 
@@ -6,7 +7,7 @@ use Rattle.dnp_rows.proofs.print.print_over.Given as goal
 abbrev pub invariant-loop-alloc : goal.invariant-loop-alloc
 invariant-loop-alloc g l =
     g.S.Source.honest l.source
-    → Printed l.form l.fn.from l.last (g.S.Source.items l.source) l.page.items (g.W.Write.contents l.fn.out) (g.W.Write.contents l.out)
+    → Printed (IsPrinted l.form (g.N.Naming.is_named l.names)) l.fn.from l.last (g.S.Source.items l.source) l.page.items (g.W.Write.contents l.fn.out) (g.W.Write.contents l.out)
 
 -- each page ends in a greater id
 abbrev pub decreases-loop-alloc : goal.decreases-loop-alloc
