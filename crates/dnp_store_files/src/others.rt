@@ -1,4 +1,4 @@
-//! Stores over tables that others wrote, without CHECKs: whose database it is, and what comes after the last id.
+//! Stores over tables that others wrote, without CHECKs: whose tables they are, and what comes after the last id.
 
 use crate::place::Place;
 use dnp_eventbuf::{Lane, LaneRow, Lanes, Sink, StoreFault, is_carried};
@@ -24,8 +24,58 @@ CREATE TABLE journal (id INTEGER PRIMARY KEY AUTOINCREMENT, kind INTEGER NOT NUL
 INSERT INTO form VALUES (1);
 INSERT INTO journal VALUES (4611686018427387904, 0, 7, 1, 1, 1000);";
 
-/// One table more, which is no store's.
-const MORE: &str = "CREATE TABLE more (x)";
+/// What else stands in a database.
+#[derive(Clone, Copy)]
+enum Other {
+    /// Nothing.
+    Nothing,
+    /// A table behind those of the store, an index of it, one of the store's `form`, and a view.
+    Behind,
+    /// A table before them.
+    Before,
+    /// One behind them, with a foreign key to one of them.
+    Naming,
+    /// One behind them, whose ids are counted beside the store's.
+    Counted,
+}
+
+/// All of these.
+const OTHERS: [Other; 5] = [
+    Other::Nothing,
+    Other::Behind,
+    Other::Before,
+    Other::Naming,
+    Other::Counted,
+];
+
+impl Other {
+    /// The statements that make it before the store's tables.
+    fn before(self) -> &'static str {
+        match self {
+            Other::Before => "CREATE TABLE more (x);",
+            Other::Nothing | Other::Behind | Other::Naming | Other::Counted => "",
+        }
+    }
+
+    /// And after them.
+    fn after(self) -> &'static str {
+        match self {
+            Other::Nothing | Other::Before => "",
+            Other::Behind => {
+                "CREATE TABLE more (x); CREATE INDEX more_x ON more (x); CREATE INDEX form_number ON form (number); CREATE VIEW seen AS SELECT x FROM more; INSERT INTO more VALUES (1);"
+            }
+            Other::Naming => "CREATE TABLE more (x REFERENCES Form (number));",
+            Other::Counted => {
+                "CREATE TABLE more (x INTEGER PRIMARY KEY AUTOINCREMENT); INSERT INTO more VALUES (1);"
+            }
+        }
+    }
+
+    /// Whether the store's tables are its own all the same.
+    fn is_owned(self) -> bool {
+        matches!(self, Other::Nothing | Other::Behind)
+    }
+}
 
 /// A binary event.
 const EVENT: Row = Row {
@@ -105,31 +155,32 @@ fn of_journal<S: Alter>(
     }
 }
 
-/// Whether a queue or a journal is full over a database with its tables, its own or with one table more.
+/// Whether a queue or a journal is full over a database with its tables, and what else stands there.
 fn is_full<S: Alter, P: Place<Connection<S>>>(
     rt: &HostRuntime,
     place: &P,
     is_queue: bool,
-    is_owned: bool,
+    other: Other,
 ) -> bool {
     let Ok(mut conn) = place.open(rt, "") else {
         return false;
     };
     let tables = if is_queue { QUEUE } else { JOURNAL };
-    let is_made = conn.execute_batch(tables).is_ok()
-        && (is_owned || conn.execute_batch(MORE).is_ok());
+    let is_made = conn.execute_batch(other.before()).is_ok()
+        && conn.execute_batch(tables).is_ok()
+        && conn.execute_batch(other.after()).is_ok();
     let (is_full, conn) = if is_queue {
-        of_queue(rt.alloc(), conn, is_owned)
+        of_queue(rt.alloc(), conn, other.is_owned())
     } else {
-        of_journal(rt.alloc(), conn, is_owned)
+        of_journal(rt.alloc(), conn, other.is_owned())
     };
     place.close(conn).is_ok() && is_made && is_full
 }
 
-/// Whether no id comes after the last, in a queue and in a journal, over a database of its own and over another.
+/// Whether no id comes after the last, in a queue and in a journal, whatever else stands in the database.
 pub(crate) fn are_full<S: Alter, P: Place<Connection<S>>>(rt: &HostRuntime, place: &P) -> bool {
-    for is_owned in [true, false] {
-        if !is_full(rt, place, true, is_owned) || !is_full(rt, place, false, is_owned) {
+    for other in OTHERS {
+        if !is_full(rt, place, true, other) || !is_full(rt, place, false, other) {
             return false;
         }
     }
