@@ -70,6 +70,14 @@ impl<Q, B> Concentrator<Q, B> {
         self.lose(substation);
     }
 
+    /// The moment, in milliseconds, at which the response timer of a link below ends; none while it doesn't run.
+    pub fn next_deadline_below(&self, substation: u8) -> Option<u64>
+        requires { substation < length (links_of self.now) }
+        ensures { result ≡ master.next_deadline (link_at self.now substation).master }
+    {
+        self.links[usize::from(substation)].next_deadline()
+    }
+
     /// The moment has come for a link below: where its response timer has ended, its master closes, and the readings
     /// above of its points are marked lost. Whether it has closed now.
     pub fn tick_below(&mut self, substation: u8, now: u64) -> bool

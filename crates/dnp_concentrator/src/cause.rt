@@ -4,19 +4,15 @@ use dnp_controls::BookFault;
 use dnp_objects::StoreFault;
 use dnp_outstation::Fault;
 use std::alloc::AllocError;
-use thiserror::Error;
 
 /// What an event can stop at.
-#[derive(Clone, Copy, Debug, PartialEq, Eq, Hash, Error)]
+#[derive(Clone, Copy, Debug, PartialEq, Eq, Hash)]
 pub enum Cause {
     /// A store has no number left.
-    #[error("a store has no number left")]
     Exhausted = 1,
     /// A request for memory was refused.
-    #[error("out of memory")]
     Memory = 2,
     /// The device under a store failed.
-    #[error("a store's device failed")]
     Device = 3,
 }
 

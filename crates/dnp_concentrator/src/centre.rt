@@ -166,6 +166,13 @@ impl<J, B> Centre<J, B> {
         self.hung_up();
     }
 
+    /// The moment, in milliseconds, at which the response timer ends; none while it doesn't run.
+    pub fn next_deadline(&self) -> Option<u64>
+        ensures { result ≡ master.next_deadline (link_of self.now).master }
+    {
+        self.relay.next_deadline()
+    }
+
     /// The moment has come: where the response timer has ended, the centre closes. Whether it has closed now.
     pub fn tick(&mut self, now: u64) -> bool
         ensures closes { result ≡ master.is_timed_out (link_of self.old).master now }

@@ -3,6 +3,7 @@
 ghost use Rattle.std.specs.Prelude.{◌≡◌, ◌<◌, ◌≤◌, true, All, IsErr, OnOk, OnErr, IfOk, Err, ◌↔◌, length, map};
 ghost use Rattle.std.specs.Borrow.{Lends, sem};
 ghost use Rattle.dnp_eventbuf.specs.Sides.{ForEach, other_than};
+ghost use Rattle.dnp_outstation.specs.Timers.{next_deadline};
 ghost use Rattle.dnp_outstation.specs.State.{is_quiet, is_ready};
 ghost use Rattle.dnp_outstation.specs.Calls.{opened_of, tick_of, restarted_core};
 ghost use Rattle.dnp_outstation.specs.Connection.{closed, has_enabled_rows, solicited_timer};
@@ -169,6 +170,15 @@ impl<Q, B> Concentrator<Q, B> {
         ensures { result ≡ reserved_by (core_of centre self.now) now }
     {
         named_by(self.cores.at(centre).standing(now)?)
+    }
+
+    /// The moment, in milliseconds, at which the next timer of the outstation towards this centre ends; none while no
+    /// timer runs. Rows that come from below start an unsolicited response at the next tick, whenever that is.
+    pub fn next_deadline_above(&self, centre: u8) -> Option<u64>
+        requires { centre < CENTRES }
+        ensures { result ≡ next_deadline (core_of centre self.now) }
+    {
+        self.cores.at(centre).next_deadline()
     }
 
     /// The connection to this centre ends: the outstation towards it is closed, and forgets what came.

@@ -12,22 +12,17 @@ use dnp_controls::{Book, BookFault};
 use dnp_eventbuf::JournalStore;
 use dnp_objects::Command;
 use std::alloc::Global;
-use thiserror::Error;
 
 /// Why a control is not issued, in the order in which the causes are looked for. Nothing has changed then.
-#[derive(Clone, Copy, Debug, PartialEq, Eq, Hash, Error)]
+#[derive(Clone, Copy, Debug, PartialEq, Eq, Hash)]
 pub enum IssueFault {
     /// The substation has no such output or setpoint.
-    #[error("no such output")]
     NoOutput = 1,
     /// The book has no number left.
-    #[error("the book has no number left")]
     Exhausted = 2,
     /// Memory ran out.
-    #[error("out of memory")]
     Memory = 3,
     /// The device under the book failed.
-    #[error("the book's device failed")]
     Device = 4,
 }
 

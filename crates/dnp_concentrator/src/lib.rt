@@ -34,6 +34,7 @@ mod relaying_below;
 mod reserving;
 pub mod reserving_laws;
 pub mod restart_laws;
+mod said;
 mod span;
 mod substation_points;
 

@@ -82,6 +82,13 @@ impl Relay {
         }
     }
 
+    /// The moment, in milliseconds, at which the response timer ends; none while it doesn't run.
+    pub fn next_deadline(&self) -> Option<u64>
+        ensures { result ≡ master.next_deadline self.now.master }
+    {
+        self.master.next_deadline()
+    }
+
     /// The moment, in milliseconds, has come. Whether the master has closed now.
     pub fn tick(&mut self, now: u64) -> bool
         ensures closes { result ≡ master.is_timed_out self.old.master now }

@@ -1,6 +1,6 @@
 -- Definition: a master: closed, or open and idle, or open with a request whose response is awaited (IEEE Std
 -- 1815-2012, application layer: the master's side of a transaction).
-use Rattle.std.specs.Prelude.{ℕ, ◌+◌, ◌%◌, ◌^◌, ◌-◌, Bool, true, false, ◌&&◌, nat_le, min, if◌then◌else◌, Option, Some, None, is_none}
+use Rattle.std.specs.Prelude.{ℕ, ◌<◌, ◌+◌, ◌%◌, ◌^◌, ◌-◌, Bool, true, false, ◌&&◌, nat_le, min, if◌then◌else◌, Option, Some, None, is_none, option_map, IfSome}
 use Rattle.dnp_objects.specs.declared.command.Command.{Command}
 use Rattle.dnp_pointdb.specs.Plan.{Plan}
 use Rattle.dnp_pointdb.specs.declared.times.Times.{Times}
@@ -50,6 +50,17 @@ is_timed_out s now = s.is_open && has_ended s.request now
 
 abbrev pub ticked : State → ℕ → State
 ticked s now = if is_timed_out s now then closed s else s
+
+abbrev pub request_ends : OpenRequest → ℕ
+request_ends request = request.ends
+
+-- when it ends, if it runs; a closed master has no timer
+abbrev pub next_deadline : State → Option ℕ
+next_deadline s = if s.is_open then option_map request_ends s.request else None
+
+-- it doesn't end before this moment, or at it
+abbrev pub IsBefore : ℕ → State → Type 0
+IsBefore now s = IfSome (next_deadline s) (λ ends. now < ends)
 
 -- ---- sequence numbers
 

@@ -1,11 +1,11 @@
 //! Laws of a master: each function does nothing, and its contract is a law.
-ghost use Rattle.std.specs.Prelude.{◌≡◌, ◌⊎◌, ◌<◌, ℕ, Bool, true, false, List, All, IfOk, Ok, Err};
+ghost use Rattle.std.specs.Prelude.{◌≡◌, ◌⊎◌, ◌<◌, ◌≤◌, ℕ, Bool, true, false, List, All, IfOk, Ok, Err, Some};
 ghost use Rattle.dnp_appfragment.specs.Fragments.{confirmation, request_octets};
 ghost use Rattle.dnp_appfragment.specs.Meaning.{request_at};
 ghost use Rattle.dnp_master.specs.declared.task.Task.{Task as TaskValue};
 ghost use Rattle.dnp_master.specs.Calls.{ask_answer, asked, receive_of, unheeded};
 ghost use Rattle.dnp_master.specs.Rows.{is_reported};
-ghost use Rattle.dnp_master.specs.State.{State, closed, is_timed_out, ticked};
+ghost use Rattle.dnp_master.specs.State.{State, IsBefore, closed, is_timed_out, next_deadline, ticked};
 ghost use Rattle.dnp_master.specs.LinkCalls.{Asks, PassesOver, TakesReport, TakesResponse};
 ghost use Rattle.dnp_master.specs.Selecting.{OperatesSelected, SelectsBySuccess};
 
@@ -40,6 +40,12 @@ pub fn a_closed_master_is_silent()
     ensures receives { (s : State) (now : ℕ) (octets : List ℕ) → s.is_open ≡ false → receive_of s now octets ≡ Ok (unheeded s) }
     ensures ticks { (s : State) (now : ℕ) → s.is_open ≡ false → (is_timed_out s now ≡ false) × (ticked s now ≡ s) }
     ensures timed_out { (s : State) (now : ℕ) → is_timed_out s now ≡ true → ticked s now ≡ closed s }
+{}
+
+/// Before its next deadline time does nothing to a master, and at the deadline it closes.
+pub fn a_master_waits_for_its_next_deadline()
+    ensures waits { (s : State) (now : ℕ) → IsBefore now s → (is_timed_out s now ≡ false) × (ticked s now ≡ s) }
+    ensures closes { (s : State) (now ends : ℕ) → next_deadline s ≡ Some ends → ends ≤ now → is_timed_out s now ≡ true }
 {}
 
 /// The two octets of a confirm read as the CONFIRM of that number, with that UNS.

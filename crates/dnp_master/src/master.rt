@@ -123,6 +123,17 @@ impl Master {
         self.selected
     }
 
+    /// The moment, in milliseconds, at which the response timer ends; none while it doesn't run. A tick before it does
+    /// nothing.
+    pub fn next_deadline(&self) -> Option<u64>
+        ensures { result ≡ state.next_deadline self.now }
+    {
+        match &self.request {
+            Some(request) if self.is_open => Some(request.ends),
+            _ => None,
+        }
+    }
+
     /// The moment, in milliseconds, has come: where the response timer has ended, the master closes.
     /// Whether it has closed now. It asks nothing more then before the next opening.
     pub fn tick(&mut self, now: u64) -> bool

@@ -17,7 +17,7 @@ use Rattle.dnp_outstation.proofs.LinkConfirms.{call_is}
 
 -- ---- where nothing starts
 
-busy_end : (now : ℕ) (step : Step) → is_free step.state.core ≡ false → at_end now step ≡ step
+pub busy_end : (now : ℕ) (step : Step) → is_free step.state.core ≡ false → at_end now step ≡ step
 busy_end now step busy =
     let free = is_free step.state.core in
     let rows = has_enabled_rows step.state in
@@ -33,7 +33,7 @@ holding_busy c holds =
     let free = not (holds_read c.session.last) in
     and_right (is_none c.session.awaited) (none && free) (and_right none free (ap not holds))
 
-awaiting_busy : (c : Core) (w : Unsolicited) → c.session.unsolicited ≡ Some w → is_free c ≡ false
+pub awaiting_busy : (c : Core) (w : Unsolicited) → c.session.unsolicited ≡ Some w → is_free c ≡ false
 awaiting_busy c w awaits =
     let none = is_none c.session.unsolicited in
     let free = not (holds_read c.session.last) in
@@ -84,7 +84,7 @@ solicited_is c now = go c.session.awaited
 
 -- ---- the timer of an unsolicited response
 
-not_ended : (now ends : ℕ) → now < ends → has_ended now ends ≡ false
+pub not_ended : (now ends : ℕ) → now < ends → has_ended now ends ≡ false
 not_ended now ends early = by (nat_le ends now) (leb-true ends now)
   where
     by : (b : Bool) → (b ≡ true → ends ≤ now) → b ≡ false

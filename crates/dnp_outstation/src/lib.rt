@@ -34,6 +34,8 @@ mod rows;
 mod sending;
 mod sequence;
 mod session;
+pub mod timer_laws;
+mod timers;
 mod unsolicited;
 
 pub use actions::Actions;
