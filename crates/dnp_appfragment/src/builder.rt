@@ -17,14 +17,12 @@ use arrayvec::ArrayVec;
 use dnp_objects::laws::a_written_row_fills_its_object;
 use dnp_objects::{Command, Kind, MAX_FRAGMENT, Row, Status, object_size, write_command};
 use std::marker::Model;
-use thiserror::Error;
 
 mod events;
 mod times;
 
 /// There is no room in the 2,048 octets of a fragment.
-#[derive(Clone, Copy, Debug, PartialEq, Eq, Hash, Error)]
-#[error("no room in the fragment")]
+#[derive(Clone, Copy, Debug, PartialEq, Eq, Hash)]
 pub struct Full;
 
 /// A fragment that is being built (IEEE Std 1815-2012, application layer), of at most 2,048 octets.

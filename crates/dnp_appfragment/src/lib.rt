@@ -25,6 +25,7 @@ mod response;
 mod row_source;
 mod row_walk;
 mod run;
+mod said;
 mod table;
 mod written;
 

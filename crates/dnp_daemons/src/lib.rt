@@ -10,6 +10,7 @@ pub mod number_laws;
 mod plain;
 mod report_text;
 mod run;
+mod said;
 mod script;
 pub mod script_laws;
 mod sim;

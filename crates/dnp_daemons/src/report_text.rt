@@ -14,18 +14,15 @@ use dnp_world::Report;
 use itoa::{Buffer, Integer};
 use std::alloc::Global;
 use std::io::Write;
-use thiserror::Error;
 
 mod line;
 
 /// Why a report was not printed.
-#[derive(Clone, Copy, Debug, PartialEq, Eq, Error)]
+#[derive(Clone, Copy, Debug, PartialEq, Eq)]
 pub enum PrintFault {
     /// The writer failed. What was written is a beginning of the text.
-    #[error("the report could not be written")]
     WriteFailed,
     /// Out of memory. Nothing was written.
-    #[error("out of memory")]
     Memory,
 }
 

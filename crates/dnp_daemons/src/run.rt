@@ -11,7 +11,6 @@ use dnp_world::Cause;
 use itoa::Buffer;
 use std::alloc::Global;
 use std::io::Write;
-use thiserror::Error;
 
 pub(crate) mod carried;
 mod line;
@@ -24,16 +23,13 @@ mod world;
 pub use scripted::Scripted;
 
 /// Why a script, or the report after it, was not done to its end.
-#[derive(Clone, Copy, Debug, PartialEq, Eq, Error)]
+#[derive(Clone, Copy, Debug, PartialEq, Eq)]
 pub enum ScriptStop {
     /// So many lines were done, and the next one stopped: a store or a request for memory refused.
-    #[error("stopped after {0} lines of the script")]
     Stopped(usize),
     /// The writer failed.
-    #[error("the output could not be written")]
     WriteFailed,
     /// This kept the texts from being read, the system from being made, or its report.
-    #[error("{0}")]
     Fault(Cause),
 }
 

@@ -9,16 +9,14 @@ use crate::script::words::first_line;
 use dnp_concentrator::Plan;
 use dnp_world::{Event, Link, Way};
 use std::alloc::{AllocError, AllocFailed, Global};
-use thiserror::Error;
 
 pub(crate) mod checking;
-mod forms;
+pub(crate) mod forms;
 mod idle;
 mod lines;
 mod names;
 mod numbers;
-mod reason;
-mod said;
+pub(crate) mod reason;
 pub(crate) mod which;
 pub(crate) mod words;
 
@@ -41,13 +39,11 @@ pub enum ScriptLine {
 }
 
 /// Why a text is no script.
-#[derive(Clone, Copy, Debug, PartialEq, Eq, Error)]
+#[derive(Clone, Copy, Debug, PartialEq, Eq)]
 pub enum ScriptFault {
     /// This line, counted from 1, is the first that doesn't fit.
-    #[error("line {0} of the script doesn't fit")]
     Line(usize),
     /// Out of memory.
-    #[error("out of memory")]
     Memory,
 }
 

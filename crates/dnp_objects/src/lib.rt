@@ -13,6 +13,7 @@ mod limits;
 mod reading;
 mod relative;
 pub mod row;
+mod said;
 pub mod status;
 mod store;
 mod table;

@@ -5,6 +5,7 @@
 pub mod laws;
 mod plan_text;
 mod planned;
+mod said;
 
 pub use plan_text::place::{Found, PlanKey, PlanPlace};
 pub use plan_text::reason::{PlanFault, plan_fault};

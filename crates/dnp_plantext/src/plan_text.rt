@@ -7,7 +7,6 @@ use crate::plan_text::fields::plan_fields;
 use crate::plan_text::ranges::plan_in;
 use dnp_concentrator::{IndexMap, MapFault, Plan};
 use std::alloc::{AllocError, Global};
-use thiserror::Error;
 use toml::Value;
 
 mod field_reason;
@@ -17,32 +16,24 @@ pub(crate) mod place;
 mod range_reason;
 mod ranges;
 pub(crate) mod reason;
-mod said;
 mod unknown;
 
 /// Why a text is no plan, in the order in which the causes are looked for: each in the whole text before the next one is.
-#[derive(Clone, Copy, Debug, PartialEq, Eq, Hash, Error)]
+#[derive(Clone, Copy, Debug, PartialEq, Eq, Hash)]
 pub enum PlanTextFault {
     /// The text is no TOML.
-    #[error("the plan is no TOML")]
     Syntax = 1,
     /// A key is missing, unknown or of another type, or a list has another length.
-    #[error("a key of the plan is missing, unknown or of another type or length")]
     Field = 2,
     /// A number is outside its range.
-    #[error("a number of the plan is outside its range")]
     Range = 3,
     /// A class is over 3.
-    #[error("a class of the plan is over 3")]
     Class = 4,
     /// An index above would be over 65,535.
-    #[error("an index above would be over 65,535")]
     TooWide = 5,
     /// Two substations would have an index above of one kind in common.
-    #[error("two substations would share an index above")]
     Overlap = 6,
     /// Out of memory.
-    #[error("out of memory")]
     Memory = 7,
 }
 

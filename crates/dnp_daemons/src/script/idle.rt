@@ -15,33 +15,23 @@ use dnp_objects::{Command, Kind, MAX_TIME};
 use dnp_pointdb::Reading;
 use dnp_world::Event;
 use std::alloc::{AllocError, Global};
-use std::fmt;
-use std::fmt::{Display, Formatter, Write};
-use thiserror::Error;
 
 /// Why a line of a script does nothing, whatever happened before it.
-#[derive(Clone, Copy, Debug, PartialEq, Eq, Error)]
+#[derive(Clone, Copy, Debug, PartialEq, Eq)]
 pub enum IdleReason {
     /// The substation has no point of this kind and index.
-    #[error("no such point")]
     NoPoint,
     /// No object of the kind can carry the value and the flags.
-    #[error("a value or flags out of the kind's range")]
     ValueRange,
     /// The time is 2^48 ms or more.
-    #[error("a time of 2^48 ms or more")]
     TimeRange,
     /// The substation has no binary output of this index.
-    #[error("no such output")]
     NoOutput,
     /// The substation has no setpoint of this index.
-    #[error("no such setpoint")]
     NoSetpoint,
     /// Events are meant, and class 0 has none.
-    #[error("class 0 has no events")]
     NoEvents,
     /// No milliseconds pass.
-    #[error("no time passes")]
     NoTime,
 }
 
@@ -54,25 +44,6 @@ pub struct IdleLines {
     pub first: usize,
     /// Why the first does nothing.
     pub reason: IdleReason,
-}
-
-impl Display for IdleLines {
-    /// How many they are, the first by its number, and why it does nothing.
-    fn fmt<W: Write>(&self, f: &mut Formatter<W>) -> fmt::Result {
-        let IdleLines {
-            count,
-            first,
-            reason,
-        } = *self;
-        if count == 1 {
-            write!(f, "1 line did nothing: line {first}: {reason}")
-        } else {
-            write!(
-                f,
-                "{count} lines did nothing; the first is line {first}: {reason}"
-            )
-        }
-    }
 }
 
 /// Whether the substation has this point, output or setpoint.

@@ -79,11 +79,11 @@ pub struct LineFault<'a> {
     /// How many of its words begin a line that fits: the next one doesn't fit, or is missing.
     pub good: usize,
     /// The line.
-    pub(crate) text: &'a str,
+    pub text: &'a str,
     /// How many substations the plan has.
-    pub(crate) substations: usize,
+    pub substations: usize,
     /// Whether units are carried.
-    pub(crate) carried: bool,
+    pub carried: bool,
 }
 
 /// The first place at which a text stops being a script for a plan, or none where it is one: the line that

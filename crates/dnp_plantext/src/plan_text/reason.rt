@@ -25,9 +25,9 @@ pub struct PlanFault {
     /// The first place at which the text is wrong for this cause; none where the cause alone is told.
     pub place: Option<PlanPlace>,
     /// The name of the key, where it is one that no plan has.
-    pub(crate) unknown: String,
+    pub unknown: String,
     /// The number of the line at which the text stops being TOML, counted from 1, if the reader of TOML tells it.
-    pub(crate) line: Option<usize>,
+    pub line: Option<usize>,
 }
 
 /// The values of the text's keys, if they are all right.

@@ -1,5 +1,6 @@
-//! Why a text is no plan, in a sentence.
+//! Why a text is no plan, in a sentence: the texts of this crate's lines, all of them.
 
+use crate::plan_text::PlanTextFault;
 use crate::plan_text::place::{Found, PlanKey, PlanPlace};
 use crate::plan_text::reason::PlanFault;
 use dnp_concentrator::{INDEX_KINDS, MAX_RETRIES, MAX_SUBSTATIONS, MAX_TIMER_MS, Span};
@@ -7,11 +8,30 @@ use dnp_controls::MAX_OUTPUTS;
 use dnp_eventbuf::MAX_CAPACITY;
 use dnp_objects::{CLASSES, LANES};
 use dnp_pointdb::MAX_POINTS;
+use std::error::Error;
 use std::fmt;
 use std::fmt::{Display, Formatter, Write};
 
 /// The most characters of a key that are repeated.
 const SHOWN: usize = 40;
+
+impl Error for PlanTextFault {}
+
+impl Display for PlanTextFault {
+    fn fmt<W: Write>(&self, f: &mut Formatter<W>) -> fmt::Result {
+        f.write_str(match self {
+            PlanTextFault::Syntax => "the plan is no TOML",
+            PlanTextFault::Field => {
+                "a key of the plan is missing, unknown or of another type or length"
+            }
+            PlanTextFault::Range => "a number of the plan is outside its range",
+            PlanTextFault::Class => "a class of the plan is over 3",
+            PlanTextFault::TooWide => "an index above would be over 65,535",
+            PlanTextFault::Overlap => "two substations would share an index above",
+            PlanTextFault::Memory => "out of memory",
+        })
+    }
+}
 
 /// The number or the item that belongs under a key, or in its list.
 #[derive(Clone, Copy)]

@@ -1,8 +1,13 @@
-//! Where a script stops fitting, in a sentence.
+//! Where a script stops fitting, which of its lines do nothing, and why something is not done, in a sentence each: the texts of this
+//! crate's lines, all of them.
 
+use crate::report_text::PrintFault;
+use crate::run::ScriptStop;
 use crate::script::forms::{Form, Slot};
 use crate::script::reason::{LineFault, taken};
+use crate::script::{IdleLines, IdleReason, ScriptFault};
 use dnp_linkframe::MAX_UNIT;
+use std::error::Error;
 use std::fmt;
 use std::fmt::{Display, Formatter, Write};
 
@@ -166,5 +171,74 @@ impl Display for LineFault<'_> {
         }
         f.write_str(", where ")?;
         self.write_wanted(f)
+    }
+}
+
+impl Error for ScriptFault {}
+
+impl Display for ScriptFault {
+    fn fmt<W: Write>(&self, f: &mut Formatter<W>) -> fmt::Result {
+        match self {
+            ScriptFault::Line(line) => write!(f, "line {line} of the script doesn't fit"),
+            ScriptFault::Memory => f.write_str("out of memory"),
+        }
+    }
+}
+
+impl Error for IdleReason {}
+
+impl Display for IdleReason {
+    fn fmt<W: Write>(&self, f: &mut Formatter<W>) -> fmt::Result {
+        f.write_str(match self {
+            IdleReason::NoPoint => "no such point",
+            IdleReason::ValueRange => "a value or flags out of the kind's range",
+            IdleReason::TimeRange => "a time of 2^48 ms or more",
+            IdleReason::NoOutput => "no such output",
+            IdleReason::NoSetpoint => "no such setpoint",
+            IdleReason::NoEvents => "class 0 has no events",
+            IdleReason::NoTime => "no time passes",
+        })
+    }
+}
+
+impl Display for IdleLines {
+    /// How many they are, the first by its number, and why it does nothing.
+    fn fmt<W: Write>(&self, f: &mut Formatter<W>) -> fmt::Result {
+        let IdleLines {
+            count,
+            first,
+            reason,
+        } = *self;
+        if count == 1 {
+            write!(f, "1 line did nothing: line {first}: {reason}")
+        } else {
+            write!(
+                f,
+                "{count} lines did nothing; the first is line {first}: {reason}"
+            )
+        }
+    }
+}
+
+impl Error for ScriptStop {}
+
+impl Display for ScriptStop {
+    fn fmt<W: Write>(&self, f: &mut Formatter<W>) -> fmt::Result {
+        match self {
+            ScriptStop::Stopped(done) => write!(f, "stopped after {done} lines of the script"),
+            ScriptStop::WriteFailed => f.write_str("the output could not be written"),
+            ScriptStop::Fault(cause) => write!(f, "{cause}"),
+        }
+    }
+}
+
+impl Error for PrintFault {}
+
+impl Display for PrintFault {
+    fn fmt<W: Write>(&self, f: &mut Formatter<W>) -> fmt::Result {
+        f.write_str(match self {
+            PrintFault::WriteFailed => "the report could not be written",
+            PrintFault::Memory => "out of memory",
+        })
     }
 }
