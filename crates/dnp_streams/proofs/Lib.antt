@@ -1,11 +1,12 @@
-mod Heard
+mod NewPort
 mod Lines
 mod OctetText
 mod OneAnswer
 mod Opened
-mod Said
+mod Spoken
 mod Spaced
 mod SpacedPieces
 mod SpacedWriting
 mod TextPlaces
 mod streams
+mod links

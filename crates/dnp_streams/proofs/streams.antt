@@ -1,4 +1,3 @@
-pub mod Going
 pub mod Hearing
 pub mod OneOutput
 pub mod OutstationsOneWay
@@ -8,7 +7,6 @@ pub mod Clocking
 pub mod Taken
 pub mod Unasked
 pub mod Dialogues
-pub mod Talking
 pub mod Refused
 pub mod Told
 pub mod MastersOneWay
@@ -19,7 +17,4 @@ pub mod Alive
 pub mod Answering
 pub mod Changing
 pub mod Living
-pub mod LiveOrder
-pub mod LiveSteps
-pub mod LiveTalking
 pub mod Order

@@ -6,4 +6,5 @@ pub mod Units
 pub mod Station
 pub mod AnswerLine
 pub mod streams
+pub mod links
 pub mod steps

@@ -1,8 +1,8 @@
 -- Private steps: words of clauses that no caller sees.
 pub mod Appended
+pub mod Asking
 pub mod Hearing
 pub mod Outgoing
 pub mod Pieces
-pub mod Talking
+pub mod Serving
 pub mod Living
-pub mod LiveTalking

@@ -20,4 +20,3 @@ pub mod Dialogues
 pub mod Asking
 pub mod Talking
 pub mod Living
-pub mod LiveTalking

@@ -14,19 +14,16 @@ use dnp_linkframe::{FrameFault, read_frame};
 use itoa::Buffer;
 use std::alloc::{AllocError, Global};
 use std::io::Write;
-use thiserror::Error;
 
 /// The most characters of a line of words: those of the longest refusal.
 const MAX_WORDS: usize = 100;
 
 /// Why a line was not answered.
-#[derive(Clone, Copy, Debug, PartialEq, Eq, Error)]
+#[derive(Clone, Copy, Debug, PartialEq, Eq)]
 pub enum AnswerFault {
     /// The writer failed. What was written is a beginning of the line.
-    #[error("the answer could not be written")]
     WriteFailed,
     /// Out of memory. Nothing was written.
-    #[error("out of memory")]
     Memory,
 }
 

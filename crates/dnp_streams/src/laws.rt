@@ -1,12 +1,14 @@
 //! Laws of the words of `specs/`: each function does nothing, and its contract is a law.
 ghost use Rattle.std.specs.Prelude.{◌≡◌, ◌+◌, ◌++◌, ℕ, Bool, List, []};
+ghost use Rattle.dnp_line.specs.Ports.{HasHistory, IsShown, PortState};
 ghost use Rattle.dnp_linkframe.specs.declared.frame.Frame.{Frame as FrameValue};
 ghost use Rattle.dnp_linkframe.specs.Stream.{Gives};
 ghost use Rattle.dnp_streams.specs.AnswerLine.{IsPrinted};
+ghost use Rattle.dnp_streams.specs.links.Deeds.{Came, Reply, Whole};
+ghost use Rattle.dnp_streams.specs.links.Laws.{Event, HappenAll, Stands, deeds_in, fed_in};
+ghost use Rattle.dnp_streams.specs.links.Links.{Does, LinkState, new_link};
 ghost use Rattle.dnp_streams.specs.streams.Spelled.{AreSpelled};
 ghost use Rattle.dnp_streams.specs.streams.OneWay.{OpensOneWay, ReceivesOneWay, OneOutput};
-ghost use Rattle.dnp_streams.specs.streams.Dialogues.{heard_in};
-ghost use Rattle.dnp_streams.specs.streams.LiveTalking as talking;
 ghost use Rattle.dnp_streams.specs.streams.Living.{FollowsAll, NeverFalls, Standing, Step, changes_in};
 ghost use Rattle.dnp_streams.specs.streams.Outstations.{ShowOneWay, outstation_opens, outstation_receives};
 ghost use Rattle.dnp_streams.specs.streams.Centres.{centre_opens, centre_receives};
@@ -50,15 +52,21 @@ pub fn a_session_keeps_its_order()
     ensures changes { (old new : Standing) (steps : List Step) → FollowsAll old steps new → old.changes ≡ changes_in steps ++ new.changes }
 {}
 
-/// The moments of a dialogue's steps don't fall; the frames that its reads brought are heard in order, each once, but for those
-/// that are still to be heard; and time passes once for each read, but for one after which it still has to pass.
-pub fn a_dialogue_keeps_its_order()
-    ensures moments { (old new : talking.Standing) (steps : List talking.LiveStep) → talking.FollowsAll old steps new → talking.NeverFalls old.now steps }
-    ensures heard { (old new : talking.Standing) (steps : List talking.LiveStep) → talking.FollowsAll old steps new
-        → talking.unheard_at old.stage ++ talking.frames_in steps ≡ heard_in (talking.made_in steps) ++ talking.unheard_at new.stage }
-    ensures ticks { (old new : talking.Standing) (steps : List talking.LiveStep) → talking.FollowsAll old steps new
-        → talking.owed_at old.stage + talking.reads_in steps ≡ talking.ticks_in steps + talking.owed_at new.stage }
+/// Whatever is done with a new link, what was handed out and what waits to be sent is what its steps sent, on the frames of
+/// the octets that came.
+pub fn a_link_keeps_its_law()
+    ensures { (port : PortState) (events : List Event) (link : LinkState) → HappenAll (new_link port) events link
+        → (handed : List ℕ) × Stands port (deeds_in events) (fed_in events) handed link }
 {}
+
+/// After a frame that completes a fragment a link's port shows that fragment; and a port shows one alone.
+pub fn a_link_shows_what_it_took()
+    ensures shown { (old new : LinkState) (now : ℕ) (frame : FrameValue) (fragment : List ℕ) (reply : Reply) → Does old (Came now frame (Whole fragment reply)) new
+        → IsShown new.port fragment }
+    ensures one { (port : PortState) (fragment other : List ℕ) → HasHistory port → IsShown port fragment → IsShown port other → fragment ≡ other }
+{
+    segments::history_does_not_matter();
+}
 
 /// The octets in which frames are written to a stream give its peer these frames, and nothing waits.
 pub fn what_is_written_is_read()

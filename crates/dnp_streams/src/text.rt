@@ -5,8 +5,6 @@ ghost use Rattle.dnp_streams.specs.OctetLines.{without_line_feed, IsLineOf};
 ghost use Rattle.dnp_streams.specs.TextFaults.{StopsBy};
 
 use crate::octets::{MAX_CHARACTERS, digit_value, line_in, read_octets};
-use std::fmt;
-use std::fmt::{Display, Formatter, Write};
 
 /// Where a text stops being a line of octets: a place, counted from 0, and the character there.
 #[derive(Clone, Copy, Debug, PartialEq, Eq)]
@@ -19,55 +17,6 @@ pub enum TextFault {
     Ends(usize),
     /// The line has more than [`MAX_CHARACTERS`] characters.
     TooLong,
-}
-
-/// A character as people name it: printable ones in quotes, the others by their number.
-#[derive(Clone, Copy)]
-struct Named(u8);
-
-impl Display for Named {
-    fn fmt<W: Write>(&self, f: &mut Formatter<W>) -> fmt::Result {
-        match self.0 {
-            b'\n' => f.write_str("a line feed"),
-            b'\r' => f.write_str("a carriage return"),
-            b'\t' => f.write_str("a tab"),
-            b' ' => f.write_str("a space"),
-            character @ 0x21..=0x7E => write!(f, "'{}'", char::from(character)),
-            other => write!(f, "the octet {other:02X}"),
-        }
-    }
-}
-
-impl Display for TextFault {
-    /// The fault in a sentence, with the column, counted from 1.
-    fn fmt<W: Write>(&self, f: &mut Formatter<W>) -> fmt::Result {
-        match *self {
-            TextFault::NoDigit(place, character) => {
-                let named = Named(character);
-                write!(
-                    f,
-                    "column {}: {named}, where a hexadecimal digit belongs",
-                    place.saturating_add(1)
-                )
-            }
-            TextFault::NoSpace(place, character) => {
-                let named = Named(character);
-                write!(
-                    f,
-                    "column {}: {named}, where one space or the end belongs",
-                    place.saturating_add(1)
-                )
-            }
-            TextFault::Ends(place) => {
-                write!(
-                    f,
-                    "column {}: the line ends, where a hexadecimal digit belongs",
-                    place.saturating_add(1)
-                )
-            }
-            TextFault::TooLong => f.write_str("the line has more than 2,000 characters"),
-        }
-    }
 }
 
 /// Why the text is no line of octets, or none where it is one: two hexadecimal digits of either

@@ -1,5 +1,5 @@
 -- A live session that goes on, and how it ends.
-use Rattle.std.proofs.Common.{◌≡◌, ℕ, ◌+◌, ◌≤◌, ◌<◌, true, false, List, [], ◌++◌, Option, Result, Ok, Err, refl, sym, ap, ◌∙◌, subst}
+use Rattle.std.proofs.Common.{◌≡◌, ℕ, ◌+◌, ◌≤◌, true, false, List, [], ◌++◌, Option, Result, Ok, Err, refl, sym, ap, ◌∙◌, subst}
 use Rattle.std.proofs.Common.{append_assoc, append-nil, arith}
 use Rattle.std.proofs.lemmas.Bool.{false≢true}
 use Rattle.std.specs.Prelude.{⊤}
@@ -21,7 +21,7 @@ use Rattle.dnp_streams.specs.streams.Serving.{Traffic}
 use Rattle.dnp_streams.specs.streams.Stations.{Opening, Receiving, Endpoint}
 use Rattle.dnp_streams.specs.steps.Hearing.{ArePartlyWritten}
 use Rattle.dnp_streams.specs.steps.Living.{Brings, GoesThrough, HasRead, IsFramesNoted}
-use Rattle.dnp_streams.proofs.streams.Going.{gives_none}
+use Rattle.dnp_streams.proofs.links.Standing.{gives_none}
 use Rattle.dnp_streams.proofs.streams.Hearing.{in_parts}
 use Rattle.dnp_streams.proofs.streams.Living.{brings_then, still_open}
 

@@ -1,12 +1,13 @@
 -- What a call brings that the station answers: one in which no frame comes, or a fragment, after the link layer's reply to its frame.
 use Rattle.std.specs.Prelude.{◌≡◌, ℕ, true, false, List, [], ◌++◌, option_to_list}
-use Rattle.std.proofs.Common.{refl, sym, ap, ◌∙◌, subst}
+use Rattle.std.proofs.Common.{refl, sym, ap, subst}
 use Rattle.dnp_linkframe.specs.declared.frame.Frame.{Frame}
 use Rattle.dnp_line.specs.declared.port.Taken.{Taken}
 use Rattle.dnp_line.specs.Ports.{IsShown, PortState, Takes}
 use Rattle.dnp_streams.specs.declared.stream.served.Served.{Served}
 use Rattle.dnp_streams.specs.declared.stream.station.StationFault.{StationFault}
-use Rattle.dnp_streams.specs.steps.Outgoing.{AnswersTo, ArePut, HearsTo, OpensTo, Told, Untold}
+use Rattle.dnp_streams.specs.links.Outputs.{ArePut}
+use Rattle.dnp_streams.specs.steps.Outgoing.{AnswersTo, HearsTo, OpensTo, Told, Untold}
 use Rattle.dnp_streams.specs.streams.Exchanges.{Answered, Opened, Refused, Unopened, no_output}
 use Rattle.dnp_streams.specs.streams.Spelled.{AreSpelled, port_after, sent_frames}
 use Rattle.dnp_streams.specs.streams.Stations.{Answer, Endpoint, Opening, Receiving, endpoint}

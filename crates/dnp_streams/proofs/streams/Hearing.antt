@@ -1,20 +1,17 @@
 -- Frames that come one after the other.
-use Rattle.std.proofs.Common.{◌≡◌, ℕ, ◌+◌, ◌≤◌, min, Bool, true, false, ◌||◌, List, [], ◌∷◌, ◌++◌, Option, Result}
+use Rattle.std.proofs.Common.{◌≡◌, ℕ, ◌+◌, min, Bool, true, false, ◌||◌, List, [], ◌++◌, Option, Result}
 use Rattle.std.proofs.Common.{Ok, Err, refl, sym, ap, ◌∙◌, subst, append_assoc, append-nil, arith}
-use Rattle.std.proofs.lemmas.Bool.{false≢true}
 use Rattle.std.specs.Prelude.{OnOk, OnErr, MatchResult}
 use Rattle.std.specs.Io.KnownBytes.{Appends}
-use Rattle.std.proofs.KnownBytes.{Appends-nil, Appends-trans}
+use Rattle.std.proofs.KnownBytes.{Appends-trans}
 use Rattle.dnp_linkframe.specs.declared.frame.Frame.{Frame}
 use Rattle.dnp_streams.specs.declared.writing.NotWritten.{NotWritten}
 use Rattle.dnp_streams.specs.declared.stream.served.Served.{Served}
-use Rattle.dnp_streams.specs.streams.Stations.{Receiving, Endpoint}
 use Rattle.dnp_streams.specs.streams.Spelled.{AreSpelled}
-use Rattle.dnp_streams.specs.streams.Exchanges.{Output, no_output, output_with, Hears, HearsAll}
-use Rattle.dnp_streams.specs.streams.Counts.{most, served_of, Counts}
+use Rattle.dnp_streams.specs.streams.Exchanges.{Output, no_output, output_with}
+use Rattle.dnp_streams.specs.streams.Counts.{most, Counts}
 use Rattle.dnp_streams.specs.steps.Hearing.{AreWritten, ArePartlyWritten}
-use Rattle.dnp_streams.specs.steps.Outgoing.{HearsTo}
-use Rattle.dnp_streams.proofs.streams.Spelling.{spelled_none, spelled_joined}
+use Rattle.dnp_streams.proofs.streams.Spelling.{spelled_joined}
 
 -- ---- outputs, one after the other
 
@@ -22,7 +19,7 @@ pub or_none : (b : Bool) → (b || false) ≡ b
 or_none true = refl
 or_none false = refl
 
-or_assoc : (a b c : Bool) → ((a || b) || c) ≡ (a || (b || c))
+pub or_assoc : (a b c : Bool) → ((a || b) || c) ≡ (a || (b || c))
 or_assoc true b c = refl
 or_assoc false b c = refl
 
@@ -56,10 +53,6 @@ with_assoc a b c =
 min_more : (a b c m : ℕ) → min (min (a + b) m + c) m ≡ min (a + (b + c)) m
 min_more a b c m = grind arith
 
--- what a step brought is counted
-abbrev pub Adds : Served → Served → Served → Type 0
-Adds old brought new = (output : Output) → brought ≡ served_of output → Counts old output new
-
 pub counts_more : (a b c : Served) (o p : Output) → Counts a o b → Counts b p c → Counts a (output_with o p) c
 counts_more a b c o p first second = record {
   fragments = second.fragments ∙ ap (λ (n : ℕ). min (n + p.fragments) most) first.fragments ∙ min_more a.fragments o.fragments p.fragments most;
@@ -87,107 +80,6 @@ written_part u v w fs gs first second = record {
 }
 
 -- ---- frames
-
--- one frame more
-hears_more : {S : Type 0} (receives : Receiving S) (now : ℕ) (old mid new : Endpoint S) (frames : List Frame) (frame : Frame) (output more : Output)
-    → HearsAll receives now old frames output mid → output.closed ≡ false → Hears receives now mid frame more new
-    → HearsAll receives now old (frames ++ frame ∷ []) (output_with output more) new
-hears_more {S} receives now old mid new [] frame output more (none, same) open_still one = (
-  more,
-  new,
-  no_output,
-  subst (λ (e : Endpoint S). Hears receives now e frame more new) same one,
-  (refl, refl),
-  ap (λ (o : Output). output_with o more) none ∙ none_with more ∙ sym (with_none more),
-  λ _. refl,
-)
-hears_more {S} receives now old mid new (f ∷ frames) frame output more (first, next, later, here, others, both, stops) open_still one =
-    let parts : (first.closed || later.closed) ≡ false = sym (ap (λ (o : Output). o.closed) both) ∙ open_still in (
-      first,
-      next,
-      output_with later more,
-      here,
-      hears_more receives now next mid new frames frame later more others (or_right first.closed later.closed parts) one,
-      ap (λ (o : Output). output_with o more) both ∙ with_assoc first later more,
-      λ closed. absurd (false≢true (sym (or_left first.closed later.closed parts) ∙ closed)),
-    )
-
--- further frames
-pub hears_then : {S : Type 0} (receives : Receiving S) (now : ℕ) (old mid new : Endpoint S) (frames others : List Frame) (output more : Output)
-    → HearsAll receives now old frames output mid → output.closed ≡ false → HearsAll receives now mid others more new
-    → HearsAll receives now old (frames ++ others) (output_with output more) new
-hears_then {S} receives now old mid new [] others output more (none, same) open_still all =
-    subst (λ (e : Endpoint S). HearsAll receives now e others (output_with output more) new) same
-    (subst (λ (o : Output). HearsAll receives now mid others o new) (sym (ap (λ (o : Output). output_with o more) none ∙ none_with more)) all)
-hears_then {S} receives now old mid new (f ∷ frames) others output more (first, next, later, here, rest, both, stops) open_still all =
-    let parts : (first.closed || later.closed) ≡ false = sym (ap (λ (o : Output). o.closed) both) ∙ open_still in (
-      first,
-      next,
-      output_with later more,
-      here,
-      hears_then receives now next mid new frames others later more rest (or_right first.closed later.closed parts) all,
-      ap (λ (o : Output). output_with o more) both ∙ with_assoc first later more,
-      λ closed. absurd (false≢true (sym (or_left first.closed later.closed parts) ∙ closed)),
-    )
-
--- these frames came, and what they brought was counted and written
-pub record HasHeard {S : Type 0} (receives : Receiving S) (now : ℕ) (old : Endpoint S) (frames : List Frame) (new : Endpoint S) (served served' : Served)
-    (held held' : Option (List ℕ)) : Type 0 where
-  pub output : Output
-  pub hears : HearsAll receives now old frames output new
-  pub counted : Counts served output served'
-  pub written : AreWritten held held' output.frames
-
--- the same, where the last write failed
-pub record HasHeardPartly {S : Type 0} (receives : Receiving S) (now : ℕ) (old : Endpoint S) (frames : List Frame) (new : Endpoint S)
-    (served served' : Served) (held held' : Option (List ℕ)) : Type 0 where
-  pub output : Output
-  pub hears : HearsAll receives now old frames output new
-  pub counted : Counts served output served'
-  pub written : ArePartlyWritten held held' output.frames
-
-pub has_heard_none : {S : Type 0} (receives : Receiving S) (now : ℕ) (old : Endpoint S) (s t : Served) (held : Option (List ℕ)) → Counts s no_output t
-    → HasHeard receives now old [] old s t held held
-has_heard_none receives now old s t held counted = record {
-  output = no_output;
-  hears = (refl, refl);
-  counted = counted;
-  written = record { octets = []; spelled = spelled_none; appended = Appends-nil held };
-}
-
-pub has_heard_more : {S : Type 0} (receives : Receiving S) (now : ℕ) (old mid new : Endpoint S) (frames all : List Frame) (frame : Frame)
-    (s t u brought : Served) (a b c : Option (List ℕ)) (octets : List ℕ)
-    → HasHeard receives now old frames mid s t a b → t.closed ≡ false → all ≡ frames ++ frame ∷ [] → HearsTo receives now mid frame new brought octets
-    → Adds t brought u → Appends b c octets
-    → HasHeard receives now old all new s u a c
-has_heard_more receives now old mid new frames all frame s t u brought a b c octets before open_still are one adds written = record {
-  output = output_with before.output one.output;
-  hears =
-      subst (λ (fs : List Frame). HearsAll receives now old fs (output_with before.output one.output) new) (sym are)
-      (hears_more receives now old mid new frames frame before.output one.output before.hears
-      (or_right s.closed before.output.closed (sym before.counted.closed ∙ open_still)) one.hearing);
-  counted = counts_more s t u before.output one.output before.counted (adds one.output one.counted);
-  written =
-      written_more a b c before.output.frames one.output.frames before.written
-      record { octets = octets; spelled = one.spelled; appended = written };
-}
-
-pub has_heard_part : {S : Type 0} (receives : Receiving S) (now : ℕ) (old mid new : Endpoint S) (frames all : List Frame) (frame : Frame)
-    (s t u brought : Served) (a b c : Option (List ℕ)) (octets part rest : List ℕ)
-    → HasHeard receives now old frames mid s t a b → t.closed ≡ false → all ≡ frames ++ frame ∷ [] → HearsTo receives now mid frame new brought octets
-    → Adds t brought u → octets ≡ part ++ rest → Appends b c part
-    → HasHeardPartly receives now old all new s u a c
-has_heard_part receives now old mid new frames all frame s t u brought a b c octets part rest before open_still are one adds split written = record {
-  output = output_with before.output one.output;
-  hears =
-      subst (λ (fs : List Frame). HearsAll receives now old fs (output_with before.output one.output) new) (sym are)
-      (hears_more receives now old mid new frames frame before.output one.output before.hears
-      (or_right s.closed before.output.closed (sym before.counted.closed ∙ open_still)) one.hearing);
-  counted = counts_more s t u before.output one.output before.counted (adds one.output one.counted);
-  written =
-      written_part a b c before.output.frames one.output.frames before.written
-      record { written = part; unwritten = rest; spelled = subst (λ (t : List ℕ). AreSpelled one.output.frames t) split one.spelled; appended = written };
-}
 
 -- what a write of spelled frames leaves: all of it
 pub whole_of : (frames : List Frame) (octets given : List ℕ) (held held' : Option (List ℕ)) → AreSpelled frames octets → given ≡ octets → Appends held held' given

@@ -17,7 +17,7 @@ use Rattle.dnp_streams.specs.streams.Exchanges.{Hears, Unfinished, Answered, Ref
 use Rattle.dnp_streams.specs.streams.Counts.{none_served, most, Counts}
 use Rattle.dnp_streams.specs.streams.OneWay.{OpensOneWay, ReceivesOneWay, OneOutput}
 use Rattle.dnp_streams.specs.declared.stream.served.Served.{Served}
-use Rattle.dnp_streams.proofs.streams.Going.{gives_none}
+use Rattle.dnp_streams.proofs.links.Standing.{gives_none}
 
 -- what ports and streams of frames promise
 pub record Laws : Type 0 where

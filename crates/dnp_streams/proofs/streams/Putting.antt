@@ -1,5 +1,5 @@
 -- Fragments that are put one after the other.
-use Rattle.std.proofs.Common.{◌≡◌, ℕ, ◌<◌, List, [], ◌∷◌, ◌++◌, length, map, Option, Some, None, refl, sym, ap, ◌∙◌, subst, append_assoc, arith, get_or}
+use Rattle.std.proofs.Common.{◌≡◌, ℕ, ◌+◌, ◌<◌, List, [], ◌∷◌, ◌++◌, length, map, Option, Some, None, refl, sym, ap, ◌∙◌, subst, append_assoc, arith, get_or}
 use Rattle.std.specs.List.{All}
 use Rattle.std.proofs.lemmas.List.Elements.{All-nil, All-head, All-tail, All-push}
 use Rattle.arrayvec.specs.ArrayVec.{ArrayVec}
@@ -9,7 +9,8 @@ use Rattle.dnp_transport.specs.Cuts.{cut_count, cuts}
 use Rattle.dnp_line.specs.Ports.{PortState, moved_on}
 use Rattle.dnp_outstation.specs.Station.{sent_of}
 use Rattle.dnp_streams.specs.streams.Spelled.{sent_frames, port_after}
-use Rattle.dnp_streams.specs.steps.Outgoing.{ArePut}
+use Rattle.dnp_streams.specs.links.Deeds.{octets_in}
+use Rattle.dnp_streams.specs.links.Outputs.{ArePut}
 use Rattle.dnp_streams.proofs.streams.Spelling.{put_more}
 
 -- some fragments, and others after them
@@ -48,6 +49,15 @@ both_put p mid send first second old between new two one moved other =
     subst (λ (l : List Frame). ArePut old l new) (sym frames)
     (put_more old between new (sent_frames p a) (sent_frames (port_after p a) b) one
     (subst (λ (q : PortState). ArePut between (sent_frames q b) new) moved other))
+
+-- their octets are those of the first and those of the second
+octets_more : (fs gs : List (List ℕ)) → octets_in (fs ++ gs) ≡ octets_in fs + octets_in gs
+octets_more [] gs = omega (arith)
+octets_more (f ∷ fs) gs = let more = octets_more fs gs in omega (arith, more)
+
+pub octets_of_both : (send : List (Option (ArrayVec ℕ))) (first second : Option (ArrayVec ℕ)) → AreTwo send first second
+    → octets_in (sent_of send) ≡ octets_in (sent_of (first ∷ [])) + octets_in (sent_of (second ∷ []))
+octets_of_both send first second two = ap octets_in two ∙ octets_more (sent_of (first ∷ [])) (sent_of (second ∷ []))
 
 -- each fragment has octets
 abbrev pub HaveOctets : List (Option (ArrayVec ℕ)) → Type 0

@@ -9,7 +9,7 @@ use Rattle.dnp_linkstation.specs.Station.{ends, sent}
 use Rattle.dnp_transport.specs.Cuts.{cut_count, cut}
 use Rattle.dnp_line.specs.Ports.{PortState}
 use Rattle.dnp_streams.specs.streams.Spelled.{AreSpelled, sent_frames}
-use Rattle.dnp_streams.specs.steps.Outgoing.{ArePut}
+use Rattle.dnp_streams.specs.links.Outputs.{ArePut}
 use Rattle.dnp_streams.proofs.Lines.{frames_from}
 
 each_joined : (us vs : List (List ℕ)) (fs gs : List Frame) → SpellEach us fs → SpellEach vs gs → SpellEach (us ++ vs) (fs ++ gs)

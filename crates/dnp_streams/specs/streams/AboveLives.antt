@@ -2,6 +2,7 @@
 use Rattle.std.specs.Prelude.{◌≡◌, ℕ}
 use Rattle.dnp_outstation.specs.Calls.{tick_of}
 use Rattle.dnp_outstation.specs.State.{Actions}
+use Rattle.dnp_outstation.specs.Timers.{next_deadline}
 use Rattle.dnp_streams.specs.declared.stream.station.StationFault.{StationFault}
 use Rattle.dnp_streams.specs.declared.stream.station.StationFault.TheVariants.{Message}
 use Rattle.dnp_streams.specs.streams.Concentrators.{AboveSeen, seen_at}
@@ -21,4 +22,5 @@ abbrev pub above_lives : Life AboveSeen
 above_lives = record {
   ticks = record { answers = IsTickedAbove; refuses = λ old now fault. RefusesTick (seen_at old now) now fault };
   changes = λ change. record { answers = λ old now answer new. ⊥; refuses = λ old now fault. fault ≡ Message };
+  deadline = λ s. next_deadline s.whole.core;
 }

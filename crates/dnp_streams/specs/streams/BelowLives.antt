@@ -1,6 +1,6 @@
 -- Definition: how the link of a concentrator to a substation lives: its response timer runs. Its readings are those of the substation.
-use Rattle.std.specs.Prelude.{◌≡◌, ℕ, ◌&&◌, nat_lt, if◌then◌else◌, Bool, length}
-use Rattle.dnp_master.specs.State.{is_timed_out}
+use Rattle.std.specs.Prelude.{◌≡◌, ℕ, ◌&&◌, nat_lt, if◌then◌else◌, Bool, length, Option, None}
+use Rattle.dnp_master.specs.State.{is_timed_out, next_deadline}
 use Rattle.dnp_concentrator.specs.Below.{link_in}
 use Rattle.dnp_concentrator.specs.Concentrator.{without_link}
 use Rattle.dnp_concentrator.specs.Relaying.{ticked}
@@ -23,9 +23,14 @@ pub record IsTickedBelow (old : BelowSeen) (now : ℕ) (answer : Answer) (new : 
   pub answered : answer ≡ closing (has_ended old now)
   pub after : new ≡ (if has_ended old now then cut old now else old)
 
+-- when the response timer ends, if it runs; where there is no such substation, none does
+abbrev pub next_below : BelowSeen → Option ℕ
+next_below s = if nat_lt s.substation (length s.links) then next_deadline (link_in s.links s.substation).master else None
+
 -- Time is never refused. A change of a reading always is, as a message that can't be taken.
 abbrev pub below_lives : Life BelowSeen
 below_lives = record {
   ticks = record { answers = IsTickedBelow; refuses = λ old now fault. ⊥ };
   changes = λ change. record { answers = λ old now answer new. ⊥; refuses = λ old now fault. fault ≡ Message };
+  deadline = next_below;
 }

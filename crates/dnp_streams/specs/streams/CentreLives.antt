@@ -1,6 +1,6 @@
 -- Definition: how a centre lives: its response timer runs. It has no readings of its own.
 use Rattle.std.specs.Prelude.{◌≡◌, ℕ}
-use Rattle.dnp_master.specs.State.{is_timed_out}
+use Rattle.dnp_master.specs.State.{is_timed_out, next_deadline}
 use Rattle.dnp_concentrator.specs.Relaying.{ticked}
 use Rattle.dnp_streams.specs.declared.stream.station.StationFault.TheVariants.{Message}
 use Rattle.dnp_streams.specs.streams.Centres.{CentreSeen}
@@ -19,4 +19,5 @@ abbrev pub centre_lives : Life CentreSeen
 centre_lives = record {
   ticks = record { answers = IsTickedCentre; refuses = λ old now fault. ⊥ };
   changes = λ change. record { answers = λ old now answer new. ⊥; refuses = λ old now fault. fault ≡ Message };
+  deadline = λ s. next_deadline s.link.master;
 }

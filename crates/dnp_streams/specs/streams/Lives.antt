@@ -1,9 +1,10 @@
 -- Definition: how stations live between the frames that come: time passes, and readings of their points change.
-use Rattle.std.specs.Prelude.{◌≡◌, ◌≢◌, ◌↔◌, ℕ, Option, Ok, IsErr, true}
+use Rattle.std.specs.Prelude.{◌≡◌, ◌≢◌, ◌↔◌, ℕ, Option, None, Ok, IsErr, true}
 use Rattle.dnp_objects.specs.declared.lane.LaneRow.{LaneRow}
 use Rattle.dnp_outstation.specs.Calls.{change_of, tick_of}
 use Rattle.dnp_outstation.specs.Connection.{has_enabled_rows, solicited_timer}
 use Rattle.dnp_outstation.specs.State.{Actions, is_ready}
+use Rattle.dnp_outstation.specs.Timers.{next_deadline}
 use Rattle.dnp_outstation.specs.declared.fault.Fault.{Fault}
 use Rattle.dnp_outstation.specs.declared.fault.Fault.TheVariants as outstation
 use Rattle.dnp_pointdb.specs.Database.{answer_of}
@@ -15,16 +16,18 @@ use Rattle.dnp_streams.specs.streams.Outstations.{Seen, answer_by}
 use Rattle.dnp_streams.specs.streams.Stations.{Answer, Opening}
 
 -- how a station takes it that time has passed, and how it takes a change of a reading: each at a moment, and answered or refused as an
--- opening is
+-- opening is; and when its next timer ends, in milliseconds, if one runs
 pub record Life (S : Type 0) : Type 1 where
   pub ticks : Opening S
   pub changes : Change → Opening S
+  pub deadline : S → Option ℕ
 
 -- a station of which nothing is said between the frames that come
 abbrev pub lifeless : {S : Type 0} → Life S
 lifeless = record {
   ticks = record { answers = λ old now answer new. ⊥; refuses = λ old now fault. ⊥ };
   changes = λ change. record { answers = λ old now answer new. ⊥; refuses = λ old now fault. ⊥ };
+  deadline = λ s. None;
 }
 
 -- ---- an outstation
@@ -69,4 +72,5 @@ abbrev pub outstation_lives : Life Seen
 outstation_lives = record {
   ticks = record { answers = IsTicked; refuses = RefusesTick };
   changes = λ change. record { answers = IsChanged change; refuses = RefusesChange change };
+  deadline = λ s. next_deadline s.whole.core;
 }

@@ -1,140 +1,247 @@
 //! Tasks that are asked on a stream.
 
-ghost use Rattle.std.specs.Prelude.{◌≡◌, ◌≢◌, ℕ, ◌<◌, ◌+◌, [], ◌∷◌, true, false, Err, Ok, vec_capacity, vec_len};
+ghost use Rattle.std.specs.Prelude.{◌≡◌, ℕ, ◌+◌, ◌<◌, [], ◌∷◌, Err, false, true, IfOk, OnOk, length, vec_capacity, vec_len};
 ghost use Rattle.dnp_linkframe.specs.declared.frame.Frame.{Frame as FrameValue};
+ghost use Rattle.dnp_streams.specs.declared.stream.ask.Gone.TheVariants as gone;
 ghost use Rattle.dnp_streams.specs.declared.stream.log.Log.{Log as LogValue};
+ghost use Rattle.dnp_streams.specs.links.Deeds.{ways};
+ghost use Rattle.dnp_streams.specs.links.Links.{HasRoom, new_link};
+ghost use Rattle.dnp_streams.specs.steps.Asking.{Awaits, HasPlace, IsFresh, IsGoneNoted, IsUnwrittenNoted, Steps, TalksOn, dialogue_of, fault_by, stops_by, told_by};
+ghost use Rattle.dnp_streams.specs.streams.Dialogues.{Begins, Goes, HearsAsking};
 ghost use Rattle.dnp_streams.specs.streams.Logs.{new_log};
 ghost use Rattle.dnp_streams.specs.streams.Serving.{IsLeft, IsNoted};
 ghost use Rattle.dnp_streams.specs.streams.Stations.{endpoint};
 ghost use Rattle.dnp_streams.specs.streams.Talking.{Talks};
-ghost use Rattle.dnp_streams.specs.steps.Talking.{AreNoted, IsFresh, Listens, Turns, WritesOn, dialogue_of, told_by};
 
+use crate::link::{Link, StepRoom};
+use crate::stream::agenda::Agenda;
 use crate::stream::asked::Asked;
 use crate::stream::asker::Asker;
-use crate::stream::asking::{go_to, hear_to, open_to};
-use crate::stream::log::{Log, read_noted, write_noted};
-use crate::stream::progress::Progress;
+use crate::stream::log::{Log, read_noted};
+use crate::stream::sending::send_noted;
 use crate::stream::serve::ServeFault;
+use crate::stream::station::Station;
+use crate::writing::NotWritten;
 use dnp_line::Port;
-use dnp_linkframe::{Frame, FrameReader, MAX_UNIT};
+use dnp_linkframe::MAX_UNIT;
 use dnp_master::Task;
 use std::alloc::Global;
 use std::io::{Read, Write};
 
-/// Writes what a step sent; then, while the station is idle, asks and relays, and writes what each step sends. Whether the dialogue
-/// stops. It asks for no memory but the station's.
-pub(super) fn go_on<S: Asker, W: Write>(
-    alloc: Global,
+/// Opens the station.
+fn open_to<S: Station>(
+    room: &mut StepRoom,
     station: &mut S,
-    port: &mut Port,
+    link: &mut Link,
     now: u64,
-    out: &mut W,
-    progress: &mut Progress<'_>,
-) -> Result<bool, ServeFault>
-    requires { progress.old.is_begun ≡ true }
+    agenda: &mut Agenda<'_>,
+)
+    requires room { HasRoom link.old }
+    requires place { HasPlace agenda.old.asked }
     ensures kept { S.kept station.new ≡ S.kept station.old }
     ensures held { S.honest station.new → S.honest station.old }
-    ensures turns { S.honest station.new → WritesOn S.opens S.receives S.asking now progress.old.kept.octets.items (dialogue_of (S.state station.old) port.old progress.old)
-        result (W.contents out.old) (W.contents out.new) (dialogue_of (S.state station.new) port.new progress.new) }
-    ensures listens { result ≡ Ok false → Listens S.asking.is_idle (S.state station.new) progress.new }
-    ensures noted { AreNoted result progress.old.log progress.new.log }
-    ensures named { result ≢ Err ServeFault.Memory }
+    ensures opened { S.honest station.new → Steps (λ d sent d'. Begins S.opens now d sent d') [] (dialogue_of (S.state station.old) link.old.port agenda.old) link.old
+        (dialogue_of (S.state station.new) link.new.port agenda.new) link.new }
+    ensures begun { agenda.new.is_begun ≡ true }
+    ensures waiting { link.new.waiting ≡ link.old.waiting }
 {
-    match write_noted(&progress.kept.octets, out, &mut progress.log) {
+    agenda.is_begun = true;
+    agenda.tell(link.opened(room, station, now));
+}
+
+/// Hears the next frame.
+fn hear_to<S: Station>(
+    room: &mut StepRoom,
+    station: &mut S,
+    link: &mut Link,
+    now: u64,
+    agenda: &mut Agenda<'_>,
+)
+    requires room { HasRoom link.old }
+    requires frame { 0 < length link.old.waiting }
+    requires place { HasPlace agenda.old.asked }
+    requires goes_on { agenda.old.is_over ≡ false }
+    ensures kept { S.kept station.new ≡ S.kept station.old }
+    ensures held { S.honest station.new → S.honest station.old }
+    ensures heard { S.honest station.new → (frame : FrameValue) × Steps (λ d sent d'. HearsAsking S.receives now d frame sent d') (frame ∷ [])
+        (dialogue_of (S.state station.old) link.old.port agenda.old) link.old (dialogue_of (S.state station.new) link.new.port agenda.new) link.new }
+    ensures begun { agenda.new.is_begun ≡ agenda.old.is_begun }
+    ensures fewer { length link.old.waiting ≡ length link.new.waiting + 1 }
+{
+    agenda.tell_heard(link.hear(room, station, now));
+}
+
+/// Asks the first of the tasks that are left, or relays a control where there is none.
+fn go_to<S: Asker>(
+    room: &mut StepRoom,
+    station: &mut S,
+    link: &mut Link,
+    now: u64,
+    agenda: &mut Agenda<'_>,
+)
+    requires { HasRoom link.old }
+    ensures kept { S.kept station.new ≡ S.kept station.old }
+    ensures held { S.honest station.new → S.honest station.old }
+    ensures goes { S.honest station.new → agenda.old.is_over ≡ false → Steps (λ d sent d'. Goes S.asking now d sent d') []
+        (dialogue_of (S.state station.old) link.old.port agenda.old) link.old (dialogue_of (S.state station.new) link.new.port agenda.new) link.new }
+    ensures begun { agenda.new.is_begun ≡ agenda.old.is_begun }
+    ensures waiting { link.new.waiting ≡ link.old.waiting }
+{
+    match agenda.left.split_first() {
+        Some((task, left)) => {
+            agenda.left = left;
+            agenda.tell_asked(link.ask(room, station, now, *task));
+        }
+        None => agenda.tell_relayed(link.relay(room, station, now)),
+    }
+}
+
+/// Why a dialogue can't go on.
+#[derive(Clone, Copy)]
+enum Gone {
+    /// What was to be sent could not be written.
+    Unwritten,
+    /// Out of memory for an outcome.
+    Memory,
+}
+
+/// Writes what waits; then, while the station is idle, asks and relays, and writes what each step sends. Whether the dialogue stops.
+fn go_on<S: Asker, W: Write>(
+    room: &mut StepRoom,
+    station: &mut S,
+    link: &mut Link,
+    now: u64,
+    out: &mut W,
+    agenda: &mut Agenda<'_>,
+    log: &mut Log,
+) -> Result<bool, NotWritten>
+    requires { agenda.old.is_begun ≡ true }
+    ensures kept { S.kept station.new ≡ S.kept station.old }
+    ensures held { S.honest station.new → S.honest station.old }
+    ensures talks { S.honest station.new → TalksOn (ways S.opens S.receives S.asking S.life) now (stops_by result)
+        (dialogue_of (S.state station.old) link.old.port agenda.old) link.old (W.contents out.old)
+        (dialogue_of (S.state station.new) link.new.port agenda.new) link.new (W.contents out.new) }
+    ensures sent { OnOk result (link.new.pending ≡ []) }
+    ensures awaits { IfOk result (λ stops. stops ≡ false → Awaits S.asking.is_idle (S.state station.new) agenda.new) }
+    ensures waiting { link.new.waiting ≡ link.old.waiting }
+    ensures noted { IsUnwrittenNoted result log.old log.new }
+{
+    match send_noted(link, out, log) {
         Ok(()) => {}
-        Err(_) => return Err(ServeFault::WriteFailed),
+        Err(fault) => return Err(fault),
     }
     for _ in 0..u64::MAX {
-        if progress.is_over {
+        if agenda.is_over {
             return Ok(true);
         }
         if !station.idle() {
             return Ok(false);
         }
-        go_to(alloc, station, port, now, progress);
-        match write_noted(&progress.kept.octets, out, &mut progress.log) {
+        go_to(room, station, link, now, agenda);
+        match send_noted(link, out, log) {
             Ok(()) => {}
-            Err(_) => return Err(ServeFault::WriteFailed),
+            Err(fault) => return Err(fault),
         }
     }
     Ok(true)
 }
 
-/// Opens the station, writes what that sends, and goes on. Whether the dialogue stops.
-pub(super) fn begin<S: Asker, W: Write>(
-    alloc: Global,
+/// Opens the station, and goes on. Whether the dialogue stops.
+fn begin<S: Asker, W: Write>(
+    room: &mut StepRoom,
     station: &mut S,
-    port: &mut Port,
+    link: &mut Link,
     now: u64,
     out: &mut W,
-    progress: &mut Progress<'_>,
-) -> Result<bool, ServeFault>
-    requires begun { progress.old.is_begun ≡ false }
-    requires goes_on { progress.old.is_over ≡ false }
+    agenda: &mut Agenda<'_>,
+    log: &mut Log,
+) -> Result<bool, Gone>
+    requires sent { link.old.pending ≡ [] }
+    requires begun { agenda.old.is_begun ≡ false }
+    requires goes_on { agenda.old.is_over ≡ false }
     ensures kept { S.kept station.new ≡ S.kept station.old }
     ensures held { S.honest station.new → S.honest station.old }
-    ensures turns { S.honest station.new → Turns S.opens S.receives S.asking now (dialogue_of (S.state station.old) port.old progress.old) []
-        result (W.contents out.old) (W.contents out.new) (dialogue_of (S.state station.new) port.new progress.new) }
-    ensures listens { result ≡ Ok false → Listens S.asking.is_idle (S.state station.new) progress.new }
-    ensures noted { AreNoted result progress.old.log progress.new.log }
-    ensures memory { result ≡ Err ServeFault.Memory → vec_capacity progress.old.asked.outcomes < vec_len progress.old.asked.outcomes + 1 }
+    ensures talks { S.honest station.new → TalksOn (ways S.opens S.receives S.asking S.life) now (stops_by result)
+        (dialogue_of (S.state station.old) link.old.port agenda.old) link.old (W.contents out.old)
+        (dialogue_of (S.state station.new) link.new.port agenda.new) link.new (W.contents out.new) }
+    ensures sent { OnOk result (link.new.pending ≡ []) }
+    ensures awaits { IfOk result (λ stops. stops ≡ false → Awaits S.asking.is_idle (S.state station.new) agenda.new) }
+    ensures waiting { link.new.waiting ≡ link.old.waiting }
+    ensures memory { result ≡ Err gone.Memory → vec_capacity agenda.old.asked.outcomes < vec_len agenda.old.asked.outcomes + 1 }
+    ensures wanting { result ≡ Err gone.Memory → (agenda.new.is_over ≡ false) × (link.new.pending ≡ []) }
+    ensures noted { IsGoneNoted result log.old log.new }
 {
-    match progress.asked.make_room() {
+    match agenda.asked.make_room() {
         Ok(()) => {}
-        Err(_) => return Err(ServeFault::Memory),
+        Err(_) => return Err(Gone::Memory),
     }
-    open_to(alloc, station, port, now, progress);
-    go_on(alloc, station, port, now, out, progress)
+    open_to(room, station, link, now, agenda);
+    match go_on(room, station, link, now, out, agenda, log) {
+        Ok(stops) => Ok(stops),
+        Err(_) => Err(Gone::Unwritten),
+    }
 }
 
-/// Hears a frame, writes what that sends, and goes on. Whether the dialogue stops. Memory is asked for only where no outcome more
-/// has room.
-pub(super) fn hear_one<S: Asker, W: Write>(
-    alloc: Global,
+/// Hears the next frame, and goes on. Whether the dialogue stops.
+fn hear_one<S: Asker, W: Write>(
+    room: &mut StepRoom,
     station: &mut S,
-    port: &mut Port,
+    link: &mut Link,
     now: u64,
-    frame: &Frame,
     out: &mut W,
-    progress: &mut Progress<'_>,
-) -> Result<bool, ServeFault>
-    requires { Listens S.asking.is_idle (S.state station.old) progress.old }
+    agenda: &mut Agenda<'_>,
+    log: &mut Log,
+) -> Result<bool, Gone>
+    requires sent { link.old.pending ≡ [] }
+    requires frame { 0 < length link.old.waiting }
+    requires awaits { Awaits S.asking.is_idle (S.state station.old) agenda.old }
     ensures kept { S.kept station.new ≡ S.kept station.old }
     ensures held { S.honest station.new → S.honest station.old }
-    ensures turns { S.honest station.new → Turns S.opens S.receives S.asking now (dialogue_of (S.state station.old) port.old progress.old) (frame.now ∷ [])
-        result (W.contents out.old) (W.contents out.new) (dialogue_of (S.state station.new) port.new progress.new) }
-    ensures listens { result ≡ Ok false → Listens S.asking.is_idle (S.state station.new) progress.new }
-    ensures noted { AreNoted result progress.old.log progress.new.log }
-    ensures memory { result ≡ Err ServeFault.Memory → vec_capacity progress.old.asked.outcomes < vec_len progress.old.asked.outcomes + 1 }
+    ensures talks { S.honest station.new → TalksOn (ways S.opens S.receives S.asking S.life) now (stops_by result)
+        (dialogue_of (S.state station.old) link.old.port agenda.old) link.old (W.contents out.old)
+        (dialogue_of (S.state station.new) link.new.port agenda.new) link.new (W.contents out.new) }
+    ensures sent { OnOk result (link.new.pending ≡ []) }
+    ensures awaits { IfOk result (λ stops. stops ≡ false → Awaits S.asking.is_idle (S.state station.new) agenda.new) }
+    ensures fewer { OnOk result (length link.old.waiting ≡ length link.new.waiting + 1) }
+    ensures memory { result ≡ Err gone.Memory → vec_capacity agenda.old.asked.outcomes < vec_len agenda.old.asked.outcomes + 1 }
+    ensures wanting { result ≡ Err gone.Memory → (agenda.new.is_over ≡ false) × (link.new.pending ≡ []) }
+    ensures noted { IsGoneNoted result log.old log.new }
 {
-    match progress.asked.make_room() {
+    match agenda.asked.make_room() {
         Ok(()) => {}
-        Err(_) => return Err(ServeFault::Memory),
+        Err(_) => return Err(Gone::Memory),
     }
-    hear_to(alloc, station, port, now, frame, progress);
-    go_on(alloc, station, port, now, out, progress)
+    hear_to(room, station, link, now, agenda);
+    match go_on(room, station, link, now, out, agenda, log) {
+        Ok(stops) => Ok(stops),
+        Err(_) => Err(Gone::Unwritten),
+    }
 }
 
-/// Hears frames, one after the other. Whether the dialogue stops.
-fn hear_each<S: Asker, W: Write>(
-    alloc: Global,
+/// Hears the frames that wait, one after the other. Whether the dialogue stops.
+fn hear_all<S: Asker, W: Write>(
+    room: &mut StepRoom,
     station: &mut S,
-    port: &mut Port,
+    link: &mut Link,
     now: u64,
-    frames: &[Frame],
     out: &mut W,
-    progress: &mut Progress<'_>,
-) -> Result<bool, ServeFault>
-    requires { Listens S.asking.is_idle (S.state station.old) progress.old }
+    agenda: &mut Agenda<'_>,
+    log: &mut Log,
+) -> Result<bool, Gone>
+    requires sent { link.old.pending ≡ [] }
+    requires awaits { Awaits S.asking.is_idle (S.state station.old) agenda.old }
     ensures kept { S.kept station.new ≡ S.kept station.old }
     ensures held { S.honest station.new → S.honest station.old }
-    ensures turns { S.honest station.new → Turns S.opens S.receives S.asking now (dialogue_of (S.state station.old) port.old progress.old) frames.now
-        result (W.contents out.old) (W.contents out.new) (dialogue_of (S.state station.new) port.new progress.new) }
-    ensures listens { result ≡ Ok false → Listens S.asking.is_idle (S.state station.new) progress.new }
-    ensures noted { AreNoted result progress.old.log progress.new.log }
+    ensures talks { S.honest station.new → TalksOn (ways S.opens S.receives S.asking S.life) now (stops_by result)
+        (dialogue_of (S.state station.old) link.old.port agenda.old) link.old (W.contents out.old)
+        (dialogue_of (S.state station.new) link.new.port agenda.new) link.new (W.contents out.new) }
+    ensures sent { OnOk result (link.new.pending ≡ []) }
+    ensures awaits { IfOk result (λ stops. stops ≡ false → Awaits S.asking.is_idle (S.state station.new) agenda.new × (link.new.waiting ≡ [])) }
+    ensures wanting { result ≡ Err gone.Memory → (agenda.new.is_over ≡ false) × (link.new.pending ≡ []) }
+    ensures noted { IsGoneNoted result log.old log.new }
 {
-    for frame in frames {
-        match hear_one(alloc, station, port, now, frame, out, progress) {
+    while link.has_frame() {
+        match hear_one(room, station, link, now, out, agenda, log) {
             Ok(false) => {}
             Ok(true) => return Ok(true),
             Err(fault) => return Err(fault),
@@ -143,51 +250,60 @@ fn hear_each<S: Asker, W: Write>(
     Ok(false)
 }
 
-/// Asks on a stream; a fault leaves the station open.
+/// Why a dialogue can't go on, as a stream's fault.
+fn fault_of(gone: Gone) -> ServeFault
+    ensures { result ≡ fault_by gone }
+{
+    match gone {
+        Gone::Unwritten => ServeFault::WriteFailed,
+        Gone::Memory => ServeFault::Memory,
+    }
+}
+
+/// Asks on a new link; a fault leaves the station open.
 fn ask_on<S: Asker, R: Read, W: Write>(
-    alloc: Global,
+    room: &mut StepRoom,
     station: &mut S,
-    port: &mut Port,
+    link: &mut Link,
     now: u64,
     reader: &mut R,
     out: &mut W,
     turns: u64,
-    progress: &mut Progress<'_>,
+    agenda: &mut Agenda<'_>,
+    log: &mut Log,
 ) -> Result<(), ServeFault>
-    requires fresh { IsFresh progress.old }
-    requires log { progress.old.log ≡ new_log }
+    requires link { link.old ≡ new_link link.old.port }
+    requires log { log.old ≡ new_log }
+    requires fresh { IsFresh agenda.old }
     ensures kept { S.kept station.new ≡ S.kept station.old }
     ensures held { S.honest station.new → S.honest station.old }
-    ensures talks { S.honest station.new → Talks S.opens S.receives S.asking now turns (endpoint (S.state station.old) port.old) progress.old.left.now
+    ensures talks { S.honest station.new → Talks S.opens S.receives S.asking now turns (endpoint (S.state station.old) link.old.port) agenda.old.left.now
         (R.remaining reader.old) (R.remaining reader.new) (W.contents out.old) (W.contents out.new)
-        (told_by result progress.new.asked) (endpoint (S.state station.new) port.new) }
-    ensures noted { IsNoted turns result progress.new.log }
+        (told_by result agenda.new.asked) (endpoint (S.state station.new) link.new.port) }
+    ensures noted { IsNoted turns result log.new }
 {
-    match begin(alloc, station, port, now, out, progress) {
+    match begin(room, station, link, now, out, agenda, log) {
         Ok(false) => {}
         Ok(true) => return Ok(()),
-        Err(fault) => return Err(fault),
+        Err(gone) => return Err(fault_of(gone)),
     }
-    let mut stream = FrameReader::new();
-    let mut frames = Vec::new(alloc);
     let mut piece = [0; MAX_UNIT];
     for _ in 0..turns {
-        let count = match read_noted(reader, &mut piece, &mut progress.log) {
+        let count = match read_noted(reader, &mut piece, log) {
             Ok(count) => count,
             Err(_) => return Err(ServeFault::ReadFailed),
         };
         if count == 0 {
             return Ok(());
         }
-        frames.clear();
-        match stream.feed(&piece[..count], &mut frames) {
+        match link.feed(&piece[..count]) {
             Ok(()) => {}
             Err(_) => return Err(ServeFault::Memory),
         }
-        match hear_each(alloc, station, port, now, &frames, out, progress) {
+        match hear_all(room, station, link, now, out, agenda, log) {
             Ok(false) => {}
             Ok(true) => return Ok(()),
-            Err(fault) => return Err(fault),
+            Err(gone) => return Err(fault_of(gone)),
         }
     }
     Err(ServeFault::TurnsSpent)
@@ -234,10 +350,22 @@ pub fn ask_noted<S: Asker, R: Read, W: Write>(
         (R.remaining reader.old) (R.remaining reader.new) (W.contents out.old) (W.contents out.new) result (endpoint ended port.new) }
     ensures noted { IsNoted turns result log.new }
 {
-    let mut progress = Progress::new(alloc, tasks, *log);
-    let ended = ask_on(alloc, station, port, now, reader, out, turns, &mut progress);
-    *log = progress.log;
-    leave(station, ended, progress.asked)
+    let mut room = StepRoom::new(alloc);
+    let mut link = Link::new(alloc, port.copy());
+    let mut agenda = Agenda::new(alloc, tasks);
+    let ended = ask_on(
+        &mut room,
+        station,
+        &mut link,
+        now,
+        reader,
+        out,
+        turns,
+        &mut agenda,
+        log,
+    );
+    link.port().copy_into(port);
+    leave(station, ended, agenda.asked)
 }
 
 /// Asks the tasks on a stream of octets, one by one, each when the station is idle, and then relays controls until there

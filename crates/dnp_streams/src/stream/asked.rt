@@ -2,7 +2,7 @@
 
 ghost use Rattle.std.specs.Prelude.{◌≡◌, ◌<◌, ◌+◌, [], ◌++◌, min, OnErr, OnOk, option_to_list, vec_capacity, vec_len};
 ghost use Rattle.dnp_streams.specs.streams.Counts.{most};
-ghost use Rattle.dnp_streams.specs.steps.Talking.{HasRoom};
+ghost use Rattle.dnp_streams.specs.steps.Asking.{HasPlace};
 
 use dnp_master::Outcome;
 use std::alloc::{AllocError, Global};
@@ -35,7 +35,7 @@ impl Asked {
 
     /// Makes room for one outcome more. Room that is there is asked for of nobody.
     pub(super) fn make_room(&mut self) -> Result<(), AllocError>
-        ensures room { OnOk result (HasRoom self.new) }
+        ensures room { OnOk result (HasPlace self.new) }
         ensures full { OnErr result (vec_capacity self.old.outcomes < vec_len self.old.outcomes + 1) }
         ensures rows { self.new.rows ≡ self.old.rows }
         ensures outcomes { self.new.outcomes.items ≡ self.old.outcomes.items }
@@ -46,7 +46,7 @@ impl Asked {
 
     /// Counts the rows that were stored of an answer, and keeps the outcome that it may have.
     pub(super) fn count(&mut self, taken: usize, outcome: Option<Outcome>)
-        requires { HasRoom self.old }
+        requires { HasPlace self.old }
         ensures rows { self.new.rows ≡ min (self.old.rows + taken) most }
         ensures outcomes { self.new.outcomes.items ≡ self.old.outcomes.items ++ option_to_list outcome }
         ensures faults { self.new.faults ≡ self.old.faults }

@@ -5,7 +5,7 @@ ghost use Rattle.dnp_eventbuf.specs.Sides.{either_exhausts};
 ghost use Rattle.dnp_concentrator.specs.Concentrator.{book_of, links_of, queue_of, queued_at, taking_at, KeepsStores};
 ghost use Rattle.dnp_concentrator.specs.declared.cause.Cause.TheVariants as cause;
 ghost use Rattle.dnp_streams.specs.declared.stream.station.StationFault.TheVariants as told;
-ghost use Rattle.dnp_streams.specs.streams.BelowLives.{cut, has_ended};
+ghost use Rattle.dnp_streams.specs.streams.BelowLives.{cut, has_ended, next_below};
 ghost use Rattle.dnp_streams.specs.streams.Concentrators.{BelowReceives, BelowRefuses, below_seen};
 ghost use Rattle.dnp_streams.specs.streams.Lent.{kept_below, lent_below, substation_of};
 ghost use Rattle.dnp_streams.specs.streams.Stations.{answer_in, answer_of};
@@ -65,6 +65,16 @@ impl<'a, Q: PairLanes, B: Book> Below<'a, Q, B> {
             return false;
         }
         self.concentrator.tick_below(self.substation, now)
+    }
+
+    /// When the response timer ends, in milliseconds: none while it doesn't run, or where the plan lacks the substation.
+    pub(super) fn deadline(&self) -> Option<u64>
+        ensures { result ≡ next_below (below_seen Q.contents B.contents (lent_below self.now).now (substation_of self.now)) }
+    {
+        if !self.is_there() {
+            return None;
+        }
+        self.concentrator.next_deadline_below(self.substation)
     }
 }
 

@@ -44,6 +44,11 @@ pub trait Living: Station {
         Ok(())
     }
 
+    /// The moment at which its next timer ends; none while no timer runs. A wake after it is late, and a tick before it
+    /// does nothing, unless rows came to its lanes meanwhile.
+    fn next_deadline(&self) -> Option<u64>
+        ensures deadline { result ≡ Self.life.deadline (Self.state self.now) };
+
     /// A reading of a point changes, whenever it was due.
     fn change(&mut self, alloc: Global, now: u64, change: &Change) -> Result<Answer, StationFault>
         ensures kept { Self.kept self.new ≡ Self.kept self.old }

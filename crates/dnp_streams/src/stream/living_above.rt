@@ -43,6 +43,10 @@ impl<'a, Q: PairLanes, B: Book> Living for Above<'a, Q, B> {
         }
     }
 
+    fn next_deadline(&self) -> Option<u64> {
+        self.concentrator.next_deadline_above(self.centre())
+    }
+
     /// Its readings are those of its substations: no other is taken.
     fn change(
         &mut self,

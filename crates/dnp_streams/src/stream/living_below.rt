@@ -25,6 +25,10 @@ impl<'a, Q: PairLanes, B: Book> Living for Below<'a, Q, B> {
         Ok(())
     }
 
+    fn next_deadline(&self) -> Option<u64> {
+        self.deadline()
+    }
+
     /// Its readings are those of the substation: no other is taken.
     fn change(
         &mut self,

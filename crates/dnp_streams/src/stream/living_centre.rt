@@ -25,6 +25,10 @@ impl<J: JournalStore, B: Book> Living for Centre<J, B> {
         Ok(())
     }
 
+    fn next_deadline(&self) -> Option<u64> {
+        self.next_deadline()
+    }
+
     /// It has no readings of its own: none is taken.
     fn change(
         &mut self,

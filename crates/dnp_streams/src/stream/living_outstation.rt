@@ -46,6 +46,10 @@ impl<L: Lanes, O: Outputs> Living for Outstation<L, O> {
         }
     }
 
+    fn next_deadline(&self) -> Option<u64> {
+        self.next_deadline()
+    }
+
     fn change(&mut self, alloc: Global, now: u64, change: &Change) -> Result<Answer, StationFault> {
         match self.change(alloc, now, change.kind, change.index, change.reading) {
             Ok(actions) => Ok(answer_with(actions)),

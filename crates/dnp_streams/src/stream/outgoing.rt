@@ -1,10 +1,10 @@
 //! Octets that one step of a station sends.
 
-ghost use Rattle.std.specs.Prelude.{◌≡◌, ℕ, ◌<◌, ◌≤◌, ◌+◌, ◌∷◌, [], List, length, All, option_to_list};
+ghost use Rattle.std.specs.Prelude.{◌≡◌, ◌<◌, ◌≤◌, ◌+◌, ◌∷◌, [], length, All, option_to_list};
 ghost use Rattle.dnp_outstation.specs.Station.{sent_of};
 ghost use Rattle.dnp_streams.specs.streams.Dialogues.{sendable};
 ghost use Rattle.dnp_streams.specs.streams.Spelled.{sent_frames, port_after};
-ghost use Rattle.dnp_streams.specs.steps.Outgoing.{ArePut};
+ghost use Rattle.dnp_streams.specs.links.Outputs.{ArePut};
 
 use arrayvec::ArrayVec;
 use dnp_line::{Port, Taken};

@@ -1,39 +1,35 @@
 //! A stream, served to its end.
 
-ghost use Rattle.std.specs.Prelude.{◌≡◌, [], false, MatchResult};
-ghost use Rattle.dnp_streams.specs.streams.Counts.{none_served};
-ghost use Rattle.dnp_streams.specs.streams.Logs.{new_log};
-ghost use Rattle.dnp_streams.specs.streams.Stations.{endpoint};
-ghost use Rattle.dnp_streams.specs.streams.Serving.{Serves, IsLeft, IsNoted};
-ghost use Rattle.dnp_streams.specs.steps.Hearing.{Greets, HearsSome, AreWritten, ArePartlyWritten};
+ghost use Rattle.std.specs.Prelude.{◌≡◌, [], false, OnOk};
+ghost use Rattle.dnp_streams.specs.links.Deeds.{ways};
+ghost use Rattle.dnp_streams.specs.links.Links.{new_link};
 ghost use Rattle.dnp_streams.specs.steps.Living.{IsWriteNoted};
+ghost use Rattle.dnp_streams.specs.steps.Serving.{GoesOn, Tells, TellsHeard, closed_told, faults_told};
+ghost use Rattle.dnp_streams.specs.streams.Logs.{new_log};
+ghost use Rattle.dnp_streams.specs.streams.Serving.{IsLeft, IsNoted, Serves};
+ghost use Rattle.dnp_streams.specs.streams.Stations.{endpoint};
 
-use crate::stream::log::{Log, read_noted, write_noted};
+use crate::link::{Heard, Link, StepRoom, Told};
+use crate::stream::log::{Log, read_noted};
+use crate::stream::sending::send_noted;
 use crate::stream::served::Served;
-use crate::stream::serving::Serving;
-use crate::stream::station::Station;
-use crate::stream::step::{hear, open};
+use crate::stream::station::{Station, StationFault};
 use crate::writing::NotWritten;
 use dnp_line::Port;
-use dnp_linkframe::{Frame, FrameReader, MAX_UNIT};
+use dnp_linkframe::MAX_UNIT;
 use std::alloc::Global;
 use std::io::{Read, Write};
-use thiserror::Error;
 
 /// Why a stream was not served to its end.
-#[derive(Clone, Copy, Debug, PartialEq, Eq, Error)]
+#[derive(Clone, Copy, Debug, PartialEq, Eq)]
 pub enum ServeFault {
     /// The reader failed.
-    #[error("the stream could not be read")]
     ReadFailed,
     /// The writer failed, or took none of the octets that it was given.
-    #[error("the stream could not be written")]
     WriteFailed,
     /// The reader was asked for octets as often as it was to be, and neither the input nor the connection had ended.
-    #[error("too many reads of the stream")]
     TurnsSpent,
     /// Out of memory for the frames of what was read last.
-    #[error("out of memory")]
     Memory,
 }
 
@@ -48,110 +44,126 @@ impl From<NotWritten> for ServeFault {
     }
 }
 
-/// Opens the station, and writes what that brings, in the room that is kept.
-fn greet<S: Station, W: Write>(
-    alloc: Global,
-    station: &mut S,
-    port: &mut Port,
-    now: u64,
-    out: &mut W,
-    serving: &mut Serving,
-) -> Result<(), NotWritten>
-    ensures kept { S.kept station.new ≡ S.kept station.old }
-    ensures held { S.honest station.new → S.honest station.old }
-    ensures greeted { S.honest station.new →
-        (greets : Greets S.opens now (endpoint (S.state station.old) port.old) (endpoint (S.state station.new) port.new) serving.old.served serving.new.served)
-        × MatchResult result (λ _. AreWritten (W.contents out.old) (W.contents out.new) greets.output.frames)
-        (λ _. ArePartlyWritten (W.contents out.old) (W.contents out.new) greets.output.frames) }
-    ensures noted { IsWriteNoted result serving.old.log serving.new.log }
+/// How many refusals a reply of the station is.
+fn faults_in(told: &Result<Told, StationFault>) -> u64
+    ensures { result ≡ faults_told told.now }
 {
-    serving
-        .served
-        .add(open(alloc, station, port, now, &mut serving.kept.octets));
-    write_noted(&serving.kept.octets, out, &mut serving.log)
+    match told {
+        Ok(_) => 0,
+        Err(_) => 1,
+    }
 }
 
-/// Hears frames, up to one that closes the connection, and writes what each of them brings, in the room that is kept.
+/// Whether the station has closed the connection by it.
+fn is_closed(told: &Result<Told, StationFault>) -> bool
+    ensures { result ≡ closed_told told.now }
+{
+    match told {
+        Ok(told) => told.closed,
+        Err(_) => false,
+    }
+}
+
+/// Counts what a reply of the station brings.
+fn count(served: &mut Served, fragments: u64, told: &Result<Told, StationFault>)
+    ensures { Tells served.old fragments told.now served.new }
+{
+    served.fragments = served.fragments.saturating_add(fragments);
+    served.faults = served.faults.saturating_add(faults_in(told));
+    served.closed = served.closed || is_closed(told);
+}
+
+/// Counts what a frame brings.
+fn count_heard(served: &mut Served, heard: &Heard)
+    ensures { TellsHeard served.old heard.now served.new }
+{
+    match heard {
+        Heard::Part => {}
+        Heard::Whole(told) => count(served, 1, told),
+    }
+}
+
+/// Hears the frames that wait, up to one that closes the connection, and writes what each of them brings.
 fn hear_all<S: Station, W: Write>(
-    alloc: Global,
+    room: &mut StepRoom,
     station: &mut S,
-    port: &mut Port,
+    link: &mut Link,
     now: u64,
-    frames: &[Frame],
     out: &mut W,
-    serving: &mut Serving,
+    served: &mut Served,
+    log: &mut Log,
 ) -> Result<(), NotWritten>
-    requires { serving.old.served.closed ≡ false }
+    requires { link.old.pending ≡ [] }
     ensures kept { S.kept station.new ≡ S.kept station.old }
     ensures held { S.honest station.new → S.honest station.old }
-    ensures heard { S.honest station.new →
-        (some : HearsSome S.receives now (endpoint (S.state station.old) port.old) frames.now (endpoint (S.state station.new) port.new) serving.old.served serving.new.served)
-        × MatchResult result (λ _. AreWritten (W.contents out.old) (W.contents out.new) some.output.frames × (serving.new.served.closed ≡ false → some.unheard ≡ []))
-        (λ _. ArePartlyWritten (W.contents out.old) (W.contents out.new) some.output.frames) }
-    ensures noted { IsWriteNoted result serving.old.log serving.new.log }
+    ensures goes_on { S.honest station.new → GoesOn (ways S.opens S.receives S.asking S.life) now (S.state station.old) link.old served.old (W.contents out.old)
+        (S.state station.new) link.new served.new (W.contents out.new) }
+    ensures sent { OnOk result (link.new.pending ≡ []) }
+    ensures heard { OnOk result (served.new.closed ≡ false → link.new.waiting ≡ []) }
+    ensures noted { IsWriteNoted result log.old log.new }
 {
-    serving.served.count_nothing();
-    for frame in frames {
-        serving
-            .served
-            .add(hear(alloc, station, port, now, frame, &mut serving.kept));
-        match write_noted(&serving.kept.octets, out, &mut serving.log) {
+    while !served.closed && link.has_frame() {
+        count_heard(served, &link.hear(room, station, now));
+        match send_noted(link, out, log) {
             Ok(()) => {}
             Err(fault) => return Err(fault),
-        }
-        if serving.served.closed {
-            return Ok(());
         }
     }
     Ok(())
 }
 
-/// Serves a stream; a fault leaves the station open.
+/// Serves a stream on a new link; a fault leaves the station open.
 fn serve<S: Station, R: Read, W: Write>(
-    alloc: Global,
+    room: &mut StepRoom,
     station: &mut S,
-    port: &mut Port,
+    link: &mut Link,
     now: u64,
     reader: &mut R,
     out: &mut W,
     turns: u64,
-    serving: &mut Serving,
+    log: &mut Log,
 ) -> Result<Served, ServeFault>
-    requires none { serving.old.served ≡ none_served }
-    requires log { serving.old.log ≡ new_log }
+    requires fresh { link.old ≡ new_link link.old.port }
+    requires log { log.old ≡ new_log }
     ensures kept { S.kept station.new ≡ S.kept station.old }
     ensures held { S.honest station.new → S.honest station.old }
-    ensures serves { S.honest station.new → Serves S.opens S.receives now turns (endpoint (S.state station.old) port.old)
+    ensures serves { S.honest station.new → Serves S.opens S.receives now turns (endpoint (S.state station.old) link.old.port)
         (R.remaining reader.old) (R.remaining reader.new)
-        (W.contents out.old) (W.contents out.new) result (endpoint (S.state station.new) port.new) }
-    ensures noted { IsNoted turns result serving.new.log }
+        (W.contents out.old) (W.contents out.new) result (endpoint (S.state station.new) link.new.port) }
+    ensures noted { IsNoted turns result log.new }
 {
-    greet(alloc, station, port, now, out, serving)?;
-    if serving.served.closed {
-        return Ok(serving.served);
+    let mut served = Served {
+        fragments: 0,
+        faults: 0,
+        closed: false,
+    };
+    count(&mut served, 0, &link.opened(room, station, now));
+    match send_noted(link, out, log) {
+        Ok(()) => {}
+        Err(_) => return Err(ServeFault::WriteFailed),
     }
-    let mut stream = FrameReader::new();
-    let mut frames = Vec::new(alloc);
+    if served.closed {
+        return Ok(served);
+    }
     let mut piece = [0; MAX_UNIT];
     for _ in 0..turns {
-        let count = match read_noted(reader, &mut piece, &mut serving.log) {
+        let count = match read_noted(reader, &mut piece, log) {
             Ok(count) => count,
             Err(_) => return Err(ServeFault::ReadFailed),
         };
         if count == 0 {
-            return Ok(serving.served);
+            return Ok(served);
         }
-        frames.clear();
-        match stream.feed(&piece[..count], &mut frames) {
+        match link.feed(&piece[..count]) {
             Ok(()) => {}
             Err(_) => return Err(ServeFault::Memory),
         }
-        match hear_all(alloc, station, port, now, &frames, out, serving) {
+        match hear_all(room, station, link, now, out, &mut served, log) {
             Ok(()) => {}
             Err(_) => return Err(ServeFault::WriteFailed),
         }
-        if serving.served.closed {
-            return Ok(serving.served);
+        if served.closed {
+            return Ok(served);
         }
     }
     Err(ServeFault::TurnsSpent)
@@ -177,9 +189,10 @@ pub fn serve_noted<S: Station, R: Read, W: Write>(
         (W.contents out.old) (W.contents out.new) result (endpoint ended port.new) }
     ensures noted { IsNoted turns result log.new }
 {
-    let mut serving = Serving::new(alloc, *log);
-    let result = serve(alloc, station, port, now, reader, out, turns, &mut serving);
-    *log = serving.log;
+    let mut room = StepRoom::new(alloc);
+    let mut link = Link::new(alloc, port.copy());
+    let result = serve(&mut room, station, &mut link, now, reader, out, turns, log);
+    link.port().copy_into(port);
     if result.is_err() {
         station.hung_up();
     }

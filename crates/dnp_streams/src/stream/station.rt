@@ -10,7 +10,6 @@ use dnp_concentrator::Cause;
 use dnp_master::Outcome;
 use dnp_outstation::Fragment;
 use std::alloc::Global;
-use thiserror::Error;
 
 /// What a call of a station answers, beside what it makes of the station.
 #[derive(Drop)]
@@ -26,13 +25,11 @@ pub struct Answer {
 }
 
 /// Why a station refused a call.
-#[derive(Clone, Copy, Debug, PartialEq, Eq, Error)]
+#[derive(Clone, Copy, Debug, PartialEq, Eq)]
 pub enum StationFault {
     /// What came is malformed, or has rows of points that the station doesn't know.
-    #[error("a message that the station can't take")]
     Message,
     /// One of its stores refused it, or memory did.
-    #[error("{0}")]
     Cause(Cause),
 }
 

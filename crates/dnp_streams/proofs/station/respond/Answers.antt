@@ -1,5 +1,5 @@
 use Rattle.dnp_outstation.specs.Station.{sent_of}
-use Rattle.dnp_streams.proofs.Heard.{HasTaken, has_taken, heeded, on_err, reply_alone, reply_and_answer, replied}
+use Rattle.dnp_streams.proofs.NewPort.{HasTaken, has_taken, heeded, on_err, reply_alone, reply_and_answer, replied}
 use Rattle.dnp_streams.proofs.station.respond.Goals as goal
 
 pub returns-then-not-taken-clause-sent : goal.returns-then-not-taken-clause-sent

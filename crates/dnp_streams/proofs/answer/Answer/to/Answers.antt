@@ -2,8 +2,8 @@ use Rattle.std.proofs.Common.{rules, ◌≡◌, ◌≢◌, true, false, [], List
 use Rattle.std.specs.Prelude.{◌==◌}
 use Rattle.std.proofs.lemmas.List.{nil_from_length}
 use Rattle.dnp_linkframe.specs.Frames.{Spells}
-use Rattle.dnp_streams.proofs.Heard.{on_err}
-use Rattle.dnp_streams.proofs.Said.{is_zero, is_some, silent, spoken}
+use Rattle.dnp_streams.proofs.NewPort.{on_err}
+use Rattle.dnp_streams.proofs.Spoken.{is_zero, is_some, silent, spoken}
 use Rattle.dnp_streams.proofs.answer.Answer.to.Goals as goal
 
 pub returns-then-is_empty-clause-answer : goal.returns-then-is_empty-clause-answer

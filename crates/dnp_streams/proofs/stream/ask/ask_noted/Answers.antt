@@ -1,25 +1,16 @@
-use Rattle.std.proofs.Common.{List, Result, sym, subst}
-use Rattle.dnp_master.specs.declared.task.Task.{Task}
-use Rattle.dnp_streams.specs.declared.stream.asked.Asked.{Asked}
-use Rattle.dnp_streams.specs.declared.stream.serve.ServeFault.{ServeFault}
-use Rattle.dnp_streams.specs.streams.Talking.{Talks}
-use Rattle.dnp_streams.specs.streams.Stations.{endpoint}
-use Rattle.dnp_streams.specs.steps.Talking.{told_by}
+use Rattle.std.proofs.Common.{◌≡◌, sym, ap, ◌∙◌}
+use Rattle.dnp_streams.specs.links.Links.{LinkState}
 use Rattle.dnp_streams.proofs.stream.ask.ask_noted.Goals as goal
 
 pub returns-clause-talks : goal.returns-clause-talks
 returns-clause-talks g c honest =
     let S = g.S.Station in
-    let R = g.R.Read in
-    let W = g.W.Write in
-    let ended = S.state c.ask_on-ended.new.station in
-    let Told : List Task → Result Asked ServeFault → Type 0 = λ tasks told.
-    Talks S.opens S.receives S.asking c.args.now c.args.turns (endpoint (S.state c.args.station.now) c.args.port.now) tasks
-    (R.remaining c.args.reader.now) (R.remaining c.ask_on-ended.new.reader) (W.contents c.args.out.now) (W.contents c.ask_on-ended.new.out) told (endpoint ended c.ask_on-ended.new.port) in (
-      ended,
+    let first : c.new-link.result.port ≡ c.args.port.now = ap (λ (l : LinkState). l.port) c.new-link.ensures ∙ c.copy.ensures in
+    let last : c.copy_into.new.other ≡ c.ask_on-ended.new.link.port = c.copy_into.ensures ∙ c.port.ensures in
+    let talks = rw first at (rw (sym last) at (c.ask_on-ended.ensures.talks (c.leave.ensures.held honest))) in (
+      S.state c.ask_on-ended.new.station,
       c.leave.ensures.left honest,
-      subst (Told c.args.tasks.now) (sym c.leave.ensures.told)
-          (subst (λ (tasks : List Task). Told tasks (told_by c.ask_on-ended.result c.ask_on-ended.new.progress.asked)) c.new-progress.ensures.left (c.ask_on-ended.ensures.talks (c.leave.ensures.held honest))),
+      rw (sym c.leave.ensures.told) at (rw c.new-agenda.ensures.left at talks),
     )
 
 pub returns-clause-noted : goal.returns-clause-noted

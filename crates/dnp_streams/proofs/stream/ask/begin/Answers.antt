@@ -1,21 +1,31 @@
-use Rattle.std.proofs.Common.{[], refl, subst}
-use Rattle.dnp_streams.specs.streams.Dialogues.{Beginning, Dialogue}
-use Rattle.dnp_streams.specs.steps.Talking.{Turns, dialogue_of}
-use Rattle.dnp_streams.proofs.streams.Dialogues.{dialogue_is, begin_puts, turns_on}
+use Rattle.std.proofs.Common.{refl, ◌∙◌}
+use Rattle.dnp_streams.specs.declared.stream.agenda.Agenda.{Agenda}
+use Rattle.dnp_streams.specs.links.Deeds.{ways}
+use Rattle.dnp_streams.proofs.links.Dialogues.{talking_begins, talking_room}
 use Rattle.dnp_streams.proofs.stream.ask.begin.Goals as goal
 
-pub returns-clause-turns : goal.returns-clause-turns
-returns-clause-turns g c honest =
+pub returns-in-Ok-go_on-clause-talks : goal.returns-in-Ok-go_on-clause-talks
+returns-in-Ok-go_on-clause-talks g c = λ honest reads began left left' from t.
     let S = g.S.Station in
-    let W = g.W.Write in
-    let station = S.state c.args.station.now in
-    let port = c.args.port.now in
-    let old = c.args.progress.now in
-    let roomy = dialogue_of station port (record old { asked = c.make_room.new.self }) in
-    let new = dialogue_of (S.state c.go_on.new.station) c.go_on.new.port c.go_on.new.progress in
-    let told = c.make_room.ensures in
-    subst (λ (d : Dialogue S.State). Turns S.opens S.receives S.asking c.args.now d [] c.go_on.result (W.contents c.args.out.now) (W.contents c.go_on.new.out) new)
-    (dialogue_is station station port port old.left.now old.left.now _ _ _ _ _ _ _ _ _ _ refl refl refl told.rows told.outcomes told.faults refl refl)
-    (turns_on S.opens S.receives S.asking c.args.now roomy _ new Beginning c.open_to.new.progress.kept.octets.items c.go_on.result _ _ c.requires.goes_on
-    (begin_puts S.opens S.receives S.asking c.args.now roomy _ c.open_to.new.progress.kept.octets.items c.requires.begun (c.open_to.ensures.begins (c.go_on.ensures.held honest)))
-    (c.go_on.ensures.turns honest))
+    let w = ways S.opens S.receives S.asking S.life in
+    let room = c.make_room.ensures in
+    let roomed : Agenda = record c.args.agenda.now { asked = c.make_room.new.self } in
+    c.in-Ok-go_on.ensures.talks honest reads began left left' from
+    (talking_begins w _ _ _ _ _ _ _ _ _ roomed c.open_to.new.agenda _ _ c.requires.begun c.requires.goes_on (c.open_to.ensures.opened (c.go_on.ensures.held honest))
+    (talking_room w _ _ _ _ _ _ _ _ c.args.agenda.now roomed _ refl room.rows room.outcomes room.faults refl refl t))
+
+pub returns-in-Err-go_on-clause-talks : goal.returns-in-Err-go_on-clause-talks
+returns-in-Err-go_on-clause-talks g c = λ honest reads began left left' from t.
+    let S = g.S.Station in
+    let w = ways S.opens S.receives S.asking S.life in
+    let room = c.make_room.ensures in
+    let roomed : Agenda = record c.args.agenda.now { asked = c.make_room.new.self } in
+    c.in-Err-go_on.ensures.talks honest reads began left left' from
+    (talking_begins w _ _ _ _ _ _ _ _ _ roomed c.open_to.new.agenda _ _ c.requires.begun c.requires.goes_on (c.open_to.ensures.opened (c.go_on.ensures.held honest))
+    (talking_room w _ _ _ _ _ _ _ _ c.args.agenda.now roomed _ refl room.rows room.outcomes room.faults refl refl t))
+
+pub returns-in-Ok-go_on-clause-waiting : goal.returns-in-Ok-go_on-clause-waiting
+returns-in-Ok-go_on-clause-waiting g c = c.in-Ok-go_on.ensures.waiting ∙ c.open_to.ensures.waiting
+
+pub returns-in-Err-go_on-clause-waiting : goal.returns-in-Err-go_on-clause-waiting
+returns-in-Err-go_on-clause-waiting g c = c.in-Err-go_on.ensures.waiting ∙ c.open_to.ensures.waiting

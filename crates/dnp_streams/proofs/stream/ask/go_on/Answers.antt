@@ -1,75 +1,73 @@
-use Rattle.std.proofs.Common.{◌≡◌, ◌∷◌, [], List, ℕ, true, inl, inr, arith, length-append, refl, sym, subst, ◌∙◌}
-use Rattle.std.specs.Io.KnownBytes.{Appends}
-use Rattle.dnp_streams.specs.steps.Talking.{Whole, Cut}
-use Rattle.dnp_streams.specs.streams.Dialogues.{Going}
-use Rattle.dnp_streams.proofs.streams.Dialogues.{go_puts, turns_cut, turns_none, turns_one, turns_stop, turns_then}
+use Rattle.std.proofs.Common.{◌≡◌, true, inl, inr, Ok, Err, refl, sym, ap, ◌∙◌, arith}
+use Rattle.std.proofs.lemmas.Bool.{false≢true}
+use Rattle.dnp_streams.specs.links.Deeds.{ways}
+use Rattle.dnp_streams.specs.links.Links.{LinkState}
+use Rattle.dnp_streams.proofs.links.Dialogues.{talking_goes, talking_sent}
 use Rattle.dnp_streams.proofs.stream.ask.go_on.Goals as goal
 
-pub returns-in-Err-clause-turns : goal.returns-in-Err-clause-turns
-returns-in-Err-clause-turns g c honest =
-    let (part, rest, split, appended) = c.in-Err.ensures.part in
-    Cut part rest (sym c.deref.ensures.0 ∙ split) appended refl refl
+pub returns-in-Err-clause-talks : goal.returns-in-Err-clause-talks
+returns-in-Err-clause-talks g c = λ honest reads began left left' from t.
+    let S = g.S.Station in
+    let w = ways S.opens S.receives S.asking S.life in
+    let (t', n) = talking_sent w _ _ _ _ _ _ _ _ _ c.args.agenda.now _ _ (Err c.in-Err.fault) c.in-Err.ensures.sent t in
+    (t', λ stops. absurd (false≢true stops))
 
 pub loop-init : goal.loop-init
 loop-init g c =
     let S = g.S.Station in
-    let W = g.W.Write in (
+    let w = ways S.opens S.receives S.asking S.life in (
       c.requires,
-      c.in-Ok.ensures.noted,
+      ap (λ (l : LinkState). l.pending) c.in-Ok.ensures.sent.0,
+      ap (λ (l : LinkState). l.waiting) c.in-Ok.ensures.sent.0,
       λ honest. honest,
-      λ honest. (
-        W.contents c.write_noted.new.out,
-        subst (λ (t : List ℕ). Appends (W.contents c.args.out.now) (W.contents c.write_noted.new.out) t) c.deref.ensures.0 c.in-Ok.ensures.whole,
-        turns_none S.opens S.receives S.asking c.args.now _ (W.contents c.write_noted.new.out),
-        omega arith,
-      ),
+      λ honest reads began left left' from t.
+          let (t', n) = talking_sent w _ _ _ _ _ _ _ _ _ c.args.agenda.now _ _ (Ok tt) c.in-Ok.ensures.sent t in
+          (t', omega arith),
       refl,
+      c.in-Ok.ensures.noted,
     )
 
-pub returns-then-progress-clause-turns : goal.returns-then-progress-clause-turns
-returns-then-progress-clause-turns g c honest =
-    let S = g.S.Station in
-    let (between, written, turns, many) = c.loop.invariant.3 honest in
-    Whole between written (turns_stop S.opens S.receives S.asking c.args.now _ _ _ _ turns (inl c.if-progress.true))
+pub returns-then-agenda-clause-talks : goal.returns-then-agenda-clause-talks
+returns-then-agenda-clause-talks g c = λ honest reads began left left' from t.
+    let (t', n) = c.loop.invariant.4 honest reads began left left' from t in
+    (t', λ _. inl c.if-agenda.true)
 
-pub returns-then-not-idle-clause-turns : goal.returns-then-not-idle-clause-turns
-returns-then-not-idle-clause-turns g c honest =
-    let (between, written, turns, many) = c.loop.invariant.3 honest in
-    Whole between written turns
-
-pub returns-in-Err-write_noted-clause-turns : goal.returns-in-Err-write_noted-clause-turns
-returns-in-Err-write_noted-clause-turns g c honest =
-    let S = g.S.Station in
-    let (between, written, turns, many) = c.loop.invariant.3 (c.go_to.ensures.held honest) in
-    let idle : g.S.Station.asking.is_idle (g.S.Station.state c.loop.station) ≡ true = sym c.idle.ensures ∙ c.if-not-idle.false in
-    let puts = go_puts S.opens S.receives S.asking c.args.now _ _ _ c.loop.invariant.0 idle (c.go_to.ensures.goes honest c.if-progress.false) in
-    let (part, rest, split, appended) = c.in-Err-write_noted.ensures.part in
-    Whole between written (turns_then _ _ _ _ _ _ _ [] [] [] _ _ _ _ turns
-    (turns_cut S.opens S.receives S.asking c.args.now _ _ Going c.go_to.new.progress.kept.octets.items c.deref-in-loop.result.now part rest _ _ c.if-progress.false puts
-    c.deref-in-loop.ensures.0 split appended) refl)
+pub returns-then-not-idle-clause-talks : goal.returns-then-not-idle-clause-talks
+returns-then-not-idle-clause-talks g c = λ honest reads began left left' from t.
+    let (t', n) = c.loop.invariant.4 honest reads began left left' from t in
+    (t', λ stops. absurd (false≢true stops))
 
 pub loop-preserved : goal.loop-preserved
-loop-preserved g c = (
-  c.go_to.ensures.begun ∙ c.loop.invariant.0,
-  c.in-Ok-write_noted.ensures.noted ∙ c.go_to.ensures.log ∙ c.loop.invariant.1,
-  λ honest. c.loop.invariant.2 (c.go_to.ensures.held honest),
-  λ honest.
-      let S = g.S.Station in
-      let (between, written, turns, many) = c.loop.invariant.3 (c.go_to.ensures.held honest) in
-      let idle : g.S.Station.asking.is_idle (g.S.Station.state c.loop.station) ≡ true = sym c.idle.ensures ∙ c.if-not-idle.false in
-      let puts = go_puts S.opens S.receives S.asking c.args.now _ _ _ c.loop.invariant.0 idle (c.go_to.ensures.goes honest c.if-progress.false) in (
-        between,
-        written,
-        turns_then _ _ _ _ _ _ _ [] [] [] _ _ _ _ turns
-            (turns_one S.opens S.receives S.asking c.args.now _ _ Going c.go_to.new.progress.kept.octets.items c.deref-in-loop.result.now _ _ c.if-progress.false puts
-            c.deref-in-loop.ensures.0 c.in-Ok-write_noted.ensures.whole) refl,
-        omega (arith, many, length-append turns.steps (Going ∷ [])),
-      ),
-  c.go_to.ensures.kept ∙ c.loop.invariant.4,
-)
-
-pub returns-clause-turns : goal.returns-clause-turns
-returns-clause-turns g c honest =
+loop-preserved g c =
     let S = g.S.Station in
-    let (between, written, turns, many) = c.loop.invariant.3 honest in
-    Whole between written (turns_stop S.opens S.receives S.asking c.args.now _ _ _ _ turns (inr (omega (arith, many, c.loop-test.false))))
+    let w = ways S.opens S.receives S.asking S.life in
+    let before = c.loop.invariant in
+    let idle : S.asking.is_idle (S.state c.loop.station) ≡ true = sym c.idle.ensures ∙ c.if-not-idle.false in (
+      c.go_to.ensures.begun ∙ before.0,
+      ap (λ (l : LinkState). l.pending) c.in-Ok-send_noted.ensures.sent.0,
+      ap (λ (l : LinkState). l.waiting) c.in-Ok-send_noted.ensures.sent.0 ∙ c.go_to.ensures.waiting ∙ before.2,
+      λ honest. before.3 (c.go_to.ensures.held honest),
+      λ honest reads began left left' from t.
+          let (t', n) = before.4 (c.go_to.ensures.held honest) reads began left left' from t in
+          let (t'', m) = talking_goes w _ _ _ _ _ _ _ _ _ _ c.loop.agenda c.go_to.new.agenda _ _ _ (Ok tt) before.0 idle c.if-agenda.false
+          (c.go_to.ensures.goes honest c.if-agenda.false) c.in-Ok-send_noted.ensures.sent t' in
+          (t'', omega (arith, n, m)),
+      c.go_to.ensures.kept ∙ before.5,
+      c.in-Ok-send_noted.ensures.noted ∙ before.6,
+    )
+
+pub returns-in-Err-send_noted-clause-talks : goal.returns-in-Err-send_noted-clause-talks
+returns-in-Err-send_noted-clause-talks g c = λ honest reads began left left' from t.
+    let S = g.S.Station in
+    let w = ways S.opens S.receives S.asking S.life in
+    let before = c.loop.invariant in
+    let idle : S.asking.is_idle (S.state c.loop.station) ≡ true = sym c.idle.ensures ∙ c.if-not-idle.false in
+    let (t', n) = before.4 (c.go_to.ensures.held honest) reads began left left' from t in
+    let (t'', m) = talking_goes w _ _ _ _ _ _ _ _ _ _ c.loop.agenda c.go_to.new.agenda _ _ _ (Err c.in-Err-send_noted.fault) before.0 idle c.if-agenda.false
+    (c.go_to.ensures.goes honest c.if-agenda.false) c.in-Err-send_noted.ensures.sent t' in
+    (t'', λ stops. absurd (false≢true stops))
+
+pub returns-clause-talks : goal.returns-clause-talks
+returns-clause-talks g c = λ honest reads began left left' from t.
+    let (t', n) = c.loop.invariant.4 honest reads began left left' from t in
+    (t', λ _. inr (omega (arith, n, c.loop-test.false)))

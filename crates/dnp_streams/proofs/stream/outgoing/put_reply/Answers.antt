@@ -2,7 +2,7 @@ use Rattle.std.proofs.Common.{rules, ◌≡◌, ℕ, ◌++◌, List, [], Option,
 use Rattle.std.specs.Prelude.{option_to_list}
 use Rattle.dnp_linkframe.specs.declared.frame.Frame.{Frame}
 use Rattle.dnp_linkframe.specs.Frames.{Spells}
-use Rattle.dnp_streams.specs.steps.Outgoing.{ArePut}
+use Rattle.dnp_streams.specs.links.Outputs.{ArePut}
 use Rattle.dnp_streams.proofs.streams.Spelling.{put_unit, put_none}
 use Rattle.dnp_streams.proofs.stream.outgoing.put_reply.Goals as goal
 

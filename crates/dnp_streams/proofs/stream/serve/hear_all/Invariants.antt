@@ -1,14 +1,17 @@
-use Rattle.std.proofs.Common.{◌≡◌, false, take}
-use Rattle.dnp_streams.proofs.streams.Hearing.{HasHeard}
+use Rattle.std.proofs.Common.{◌≡◌, [], length}
+use Rattle.dnp_streams.specs.links.Deeds.{ways}
+use Rattle.dnp_streams.specs.steps.Serving.{GoesOn}
 use Rattle.dnp_streams.proofs.stream.serve.hear_all.Given as goal
 
-abbrev pub invariant-loop-frame : goal.invariant-loop-frame
-invariant-loop-frame g l =
-    (l.serving.served.closed ≡ false)
-    × (l.serving.log ≡ l.fn.serving.log)
+abbrev pub invariant-loop-served : goal.invariant-loop-served
+invariant-loop-served g l =
+    (l.link.pending ≡ [])
     × (g.S.Station.honest l.station → g.S.Station.honest l.fn.station)
-    × (g.S.Station.honest l.station →
-    HasHeard g.S.Station.receives l.now (record { station = g.S.Station.state l.fn.station; port = l.fn.port }) (take l.frame-index l.frames)
-    (record { station = g.S.Station.state l.station; port = l.port }) l.fn.serving.served l.serving.served
-    (g.W.Write.contents l.fn.out) (g.W.Write.contents l.out))
+    × (g.S.Station.honest l.station → GoesOn (ways g.S.Station.opens g.S.Station.receives g.S.Station.asking g.S.Station.life) l.now
+    (g.S.Station.state l.fn.station) l.fn.link l.fn.served (g.W.Write.contents l.fn.out)
+    (g.S.Station.state l.station) l.link l.served (g.W.Write.contents l.out))
     × (g.S.Station.kept l.station ≡ g.S.Station.kept l.fn.station)
+    × (l.log ≡ l.fn.log)
+
+abbrev pub decreases-loop-served : goal.decreases-loop-served
+decreases-loop-served g l = length l.link.waiting

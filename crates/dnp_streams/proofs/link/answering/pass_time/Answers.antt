@@ -1,0 +1,21 @@
+use Rattle.std.proofs.Common.{Ok, Err, refl, ap}
+use Rattle.dnp_streams.specs.streams.Stations.{answer_in}
+use Rattle.dnp_streams.specs.declared.link.answering.Told.{Told}
+use Rattle.dnp_streams.proofs.links.Steps.{puts_none}
+use Rattle.dnp_streams.proofs.link.answering.pass_time.Goals as goal
+
+pub returns-in-Ok-clause-ticked : goal.returns-in-Ok-clause-ticked
+returns-in-Ok-clause-ticked g c = record {
+  reply = Ok (answer_in c.tick_into.new.answer);
+  is = ap (λ (t : Told). Ok t) c.told_by.ensures;
+  acts = λ honest. c.in-Ok.ensures.answered honest;
+  puts = record { put = c.put_fragments.ensures.put; moved = c.put_fragments.ensures.moved };
+}
+
+pub returns-in-Err-clause-ticked : goal.returns-in-Err-clause-ticked
+returns-in-Err-clause-ticked g c = record {
+  reply = Err c.in-Err.fault;
+  is = refl;
+  acts = λ honest. (c.in-Err.ensures.refused honest, c.in-Err.ensures.unchanged honest);
+  puts = puts_none c.args.port.now c.args.out.now.items;
+}

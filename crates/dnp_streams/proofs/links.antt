@@ -1,0 +1,5 @@
+pub mod Dialogues
+pub mod Serving
+pub mod Showing
+pub mod Standing
+pub mod Steps
