@@ -1,0 +1,11 @@
+use Rattle.std.proofs.Common.{append-nil, sym, ap, ◌∙◌}
+use Rattle.dnp_sessions.specs.Orders.{standing}
+use Rattle.dnp_sessions.proofs.Keeping.{keeps_made}
+use Rattle.dnp_sessions.proofs.session.Session.relay.Goals as goal
+
+pub invariant_of-self : goal.invariant_of-self
+invariant_of-self g c =
+    let (request, makes) = c.relay.ensures.relayed in
+    let stays = ap (λ s. standing s c.args.now) (ap (λ v. v.stands.stage) c.self.view_is ∙ c.requires.idle) in
+    keeps_made _ _ _ _ _ _ _ _ _ _ c.self.view_is makes c.relay.ensures.held
+    (record { later = c.requires.later; stage = c.requires.idle; after = stays }) (sym (append-nil _)) c.self.invariant

@@ -1,0 +1,3 @@
+-- Definitions, by which contracts promise.
+pub mod Orders
+pub mod Sessions
