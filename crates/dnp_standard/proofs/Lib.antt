@@ -1,0 +1,3 @@
+-- Lemmas.
+pub mod Sizes
+pub mod Walking
