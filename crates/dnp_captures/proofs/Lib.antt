@@ -1,3 +1,4 @@
 -- Lemmas.
+pub mod Dumps
 pub mod Lines
 pub mod Marks

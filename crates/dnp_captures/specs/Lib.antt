@@ -1,5 +1,6 @@
 -- Definitions, by which contracts promise.
 pub mod Captures
+pub mod CheckWords
 pub mod Hexadecimal
 pub mod Items
 pub mod steps

@@ -5,6 +5,7 @@ ghost use Rattle.std.specs.List.Sorted.{IsNonDecreasingBy};
 ghost use Rattle.dnp_decode.specs.StreamLines.{AreLines};
 ghost use Rattle.dnp_captures.specs.Items.{octets_told, placed_from, brought_by, marked_from, some_frame};
 
+use crate::refused::{Decoded, push_refused};
 use dnp_decode::{Line, decode};
 use std::alloc::{AllocError, Global};
 
@@ -46,7 +47,7 @@ pub(crate) struct Mark {
 }
 
 /// How many octets of the stream a line is the first of: none where it tells more of octets that had one.
-fn octets_of(line: &Line) -> usize
+pub(crate) fn octets_of(line: &Line) -> usize
     ensures { result ≡ octets_told line.now }
 {
     match *line {
@@ -145,18 +146,21 @@ fn push_lines(lines: &[Line], marks: &[Mark], items: &mut Vec<Item>) -> Result<(
     Ok(())
 }
 
-/// Appends the items of a stream in which a frame begins: those of a frame are of the mark of its last octet.
+/// Appends what a stream has in which a frame begins: items of a frame are of the mark of its last octet.
 pub(crate) fn push_stream(
     alloc: Global,
     octets: &[u8],
     marks: &[Mark],
-    items: &mut Vec<Item>,
+    decoded: &mut Decoded,
 ) -> Result<(), AllocError> {
     let lines = decode(alloc, octets)?;
-    if has_frame(lines.as_slice()) {
-        push_lines(lines.as_slice(), marks, items)?;
+    if !has_frame(lines.as_slice()) {
+        return Ok(());
     }
-    Ok(())
+    let mut items = Vec::new(alloc);
+    push_lines(lines.as_slice(), marks, &mut items)?;
+    push_refused(alloc, octets, items.as_slice(), &mut decoded.fragments)?;
+    decoded.items.extend_from_slice(items.as_slice())
 }
 
 /// The items of a stream and those that are there already, in the order of their lines.

@@ -20,6 +20,13 @@ const ETHER_TAG: u16 = 0x8100;
 
 const ETHER_TAGS: u16 = 0x88A8;
 
+/// The octets before the type of an Ethernet frame, and of a packet of Linux's `any`; and those of the header of its second form.
+const ETHERNET: usize = 12;
+
+const COOKED: usize = 14;
+
+const COOKED_TWO: usize = 20;
+
 /// One direction of a connection.
 #[derive(Clone, Copy, PartialEq, Eq)]
 pub(crate) struct Way {
@@ -57,6 +64,10 @@ pub(crate) enum Link {
     Raw,
     /// The family of addresses in four octets, and then IP.
     Null,
+    /// Linux's `any`: 16 octets, of which the last two are a type of Ethernet.
+    Cooked,
+    /// Its second form: 20 octets, of which the first two are that type.
+    CookedTwo,
 }
 
 /// The octet at a place, or 0 past the end.
@@ -179,11 +190,20 @@ fn without_tag(frame: &[u8]) -> &[u8] {
     }
 }
 
-/// What an Ethernet frame carries, with a tag or two or none.
-fn inside_ethernet(frame: &[u8]) -> Option<Inner<'_>> {
-    let typed = without_tag(without_tag(rest_of(frame, 12)));
+/// What follows a type of Ethernet, with a tag or two before it or none.
+fn inside_typed(octets: &[u8]) -> Option<Inner<'_>> {
+    let typed = without_tag(without_tag(octets));
     match number_at(typed, 0) {
         ETHER_IPV4 | ETHER_IPV6 => inside_ip(rest_of(typed, 2)),
+        _ => None,
+    }
+}
+
+/// What follows the second header of Linux's `any`, which begins with a type of Ethernet.
+fn inside_cooked(packet: &[u8]) -> Option<Inner<'_>> {
+    match number_at(packet, 0) {
+        ETHER_IPV4 | ETHER_IPV6 => inside_ip(rest_of(packet, COOKED_TWO)),
+        ETHER_TAG | ETHER_TAGS => inside_typed(rest_of(packet, COOKED_TWO + 2)),
         _ => None,
     }
 }
@@ -191,7 +211,9 @@ fn inside_ethernet(frame: &[u8]) -> Option<Inner<'_>> {
 /// What a packet of a capture carries, if it is of TCP or UDP.
 pub(crate) fn payload_of(link: Link, packet: &[u8]) -> Option<Payload<'_>> {
     let inner = match link {
-        Link::Ethernet => inside_ethernet(packet)?,
+        Link::Ethernet => inside_typed(rest_of(packet, ETHERNET))?,
+        Link::Cooked => inside_typed(rest_of(packet, COOKED))?,
+        Link::CookedTwo => inside_cooked(packet)?,
         Link::Raw => inside_ip(packet)?,
         Link::Null => inside_ip(rest_of(packet, 4))?,
     };

@@ -1,4 +1,4 @@
-use Rattle.std.proofs.Common.{◌≡◌, ◌≤◌, ◌+◌, ◌++◌, length}
+use Rattle.std.proofs.Common.{◌≡◌, ◌≤◌, ◌+◌, ◌++◌, false, length}
 use Rattle.dnp_captures.specs.Hexadecimal.{lines_in, marks_from, octets_of_lines, refusals_from}
 use Rattle.dnp_captures.proofs.hexadecimal.read_lines.Given as goal
 
@@ -6,9 +6,9 @@ use Rattle.dnp_captures.proofs.hexadecimal.read_lines.Given as goal
 abbrev pub invariant-lines : goal.invariant-lines
 invariant-lines l = record {
   few : l.at + length l.left ≤ length l.text;
-  octets : l.read.octets.items ++ octets_of_lines (lines_in l.left) ≡ octets_of_lines (lines_in l.text);
-  marks : l.read.marks.items ++ marks_from (length l.read.octets.items) (l.at + 1) (lines_in l.left) ≡ marks_from 0 1 (lines_in l.text);
-  refusals : l.read.items.items ++ refusals_from (l.at + 1) (lines_in l.left) ≡ refusals_from 1 (lines_in l.text);
+  octets : l.read.octets.items ++ octets_of_lines l.read.dumped (lines_in l.left) ≡ octets_of_lines false (lines_in l.text);
+  marks : l.read.marks.items ++ marks_from l.read.dumped (length l.read.octets.items) (l.at + 1) (lines_in l.left) ≡ marks_from false 0 1 (lines_in l.text);
+  refusals : l.read.items.items ++ refusals_from l.read.dumped (l.at + 1) (lines_in l.left) ≡ refusals_from false 1 (lines_in l.text);
 }
 
 abbrev pub decreases-lines : goal.decreases-lines

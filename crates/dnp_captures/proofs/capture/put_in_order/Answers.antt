@@ -1,6 +1,6 @@
 use Rattle.std.proofs.Common.{rules}
 use Rattle.std.proofs.lemmas.List.Sorted.{IsNonDecreasingBy-from_sort_by_key}
-use Rattle.dnp_captures.proofs.capture.items_of_packets.Goals as goal
+use Rattle.dnp_captures.proofs.capture.put_in_order.Goals as goal
 
 pub returns : goal.returns
 returns c = IsNonDecreasingBy-from_sort_by_key (λ item. item.at) _ c.in_ok-sort_by_key.ensures.sorted (λ a r q k. search rules)
