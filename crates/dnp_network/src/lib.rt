@@ -7,12 +7,13 @@ mod endpoint;
 mod head;
 mod keys;
 mod kind;
+mod links;
 mod listed;
 mod looked;
 mod network;
 mod place;
 mod points;
-mod points_said;
+mod points_reason;
 mod said;
 mod shown;
 mod sites;
@@ -21,13 +22,14 @@ mod words;
 
 pub use endpoint::{Endpoint, EndpointFault, Host, endpoint_in};
 pub use kind::{PointCounts, PointKind, count_of};
+pub use links::{CentreOf, LinkEnds, address_of};
 pub use listed::Listed;
 pub use network::{Head, Network, NetworkFault, Site, read_network};
 pub use place::{MAX_SITES, NetworkKey, NetworkPlace, Part, Stands};
 pub use points::{
     PointId, PointName, PointsFault, RowStands, name_of_point, points_in, records_of,
 };
-pub use points_said::PointsReason;
+pub use points_reason::PointsReason;
 pub use said::{NetworkReason, network_reason};
 pub use shown::{CsvText, JsonText, PlainText};
 pub use words::Words;

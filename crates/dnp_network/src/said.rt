@@ -1,9 +1,12 @@
-//! Why a text is no network, in a sentence.
+//! Why a text is no network, and a table no points of a plan, in a sentence each: the texts of this crate's lines, all of them.
 
 use crate::endpoint::EndpointFault;
+use crate::kind::{PointCounts, count_of};
 use crate::looked::{line_of, shown_at};
 use crate::network::NetworkFault;
 use crate::place::{MAX_ADDRESS, NetworkKey, NetworkPlace, Part, Stands};
+use crate::points::{MAX_DIGITS, PointId, PointsFault, RowStands};
+use crate::points_reason::PointsReason;
 use std::alloc::{AllocError, Global};
 use std::fmt;
 use std::fmt::{Display, Formatter, Write};
@@ -210,4 +213,79 @@ pub fn network_reason(
         line: line_of(alloc, text, fault)?,
         text: shown_at(alloc, text, fault)?,
     })
+}
+
+/// Writes which point the plan lacks, and what it has.
+fn write_no_point<W: Write>(
+    f: &mut Formatter<W>,
+    counts: &[PointCounts],
+    point: PointId,
+) -> fmt::Result {
+    let kind = point.kind.name();
+    let (substation, index) = (point.substation, point.index);
+    let substations = counts.len();
+    if substation >= substations {
+        return write!(
+            f,
+            "substation: {substation}, where the plan has {substations}, counted from 0"
+        );
+    }
+    let count = count_of(counts, substation, point.kind);
+    write!(
+        f,
+        "index: {kind} {index} of substation {substation}, which has {count} of that kind, counted from 0"
+    )
+}
+
+/// Writes what is wrong with a record.
+fn write_row<W: Write>(
+    f: &mut Formatter<W>,
+    reason: &PointsReason<'_>,
+    number: usize,
+    stands: RowStands,
+) -> fmt::Result {
+    match stands {
+        RowStands::Cells(count) => write!(f, "a record of {count} fields, where 8 belong"),
+        RowStands::Substation => write!(
+            f,
+            "substation: {}, where the number of a substation belongs",
+            reason.field(number, 0)
+        ),
+        RowStands::Kind => write!(
+            f,
+            "kind: {}, where binary, counter, analog, output or setpoint belongs",
+            reason.field(number, 1)
+        ),
+        RowStands::Index => write!(
+            f,
+            "index: {}, where an index from 0 to 65535 belongs",
+            reason.field(number, 2)
+        ),
+        RowStands::NoPoint(point) => write_no_point(f, reason.counts, point),
+        RowStands::NoName => f.write_str("name is empty, where the name of the point belongs"),
+        RowStands::Scale => write!(
+            f,
+            "scale: {}, where a decimal of at most {MAX_DIGITS} digits belongs, or nothing",
+            reason.field(number, 5)
+        ),
+        RowStands::States => f.write_str(
+            "zero, one: words for two states, which binaries and outputs alone have",
+        ),
+        RowStands::Twice(first) => { write!(f, "the same point as in line {}", reason.line(first)) }
+    }
+}
+
+impl Display for PointsReason<'_> {
+    /// The line, the field, what stands there, and what belongs there.
+    fn fmt<W: Write>(&self, f: &mut Formatter<W>) -> fmt::Result {
+        match self.fault {
+            PointsFault::Head => f.write_str(
+                "line 1: another head than substation,kind,index,name,unit,scale,zero,one",
+            ),
+            PointsFault::Row(number, stands) => {
+                write!(f, "line {}: ", self.line(number))?;
+                write_row(f, self, number, stands)
+            }
+        }
+    }
 }

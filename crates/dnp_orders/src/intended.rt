@@ -4,14 +4,11 @@ ghost use Rattle.std.specs.Prelude.{◌≡◌};
 ghost use Rattle.dnp_orders.specs.Intended.{doubt_of, intended};
 
 use crate::action::Action;
-use crate::code::CodeNames;
 use crate::numbers::octet_in;
 use crate::order::read_command;
 use crate::words::word_at;
 use dnp_controls::obeys_code_rule;
 use dnp_objects::Command;
-use std::fmt;
-use std::fmt::{Display, Formatter, Write};
 
 /// A control code that no output takes, and the action whose code it is if its decimal digits were meant as
 /// hexadecimal ones.
@@ -44,22 +41,5 @@ pub fn code_doubt(text: &str) -> Option<CodeDoubt>
             Some(CodeDoubt { code, intended })
         }
         _ => None,
-    }
-}
-
-impl Display for CodeDoubt {
-    /// As `81 is 0x51: PULSE_ON, CLOSE, queue; trip is 0x81`.
-    fn fmt<W: Write>(&self, f: &mut Formatter<W>) -> fmt::Result {
-        let code = self.code;
-        let names = CodeNames(code);
-        write!(f, "{code} is 0x{code:02X}: {names}")?;
-        match self.intended {
-            Some(action) => {
-                let word = action.word();
-                let meant = action.code();
-                write!(f, "; {word} is 0x{meant:02X}")
-            }
-            None => Ok(()),
-        }
     }
 }

@@ -10,6 +10,7 @@ mod intended;
 pub mod laws;
 mod numbers;
 mod order;
+mod said;
 mod statuses;
 mod words;
 
