@@ -8,8 +8,7 @@ use Rattle.std.specs.declared.io.ErrorKind.{ErrorKind}
 use Rattle.std.specs.declared.io.ErrorKind.TheVariants.{WouldBlock, Interrupted}
 use Rattle.dnp_concentrator.specs.declared.cause.Cause.{Cause}
 use Rattle.dnp_tcp.specs.declared.fault.Noted.{Noted}
-use Rattle.dnp_tcp.specs.declared.minded.Minder.{Minder}
-use Rattle.dnp_tcp.specs.declared.watched.Watched.{Watched}
+use Rattle.dnp_tcp.specs.declared.minded.Minded.{Minded}
 
 -- what is read from or written to
 abbrev pub noted_stream : {S : Type 0} → Noted S → S
@@ -19,30 +18,20 @@ noted_stream s = s.inner
 abbrev pub noted_cause : {S : Type 0} → Noted S → Option Error
 noted_cause s = s.cause
 
--- a station that was lent to a stream, and what looks on
-abbrev pub watched_station : {S W : Type 0} → Watched S W → MutBor S
-watched_station s = s.station
+-- a station that was lent to a stream; why its stores or its memory first refused a call, if they did
+abbrev pub minded_station : {S : Type 0} → Minded S → MutBor S
+minded_station s = s.station
 
-abbrev pub watched_by : {S W : Type 0} → Watched S W → W
-watched_by s = s.watcher
+abbrev pub minded_cause : {S : Type 0} → Minded S → Option Cause
+minded_cause s = s.cause
 
 -- the reference by which it holds the station, and what no call changes of that
 pub record KeptLent (Kept : Type 0) : Type 0 where
   pub reference : GName
   pub station : Kept
 
-abbrev pub kept_watched : {S W Kept : Type 0} → (S → Kept) → Watched S W → KeptLent Kept
-kept_watched kept s = record { reference = s.station.ghost_name; station = kept s.station.now }
-
--- the station; why its stores or its memory first refused a call, if they did; whether it closed the connection since time had passed
-abbrev pub minded_station : {S : Type 0} → Watched S Minder → MutBor S
-minded_station s = s.station
-
-abbrev pub minded_cause : {S : Type 0} → Watched S Minder → Option Cause
-minded_cause s = s.watcher.cause
-
-abbrev pub minded_is_late : {S : Type 0} → Watched S Minder → Bool
-minded_is_late s = s.watcher.is_late
+abbrev pub kept_minded : {S Kept : Type 0} → (S → Kept) → Minded S → KeptLent Kept
+kept_minded kept s = record { reference = s.station.ghost_name; station = kept s.station.now }
 
 -- a call that waited for as long as it may, or was stopped on its way, as by a signal
 abbrev pub is_waited_out : ErrorKind → Bool

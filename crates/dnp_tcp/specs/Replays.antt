@@ -1,5 +1,5 @@
 -- Definition: changes of points that are made in order, once or again and again.
-use Rattle.std.specs.Prelude.{ℕ, ◌+◌, ◌-◌, min, Bool, if◌then◌else◌, ◌==◌, nat_lt, List, [], ◌∷◌, ◌++◌, drop, length, Option, Some, None}
+use Rattle.std.specs.Prelude.{ℕ, ◌+◌, ◌-◌, min, Bool, if◌then◌else◌, ◌==◌, nat_lt, List, [], ◌∷◌, ◌++◌, drop, Option, Some, None}
 use Rattle.dnp_objects.specs.declared.limits.TheConstants.{MAX_TIME}
 use Rattle.dnp_streams.specs.declared.stream.change.Change.{Change}
 use Rattle.dnp_tcp.specs.declared.replay.Both.{Both}
@@ -38,9 +38,10 @@ repeated_after length r = record r { again = if length == 0 then None else Some 
 abbrev pub changes_left : ReplaySeen → List Change
 changes_left r = drop r.made r.changes
 
--- only so many are left
-abbrev pub with_left : ℕ → ReplaySeen → ReplaySeen
-with_left left r = record r { made = length r.changes - left }
+-- the moment at which the first of some changes is due
+abbrev pub first_at : List Change → Option ℕ
+first_at [] = None
+first_at (change ∷ later) = Some change.at
 
 -- the first of some changes, where it is due at this moment
 abbrev pub first_due : ℕ → List Change → Option Change

@@ -1,47 +1,42 @@
 //! Stations that ask others over TCP.
 
-ghost use Rattle.std.specs.Prelude.{◌≡◌, ◌⊎◌, Bool, true, Ok, Err};
+ghost use Rattle.std.specs.Prelude.{◌≡◌, ◌⊎◌, Bool, true};
 ghost use Rattle.dnp_line.specs.Ports.{new_port};
-ghost use Rattle.dnp_tcp.specs.Connections.{AsksOn, IsTold, TellsOn};
+ghost use Rattle.dnp_streams.specs.links.Deeds.{ways};
+ghost use Rattle.dnp_streams.specs.links.Links.{new_link};
+ghost use Rattle.dnp_tcp.specs.Connections.{AsksOn, IsTold, LeadsToEnd};
 ghost use Rattle.dnp_tcp.specs.declared.asking.Ended.TheVariants as told;
+ghost use Rattle.dnp_tcp.specs.declared.gone.Gone.TheVariants as why;
 
-use crate::fault::Noted;
-use crate::minded::Minded;
-use crate::pace::{LIMITS, Line};
+use crate::account::Account;
+use crate::gone::Gone;
+use crate::lines;
+use crate::logged::say;
+use crate::talk::Talk;
+use crate::witness::Witness;
 use dnp_concentrator::Cause;
 use dnp_line::Port;
 use dnp_master::Task;
-use dnp_streams::{Asked, Asker, Living, Log, ServeFault, Station, ask_live};
-use std::net::{IpAddr, Ipv4Addr, Net, SocketAddr, TcpListener, TcpStream};
+use dnp_notices::{
+    Ends, Failing, Happening, Line, Mismatch, Names, Notice, Peer, Place, Refusal, Strange, Thing,
+    Trouble,
+};
+use dnp_streams::{Asker, Link, Living, StepRoom};
+use std::alloc::Global;
+use std::io;
+use std::net::{Net, TcpListener, TcpStream};
 use std::rt::Clock;
 use std::time::Duration;
-use std::{fmt, io};
-
-/// Who is asked.
-#[derive(Clone, Copy)]
-pub enum Peer {
-    /// The substation with this number.
-    Substation(u8),
-    /// The concentrator.
-    Concentrator,
-}
-
-impl fmt::Display for Peer {
-    fn fmt<W: fmt::Write>(&self, f: &mut fmt::Formatter<W>) -> fmt::Result {
-        match self {
-            Peer::Substation(number) => write!(f, "substation {number}"),
-            Peer::Concentrator => f.write_str("the concentrator"),
-        }
-    }
-}
 
 /// Who is asked, where, and for how long.
 #[derive(Clone, Copy)]
-pub struct Call {
+pub struct Call<'a> {
     /// Who is asked.
     pub peer: Peer,
-    /// The TCP port on this machine.
-    pub port: u16,
+    /// What people call it and its points.
+    pub names: Names<'a>,
+    /// Where it is asked.
+    pub place: Place,
     /// The link address of the station that asks.
     pub own: u16,
     /// The link address of the station that is asked.
@@ -61,87 +56,173 @@ pub enum Ended {
     Lost,
 }
 
-impl Call {
-    /// Connects. Where that can't be done, why is said on standard error. It has no clause: none says whether a peer is there.
-    pub fn connect<R>(&self, rt: &R) -> Option<TcpStream>
+/// What became of tasks that a station asked on a connection, and what was seen of it.
+#[derive(Drop)]
+struct Seen {
+    /// Why the tasks came to no end, if they didn't.
+    gone: Option<Gone>,
+    /// Whether the station was idle before it was hung up.
+    idle: bool,
+    /// How many event rows came.
+    rows: u64,
+    /// Why the station's stores or its memory first refused a call, if they did.
+    cause: Option<Cause>,
+    /// Why what came was refused, if it was.
+    refusal: Option<Refusal>,
+    /// Why the last response that came is not the one that is awaited, if one came.
+    mismatch: Option<Mismatch>,
+    /// What came beside frames of the station that is asked.
+    strange: Option<Strange>,
+    /// Whether the station had waited for too long.
+    is_late: bool,
+}
+
+impl<'a> Call<'a> {
+    /// The link addresses of the frames that are awaited.
+    fn awaited(&self) -> Ends {
+        Ends {
+            source: self.other,
+            dest: self.own,
+        }
+    }
+
+    /// Says something of the station that is asked on standard error, with the time, for which output or setpoint it is, where that is
+    /// known, and why a call failed, if one did. It has no clause: none says what standard error takes.
+    pub fn say<R: Eprint + Clock>(
+        &self,
+        rt: &R,
+        output: Option<Thing>,
+        notice: Notice,
+        cause: Option<&io::Error>,
+    ) {
+        let line = Line {
+            peer: self.peer,
+            names: self.names,
+            place: self.place,
+            awaited: self.awaited(),
+            patience_ms: self.patience_ms,
+            output,
+            notice,
+            cause,
+        };
+        say(rt, &line);
+    }
+
+    /// Connects. Where that can't be done, that is kept in the account, and said where it is new. It has no clause: none says whether a
+    /// peer is there.
+    pub fn connect<R>(&self, rt: &R, account: &mut Account) -> Option<TcpStream>
     where
-        R: Eprint + Net<Listener = TcpListener, Stream = TcpStream>,
+        R: Eprint + Clock + Net<Listener = TcpListener, Stream = TcpStream>,
     {
-        let place = SocketAddr::new(IpAddr::V4(Ipv4Addr::LOCALHOST), self.port);
+        account.begin(rt);
+        let place = self.place.address();
         let wait = Duration::from_millis(self.patience_ms);
         match TcpStream::connect_timeout(rt, &place, wait) {
             Ok(stream) => Some(stream),
             Err(cause) => {
-                let _ = eprintln!(rt; "dnp: {}: port {}: {cause}", self.peer, self.port);
+                let trouble = Trouble::Unreached(Failing::of(cause.kind()));
+                account.end(rt, self, Some(trouble), Some(&cause));
                 None
             }
         }
     }
 
-    /// Asks tasks on a connection, relays controls, and hangs the station up. What goes wrong is said on standard error. On a connection
-    /// that can't be prepared nothing is asked, and the station is as it was.
+    /// Asks tasks on a connection, relays controls, and hangs the station up. Where what came is refused, nothing more is awaited. What
+    /// is new of it is kept in the account and said on standard error. On a connection that can't be prepared nothing is asked, and the
+    /// station is as it was.
     pub fn ask<S: Asker + Living, R: AllocGlobal + Eprint + Clock>(
         &self,
         rt: &R,
         station: &mut S,
         tasks: &[Task],
         stream: &TcpStream,
+        account: &mut Account,
     ) -> Ended
         ensures kept { S.kept station.new ≡ S.kept station.old }
         ensures held { S.honest station.new → S.honest station.old }
         ensures asks { S.honest station.new → ((result ≡ told.Failed) × (S.state station.new ≡ S.state station.old))
-            ⊎ TellsOn S.opens S.receives S.asking S.life S.hung_up_of (S.state station.old)
-            (new_port self.now.own self.now.other true) tasks.now result (S.state station.new) }
+            ⊎ AsksOn (ways S.opens S.receives S.asking S.life) S.hung_up_of (S.state station.old) result (S.state station.new) }
     {
-        if let Err(cause) = self.prepare(stream) {
-            let _ = eprintln!(rt; "dnp: {}: {cause}", self.peer);
-            return Ended::Failed;
+        match self.prepare(stream) {
+            Ok(()) => self.ask_on(rt, station, tasks, stream, account),
+            Err(cause) => {
+                let trouble = Trouble::Unreached(Failing::of(cause.kind()));
+                account.end(rt, self, Some(trouble), Some(&cause));
+                Ended::Failed
+            }
         }
-        let mut station = Minded::new(station);
-        let mut port = Port::new(self.own, self.other, true);
-        let mut reader = Noted::new(Line::new(stream));
-        let mut out = Noted::new(stream);
-        let (asked, idle) = ask_and_hang_up(
-            rt,
-            &mut station,
-            &mut port,
-            tasks,
-            &mut reader,
-            &mut out,
-        );
-        let late = station.is_late();
-        let faults = [reader.cause(), out.cause()];
-        self.tell(rt, station.cause(), &asked, idle, late, faults)
     }
 
-    /// How tasks ended, by why the station's stores or its memory refused a call, if they did; by what became of the tasks; by whether
-    /// the station was idle then, or had waited for too long; and by why a read and a write failed. It is said on standard error.
-    fn tell<R: Eprint>(
+    /// The same on a connection that is prepared.
+    fn ask_on<S: Asker + Living, R: AllocGlobal + Eprint + Clock>(
         &self,
         rt: &R,
-        cause: Option<Cause>,
-        asked: &Result<Asked, ServeFault>,
-        idle: bool,
-        late: bool,
-        faults: [Option<&io::Error>; 2],
+        station: &mut S,
+        tasks: &[Task],
+        stream: &TcpStream,
+        account: &mut Account,
     ) -> Ended
-        ensures { IsTold idle asked.now result }
+        ensures kept { S.kept station.new ≡ S.kept station.old }
+        ensures held { S.honest station.new → S.honest station.old }
+        ensures asks { S.honest station.new → AsksOn (ways S.opens S.receives S.asking S.life) S.hung_up_of (S.state station.old) result (S.state station.new) }
     {
-        if let Some(cause) = cause {
-            let _ = eprintln!(rt; "dnp: {}: {cause}", self.peer);
+        let seen = self.ask_seen(rt, station, tasks, stream, account);
+        account.happens(rt, self, &Happening::Closed);
+        let ended = self.tell(rt, account, &seen);
+        account.heard(rt, self, seen.strange);
+        ended
+    }
+
+    /// The link of the station that asks.
+    fn link(&self, alloc: Global) -> Link
+        ensures { result ≡ new_link (new_port self.now.own self.now.other true) }
+    {
+        Link::new(alloc, Port::new(self.own, self.other, true))
+    }
+
+    /// Asks tasks on a connection, while it is seen what becomes of them, and hangs the station up, once.
+    fn ask_seen<S: Asker + Living, R: AllocGlobal + Eprint + Clock>(
+        &self,
+        rt: &R,
+        station: &mut S,
+        tasks: &[Task],
+        stream: &TcpStream,
+        account: &mut Account,
+    ) -> Seen
+        ensures kept { S.kept station.new ≡ S.kept station.old }
+        ensures held { S.honest station.new → S.honest station.old }
+        ensures leads { S.honest station.new → LeadsToEnd (ways S.opens S.receives S.asking S.life) S.hung_up_of (S.state station.old) result.idle (S.state station.new) }
+    {
+        let mut room = StepRoom::new(rt.alloc());
+        let mut link = self.link(rt.alloc());
+        let mut witness = Witness::new(rt, *self, account);
+        let mut talk = Talk::new(rt, stream, self.awaited(), tasks);
+        let asked = talk.ask(station, &mut link, &mut room, &mut witness);
+        let idle = station.idle();
+        station.hung_up();
+        Seen {
+            gone: asked.err(),
+            idle,
+            rows: talk.rows,
+            cause: witness.cause,
+            refusal: witness.refusal,
+            mismatch: witness.exchange.mismatch,
+            strange: talk.heard.strange(),
+            is_late: witness.is_late,
+        }
+    }
+
+    /// How tasks ended, by what was seen of the connection. What is new of it is said on standard error.
+    fn tell<R: Eprint + Clock>(&self, rt: &R, account: &mut Account, seen: &Seen) -> Ended
+        ensures { IsTold seen.now.idle result }
+    {
+        if let Some(cause) = seen.cause {
+            say(rt, &lines::Line::Failed(cause));
             return Ended::Lost;
         }
-        let [read, written] = faults;
-        match asked {
-            Ok(asked) => self.end(rt, asked, idle, late),
-            Err(fault) => {
-                let cause = if *fault == ServeFault::ReadFailed {
-                    read
-                } else {
-                    written
-                };
-                self.fail(rt, *fault, cause)
-            }
+        match &seen.gone {
+            None => self.end(rt, account, seen),
+            Some(gone) => self.fail(rt, account, gone),
         }
     }
 
@@ -151,95 +232,49 @@ impl Call {
         stream.set_write_timeout(Some(Duration::from_millis(self.patience_ms)))
     }
 
-    /// How tasks ended where the stream failed in nothing, by whether the station was idle at its end, or else had waited for
-    /// too long. What was refused of what came is said on standard error, and so is an end before the answer.
-    fn end<R: Eprint>(&self, rt: &R, asked: &Asked, idle: bool, late: bool) -> Ended
-        ensures { IsTold idle (Ok asked.now) result }
+    /// How tasks ended where the connection failed in nothing, by whether the station was idle at its end. Why it wasn't, or why what
+    /// came was refused, is kept in the account, and said where it is new.
+    fn end<R: Eprint + Clock>(&self, rt: &R, account: &mut Account, seen: &Seen) -> Ended
+        ensures { IsTold seen.now.idle result }
     {
-        if late {
-            let _ = eprintln!(rt; "dnp: {}: no answer in {} ms", self.peer, self.patience_ms);
-            return Ended::Failed;
+        let trouble = Trouble::of(
+            seen.refusal,
+            seen.mismatch,
+            seen.strange,
+            seen.idle,
+            seen.is_late,
+        );
+        account.end(rt, self, trouble, None);
+        if seen.idle {
+            Ended::Done(seen.rows)
+        } else {
+            Ended::Failed
         }
-        if asked.faults > 0 {
-            let _ = eprintln!(rt;
-                "dnp: {}: {} messages that can't be taken",
-                self.peer, asked.faults
-            );
-        }
-        if !idle {
-            let _ = eprintln!(rt;
-                "dnp: {}: the connection ended before the answer",
-                self.peer
-            );
-            return Ended::Failed;
-        }
-        Ended::Done(asked.rows)
     }
 
-    /// Says on standard error why a stream failed, and how the tasks on it ended.
-    fn fail<R: Eprint>(&self, rt: &R, fault: ServeFault, cause: Option<&io::Error>) -> Ended
-        ensures { (is_idle : Bool) → IsTold is_idle (Err fault) result }
+    /// Keeps in the account why the tasks came to no end, says it where it is new, and tells how they ended.
+    fn fail<R: Eprint + Clock>(&self, rt: &R, account: &mut Account, gone: &Gone) -> Ended
+        ensures memory { gone.now ≡ why.Memory → result ≡ told.Lost }
+        ensures undone { (is_idle : Bool) → IsTold is_idle result }
     {
-        let peer = self.peer;
-        let _ = match cause {
-            Some(cause) if is_late(cause) => {
-                eprintln!(rt;
-                    "dnp: {peer}: {fault}: nothing went in {} ms",
-                    self.patience_ms
-                )
+        let trouble = match gone {
+            Gone::Memory => {
+                say(rt, &lines::Line::Failed(Cause::Memory));
+                return Ended::Lost;
             }
-            Some(cause) => eprintln!(rt; "dnp: {peer}: {fault}: {cause}"),
-            None => eprintln!(rt; "dnp: {peer}: {fault}"),
+            Gone::Unread(cause) => Trouble::Unread(Failing::of(cause.kind())),
+            Gone::Unwritten(cause) => Trouble::Unwritten(failing(cause.as_ref())),
+            Gone::Endless => Trouble::Endless,
         };
-        match fault {
-            ServeFault::Memory => Ended::Lost,
-            ServeFault::ReadFailed | ServeFault::WriteFailed | ServeFault::TurnsSpent =>
-                Ended::Failed,
-        }
+        account.end(rt, self, Some(trouble), gone.cause());
+        Ended::Failed
     }
 }
 
-/// Asks tasks on a connection that is read and written so, and hangs the station up, once; tells what became of them, and whether the
-/// station was idle before it was hung up.
-fn ask_and_hang_up<S: Asker + Living, C: AllocGlobal + Clock>(
-    rt: &C,
-    station: &mut S,
-    port: &mut Port,
-    tasks: &[Task],
-    reader: &mut Noted<Line<'_>>,
-    out: &mut Noted<&TcpStream>,
-) -> (Result<Asked, ServeFault>, bool)
-    ensures kept { S.kept station.new ≡ S.kept station.old }
-    ensures held { S.honest station.new → S.honest station.old }
-    ensures asks { S.honest station.new → AsksOn S.opens S.receives S.asking S.life S.hung_up_of (S.state station.old) port.old tasks.now
-        result.1 result.0 (S.state station.new) }
-{
-    let mut now = 0;
-    match ask_live(
-        rt.alloc(),
-        station,
-        port,
-        rt,
-        &mut now,
-        tasks,
-        reader,
-        out,
-        LIMITS,
-        &mut Log::new(),
-    ) {
-        Ok(asked) => {
-            let idle = station.idle();
-            station.hung_up();
-            (Ok(asked), idle)
-        }
-        Err(fault) => (Err(fault), false),
+/// How a call failed, as far as it is known.
+fn failing(cause: Option<&io::Error>) -> Failing {
+    match cause {
+        Some(cause) => Failing::of(cause.kind()),
+        None => Failing::Other,
     }
-}
-
-/// Whether a write failed since nothing went in time.
-fn is_late(cause: &io::Error) -> bool {
-    matches!(
-        cause.kind(),
-        io::ErrorKind::WouldBlock | io::ErrorKind::TimedOut
-    )
 }

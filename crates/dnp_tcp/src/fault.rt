@@ -5,16 +5,20 @@ ghost use Rattle.std.specs.Process.{exit_status};
 ghost use Rattle.dnp_tcp.specs.Causes.{noted_cause, noted_stream};
 
 use crate::exit::FAULT;
+use crate::lines::{Failure, Line};
+use crate::logged::say;
 use dnp_streams::Waiting;
 use std::io;
 use std::io::{Read, Write};
 use std::process::ExitCode;
+use std::rt::Clock;
 
 /// Says on standard error which stream failed and why, and gives the exit status of a fault.
 pub fn lost<R: Eprint>(rt: &R, stream: &str, cause: &io::Error) -> ExitCode
     ensures { exit_status result ≡ FAULT }
 {
-    let _ = eprintln!(rt; "dnp: {stream}: {cause}");
+    let failure = Failure::Stream(stream, cause);
+    let _ = eprintln!(rt; "{failure}");
     ExitCode::from(FAULT)
 }
 
@@ -27,6 +31,16 @@ pub fn unwritten<R: Eprint>(rt: &R, cause: &io::Error) -> ExitCode
         return ExitCode::from(FAULT);
     }
     lost(rt, "standard output", cause)
+}
+
+/// The same of a program that has a log, in which each line has the time.
+pub fn unprinted<R: Eprint + Clock>(rt: &R, cause: &io::Error) -> ExitCode
+    ensures { exit_status result ≡ FAULT }
+{
+    if cause.kind() != io::ErrorKind::BrokenPipe {
+        say(rt, &Line::NoOutput(cause));
+    }
+    ExitCode::from(FAULT)
 }
 
 /// A reader or a writer that keeps the cause of its last failed call, for calls whose faults don't carry it.

@@ -3,12 +3,17 @@
 //! master without a plan that asks in rounds ([`Rounds`]); with what the programs say, and end with, where something fails.
 #![tactic(auto)]
 
+mod account;
 mod alive;
 mod asking;
-mod attended;
+mod clock;
+mod course;
 mod door;
 pub mod exit;
 mod fault;
+mod gone;
+mod hearing;
+pub mod lines;
 mod logged;
 mod minded;
 mod pace;
@@ -16,17 +21,22 @@ mod replay;
 mod rounds;
 mod screen;
 mod serving;
+mod talk;
 mod visit;
-mod watched;
+mod watcher;
+mod witness;
 
+pub use account::Account;
 pub use alive::{Listening, live_on_connections};
-pub use asking::{Call, Ended, Peer};
+pub use asking::{Call, Ended};
+pub use clock::{moment, utc};
+pub use dnp_notices::{Ends, Name, Names, Peer, Place, Thing};
 pub use door::{Caller, Door, listen};
-pub use fault::{Noted, lost, unwritten};
-pub use logged::{End, Ending, note, utc};
-pub use minded::{Minded, Minder};
+pub use fault::{Noted, lost, unprinted, unwritten};
+pub use lines::{End, Ending};
+pub use logged::{note, say, say_listening};
+pub use minded::Minded;
 pub use replay::{Both, Replay};
 pub use rounds::{RoundSettings, Rounds};
 pub use serving::{no_port, serve_connection};
-pub use visit::{is_pause, moment};
-pub use watched::{Watched, Watcher};
+pub use visit::is_pause;

@@ -1,20 +1,10 @@
-//! Time on a connection: how long a read waits, and a clock that leaves out what is not the other end's matter.
+//! Time on a connection: a clock that leaves out what is not the other end's matter.
 
-use crate::visit::{is_pause, moment};
-use dnp_streams::{Limits, Waiting};
+use crate::clock::moment;
 use std::cell::Cell;
 use std::io;
-use std::io::{ErrorKind, Read};
-use std::net::TcpStream;
 use std::rt::Clock;
 use std::time::Duration;
-
-/// How often a stream is read at most while tasks are asked on it: a peer that sends without an end comes to one here. A read waits
-/// 10 ms at most: by so much a response timer may end late.
-pub(crate) const LIMITS: Limits = Limits {
-    turns: 10_000_000,
-    wait_ms: 10,
-};
 
 /// The moments of a station's steps: by the machine's clock, but for the time in which something held the station up that is not
 /// the other end's matter.
@@ -63,43 +53,5 @@ impl<'a, C: Clock> Clock for Pace<'a, C> {
 
     fn since_1970(&self) -> io::Result<Duration> {
         self.clock.since_1970()
-    }
-}
-
-/// A connection of which a read waits no longer than it is to.
-#[derive(Drop)]
-pub(crate) struct Line<'s> {
-    /// The connection.
-    stream: &'s TcpStream,
-    /// How long a read waits now, in milliseconds.
-    wait: u64,
-}
-
-impl<'s> Line<'s> {
-    /// A connection of which nothing was read yet.
-    pub(crate) fn new(stream: &'s TcpStream) -> Self {
-        Line { stream, wait: 0 }
-    }
-}
-
-impl<'s> Read for Line<'s> {
-    fn read(&mut self, buf: &mut [u8]) -> io::Result<usize> {
-        let mut stream = self.stream;
-        match stream.read(buf) {
-            Ok(count) => Ok(count),
-            Err(error) if is_pause(&error) => Err(ErrorKind::WouldBlock.into()),
-            Err(error) => Err(error),
-        }
-    }
-}
-
-impl<'s> Waiting for Line<'s> {
-    fn wait_at_most(&mut self, ms: u64) -> io::Result<()> {
-        if ms != self.wait {
-            self.stream
-                .set_read_timeout(Some(Duration::from_millis(ms)))?;
-            self.wait = ms;
-        }
-        Ok(())
     }
 }

@@ -1,10 +1,9 @@
 //! Changes of points that are made in order, once or again and again, by the clocks of the machine.
 
 ghost use Rattle.std.specs.Prelude.{◌≡◌, OnErr, OnOk, is_some};
-ghost use Rattle.dnp_tcp.specs.Replays.{changes_left, first_due, made_if, no_changes, repeated_after, replay_seen, time_at, with_change, with_left};
+ghost use Rattle.dnp_tcp.specs.Replays.{changes_left, first_at, first_due, made_if, no_changes, repeated_after, replay_seen, time_at, with_change};
 
-use crate::logged::utc;
-use crate::visit::moment;
+use crate::clock::{moment, utc};
 use dnp_objects::MAX_TIME;
 use dnp_streams::Change;
 use std::alloc::{AllocError, Global};
@@ -76,18 +75,13 @@ impl Replay {
         self.changes.as_slice().get(self.made..).unwrap_or(&[])
     }
 
-    /// Only so many are left.
-    pub(crate) fn keep(&mut self, left: usize)
-        ensures { replay_seen self.new ≡ with_left left (replay_seen self.old) }
+    /// The moment at which the next change is due, in milliseconds, if one is left.
+    pub(crate) fn next_at(&self) -> Option<u64>
+        ensures { result ≡ first_at (changes_left (replay_seen self.now)) }
     {
-        self.made = self.changes.len().saturating_sub(left);
-    }
-
-    /// The moment at which it begins again, if it does, in milliseconds.
-    pub(crate) fn ends(&self) -> Option<u64> {
-        match (self.again, self.changes.last()) {
-            (Some(_), Some(change)) => Some(change.at),
-            _ => None,
+        match self.left().first() {
+            Some(change) => Some(change.at),
+            None => None,
         }
     }
 

@@ -6,18 +6,24 @@ ghost use Rattle.dnp_tcp.specs.steps.Rounds.{StopsBy};
 ghost use Rattle.dnp_tcp.specs.declared.rounds.Ended.TheVariants.{Stopped};
 
 use crate::exit::{DONE, FAULT, REFUSED};
-use crate::fault::{Noted, unwritten};
-use crate::pace::{LIMITS, Line, Pace};
+use crate::fault::unwritten;
+use crate::gone::Gone;
+use crate::lines::{Failure, Open, Stop};
+use crate::pace::Pace;
 use crate::screen::{Screen, print_ends};
+use crate::talk::Talk;
+use crate::watcher::Watcher;
+use dnp_appfragment::read_response;
 use dnp_line::Port;
 use dnp_master::Task;
+use dnp_notices::{Ends, Exchange, Heard, Refusal, form_refusal};
 use dnp_poll::{PollFault, Poller, Show, TaskEnd};
-use dnp_streams::{Log, ServeFault, ask_live};
+use dnp_streams::{Link, Station, StepRoom};
 use std::net::TcpStream;
 use std::process::ExitCode;
 use std::rt::Clock;
 use std::time::Duration;
-use std::{fmt, io, thread};
+use std::{io, thread};
 
 /// Who is asked in rounds, by whom, and how.
 #[derive(Clone, Copy)]
@@ -58,9 +64,50 @@ enum Ended {
     Stopped(u8),
 }
 
+/// What looks on while the rounds ask.
+#[derive(Clone, Copy)]
+struct Following {
+    /// What is awaited, and what came last in its place.
+    exchange: Exchange,
+    /// Why what came first that is no response is none, if such came.
+    refusal: Option<Refusal>,
+}
+
+impl Following {
+    /// Nothing was asked, and nothing came.
+    const NEW: Following = Following {
+        exchange: Exchange::IDLE,
+        refusal: None,
+    };
+}
+
+impl Watcher for Following {
+    fn answered(&mut self, octets: &[u8]) {
+        self.exchange = self.exchange.came(octets);
+        if self.refusal.is_none()
+            && let Err(fault) = read_response(octets)
+        {
+            self.refusal = Some(form_refusal(fault, octets));
+        }
+    }
+
+    fn asked(&mut self, _task: &Task, request: &[u8]) {
+        self.exchange = Exchange::asked(request);
+    }
+}
+
 /// Whether the outstation did all that it was asked.
 fn are_done(ends: &[TaskEnd]) -> bool {
     ends.iter().all(|end| end.is_done())
+}
+
+/// Whether no answer came to what was asked last, and nothing else stopped the poll.
+fn is_unanswered<S: Show>(poller: &Poller<S>) -> bool {
+    match poller.fault() {
+        Some(PollFault::Silent) => true,
+        Some(_) => false,
+        None => poller.is_awaiting(),
+    }
 }
 
 /// Whether a write failed since nothing went in time.
@@ -71,33 +118,23 @@ fn is_late(cause: &io::Error) -> bool {
     )
 }
 
-/// What is said beside a failure of an OPERATE that was sent and not answered.
-#[derive(Clone, Copy)]
-struct Open(Option<u16>);
-
-impl Open {
-    /// The output whose OPERATE is not answered, if there is one.
-    fn of<S: Show>(poller: &Poller<S>) -> Open {
-        let is_answered = poller
-            .ends()
-            .iter()
-            .any(|end| matches!(end.task, Task::Operate(_)));
-        match poller.asked() {
-            Some(Task::Operate(command)) if !is_answered => Open(Some(command.index())),
-            _ => Open(None),
-        }
+/// Why a poll stopped at what is no response: for this reason, where it is known, and else by this fault.
+fn refused<'a>(fault: PollFault, refusal: Option<Refusal>) -> Stop<'a> {
+    match refusal {
+        Some(refusal) => Stop::Refused(refusal),
+        None => Stop::Fault(fault),
     }
 }
 
-impl fmt::Display for Open {
-    fn fmt<W: fmt::Write>(&self, f: &mut fmt::Formatter<W>) -> fmt::Result {
-        match self.0 {
-            Some(index) => write!(
-                f,
-                "; output {index} may have been operated: look at it before the command is given again"
-            ),
-            None => Ok(()),
-        }
+/// The output whose OPERATE was sent and is not answered, if there is one.
+fn open_of<S: Show>(poller: &Poller<S>) -> Open {
+    let is_answered = poller
+        .ends()
+        .iter()
+        .any(|end| matches!(end.task, Task::Operate(_)));
+    match poller.asked() {
+        Some(Task::Operate(command)) if !is_answered => Open(Some(command.index())),
+        _ => Open(None),
     }
 }
 
@@ -141,32 +178,41 @@ impl<'w, 's> Rounds<'w, 's> {
         ensures { StopsBy result }
     {
         poller.forget_ends();
-        let mut reader = Noted::new(Line::new(self.stream));
-        let mut out = Noted::new(self.stream);
-        let mut now = 0;
-        let asked = ask_live(
-            rt.alloc(),
-            poller,
-            port,
-            pace,
-            &mut now,
-            tasks,
-            &mut reader,
-            &mut out,
-            LIMITS,
-            &mut Log::new(),
-        );
+        let mut room = StepRoom::new(rt.alloc());
+        let mut link = Link::new(rt.alloc(), port.copy());
+        let mut following = Following::NEW;
+        let mut talk = Talk::new(pace, self.stream, self.awaited(), tasks);
+        let asked = talk.ask(&mut *poller, &mut link, &mut room, &mut following);
+        link.port().copy_into(port);
+        if asked.is_err() {
+            poller.hung_up();
+        }
         if let Err(cause) = print_ends(rt, self.words.json, poller.ends()) {
             let _status = unwritten(rt, &cause);
             return Ended::Stopped(FAULT);
         }
-        match (poller.fault(), asked) {
-            (Some(fault), _) => self.stop(rt, poller, fault),
-            (None, Ok(_)) => self.end(rt, &*poller),
-            (None, Err(ServeFault::ReadFailed)) => {
-                self.fail(rt, &*poller, ServeFault::ReadFailed, reader.cause())
-            }
-            (None, Err(fault)) => self.fail(rt, &*poller, fault, out.cause()),
+        if is_unanswered(poller) {
+            self.say_other(rt, talk.heard, following.exchange);
+        }
+        self.judge(rt, poller, following.refusal, asked.err())
+    }
+
+    /// How a round ended, by why what came is no response, where that stopped it, and by why its tasks came to no end, if they didn't.
+    fn judge<'p, 'c, R>(
+        &self,
+        rt: &R,
+        poller: &mut Poller<Screen<'p, 'c, R>>,
+        refusal: Option<Refusal>,
+        gone: Option<Gone>,
+    ) -> Ended
+    where
+        R: AllocGlobal + Print + Eprint + Clock,
+        ensures { StopsBy result }
+    {
+        match (poller.fault(), gone) {
+            (Some(fault), _) => self.stop(rt, poller, fault, refusal),
+            (None, None) => self.end(rt, &*poller),
+            (None, Some(gone)) => self.fail(rt, &*poller, &gone),
         }
     }
 
@@ -176,20 +222,19 @@ impl<'w, 's> Rounds<'w, 's> {
         rt: &R,
         poller: &mut Poller<Screen<'p, 'c, R>>,
         fault: PollFault,
+        refusal: Option<Refusal>,
     ) -> Ended
     where
         R: AllocGlobal + Print + Eprint + Clock,
         ensures { StopsBy result }
     {
-        let place = self.words.place;
         match fault {
             PollFault::Answer(..) => {
-                let _ = eprintln!(rt; "dnp: {place}: {fault}");
+                self.say(rt, refused(fault, refusal));
                 Ended::Stopped(REFUSED)
             }
             PollFault::Silent => {
-                let (ms, open) = (self.words.timeout_ms, Open::of(poller));
-                let _ = eprintln!(rt; "dnp: {place}: no response in {ms} ms{open}");
+                self.say(rt, Stop::Silent(self.words.timeout_ms, open_of(poller)));
                 Ended::Stopped(FAULT)
             }
             PollFault::NotShown => {
@@ -199,10 +244,38 @@ impl<'w, 's> Rounds<'w, 's> {
                 Ended::Stopped(FAULT)
             }
             PollFault::Memory => {
-                let _ = eprintln!(rt; "dnp: {fault}");
+                let failure = Failure::Own(fault);
+                let _ = eprintln!(rt; "{failure}");
                 Ended::Stopped(FAULT)
             }
         }
+    }
+
+    /// The link addresses of the frames that are awaited.
+    fn awaited(&self) -> Ends
+        ensures { (result.source ≡ self.now.words.now.peer) × (result.dest ≡ self.now.words.now.own) }
+    {
+        Ends {
+            source: self.words.peer,
+            dest: self.words.own,
+        }
+    }
+
+    /// Says what came where an answer is still awaited, and is none to it: frames of other link addresses, no frame, or a response that is
+    /// not the awaited one. It has no clause: none says what standard error takes.
+    fn say_other<R: Eprint>(&self, rt: &R, heard: Heard, exchange: Exchange) {
+        if let Some(strange) = heard.strange() {
+            self.say(rt, Stop::Strange(strange, self.awaited()));
+        }
+        if let Some(mismatch) = exchange.mismatch {
+            self.say(rt, Stop::Unlike(mismatch));
+        }
+    }
+
+    /// Says why the rounds stop. It has no clause: none says what standard error takes.
+    fn say<R: Eprint>(&self, rt: &R, why: Stop<'_>) {
+        let failure = Failure::Rounds(self.words.place, why);
+        let _ = eprintln!(rt; "{failure}");
     }
 
     /// How a round ended in which nothing failed: where an answer is still awaited, the outstation has ended the connection.
@@ -210,34 +283,23 @@ impl<'w, 's> Rounds<'w, 's> {
         ensures { StopsBy result }
     {
         if poller.is_awaiting() {
-            let place = self.words.place;
-            let open = Open::of(poller);
-            let _ = eprintln!(rt; "dnp: {place}: the connection ended before the answer{open}");
+            self.say(rt, Stop::Ended(open_of(poller)));
             return Ended::Stopped(FAULT);
         }
         Ended::Answered(are_done(poller.ends()))
     }
 
-    /// Says why the stream failed.
-    fn fail<S: Show, R: Eprint>(
-        &self,
-        rt: &R,
-        poller: &Poller<S>,
-        fault: ServeFault,
-        cause: Option<&io::Error>,
-    ) -> Ended
+    /// Says why the tasks came to no end.
+    fn fail<S: Show, R: Eprint>(&self, rt: &R, poller: &Poller<S>, gone: &Gone) -> Ended
         ensures { result ≡ Stopped FAULT }
     {
-        let place = self.words.place;
-        let open = Open::of(poller);
-        let _ = match cause {
-            Some(cause) if is_late(cause) => {
-                let ms = self.words.timeout_ms;
-                eprintln!(rt; "dnp: {place}: {fault}: nothing went in {ms} ms{open}")
-            }
-            Some(cause) => eprintln!(rt; "dnp: {place}: {fault}: {cause}{open}"),
-            None => eprintln!(rt; "dnp: {place}: {fault}{open}"),
+        let open = open_of(poller);
+        let fault = gone.fault();
+        let why = match gone.cause() {
+            Some(cause) if is_late(cause) => Stop::Late(fault, self.words.timeout_ms, open),
+            cause => Stop::Broken(fault, cause, open),
         };
+        self.say(rt, why);
         Ended::Stopped(FAULT)
     }
 }

@@ -1,20 +1,24 @@
-//! A connection on which a station lives: its two ends, and what ends it though neither end has closed it.
+//! A connection on which a station lives: what comes is heard, time passes, and changes are made when they are due.
 
-ghost use Rattle.std.specs.Prelude.{◌≡◌, ◌≤◌};
+ghost use Rattle.std.specs.Prelude.{◌≡◌, ◌<◌, [], length, OnOk};
 ghost use Rattle.std.specs.IoError.{error_kind};
 ghost use Rattle.dnp_tcp.specs.Causes.{is_waited_out};
 
-use crate::door::Door;
-use dnp_concentrator::addresses::MASTER_BELOW;
-use dnp_linkframe::{Frame, FrameReader};
-use dnp_streams::Waiting;
-use std::alloc::Global;
-use std::cell::Cell;
+use crate::clock::moment;
+use crate::course::Course;
+use crate::door::{Caller, Door};
+use crate::hearing::{ends_of, heard_with};
+use crate::lines::{Asked, Visited};
+use crate::logged::note;
+use dnp_line::Port;
+use dnp_linkframe::{Frame, MAX_UNIT};
+use dnp_notices::{Ends, Strange, StrangeLine, news_of};
+use dnp_streams::{Heard, Link, Living, StationFault, Told};
+use std::io;
 use std::io::{ErrorKind, Read, Write};
 use std::net::{SocketAddr, TcpStream};
 use std::rt::Clock;
 use std::time::Duration;
-use std::{io, slice};
 
 /// How long a write waits, in milliseconds, before it is looked whether the connection has to end.
 const WRITE_MS: u64 = 50;
@@ -22,27 +26,23 @@ const WRITE_MS: u64 = 50;
 /// How long a master that has come waits at most for its place, in milliseconds, while octets come without a pause.
 const PLACE_MS: u64 = 1_000;
 
-/// Why a session ends, though neither end has closed the connection.
-#[derive(Clone, Copy)]
+/// Why a connection on which a station lives ends.
+#[derive(Drop)]
 pub(crate) enum Leave {
+    /// The master has closed it.
+    Master,
+    /// The station has closed it.
+    Station,
     /// Nothing whole came for too long.
     Idle,
     /// The master at this address takes the place.
     Taken(SocketAddr),
-    /// The changes of a replay begin again, and a new session goes on with the connection.
-    Again,
-    /// Out of memory.
+    /// It could not be read.
+    Unread(io::Error),
+    /// It could not be written, or took nothing.
+    Unwritten(Option<io::Error>),
+    /// Out of memory for the frames that came.
     Memory,
-}
-
-/// The moment that the clock shows, in milliseconds, or the one before, where it fails or goes back.
-pub fn moment<C: Clock>(clock: &C, before: u64) -> u64
-    ensures { before ≤ result }
-{
-    match clock.monotonic() {
-        Ok(time) => before.max(u64::try_from(time.as_millis()).unwrap_or(u64::MAX)),
-        Err(_) => before,
-    }
 }
 
 /// Sends what is written at once, and lets a write wait for no longer than it may.
@@ -51,221 +51,333 @@ pub(crate) fn prepare(stream: &TcpStream) -> io::Result<()> {
     stream.set_write_timeout(Some(Duration::from_millis(WRITE_MS)))
 }
 
-/// A connection on which a station lives.
-#[derive(Drop)]
-pub(crate) struct Visit<'v, C> {
-    /// The connection.
-    stream: &'v TcpStream,
-    /// Where the next master comes.
-    door: &'v Door,
-    /// What tells the moments.
-    clock: &'v C,
-    /// How long it may stand in which nothing whole comes, in milliseconds.
-    idle_ms: u64,
-    /// The last moment that the clock showed, in milliseconds.
-    now: Cell<u64>,
-    /// The moment at which something whole came last.
-    whole: Cell<u64>,
-    /// The moment from which on a session ends between two frames, since the changes of a replay begin again.
-    again: Cell<Option<u64>>,
-    /// Why the session ends.
-    leave: Cell<Option<Leave>>,
-}
-
-impl<'v, C: Clock> Visit<'v, C> {
-    /// A connection that begins now, and may stand so long, in milliseconds, in which nothing whole comes.
-    pub(crate) fn new(stream: &'v TcpStream, door: &'v Door, clock: &'v C, idle_ms: u64) -> Self {
-        let now = moment(clock, 0);
-        Visit {
-            stream,
-            door,
-            clock,
-            idle_ms,
-            now: Cell::new(now),
-            whole: Cell::new(now),
-            again: Cell::new(None),
-            leave: Cell::new(None),
-        }
-    }
-
-    /// A session begins, which ends between two frames from this moment on, if there is one.
-    pub(crate) fn begin(&self, again: Option<u64>) {
-        self.again.set(again);
-        self.leave.set(None);
-    }
-
-    /// Why the session ended, if neither end closed the connection.
-    pub(crate) fn leave(&self) -> Option<Leave> {
-        self.leave.get()
-    }
-
-    /// The moment, in milliseconds.
-    fn now(&self) -> u64 {
-        let now = moment(self.clock, self.now.get());
-        self.now.set(now);
-        now
-    }
-
-    /// Ends the session for this cause.
-    fn end(&self, leave: Leave) -> io::Result<()> {
-        self.leave.set(Some(leave));
-        Err(ErrorKind::ConnectionAborted.into())
-    }
-
-    /// Ends the session where nothing whole came for too long, or where another master has come: at once where the
-    /// connection stands still, and else where that one has waited for long enough.
-    fn go_on(&self, is_still: bool) -> io::Result<()> {
-        let now = self.now();
-        if now.saturating_sub(self.whole.get()) >= self.idle_ms {
-            return self.end(Leave::Idle);
-        }
-        match self.door.look(now) {
-            Some(knock) if is_still || now.saturating_sub(knock.at) >= PLACE_MS => {
-                self.end(Leave::Taken(knock.peer))
-            }
-            _ => Ok(()),
-        }
-    }
-
-    /// Whether the session ends here, between two frames, since the changes of a replay begin again.
-    fn begins_again(&self) -> bool {
-        let now = self.now();
-        let begins = self.again.get().is_some_and(|moment| moment <= now);
-        if begins {
-            self.leave.set(Some(Leave::Again));
-        }
-        begins
-    }
-}
-
-/// The end of a connection that is read.
-#[derive(Drop)]
-pub(crate) struct Ear<'e, 'v, C> {
-    /// The connection.
-    visit: &'e Visit<'v, C>,
-    /// The station's link address.
-    own: u16,
-    /// How long a read waits now, in milliseconds.
-    wait: u64,
-    /// Finds the frames in what comes.
-    frames: FrameReader,
-    /// Those that came whole with the last octets.
-    came: Vec<Frame>,
-    /// Whether no part of a frame has come.
-    is_between: bool,
-    /// Whether something was read since a session ended for the changes of a replay.
-    has_read: bool,
-}
-
-impl<'e, 'v, C: Clock> Ear<'e, 'v, C> {
-    /// The end of a connection to the station with this link address, of which nothing was read yet.
-    pub(crate) fn new(alloc: Global, visit: &'e Visit<'v, C>, own: u16) -> Self {
-        Ear {
-            visit,
-            own,
-            wait: 0,
-            frames: FrameReader::new(),
-            came: Vec::new(alloc),
-            is_between: true,
-            has_read: true,
-        }
-    }
-
-    /// Takes octets that came, and notes where a frame for the station is whole with them.
-    fn hear(&mut self, octets: &[u8]) -> io::Result<()> {
-        let Some((last, before)) = octets.split_last() else {
-            return Ok(());
-        };
-        self.came.clear();
-        if self.frames.feed(before, &mut self.came).is_err() {
-            return self.visit.end(Leave::Memory);
-        }
-        let count = self.came.len();
-        if self
-            .frames
-            .feed(slice::from_ref(last), &mut self.came)
-            .is_err()
-        {
-            return self.visit.end(Leave::Memory);
-        }
-        self.is_between = self.came.len() > count;
-        for frame in self.came.iter() {
-            if frame.dest == self.own && frame.source == MASTER_BELOW {
-                self.visit.whole.set(self.visit.now());
-            }
-        }
-        Ok(())
-    }
-}
-
-impl<'e, 'v, C: Clock> Read for Ear<'e, 'v, C> {
-    fn read(&mut self, buf: &mut [u8]) -> io::Result<usize> {
-        if self.is_between && self.has_read && self.visit.begins_again() {
-            self.has_read = false;
-            return Ok(0);
-        }
-        self.has_read = true;
-        let mut stream = self.visit.stream;
-        match stream.read(buf) {
-            // (the master has closed it)
-            Ok(0) => Ok(0),
-            Ok(count) => {
-                self.hear(buf.get(..count).unwrap_or(&[]))?;
-                self.visit.go_on(false)?;
-                Ok(count)
-            }
-            Err(error) if is_pause(&error) => {
-                self.visit.go_on(true)?;
-                Err(ErrorKind::WouldBlock.into())
-            }
-            Err(error) => Err(error),
-        }
-    }
-}
-
-impl<'e, 'v, C: Clock> Waiting for Ear<'e, 'v, C> {
-    fn wait_at_most(&mut self, ms: u64) -> io::Result<()> {
-        if ms != self.wait {
-            let wait = Duration::from_millis(ms);
-            self.visit.stream.set_read_timeout(Some(wait))?;
-            self.wait = ms;
-        }
-        Ok(())
-    }
-}
-
-/// The end of a connection that is written: a write waits until some octets have gone, or the connection has to end.
-#[derive(Drop)]
-pub(crate) struct Mouth<'e, 'v, C> {
-    /// The connection.
-    pub visit: &'e Visit<'v, C>,
-}
-
-impl<'e, 'v, C: Clock> Write for Mouth<'e, 'v, C> {
-    fn write(&mut self, buf: &[u8]) -> io::Result<usize> {
-        for _ in 0..u64::MAX {
-            let mut stream = self.visit.stream;
-            match stream.write(buf) {
-                Ok(count) if count == buf.len() => return Ok(count),
-                Ok(count) => {
-                    self.visit.go_on(true)?;
-                    return Ok(count);
-                }
-                Err(error) if is_pause(&error) => self.visit.go_on(true)?,
-                Err(error) => return Err(error),
-            }
-        }
-        Err(ErrorKind::TimedOut.into())
-    }
-
-    fn flush(&mut self) -> io::Result<()> {
-        Ok(())
-    }
-}
-
 /// Whether a read or a write has waited for as long as it may, or was stopped on its way, as by a signal.
 pub fn is_pause(error: &io::Error) -> bool
     ensures { result ≡ is_waited_out (error_kind error.now) }
 {
     matches!(error.kind(), ErrorKind::WouldBlock | ErrorKind::Interrupted)
+}
+
+/// Whether the connection goes on after a step that told this: it ends where the station has closed it. A step that was refused has
+/// changed nothing.
+fn look(told: Result<Told, StationFault>) -> Result<(), Leave> {
+    match told {
+        Ok(told) if told.closed => Err(Leave::Station),
+        _ => Ok(()),
+    }
+}
+
+/// A connection on which a station lives.
+#[derive(Drop)]
+pub(crate) struct Visit<'v, R> {
+    /// What tells the moments, and whose log it is.
+    rt: &'v R,
+    /// The master, and its connection.
+    caller: &'v Caller,
+    /// Where the next master comes.
+    door: &'v Door,
+    /// The link addresses of the frames that the station takes.
+    taken: Ends,
+    /// How long it may stand in which nothing whole comes, in milliseconds.
+    idle_ms: u64,
+    /// Whether each request is said in the log.
+    is_said: bool,
+    /// How long a read waits now, in milliseconds.
+    wait: u64,
+    /// The moment at which something whole came last.
+    whole: u64,
+    /// Which frames came.
+    heard: dnp_notices::Heard,
+    /// How many fragments came whole.
+    fragments: u64,
+}
+
+impl<'v, R: AllocGlobal + Eprint + Clock> Visit<'v, R> {
+    /// A connection of this master that begins now. The station takes frames with these link addresses; the connection may stand so
+    /// long, in milliseconds, in which nothing whole comes, and each request may be said in the log.
+    pub(crate) fn new(
+        rt: &'v R,
+        caller: &'v Caller,
+        door: &'v Door,
+        taken: Ends,
+        idle_ms: u64,
+        is_said: bool,
+    ) -> Self {
+        Visit {
+            rt,
+            caller,
+            door,
+            taken,
+            idle_ms,
+            is_said,
+            wait: 0,
+            whole: moment(rt, 0),
+            heard: dnp_notices::Heard::NOTHING,
+            fragments: 0,
+        }
+    }
+
+    /// How many fragments came whole.
+    pub(crate) fn fragments(&self) -> u64 {
+        self.fragments
+    }
+
+    /// Says in the log that octets came and no frame, where that is so.
+    pub(crate) fn tell_noise(&self) {
+        if let Some(Strange::Noise) = self.heard.strange() {
+            self.tell(Strange::Noise);
+        }
+    }
+
+    /// Says in the log what came that the station doesn't take.
+    fn tell(&self, strange: Strange) {
+        let taken = self.taken;
+        let what = Visited::Strange(StrangeLine { strange, taken });
+        note(self.rt, self.caller.peer, &what);
+    }
+
+    /// Notes which frames came, and says in the log where one is of another station, or for another one, and those before were not such.
+    fn note_frames(&mut self, frames: &[Frame], now: u64) {
+        let taken = self.taken;
+        let before = self.heard;
+        self.heard = heard_with(before, frames, taken);
+        if frames.iter().any(|frame| ends_of(frame) == taken) {
+            self.whole = now;
+        }
+        if let Some(strange) = news_of(before.strange(), self.heard.strange())
+            && matches!(strange, Strange::Frame(_))
+        {
+            self.tell(strange);
+        }
+    }
+
+    /// Says a fragment that came in the log, where it is to, and how many octets are sent for it, where it was taken.
+    fn tell_asked(&self, octets: &[u8], told: &Result<Told, StationFault>) {
+        if let Ok(told) = told
+            && self.is_said
+        {
+            let sent = told.sent;
+            note(self.rt, self.caller.peer, &Asked { octets, sent });
+        }
+    }
+
+    /// Ends the connection where nothing whole came for too long, or where another master has come: at once where the connection stands
+    /// still, and else where that one has waited for long enough.
+    fn go_on(&self, course: &mut Course, is_still: bool) -> Result<(), Leave> {
+        course.go_on(self.rt);
+        let now = course.moment;
+        if now.saturating_sub(self.whole) >= self.idle_ms {
+            return Err(Leave::Idle);
+        }
+        match self.door.look(now) {
+            Some(knock) if is_still || now.saturating_sub(knock.at) >= PLACE_MS => {
+                Err(Leave::Taken(knock.peer))
+            }
+            _ => Ok(()),
+        }
+    }
+
+    /// Writes once of what waits. A write that has waited for as long as it may sends nothing.
+    fn write(&self, link: &mut Link) -> Result<(), Leave>
+        ensures { link.new.waiting ≡ link.old.waiting }
+    {
+        let mut stream = &self.caller.stream;
+        match stream.write(link.output()) {
+            Ok(0) => Err(Leave::Unwritten(None)),
+            Ok(count) => {
+                link.sent(count);
+                Ok(())
+            }
+            Err(error) if is_pause(&error) => Ok(()),
+            Err(error) => Err(Leave::Unwritten(Some(error))),
+        }
+    }
+
+    /// Sends what waits. While not all of it goes, the connection may have to end.
+    fn send(&self, link: &mut Link, course: &mut Course) -> Result<(), Leave>
+        ensures sent { OnOk result (link.new.pending ≡ []) }
+        ensures waiting { link.new.waiting ≡ link.old.waiting }
+    {
+        for _ in 0..u64::MAX {
+            if link.output().is_empty() {
+                return Ok(());
+            }
+            self.write(link)?;
+            if !link.output().is_empty() {
+                self.go_on(course, true)?;
+            }
+        }
+        Err(Leave::Unwritten(None))
+    }
+
+    /// From now on a read waits at most this long, in milliseconds, above 0.
+    fn wait_at_most(&mut self, ms: u64) -> io::Result<()> {
+        if ms != self.wait {
+            let wait = Some(Duration::from_millis(ms));
+            self.caller.stream.set_read_timeout(wait)?;
+            self.wait = ms;
+        }
+        Ok(())
+    }
+
+    /// Reads once, for so long at most, in milliseconds, and feeds what came to the link.
+    fn read(&mut self, link: &mut Link, course: &mut Course, ms: u64) -> Result<(), Leave> {
+        if let Err(error) = self.wait_at_most(ms) {
+            return Err(Leave::Unread(error));
+        }
+        let mut piece = [0; MAX_UNIT];
+        let mut stream = &self.caller.stream;
+        match stream.read(&mut piece) {
+            Ok(0) => Err(Leave::Master),
+            Ok(count) => {
+                if link.feed(&piece[..count]).is_err() {
+                    return Err(Leave::Memory);
+                }
+                course.go_on(self.rt);
+                self.note_frames(link.waiting(), course.moment);
+                self.go_on(course, false)
+            }
+            Err(error) if is_pause(&error) => self.go_on(course, true),
+            Err(error) if error.kind() == ErrorKind::TimedOut => Ok(()),
+            Err(error) => Err(Leave::Unread(error)),
+        }
+    }
+
+    /// Opens the station, and makes the changes that are due.
+    fn open<S: Living>(
+        &mut self,
+        station: &mut S,
+        link: &mut Link,
+        course: &mut Course,
+    ) -> Result<(), Leave>
+        ensures kept { S.kept station.new ≡ S.kept station.old }
+        ensures held { S.honest station.new → S.honest station.old }
+    {
+        self.send(link, course)?;
+        course.go_on(self.rt);
+        look(link.opened(&mut course.room, station, course.moment))?;
+        self.make_due(station, link, course)
+    }
+
+    /// Makes the changes that are due, in order, and sends what each of them brings before the next one.
+    fn make_due<S: Living>(
+        &mut self,
+        station: &mut S,
+        link: &mut Link,
+        course: &mut Course,
+    ) -> Result<(), Leave>
+        ensures kept { S.kept station.new ≡ S.kept station.old }
+        ensures held { S.honest station.new → S.honest station.old }
+    {
+        for _ in 0..u64::MAX {
+            self.send(link, course)?;
+            let Some(change) = course.next_due(self.rt) else {
+                return Ok(());
+            };
+            look(link.change(&mut course.room, station, course.moment, &change))?;
+        }
+        Ok(())
+    }
+
+    /// Hears the next frame.
+    fn hear<S: Living>(
+        &mut self,
+        station: &mut S,
+        link: &mut Link,
+        course: &mut Course,
+    ) -> Result<(), Leave>
+        requires { 0 < length link.old.waiting }
+        ensures kept { S.kept station.new ≡ S.kept station.old }
+        ensures held { S.honest station.new → S.honest station.old }
+    {
+        self.send(link, course)?;
+        course.go_on(self.rt);
+        match link.hear(&mut course.room, station, course.moment) {
+            Heard::Part => Ok(()),
+            Heard::Whole(told) => {
+                self.fragments = self.fragments.saturating_add(1);
+                self.tell_asked(link.fragment(), &told);
+                look(told)
+            }
+        }
+    }
+
+    /// Lets time pass at the moment of the last step, and makes the changes that are due.
+    fn settle<S: Living>(
+        &mut self,
+        station: &mut S,
+        link: &mut Link,
+        course: &mut Course,
+    ) -> Result<(), Leave>
+        ensures kept { S.kept station.new ≡ S.kept station.old }
+        ensures held { S.honest station.new → S.honest station.old }
+    {
+        self.send(link, course)?;
+        look(link.tick(&mut course.room, station, course.moment))?;
+        self.make_due(station, link, course)
+    }
+
+    /// Reads once, and hears the frames that came. After each of them, or after a wait in which none came, time passes and the changes
+    /// that are due are made.
+    fn take_turn<S: Living>(
+        &mut self,
+        station: &mut S,
+        link: &mut Link,
+        course: &mut Course,
+    ) -> Result<(), Leave>
+        ensures kept { S.kept station.new ≡ S.kept station.old }
+        ensures held { S.honest station.new → S.honest station.old }
+    {
+        let ms = course.wait_ms(station.next_deadline());
+        self.read(link, course, ms)?;
+        if !link.has_frame() {
+            course.go_on(self.rt);
+            return self.settle(station, link, course);
+        }
+        for _ in 0..u64::MAX {
+            if !link.has_frame() {
+                return Ok(());
+            }
+            self.hear(station, link, course)?;
+            self.settle(station, link, course)?;
+        }
+        Ok(())
+    }
+
+    /// Opens the station, and takes turns until the connection has to end.
+    fn take_turns<S: Living>(
+        &mut self,
+        station: &mut S,
+        link: &mut Link,
+        course: &mut Course,
+    ) -> Result<(), Leave>
+        ensures kept { S.kept station.new ≡ S.kept station.old }
+        ensures held { S.honest station.new → S.honest station.old }
+    {
+        self.open(station, link, course)?;
+        for _ in 0..u64::MAX {
+            self.take_turn(station, link, course)?;
+        }
+        Ok(())
+    }
+
+    /// Lives on the connection to its end, hangs the station up, and tells why it ended. What the station sent as it closed the
+    /// connection still goes.
+    pub(crate) fn live<S: Living>(&mut self, station: &mut S, course: &mut Course) -> Leave
+        ensures kept { S.kept station.new ≡ S.kept station.old }
+        ensures held { S.honest station.new → S.honest station.old }
+    {
+        let port = Port::new(self.taken.dest, self.taken.source, false);
+        let mut link = Link::new(self.rt.alloc(), port);
+        let ended = self.take_turns(station, &mut link, course);
+        station.hung_up();
+        match ended {
+            Ok(()) => Leave::Master,
+            Err(Leave::Station) => match self.send(&mut link, course) {
+                Ok(()) => Leave::Station,
+                Err(leave) => leave,
+            },
+            Err(leave) => leave,
+        }
+    }
 }

@@ -1,0 +1,11 @@
+use Rattle.std.proofs.Common.{◌≡◌}
+use Rattle.dnp_streams.specs.links.Deeds.{ways}
+use Rattle.dnp_tcp.specs.Connections.{Leads}
+use Rattle.dnp_tcp.proofs.talk.Talk.go_on.Given as goal
+
+abbrev pub invariant-loop : goal.invariant-loop
+invariant-loop g l =
+    let S = g.S.Station in
+    (S.kept l.station ≡ S.kept l.fn.station)
+    × (S.honest l.station → S.honest l.fn.station)
+    × (S.honest l.station → Leads (ways S.opens S.receives S.asking S.life) (S.state l.fn.station) (S.state l.station))
