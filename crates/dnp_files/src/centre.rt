@@ -4,14 +4,17 @@ ghost use Rattle.dnp_concentrator.specs.Plan.{KeepsLimits};
 
 use crate::files;
 use crate::files::{Opens, StoreFile};
+use crate::lines::Line;
+use crate::making::Making;
 use crate::planned::{look_at_book, look_at_journal};
 use crate::polls::{PollPace, Polls};
+use crate::sites::Target;
 use dnp_concentrator::{Centre, MAX_TIMER_MS, Plan};
 use dnp_controls::Book;
 use dnp_eventbuf::JournalStore;
 use dnp_objects::Command;
 use dnp_store::{ControlBook, Journal};
-use dnp_tcp::exit;
+use dnp_tcp::{Names, exit, say};
 use sqlite::{Alter, Connection, File, FileStore};
 use std::net::{Net, TcpListener, TcpStream};
 use std::process::ExitCode;
@@ -24,10 +27,10 @@ pub struct CentreWords<'a> {
     pub journal: StoreFile<'a>,
     /// The file of the book of controls.
     pub controls: StoreFile<'a>,
-    /// The TCP port of the concentrator.
-    pub port: u16,
-    /// The centre's link address, which says which of the two it is.
-    pub own: u16,
+    /// Where the concentrator is asked.
+    pub concentrator: Target,
+    /// What people call the stations and their points, with the indices above for those of the concentrator.
+    pub names: Names<'a>,
     /// The control to be issued, and the substation that it is for.
     pub issue: Option<(u8, Command)>,
     /// How many polls there are, and when they begin.
@@ -62,6 +65,24 @@ where
     R: Clock + Net<Listener = TcpListener, Stream = TcpStream>,
     requires { KeepsLimits plan.now }
 {
+    let making = Making::of(rt, &words.journal, &words.controls);
+    let status = run_made(rt, words, plan, &making);
+    making.end(rt);
+    status
+}
+
+/// The same, where these files are to be made.
+fn run_made<S: Alter + Drop, R>(
+    rt: &R,
+    words: &CentreWords<'_>,
+    plan: &Plan,
+    making: &Making<'_>,
+) -> ExitCode
+where
+    R: AllocGlobal + Print + Eprint + Files + Opens<Connection<S>>,
+    R: Clock + Net<Listener = TcpListener, Stream = TcpStream>,
+    requires { KeepsLimits plan.now }
+{
     let journal = match journal_there(rt, &words.journal) {
         Ok(journal) => journal,
         Err(status) => return status,
@@ -70,7 +91,7 @@ where
         Ok(book) => book,
         Err(status) => return status,
     };
-    match carry_on(rt, words, plan, journal, book) {
+    match carry_on(rt, words, plan, journal, book, making) {
         Ok((status, journal, book)) => {
             files::close_both(rt, &words.journal, journal, &words.controls, book, status)
         }
@@ -79,7 +100,7 @@ where
 }
 
 /// The journal in its file.
-fn journal_there<S: Alter + Drop, R: AllocGlobal + Eprint + Files + Opens<Connection<S>>>(
+fn journal_there<S: Alter + Drop, R: AllocGlobal + Eprint + Clock + Files + Opens<Connection<S>>>(
     rt: &R,
     place: &StoreFile<'_>,
 ) -> Result<Journal<S>, ExitCode> {
@@ -87,21 +108,24 @@ fn journal_there<S: Alter + Drop, R: AllocGlobal + Eprint + Files + Opens<Connec
     files::journal(rt, place, conn)
 }
 
-/// Runs the centre over its stores, and gives their databases back, with the exit status. Where it can't begin, the exit
-/// status alone is told.
+/// Runs the centre over its stores, and gives their databases back, with the exit status. A store that failed is said. Where the centre
+/// can't begin, the exit status alone is told.
 fn carry_on<S: Alter + Drop, R>(
     rt: &R,
     words: &CentreWords<'_>,
     plan: &Plan,
     journal: Journal<S>,
     book: ControlBook<S>,
+    making: &Making<'_>,
 ) -> Result<(ExitCode, Connection<S>, Connection<S>), ExitCode>
 where
     R: AllocGlobal + Print + Eprint + Clock + Net<Listener = TcpListener, Stream = TcpStream>,
     requires { KeepsLimits plan.now }
 {
-    match run_over(rt, words, plan, journal, book) {
+    match run_over(rt, words, plan, journal, book, making) {
         Ok((status, journal, book)) => {
+            files::look_after(rt, &words.journal, journal.serves());
+            files::look_after(rt, &words.controls, book.serves());
             Ok((status, journal.into_connection(), book.into_connection()))
         }
         Err(status) => Err(status),
@@ -116,6 +140,7 @@ fn run_over<J: JournalStore + Drop, B: Book + Drop, R>(
     plan: &Plan,
     journal: J,
     book: B,
+    making: &Making<'_>,
 ) -> Result<(ExitCode, J, B), ExitCode>
 where
     R: AllocGlobal + Print + Eprint + Clock + Net<Listener = TcpListener, Stream = TcpStream>,
@@ -123,7 +148,7 @@ where
 {
     match Centre::new(rt.alloc(), plan, journal, book) {
         Ok(mut centre) => {
-            let status = match run_once(rt, &mut centre, words, plan) {
+            let status = match run_once(rt, &mut centre, words, plan, making) {
                 Ok(()) => ExitCode::from(exit::DONE),
                 Err(status) => status,
             };
@@ -131,7 +156,7 @@ where
             Ok((status, journal, book))
         }
         Err(fault) => {
-            let _ = eprintln!(rt; "dnp: {fault}");
+            say(rt, &Line::NoMap(fault));
             Err(ExitCode::from(exit::FAULT))
         }
     }
@@ -144,16 +169,18 @@ fn run_once<J: JournalStore, B: Book, R>(
     centre: &mut Centre<J, B>,
     words: &CentreWords<'_>,
     plan: &Plan,
+    making: &Making<'_>,
 ) -> Result<(), ExitCode>
 where
     R: AllocGlobal + Print + Eprint + Clock + Net<Listener = TcpListener, Stream = TcpStream>,
 {
     look_at_journal(rt, &words.journal, centre.journal(), plan)?;
     look_at_book(rt, &words.controls, centre.book(), plan, true)?;
+    making.begin();
     let polls = Polls {
         plan,
-        port: words.port,
-        own: words.own,
+        concentrator: words.concentrator,
+        names: words.names,
         pace: words.pace,
     };
     polls.run(rt, centre, words.issue.as_ref())

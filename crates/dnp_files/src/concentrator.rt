@@ -4,16 +4,19 @@
 ghost use Rattle.dnp_concentrator.specs.Plan.{KeepsLimits};
 
 use crate::files::{Opens, StoreFile};
+use crate::lines::Line;
+use crate::making::Making;
 use crate::planned::{look_at_book, look_at_queue};
 use crate::rounds::{RoundPace, Rounds};
+use crate::sites::{Served, Substations};
 use crate::{files, rounds};
 use dnp_concentrator::{Concentrator, Plan};
 use dnp_controls::Book;
 use dnp_eventbuf::{CENTRES, PairLanes};
 use dnp_store::{ControlBook, Queue};
-use dnp_tcp::exit;
+use dnp_tcp::{Names, exit, say};
 use sqlite::{Alter, Connection, File, FileStore};
-use std::net::{IpAddr, Net, TcpListener, TcpStream};
+use std::net::{Net, TcpListener, TcpStream};
 use std::process::ExitCode;
 use std::rt::{Clock, Files, HostRuntime};
 
@@ -24,14 +27,14 @@ pub struct ConcentratorWords<'a> {
     pub queue: StoreFile<'a>,
     /// The file of the book of controls.
     pub controls: StoreFile<'a>,
-    /// The address at which centres connect.
-    pub address: IpAddr,
-    /// The TCP port for the first centre.
-    pub port: u16,
-    /// The TCP port for the second centre, if it is served.
-    pub port2: Option<u16>,
-    /// The TCP port of substation 0; those of the others follow on it.
-    pub below: u16,
+    /// Where the first centre is served.
+    pub first: Served,
+    /// Where the second centre is served, if it is.
+    pub second: Option<Served>,
+    /// Where the substations are.
+    pub substations: Substations<'a>,
+    /// What people call the substations and their points.
+    pub names: Names<'a>,
     /// How many rounds there are, and when they begin.
     pub pace: RoundPace,
     /// Whether a queue for one centre is brought to the form for two.
@@ -40,13 +43,13 @@ pub struct ConcentratorWords<'a> {
 
 impl<'a> ConcentratorWords<'a> {
     /// The rounds over this plan.
-    fn rounds_of<'p>(&self, plan: &'p Plan) -> Rounds<'p> {
+    fn rounds_of(&self, plan: &'a Plan) -> Rounds<'a> {
         Rounds {
             plan,
-            address: self.address,
-            port: self.port,
-            port2: self.port2,
-            below: self.below,
+            first: self.first,
+            second: self.second,
+            substations: self.substations,
+            names: self.names,
             pace: self.pace,
         }
     }
@@ -68,6 +71,24 @@ where
     R: Clock + Net<Listener = TcpListener, Stream = TcpStream>,
     requires { KeepsLimits plan.now }
 {
+    let making = Making::of(rt, &words.queue, &words.controls);
+    let status = run_made(rt, words, plan, &making);
+    making.end(rt);
+    status
+}
+
+/// The same, where these files are to be made.
+fn run_made<S: Alter + Drop, R>(
+    rt: &R,
+    words: &ConcentratorWords<'_>,
+    plan: &Plan,
+    making: &Making<'_>,
+) -> ExitCode
+where
+    R: AllocGlobal + Print + Eprint + Files + Opens<Connection<S>>,
+    R: Clock + Net<Listener = TcpListener, Stream = TcpStream>,
+    requires { KeepsLimits plan.now }
+{
     let queue = match queue_there(rt, words, plan) {
         Ok(queue) => queue,
         Err(status) => return status,
@@ -76,7 +97,7 @@ where
         Ok(book) => book,
         Err(status) => return status,
     };
-    match carry_on(rt, words, plan, queue, book) {
+    match carry_on(rt, words, plan, queue, book, making) {
         Ok((status, queue, book)) => {
             files::close_both(rt, &words.queue, queue, &words.controls, book, status)
         }
@@ -85,7 +106,7 @@ where
 }
 
 /// The queue in its file.
-fn queue_there<S: Alter + Drop, R: AllocGlobal + Eprint + Files + Opens<Connection<S>>>(
+fn queue_there<S: Alter + Drop, R: AllocGlobal + Eprint + Clock + Files + Opens<Connection<S>>>(
     rt: &R,
     words: &ConcentratorWords<'_>,
     plan: &Plan,
@@ -103,21 +124,26 @@ fn queue_there<S: Alter + Drop, R: AllocGlobal + Eprint + Files + Opens<Connecti
     )
 }
 
-/// Runs the concentrator over its stores, and gives their databases back, with the exit status. Where it can't begin, the
-/// exit status alone is told.
+/// Runs the concentrator over its stores, and gives their databases back, with the exit status. A store that failed is said. Where the
+/// concentrator can't begin, the exit status alone is told.
 fn carry_on<S: Alter + Drop, R>(
     rt: &R,
     words: &ConcentratorWords<'_>,
     plan: &Plan,
     queue: Queue<S>,
     book: ControlBook<S>,
+    making: &Making<'_>,
 ) -> Result<(ExitCode, Connection<S>, Connection<S>), ExitCode>
 where
     R: AllocGlobal + Print + Eprint + Clock + Net<Listener = TcpListener, Stream = TcpStream>,
     requires { KeepsLimits plan.now }
 {
-    match run_over(rt, words, plan, queue, book) {
-        Ok((status, queue, book)) => Ok((status, queue.into_connection(), book.into_connection())),
+    match run_over(rt, words, plan, queue, book, making) {
+        Ok((status, queue, book)) => {
+            files::look_after(rt, &words.queue, queue.serves());
+            files::look_after(rt, &words.controls, book.serves());
+            Ok((status, queue.into_connection(), book.into_connection()))
+        }
         Err(status) => Err(status),
     }
 }
@@ -130,6 +156,7 @@ fn run_over<Q: PairLanes + Drop, B: Book + Drop, R>(
     plan: &Plan,
     queue: Q,
     book: B,
+    making: &Making<'_>,
 ) -> Result<(ExitCode, Q, B), ExitCode>
 where
     R: AllocGlobal + Print + Eprint + Clock + Net<Listener = TcpListener, Stream = TcpStream>,
@@ -137,7 +164,7 @@ where
 {
     match Concentrator::new(rt.alloc(), plan, queue, book) {
         Ok(mut concentrator) => {
-            let status = match run_rounds(rt, &mut concentrator, words, plan) {
+            let status = match run_rounds(rt, &mut concentrator, words, plan, making) {
                 Ok(()) => ExitCode::from(exit::DONE),
                 Err(status) => status,
             };
@@ -145,7 +172,7 @@ where
             Ok((status, queue, book))
         }
         Err(fault) => {
-            let _ = eprintln!(rt; "dnp: {fault}");
+            say(rt, &Line::NoMap(fault));
             Err(ExitCode::from(exit::FAULT))
         }
     }
@@ -158,6 +185,7 @@ fn run_rounds<Q: PairLanes, B: Book, R>(
     concentrator: &mut Concentrator<Q, B>,
     words: &ConcentratorWords<'_>,
     plan: &Plan,
+    making: &Making<'_>,
 ) -> Result<(), ExitCode>
 where
     R: AllocGlobal + Print + Eprint + Clock + Net<Listener = TcpListener, Stream = TcpStream>,
@@ -166,5 +194,5 @@ where
         look_at_queue(rt, &words.queue, concentrator.queue(), centre, plan)?;
     }
     look_at_book(rt, &words.controls, concentrator.book(), plan, false)?;
-    rounds::run(rt, concentrator, &words.rounds_of(plan))
+    rounds::run(rt, concentrator, &words.rounds_of(plan), making)
 }

@@ -2,14 +2,17 @@
 
 ghost use Rattle.std.specs.Prelude.{◌≤◌, All};
 
+use crate::lines::{Line, OfFile};
 use dnp_eventbuf::MAX_CAPACITY;
 use dnp_objects::LANES;
 use dnp_store::{ControlBook, Journal, OpenFault, Queue};
-use dnp_tcp::{exit, lost};
-use sqlite::{Alter, Connection, Error, ErrorCode, File, FileStore};
-use std::fs;
+use dnp_tcp::{exit, say};
+use sqlite::{Alter, Connection, Error, ErrorCode, FileStore};
+use std::fs::{File, OpenOptions};
+use std::io;
+use std::io::Read;
 use std::process::ExitCode;
-use std::rt::{Files, HostRuntime};
+use std::rt::{Clock, Files, HostRuntime};
 
 /// What opens databases by connections of this type, and closes them. What uses it is proved for rows that are kept in any way: so only
 /// the two functions that name files prove that what keeps rows there fits, and how its parts are let go.
@@ -21,12 +24,12 @@ pub(crate) trait Opens<C> {
     fn close_database(&self, conn: C) -> Result<(), Error>;
 }
 
-impl Opens<Connection<FileStore<File>>> for HostRuntime {
-    fn open_database(&self, path: &str) -> Result<Connection<FileStore<File>>, Error> {
+impl Opens<Connection<FileStore<sqlite::File>>> for HostRuntime {
+    fn open_database(&self, path: &str) -> Result<Connection<FileStore<sqlite::File>>, Error> {
         Connection::open(self, path)
     }
 
-    fn close_database(&self, conn: Connection<FileStore<File>>) -> Result<(), Error> {
+    fn close_database(&self, conn: Connection<FileStore<sqlite::File>>) -> Result<(), Error> {
         conn.close()
     }
 }
@@ -43,100 +46,146 @@ pub struct StoreFile<'a> {
 }
 
 impl<'a> StoreFile<'a> {
-    /// Says on standard error what is wrong with the file.
-    pub(crate) fn say<R: Eprint>(&self, rt: &R, what: &str) {
-        let _ = eprintln!(rt; "dnp: {}: {what}", self.path);
+    /// Says something of the file on standard error.
+    pub(crate) fn say<R: Eprint + Clock>(&self, rt: &R, what: OfFile<'_>) {
+        say(rt, &Line::File(self.path, what));
     }
 }
 
+/// What each file of a database begins with, unless it is empty.
+const MAGIC: [u8; 16] = *b"SQLite format 3\0";
+
 /// Opens the database, and makes its file only where a store is to be made. Where it can't be had, why is said on standard
 /// error, and the exit status is told.
-pub(crate) fn connection<S: Alter, R: Eprint + Files + Opens<Connection<S>>>(
+pub(crate) fn connection<S: Alter, R: Eprint + Clock + Files + Opens<Connection<S>>>(
     rt: &R,
     place: &StoreFile<'_>,
 ) -> Result<Connection<S>, ExitCode> {
-    if !place.new {
-        is_there(rt, place)?;
-    }
+    look_at_file(rt, place)?;
     match rt.open_database(place.path) {
         Ok(conn) => Ok(conn),
         Err(error) => Err(no_database(rt, place, &error)),
     }
 }
 
-/// Looks whether the file can be read: to open a database that is not there would make it.
-fn is_there<R: Eprint + Files>(rt: &R, place: &StoreFile<'_>) -> Result<(), ExitCode> {
-    match fs::open(rt, place.path) {
+/// Looks at the file before its database is opened, and makes it where a store is to be made: to open a database that is not there
+/// would make it, to open what is none would leave a log beside it, and neither would say why a file can't be had.
+fn look_at_file<R: Eprint + Clock + Files>(rt: &R, place: &StoreFile<'_>) -> Result<(), ExitCode> {
+    match begins_well(rt, place) {
+        Ok(true) => Ok(()),
+        Ok(false) => {
+            let error = Error::SqliteFailure(ErrorCode::NotADatabase);
+            Err(no_database(rt, place, &error))
+        }
+        Err(cause) if cause.kind() == io::ErrorKind::NotFound && place.new => {
+            make_file(rt, place)
+        }
+        Err(cause) => {
+            place.say(rt, OfFile::Unread(&cause));
+            Err(ExitCode::from(exit::FAULT))
+        }
+    }
+}
+
+/// Whether the file, which may be read and written, begins as that of a database does, or is empty.
+fn begins_well<R: Files>(rt: &R, place: &StoreFile<'_>) -> io::Result<bool> {
+    let mut options = OpenOptions::new();
+    options.read(true).write(true);
+    let mut file = options.open(rt, place.path)?;
+    let mut head = [0; MAGIC.len()];
+    let count = file.read(&mut head)?;
+    Ok(count == 0 || head == MAGIC)
+}
+
+/// Makes the file, empty. Where it can't be made, why is said on standard error, and the exit status is told.
+fn make_file<R: Eprint + Clock + Files>(rt: &R, place: &StoreFile<'_>) -> Result<(), ExitCode> {
+    match File::create_new(rt, place.path) {
         Ok(_) => Ok(()),
-        Err(cause) => Err(lost(rt, place.path, &cause)),
+        Err(cause) => {
+            place.say(rt, OfFile::Unmade(&cause));
+            Err(ExitCode::from(exit::FAULT))
+        }
     }
 }
 
 /// Says on standard error why the file's database can't be had, and gives the exit status: that of a refused input where
 /// the file is none, or is spoilt.
-fn no_database<R: Eprint>(rt: &R, place: &StoreFile<'_>, error: &Error) -> ExitCode {
+fn no_database<R: Eprint + Clock>(rt: &R, place: &StoreFile<'_>, error: &Error) -> ExitCode {
     match error {
         Error::SqliteFailure(ErrorCode::NotADatabase | ErrorCode::DatabaseCorrupt) => {
-            let _ = eprintln!(rt; "dnp: {}: no {}: {error}", place.path, place.store);
+            place.say(rt, OfFile::NoDatabase(place.store, error));
             ExitCode::from(exit::REFUSED)
         }
         Error::SqliteFailure(ErrorCode::DatabaseBusy) => {
-            place.say(rt, "in use by another program, or given for two stores");
+            place.say(rt, OfFile::Busy);
             ExitCode::from(exit::FAULT)
         }
         _ => {
-            let _ = eprintln!(rt; "dnp: {}: {error}", place.path);
+            place.say(rt, OfFile::Unopened(error));
             ExitCode::from(exit::FAULT)
         }
     }
 }
 
 /// Says on standard error why a store does not begin in the database, and gives the exit status.
-fn no_store<S: Alter, R: Eprint>(
+fn no_store<S: Alter, R: Eprint + Clock>(
     rt: &R,
     place: &StoreFile<'_>,
     fault: OpenFault,
     conn: &Connection<S>,
 ) -> ExitCode {
     if matches!(fault, OpenFault::Memory | OpenFault::Device) {
-        let _ = eprintln!(rt; "dnp: {}: {fault}", place.path);
+        place.say(rt, OfFile::NotBegun(fault));
         return ExitCode::from(exit::FAULT);
     }
     let store = place.store;
-    let _ = if fault == OpenFault::OldForm {
-        eprintln!(rt;
-            "dnp: {}: a {store} of an earlier release, for one centre: let '--migrate' bring it to the form for two",
-            place.path
-        )
-    } else if place.new {
-        eprintln!(rt;
-            "dnp: {}: a {store} is there already, or tables of its names: leave '--new' away, or remove the file",
-            place.path
-        )
-    } else if conn.schema().tables.is_empty() {
-        eprintln!(rt;
-            "dnp: {}: no {store} was made there: remove the file, and let '--new' make one",
-            place.path
-        )
-    } else {
-        eprintln!(rt; "dnp: {}: no {store}, or not whole", place.path)
-    };
+    place.say(
+        rt,
+        if fault == OpenFault::OldForm {
+            OfFile::OldForm(store)
+        } else if place.new {
+            OfFile::There(store)
+        } else if conn.schema().tables.is_empty() {
+            OfFile::NotMade(store)
+        } else {
+            OfFile::Other(store, other_in(conn, store))
+        },
+    );
     ExitCode::from(exit::REFUSED)
 }
 
-/// Says on standard error that a store works, but promises nothing, where its database has other tables too.
-fn look_round<R: Eprint>(rt: &R, place: &StoreFile<'_>, owned: bool) {
+/// What the store in a database is called, where it has tables of another one than this.
+fn other_in<S: Alter>(conn: &Connection<S>, store: &str) -> Option<&'static str> {
+    let schema = conn.schema();
+    let found = if schema.table_named(b"journal").is_some() {
+        "journal"
+    } else if schema.table_named(b"control").is_some() {
+        "book of controls"
+    } else if schema.table_named(b"queue").is_some() {
+        "queue"
+    } else {
+        return None;
+    };
+    if found == store { None } else { Some(found) }
+}
+
+/// Says on standard error that a store works, but promises nothing, where its tables are not the first of its database, or others refer to them.
+fn look_round<R: Eprint + Clock>(rt: &R, place: &StoreFile<'_>, owned: bool) {
     if !owned {
-        place.say(
-            rt,
-            "other tables stand there too: nothing is promised of what is stored beside them",
-        );
+        place.say(rt, OfFile::OthersToo);
+    }
+}
+
+/// Says on standard error that a store failed, where it doesn't serve any more.
+pub(crate) fn look_after<R: Eprint + Clock>(rt: &R, place: &StoreFile<'_>, serves: bool) {
+    if !serves {
+        place.say(rt, OfFile::Failed(place.store));
     }
 }
 
 /// The queue in a database, opened, or brought to the form for two centres before, which is said, where it was of that for
 /// one; the second centre's lanes take so many rows then.
-fn migrated<S: Alter + Drop, R: AllocGlobal + Eprint>(
+fn migrated<S: Alter + Drop, R: AllocGlobal + Eprint + Clock>(
     rt: &R,
     place: &StoreFile<'_>,
     conn: Connection<S>,
@@ -148,10 +197,7 @@ fn migrated<S: Alter + Drop, R: AllocGlobal + Eprint>(
         Err((OpenFault::OldForm, conn)) => {
             let begun = Queue::migrate(rt.alloc(), conn, second);
             if begun.is_ok() {
-                place.say(
-                    rt,
-                    "the queue was for one centre, and has the form for two now",
-                );
+                place.say(rt, OfFile::Migrated);
             }
             begun
         }
@@ -161,7 +207,7 @@ fn migrated<S: Alter + Drop, R: AllocGlobal + Eprint>(
 
 /// The queue in a database, made with lanes of these capacities for each of two centres, or opened, or brought to the form
 /// for two centres and opened, where that is asked for. Where there is none, that is said, and the exit status is told.
-pub(crate) fn queue<S: Alter + Drop, R: AllocGlobal + Eprint>(
+pub(crate) fn queue<S: Alter + Drop, R: AllocGlobal + Eprint + Clock>(
     rt: &R,
     place: &StoreFile<'_>,
     conn: Connection<S>,
@@ -189,7 +235,7 @@ pub(crate) fn queue<S: Alter + Drop, R: AllocGlobal + Eprint>(
 }
 
 /// The journal in a database, made or opened. Where there is none, that is said, and the exit status is told.
-pub(crate) fn journal<S: Alter + Drop, R: AllocGlobal + Eprint>(
+pub(crate) fn journal<S: Alter + Drop, R: AllocGlobal + Eprint + Clock>(
     rt: &R,
     place: &StoreFile<'_>,
     conn: Connection<S>,
@@ -209,7 +255,7 @@ pub(crate) fn journal<S: Alter + Drop, R: AllocGlobal + Eprint>(
 }
 
 /// The book of controls in a database, made or opened. Where there is none, that is said, and the exit status is told.
-pub(crate) fn book<S: Alter + Drop, R: AllocGlobal + Eprint>(
+pub(crate) fn book<S: Alter + Drop, R: AllocGlobal + Eprint + Clock>(
     rt: &R,
     place: &StoreFile<'_>,
     conn: Connection<S>,
@@ -229,16 +275,16 @@ pub(crate) fn book<S: Alter + Drop, R: AllocGlobal + Eprint>(
 }
 
 /// The book of controls in its file, made or opened. Where there is none, that is said, and the exit status is told.
-pub(crate) fn book_there<S: Alter + Drop, R: AllocGlobal + Eprint + Files + Opens<Connection<S>>>(
-    rt: &R,
-    place: &StoreFile<'_>,
-) -> Result<ControlBook<S>, ExitCode> {
+pub(crate) fn book_there<
+    S: Alter + Drop,
+    R: AllocGlobal + Eprint + Clock + Files + Opens<Connection<S>>,
+>(rt: &R, place: &StoreFile<'_>) -> Result<ControlBook<S>, ExitCode> {
     let conn = connection(rt, place)?;
     book(rt, place, conn)
 }
 
 /// Closes a database in good order, and tells whether it could; where it couldn't, that is said on standard error.
-fn close<S: Alter, R: Eprint + Opens<Connection<S>>>(
+fn close<S: Alter, R: Eprint + Clock + Opens<Connection<S>>>(
     rt: &R,
     place: &StoreFile<'_>,
     conn: Connection<S>,
@@ -246,7 +292,7 @@ fn close<S: Alter, R: Eprint + Opens<Connection<S>>>(
     match rt.close_database(conn) {
         Ok(()) => true,
         Err(error) => {
-            let _ = eprintln!(rt; "dnp: {}: {error}", place.path);
+            place.say(rt, OfFile::Unclosed(&error));
             false
         }
     }
@@ -254,7 +300,7 @@ fn close<S: Alter, R: Eprint + Opens<Connection<S>>>(
 
 /// Closes the databases of two stores in good order, and gives this exit status; that of a fault where one couldn't be
 /// closed, which is said on standard error.
-pub(crate) fn close_both<S: Alter, R: Eprint + Opens<Connection<S>>>(
+pub(crate) fn close_both<S: Alter, R: Eprint + Clock + Opens<Connection<S>>>(
     rt: &R,
     first: &StoreFile<'_>,
     one: Connection<S>,

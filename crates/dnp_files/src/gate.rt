@@ -2,34 +2,46 @@
 
 ghost use Rattle.std.specs.Prelude.{◌<◌};
 
+use crate::lines::Line;
+use crate::sites::Served;
 use dnp_concentrator::Concentrator;
 use dnp_controls::Book;
 use dnp_eventbuf::{CENTRES, PairLanes};
+use dnp_notices::Ends;
 use dnp_streams::Above;
-use dnp_tcp::{Minded, exit, no_port, serve_connection};
-use std::net::{Net, SocketAddr, TcpListener, TcpStream};
+use dnp_tcp::{Minded, Place, exit, no_port, say, say_listening, serve_connection};
+use std::net::{Net, TcpListener, TcpStream};
 use std::process::ExitCode;
 use std::rt::Clock;
 
 /// Where a centre connects.
 #[derive(Drop)]
 pub(crate) struct Gate {
-    /// The port.
-    port: u16,
+    /// The place.
+    place: Place,
+    /// The link addresses of the frames that are taken there.
+    taken: Ends,
     /// What listens there.
     listener: TcpListener,
 }
 
 impl Gate {
-    /// Listens at a place. Where it can't be had, that is said, and the exit status is told.
-    pub(crate) fn open<R>(rt: &R, place: SocketAddr) -> Result<Gate, ExitCode>
+    /// Listens where a centre is served, and says so. Where the place can't be had, that is said, and the exit status is told.
+    pub(crate) fn open<R>(rt: &R, served: Served) -> Result<Gate, ExitCode>
     where
-        R: Eprint + Net<Listener = TcpListener, Stream = TcpStream>,
+        R: Eprint + Clock + Net<Listener = TcpListener, Stream = TcpStream>,
     {
-        let port = place.port();
-        match TcpListener::bind(rt, place) {
-            Ok(listener) => Ok(Gate { port, listener }),
-            Err(cause) => Err(no_port(rt, port, &cause)),
+        let Served { place, taken } = served;
+        match TcpListener::bind(rt, place.address()) {
+            Ok(listener) => {
+                say_listening(rt, place.address(), taken);
+                Ok(Gate {
+                    place,
+                    taken,
+                    listener,
+                })
+            }
+            Err(cause) => Err(no_port(rt, place, &cause)),
         }
     }
 
@@ -44,26 +56,27 @@ impl Gate {
         requires { centre < CENTRES }
     {
         match self.listener.accept() {
-            Ok((stream, _)) => serve_above(rt, concentrator, centre, &stream),
-            Err(cause) => Err(no_port(rt, self.port, &cause)),
+            Ok((stream, _)) => serve_above(rt, concentrator, centre, self.taken, &stream),
+            Err(cause) => Err(no_port(rt, self.place, &cause)),
         }
     }
 }
 
-/// Serves a connection of this centre. Where a store or memory fails, that is said, and the exit status is told.
+/// Serves a connection of this centre, whose frames have these link addresses. Where a store or memory fails, that is said, and the exit status is told.
 fn serve_above<Q: PairLanes, B: Book, R: AllocGlobal + Eprint + Clock>(
     rt: &R,
     concentrator: &mut Concentrator<Q, B>,
     centre: u8,
+    taken: Ends,
     stream: &TcpStream,
 ) -> Result<(), ExitCode>
     requires { centre < CENTRES }
 {
     let mut above = Above::new(concentrator, centre);
     let mut station = Minded::new(&mut above);
-    let served = serve_connection(rt, &mut station, centre, stream);
+    let served = serve_connection(rt, &mut station, centre, taken, stream);
     if let Some(cause) = station.cause() {
-        let _ = eprintln!(rt; "dnp: {cause}");
+        say(rt, &Line::Failed(cause));
         return Err(ExitCode::from(exit::FAULT));
     }
     match served {

@@ -2,50 +2,22 @@
 
 ghost use Rattle.std.specs.Prelude.{◌<◌};
 
+use crate::lines::{Line, News, OfCentre};
 use crate::pending::Pending;
 use crate::turn::{Heard, Over, Span, Turn, TurnReader, TurnWriter, send_waiting};
 use dnp_concentrator::Concentrator;
-use dnp_concentrator::addresses::{CONCENTRATOR_ABOVE, centre_address};
 use dnp_controls::Book;
 use dnp_eventbuf::{CENTRES, PairLanes};
 use dnp_line::Port;
+use dnp_notices::{Ends, Strange, StrangeLine, news_of};
 use dnp_streams::{
     Above, Limits, Lived, Living, Log, ServeFault, Session, Station, Waiting, live_stream,
 };
-use dnp_tcp::{Caller, End, Ending, Minded, Noted, note};
+use dnp_tcp::{Caller, End, Ending, Minded, Noted, note, say};
 use std::alloc::Global;
-use std::fmt::{Display, Formatter, Write};
+use std::io;
 use std::net::SocketAddr;
 use std::rt::Clock;
-use std::{fmt, io};
-
-/// What happened to the connection of a centre.
-#[derive(Clone, Copy)]
-pub(crate) enum News<'a> {
-    /// It began.
-    Connected,
-    /// It ended.
-    Ended(End<'a>),
-}
-
-/// What happened to the connection of the centre with this number, from 0.
-#[derive(Clone, Copy)]
-struct OfCentre<'a> {
-    /// The centre.
-    centre: u8,
-    /// What happened.
-    news: News<'a>,
-}
-
-impl<'a> Display for OfCentre<'a> {
-    fn fmt<W: Write>(&self, f: &mut Formatter<W>) -> fmt::Result {
-        let number = u16::from(self.centre) + 1;
-        match &self.news {
-            News::Connected => write!(f, "centre {number} connected"),
-            News::Ended(ended) => write!(f, "centre {number} {ended}"),
-        }
-    }
-}
 
 /// Says on standard error what happened to the connection of a centre.
 pub(crate) fn tell<R: Eprint + Clock>(rt: &R, peer: SocketAddr, centre: u8, news: News<'_>) {
@@ -87,21 +59,37 @@ pub(crate) struct Guest {
     stood: Stood,
     /// How many fragments came whole.
     fragments: u64,
+    /// What came last beside what the station takes, as it was said.
+    strange: Option<Strange>,
 }
 
 impl Guest {
-    /// This centre has connected, at this moment.
-    pub(crate) fn new(alloc: Global, caller: Caller, centre: u8, now: u64) -> Guest
-        requires { centre < CENTRES }
-    {
+    /// A centre has connected whose frames have these link addresses, at this moment.
+    pub(crate) fn new(alloc: Global, caller: Caller, taken: Ends, now: u64) -> Guest {
         Guest {
             caller,
-            line: Port::new(CONCENTRATOR_ABOVE, centre_address(centre), false),
-            heard: Heard::new(alloc, centre, now),
+            line: Port::new(taken.dest, taken.source, false),
+            heard: Heard::new(alloc, taken, now),
             unsent: Pending::new(alloc),
             stood: Stood { now, stands: false },
             fragments: 0,
+            strange: None,
         }
+    }
+
+    /// Says in the log which frames came that the station doesn't take, where that is new; that no frame came at all is known as the
+    /// connection ends.
+    fn tell_strange<R: Eprint + Clock>(&mut self, rt: &R, centre: u8, ends: bool) {
+        let now = self.heard.noted().strange();
+        if matches!(now, Some(Strange::Noise)) && !ends {
+            return;
+        }
+        if let Some(strange) = news_of(self.strange, now) {
+            let taken = self.heard.taken();
+            let news = News::Strange(StrangeLine { strange, taken });
+            tell(rt, self.caller.peer, centre, news);
+        }
+        self.strange = now;
     }
 
     /// Whether nothing whole came of it for so long before this moment, in milliseconds.
@@ -110,7 +98,8 @@ impl Guest {
     }
 
     /// Says in the log that the connection has ended, and how.
-    pub(crate) fn tell_end<R: Eprint + Clock>(&self, rt: &R, centre: u8, how: Ending<'_>) {
+    pub(crate) fn tell_end<R: Eprint + Clock>(&mut self, rt: &R, centre: u8, how: Ending<'_>) {
+        self.tell_strange(rt, centre, true);
         let fragments = self.fragments;
         let news = News::Ended(End { fragments, how });
         tell(rt, self.caller.peer, centre, news);
@@ -142,9 +131,10 @@ impl Guest {
         let mut above = Above::new(concentrator, centre);
         let mut minded = Minded::new(&mut above);
         let turned = self.live(rt, &mut minded, centre, span);
+        self.tell_strange(rt, centre, false);
         match minded.cause() {
             Some(cause) => {
-                let _ = eprintln!(rt; "dnp: {cause}");
+                say(rt, &Line::Failed(cause));
                 Turned::Lost
             }
             None => turned,

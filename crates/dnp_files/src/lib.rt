@@ -2,17 +2,21 @@
 //! file is taken, made or refused, what is looked at of what stands there, and what each does over TCP.
 #![tactic(auto)]
 
+mod accounts;
 mod centre;
 mod concentrator;
 mod files;
 mod gate;
 mod guest;
+pub mod lines;
+mod making;
 mod pending;
 mod planned;
 mod polls;
 mod rounds;
 mod seat;
 mod seats;
+mod sites;
 mod turn;
 
 pub use centre::{CentreWords, run_centre};
@@ -21,3 +25,4 @@ pub use files::StoreFile;
 pub use planned::has_output;
 pub use polls::PollPace;
 pub use rounds::RoundPace;
+pub use sites::{Served, Substations, Target, ends_from_centre, ends_to_centre, port_here};

@@ -7,12 +7,14 @@ ghost use Rattle.dnp_concentrator.specs.Mapped.{command_above};
 ghost use Rattle.dnp_concentrator.specs.Plan.{map_of, spans_of};
 
 use crate::files::StoreFile;
+use crate::lines::OfFile;
 use dnp_concentrator::{Plan, SubPlan};
 use dnp_controls::{Book, Entry};
 use dnp_eventbuf::{CENTRES, JournalStore, MAX_CAPACITY, PairLanes};
 use dnp_objects::{Command, Kind, LANES, Lane, Row};
 use dnp_tcp::exit;
 use std::process::ExitCode;
+use std::rt::Clock;
 
 /// How many rows or controls are looked at at once.
 const PAGE: usize = 1_000;
@@ -79,36 +81,27 @@ fn has_output_above(plan: &Plan, command: &Command) -> bool {
 }
 
 /// Says on standard error that a file can't be read, and gives the exit status of a fault.
-fn unread<R: Eprint>(rt: &R, place: &StoreFile<'_>) -> ExitCode {
-    place.say(
-        rt,
-        "its rows can't be read: out of memory, or its device failed",
-    );
+fn unread<R: Eprint + Clock>(rt: &R, place: &StoreFile<'_>) -> ExitCode {
+    place.say(rt, OfFile::NoRows);
     ExitCode::from(exit::FAULT)
 }
 
 /// Says on standard error which row is of no point of the plan, and gives the exit status of a refused input.
-fn no_point<R: Eprint>(rt: &R, place: &StoreFile<'_>, id: u64, row: &Row) -> ExitCode {
-    let _ = eprintln!(rt;
-        "dnp: {}: row {id}, {row}: the plan has no such point",
-        place.path
-    );
+fn no_point<R: Eprint + Clock>(rt: &R, place: &StoreFile<'_>, id: u64, row: &Row) -> ExitCode {
+    place.say(rt, OfFile::NoPoint(id, row));
     ExitCode::from(exit::REFUSED)
 }
 
 /// Says on standard error which row is of no point of the plan that has events, and gives the exit status of a refused
 /// input.
-fn no_event<R: Eprint>(rt: &R, place: &StoreFile<'_>, id: u64, row: &Row) -> ExitCode {
-    let _ = eprintln!(rt;
-        "dnp: {}: row {id}, {row}: the plan has no such point with a class",
-        place.path
-    );
+fn no_event<R: Eprint + Clock>(rt: &R, place: &StoreFile<'_>, id: u64, row: &Row) -> ExitCode {
+    place.say(rt, OfFile::NoEvent(id, row));
     ExitCode::from(exit::REFUSED)
 }
 
 /// Looks whether each row of the queue for this centre is of a point of the plan that has events: the centre would confirm
 /// no other, and so nothing that stands behind it. Where one isn't, that is said, and the exit status is told.
-pub(crate) fn look_at_queue<Q: PairLanes, R: AllocGlobal + Eprint>(
+pub(crate) fn look_at_queue<Q: PairLanes, R: AllocGlobal + Eprint + Clock>(
     rt: &R,
     place: &StoreFile<'_>,
     queue: &mut Q,
@@ -135,7 +128,7 @@ pub(crate) fn look_at_queue<Q: PairLanes, R: AllocGlobal + Eprint>(
 
 /// Looks whether each row of the journal is of a point of the plan, in pages. Where one isn't, that is said, and the exit
 /// status is told.
-pub(crate) fn look_at_journal<J: JournalStore, R: AllocGlobal + Eprint>(
+pub(crate) fn look_at_journal<J: JournalStore, R: AllocGlobal + Eprint + Clock>(
     rt: &R,
     place: &StoreFile<'_>,
     journal: &mut J,
@@ -161,7 +154,7 @@ pub(crate) fn look_at_journal<J: JournalStore, R: AllocGlobal + Eprint>(
 
 /// Looks whether each control of a book is for an output or a setpoint of the plan, in pages: of a substation by its own
 /// index, or `above` by the index there. Where one isn't, that is said, and the exit status is told.
-pub(crate) fn look_at_book<B: Book, R: AllocGlobal + Eprint>(
+pub(crate) fn look_at_book<B: Book, R: AllocGlobal + Eprint + Clock>(
     rt: &R,
     place: &StoreFile<'_>,
     book: &mut B,
@@ -199,10 +192,7 @@ fn is_planned(plan: &Plan, entry: &Entry, above: bool) -> bool
 }
 
 /// Says on standard error which control is for no output of the plan, and gives the exit status of a refused input.
-fn no_output<R: Eprint>(rt: &R, place: &StoreFile<'_>, entry: &Entry) -> ExitCode {
-    let _ = eprintln!(rt;
-        "dnp: {}: control {}, {} {}: the plan has no such output",
-        place.path, entry.id, entry.target, entry.command
-    );
+fn no_output<R: Eprint + Clock>(rt: &R, place: &StoreFile<'_>, entry: &Entry) -> ExitCode {
+    place.say(rt, OfFile::NoOutput(entry));
     ExitCode::from(exit::REFUSED)
 }

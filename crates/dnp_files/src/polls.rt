@@ -1,12 +1,14 @@
 //! The polls of a centre over TCP: one, or one after the other by the clock.
 
-use dnp_concentrator::addresses::CONCENTRATOR_ABOVE;
+use crate::accounts::{above, no_memory};
+use crate::lines::{Line, Of, Rows};
+use crate::sites::Target;
 use dnp_concentrator::{Centre, Plan};
-use dnp_controls::{Book, State};
+use dnp_controls::Book;
 use dnp_eventbuf::JournalStore;
 use dnp_master::{Classes, Task};
 use dnp_objects::Command;
-use dnp_tcp::{Call, Ended, Peer, exit, moment, unwritten};
+use dnp_tcp::{Account, Call, Ended, Names, Peer, Thing, exit, moment, say, unprinted};
 use std::net::{Net, TcpListener, TcpStream};
 use std::process::ExitCode;
 use std::rt::Clock;
@@ -37,17 +39,17 @@ pub enum PollPace {
 pub(crate) struct Polls<'p> {
     /// The plan.
     pub plan: &'p Plan,
-    /// The TCP port of the concentrator.
-    pub port: u16,
-    /// The centre's link address.
-    pub own: u16,
+    /// Where the concentrator is asked.
+    pub concentrator: Target,
+    /// What people call the stations and their points.
+    pub names: Names<'p>,
     /// How many polls there are, and when they begin.
     pub pace: PollPace,
 }
 
 impl<'p> Polls<'p> {
-    /// Issues a control, where there is one, and asks the concentrator; says what became of the control. Where something fails,
-    /// the exit status is told.
+    /// Issues a control, where there is one, and asks the concentrator. What becomes of a control is said as it is known, and at last that
+    /// the one that was issued is pending, where it is. Where something fails, the exit status is told.
     pub(crate) fn run<J: JournalStore, B: Book, R>(
         &self,
         rt: &R,
@@ -57,37 +59,43 @@ impl<'p> Polls<'p> {
     where
         R: AllocGlobal + Print + Eprint + Clock + Net<Listener = TcpListener, Stream = TcpStream>,
     {
-        let mut issued = match control {
-            Some((substation, control)) => Some(issue(rt, centre, *substation, control)?),
+        let Some(mut account) = above(rt.alloc(), self.plan) else {
+            return Err(no_memory(rt));
+        };
+        let issued = match control {
+            Some((substation, control)) => {
+                Some(issue(rt, centre, self.names, *substation, control)?)
+            }
             None => None,
         };
         let done = match self.pace {
-            PollPace::Once => match self.ask(rt, centre) {
+            PollPace::Once => match self.ask(rt, centre, &mut account) {
                 Ok(Ended::Done(_)) => Ok(()),
                 Ok(Ended::Failed | Ended::Lost) => Err(ExitCode::from(exit::FAULT)),
                 Err(status) => Err(status),
             },
             PollPace::ByClock { every_ms, polls } => {
                 let count = polls.unwrap_or(u64::MAX);
-                self.go_on(rt, centre, every_ms, count, &mut issued)
+                self.go_on(rt, centre, &mut account, every_ms, count)
             }
         };
-        if let Some(id) = issued {
-            let _ = say_state(rt, centre.book(), id, true);
+        if let Some(id) = issued
+            && is_pending(rt, centre.book(), id)
+        {
+            say(rt, &Line::Pending(id));
         }
         done
     }
 
     /// Asks the concentrator so often, each time so long after the time before, in milliseconds, or at once where that took
-    /// longer. What became of the control that was issued is said as soon as it is not pending. Where a store or memory fails,
-    /// the exit status is told.
+    /// longer. Where a store or memory fails, the exit status is told.
     fn go_on<J: JournalStore, B: Book, R>(
         &self,
         rt: &R,
         centre: &mut Centre<J, B>,
+        account: &mut Account,
         every_ms: u64,
         count: u64,
-        issued: &mut Option<u64>,
     ) -> Result<(), ExitCode>
     where
         R: AllocGlobal + Print + Eprint + Clock + Net<Listener = TcpListener, Stream = TcpStream>,
@@ -99,13 +107,8 @@ impl<'p> Polls<'p> {
             rt.sleep(Duration::from_millis(next.saturating_sub(now)));
             now = moment(rt, now);
             next = now.saturating_add(every_ms);
-            if self.ask(rt, centre)? == Ended::Lost {
+            if self.ask(rt, centre, account)? == Ended::Lost {
                 return Err(ExitCode::from(exit::FAULT));
-            }
-            if let Some(id) = *issued
-                && say_state(rt, centre.book(), id, false)
-            {
-                *issued = None;
             }
         }
         Ok(())
@@ -117,25 +120,27 @@ impl<'p> Polls<'p> {
         &self,
         rt: &R,
         centre: &mut Centre<J, B>,
+        account: &mut Account,
     ) -> Result<Ended, ExitCode>
     where
         R: AllocGlobal + Print + Eprint + Clock + Net<Listener = TcpListener, Stream = TcpStream>,
     {
         let call = Call {
             peer: Peer::Concentrator,
-            port: self.port,
-            own: self.own,
-            other: CONCENTRATOR_ABOVE,
+            names: self.names,
+            place: self.concentrator.place,
+            own: self.concentrator.awaited.dest,
+            other: self.concentrator.awaited.source,
             patience_ms: self.plan.times.response_ms,
         };
         let before = centre.journal().count();
-        let Some(stream) = call.connect(rt) else {
+        let Some(stream) = call.connect(rt, account) else {
             return Ok(Ended::Failed);
         };
-        let ended = call.ask(rt, centre, &TASKS, &stream);
-        let rows = centre.journal().count().saturating_sub(before);
-        if let Err(cause) = println!(rt; "rows {rows}") {
-            return Err(unwritten(rt, &cause));
+        let ended = call.ask(rt, centre, &TASKS, &stream, account);
+        let rows = Rows(centre.journal().count().saturating_sub(before));
+        if let Err(cause) = println!(rt; "{rows}") {
+            return Err(unprinted(rt, &cause));
         }
         Ok(ended)
     }
@@ -143,56 +148,39 @@ impl<'p> Polls<'p> {
 
 /// Issues a control, and says on standard error by which number it stands in the book. Where it can't be issued, that is
 /// said, and the exit status is told.
-fn issue<J: JournalStore, B: Book, R: AllocGlobal + Eprint>(
+fn issue<J: JournalStore, B: Book, R: AllocGlobal + Eprint + Clock>(
     rt: &R,
     centre: &mut Centre<J, B>,
+    names: Names<'_>,
     substation: u8,
     control: &Command,
 ) -> Result<u64, ExitCode> {
     match centre.issue(rt.alloc(), substation, control) {
         Ok(id) => {
-            let _ = eprintln!(rt; "dnp: issued as control {id}");
+            let peer = Peer::Substation(substation);
+            let of = Of {
+                substation,
+                station: names.of(Thing::Station(peer)),
+                control,
+                output: names.of(Thing::of_command(peer, control)),
+            };
+            say(rt, &Line::Issued(id, of));
             Ok(id)
         }
         Err(fault) => {
-            let _ = eprintln!(rt; "dnp: the control was not issued: {fault}");
+            say(rt, &Line::NotIssued(fault));
             Err(ExitCode::from(exit::FAULT))
         }
     }
 }
 
-/// Says on standard error what became of a control, or where it is pending nothing, unless that is to be said too. Tells
-/// whether it was said.
-fn say_state<B: Book, R: AllocGlobal + Eprint>(
-    rt: &R,
-    book: &mut B,
-    id: u64,
-    says_pending: bool,
-) -> bool {
-    let Ok(entries) = book.rows(rt.alloc(), id.saturating_sub(1), 1) else {
-        return false;
-    };
-    let Some(entry) = entries.first() else {
-        return false;
-    };
-    let _ = match entry.state {
-        State::Pending if !says_pending => return false,
-        State::Pending => {
-            eprintln!(rt;
-                "dnp: control {id} is pending: the next run sends it, and to issue it again would double it"
-            )
-        }
-        State::Spent => {
-            eprintln!(rt;
-                "dnp: control {id} was sent, and its answer is not known: it is not sent again"
-            )
-        }
-        State::Finished(status) => {
-            eprintln!(rt;
-                "dnp: control {id} was answered with status {}",
-                status.code()
-            )
-        }
-    };
-    true
+/// Whether the control with this number is pending in the book.
+fn is_pending<B: Book, R: AllocGlobal>(rt: &R, book: &mut B, id: u64) -> bool {
+    match book.rows(rt.alloc(), id.saturating_sub(1), 1) {
+        Ok(entries) => match entries.first() {
+            Some(entry) => entry.id == id && entry.state.is_pending(),
+            None => false,
+        },
+        Err(_) => false,
+    }
 }

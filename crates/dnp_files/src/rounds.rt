@@ -1,15 +1,18 @@
 //! The rounds of a concentrator over TCP: at the pace of its centres, or by the clock.
 
+use crate::accounts::{Accounts, no_memory};
 use crate::gate::Gate;
+use crate::lines::Round;
+use crate::making::Making;
 use crate::seats::Seats;
-use dnp_concentrator::addresses::{MASTER_BELOW, outstation_address};
+use crate::sites::{Served, Substations};
 use dnp_concentrator::{Concentrator, MAX_SUBSTATIONS, Plan};
 use dnp_controls::Book;
 use dnp_eventbuf::PairLanes;
 use dnp_master::{Classes, Task};
 use dnp_streams::Below;
-use dnp_tcp::{Call, Ended, Peer, exit, unwritten};
-use std::net::{IpAddr, Net, SocketAddr, TcpListener, TcpStream};
+use dnp_tcp::{Call, Ended, Names, Peer, exit, unprinted};
+use std::net::{Net, TcpListener, TcpStream};
 use std::process::ExitCode;
 use std::rt::Clock;
 
@@ -43,37 +46,45 @@ pub enum RoundPace {
 pub(crate) struct Rounds<'p> {
     /// The plan.
     pub plan: &'p Plan,
-    /// The address at which centres connect.
-    pub address: IpAddr,
-    /// The TCP port for the first centre.
-    pub port: u16,
-    /// The TCP port for the second centre, if it is served.
-    pub port2: Option<u16>,
-    /// The TCP port of substation 0.
-    pub below: u16,
+    /// Where the first centre is served.
+    pub first: Served,
+    /// Where the second centre is served, if it is.
+    pub second: Option<Served>,
+    /// Where the substations are.
+    pub substations: Substations<'p>,
+    /// What people call the substations and their points.
+    pub names: Names<'p>,
     /// How many rounds there are, and when they begin.
     pub pace: RoundPace,
 }
 
-/// Listens, and does the rounds. Where that ends before the last, the exit status is told.
+/// Listens, from which on what was made for the run stays, and does the rounds. Where that ends before the last, the exit status is told.
 pub(crate) fn run<Q: PairLanes, B: Book, R>(
     rt: &R,
     concentrator: &mut Concentrator<Q, B>,
     rounds: &Rounds<'_>,
+    making: &Making<'_>,
 ) -> Result<(), ExitCode>
 where
     R: AllocGlobal + Print + Eprint + Clock + Net<Listener = TcpListener, Stream = TcpStream>,
 {
+    let Some(mut accounts) = Accounts::below(rt.alloc(), rounds.plan, concentrator.queue()) else {
+        return Err(no_memory(rt));
+    };
     match rounds.pace {
-        RoundPace::ByCentres { rounds: count } => by_centres(rt, concentrator, rounds, count),
+        RoundPace::ByCentres { rounds: count } => {
+            by_centres(rt, concentrator, rounds, &mut accounts, count, making)
+        }
         RoundPace::ByClock {
             every_ms,
             rounds: count,
             idle,
         } => {
-            let mut seats = Seats::open(rt, rounds.address, rounds.port, rounds.port2, idle)?;
+            let mut seats = Seats::open(rt, rounds.first, rounds.second, idle)?;
+            making.begin();
             let count = count.unwrap_or(u64::MAX);
-            let done = by_clock(rt, concentrator, rounds, &mut seats, count, every_ms);
+            let pace = Pace { every_ms, count };
+            let done = by_clock(rt, concentrator, rounds, &mut accounts, &mut seats, pace);
             if done.is_ok() {
                 seats.close(rt, concentrator);
             }
@@ -87,54 +98,68 @@ fn by_centres<Q: PairLanes, B: Book, R>(
     rt: &R,
     concentrator: &mut Concentrator<Q, B>,
     rounds: &Rounds<'_>,
+    accounts: &mut Accounts,
     count: u64,
+    making: &Making<'_>,
 ) -> Result<(), ExitCode>
 where
     R: AllocGlobal + Print + Eprint + Clock + Net<Listener = TcpListener, Stream = TcpStream>,
 {
-    let first = Gate::open(rt, SocketAddr::new(rounds.address, rounds.port))?;
-    let second = match rounds.port2 {
-        Some(port) => Some(Gate::open(rt, SocketAddr::new(rounds.address, port))?),
+    let first = Gate::open(rt, rounds.first)?;
+    let second = match rounds.second {
+        Some(served) => Some(Gate::open(rt, served)?),
         None => None,
     };
+    making.begin();
     for round in 0..count {
-        let rows = rounds.poll_all(rt, concentrator)?;
+        let rows = rounds.poll_all(rt, concentrator, accounts)?;
         print_round(rt, round, rows)?;
         first.serve_next(rt, concentrator, 0)?;
         if let Some(gate) = &second {
             gate.serve_next(rt, concentrator, 1)?;
         }
+        accounts.look_at(rt, concentrator.queue());
     }
     Ok(())
 }
 
-/// Does so many rounds, each so long after the one before has begun, in milliseconds, or at once where that took longer; serves
-/// the centres meanwhile.
+/// The pace of rounds by the clock.
+#[derive(Clone, Copy)]
+struct Pace {
+    /// From the beginning of a round to that of the next one, in milliseconds.
+    every_ms: u64,
+    /// How many rounds there are.
+    count: u64,
+}
+
+/// Does so many rounds, each so long after the one before has begun, or at once where that took longer; serves the centres meanwhile.
 fn by_clock<Q: PairLanes, B: Book, R>(
     rt: &R,
     concentrator: &mut Concentrator<Q, B>,
     rounds: &Rounds<'_>,
+    accounts: &mut Accounts,
     seats: &mut Seats,
-    count: u64,
-    every_ms: u64,
+    pace: Pace,
 ) -> Result<(), ExitCode>
 where
     R: AllocGlobal + Print + Eprint + Clock + Net<Listener = TcpListener, Stream = TcpStream>,
 {
-    for round in 0..count {
-        let next = seats.now(rt).saturating_add(every_ms);
-        let rows = rounds.poll_and_serve(rt, concentrator, seats)?;
+    for round in 0..pace.count {
+        let next = seats.now(rt).saturating_add(pace.every_ms);
+        let rows = rounds.poll_and_serve(rt, concentrator, accounts, seats)?;
         print_round(rt, round, rows)?;
         seats.serve_until(rt, concentrator, next)?;
+        accounts.look_at(rt, concentrator.queue());
     }
     Ok(())
 }
 
 /// Prints how many rows a round brought; it is counted from 0. Where that can't be printed, the exit status is told.
-fn print_round<R: Print + Eprint>(rt: &R, round: u64, rows: u64) -> Result<(), ExitCode> {
-    match println!(rt; "round {} rows {rows}", round.saturating_add(1)) {
+fn print_round<R: Print + Eprint + Clock>(rt: &R, round: u64, rows: u64) -> Result<(), ExitCode> {
+    let line = Round { round, rows };
+    match println!(rt; "{line}") {
         Ok(()) => Ok(()),
-        Err(cause) => Err(unwritten(rt, &cause)),
+        Err(cause) => Err(unprinted(rt, &cause)),
     }
 }
 
@@ -150,13 +175,14 @@ impl<'p> Rounds<'p> {
         &self,
         rt: &R,
         concentrator: &mut Concentrator<Q, B>,
+        accounts: &mut Accounts,
     ) -> Result<u64, ExitCode>
     where
         R: AllocGlobal + Eprint + Clock + Net<Listener = TcpListener, Stream = TcpStream>,
     {
         let mut rows = 0u64;
         for substation in 0..self.count() {
-            rows = rows.saturating_add(self.poll(rt, concentrator, substation)?);
+            rows = rows.saturating_add(self.poll(rt, concentrator, accounts, substation)?);
         }
         Ok(rows)
     }
@@ -166,6 +192,7 @@ impl<'p> Rounds<'p> {
         &self,
         rt: &R,
         concentrator: &mut Concentrator<Q, B>,
+        accounts: &mut Accounts,
         seats: &mut Seats,
     ) -> Result<u64, ExitCode>
     where
@@ -173,7 +200,7 @@ impl<'p> Rounds<'p> {
     {
         let mut rows = 0u64;
         for substation in 0..self.count() {
-            rows = rows.saturating_add(self.poll(rt, concentrator, substation)?);
+            rows = rows.saturating_add(self.poll(rt, concentrator, accounts, substation)?);
             seats.serve_between(rt, concentrator)?;
         }
         Ok(rows)
@@ -185,23 +212,33 @@ impl<'p> Rounds<'p> {
         &self,
         rt: &R,
         concentrator: &mut Concentrator<Q, B>,
+        accounts: &mut Accounts,
         substation: u8,
     ) -> Result<u64, ExitCode>
     where
         R: AllocGlobal + Eprint + Clock + Net<Listener = TcpListener, Stream = TcpStream>,
     {
+        let Some(target) = self.substations.target(substation) else {
+            return Ok(0);
+        };
+        let Some(account) = accounts.of(substation) else {
+            return Ok(0);
+        };
         let call = Call {
             peer: Peer::Substation(substation),
-            port: self.below.saturating_add(u16::from(substation)),
-            own: MASTER_BELOW,
-            other: outstation_address(substation),
+            names: self.names,
+            place: target.place,
+            own: target.awaited.dest,
+            other: target.awaited.source,
             patience_ms: self.plan.times.response_ms,
         };
-        let Some(stream) = call.connect(rt) else {
+        let Some(stream) = call.connect(rt, account) else {
             return Ok(0);
         };
         let mut link = Below::new(concentrator, substation);
-        match call.ask(rt, &mut link, &[POLL], &stream) {
+        let ended = call.ask(rt, &mut link, &[POLL], &stream, account);
+        accounts.look_at(rt, concentrator.queue());
+        match ended {
             Ended::Done(came) => Ok(came),
             Ended::Failed => Ok(0),
             Ended::Lost => Err(ExitCode::from(exit::FAULT)),

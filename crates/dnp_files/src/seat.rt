@@ -2,15 +2,16 @@
 
 ghost use Rattle.std.specs.Prelude.{◌<◌};
 
-use crate::guest::{Guest, News, Turned, tell};
+use crate::guest::{Guest, Turned, tell};
+use crate::lines::{Line, News};
+use crate::sites::Served;
 use crate::turn::{Span, prepare};
 use dnp_concentrator::Concentrator;
 use dnp_controls::Book;
-use dnp_decode::Moment;
 use dnp_eventbuf::{CENTRES, PairLanes};
-use dnp_tcp::{Caller, Door, Ending, exit, listen, no_port, utc};
+use dnp_tcp::{Caller, Door, Ending, exit, listen, no_port, say, say_listening};
 use std::io;
-use std::net::{Net, SocketAddr, TcpListener, TcpStream};
+use std::net::{Net, TcpListener, TcpStream};
 use std::process::ExitCode;
 use std::rt::Clock;
 
@@ -20,8 +21,8 @@ const AFTER_MS: u64 = 1_000;
 /// The place of a centre.
 #[derive(Drop)]
 pub(crate) struct Seat {
-    /// The port.
-    port: u16,
+    /// The place, and the link addresses of the frames that are taken there.
+    served: Served,
     /// How long a connection may stand in which nothing whole comes, in seconds.
     idle: u64,
     /// Where the centre connects.
@@ -33,22 +34,25 @@ pub(crate) struct Seat {
 }
 
 impl Seat {
-    /// Listens at a place, for a centre that may stand so long in which nothing whole comes, in seconds. Where it can't be had,
-    /// that is said, and the exit status is told.
-    pub(crate) fn open<R>(rt: &R, place: SocketAddr, idle: u64) -> Result<Seat, ExitCode>
+    /// Listens where a centre is served, which may stand so long in which nothing whole comes, in seconds, and says so. Where the place
+    /// can't be had, that is said, and the exit status is told.
+    pub(crate) fn open<R>(rt: &R, served: Served, idle: u64) -> Result<Seat, ExitCode>
     where
-        R: Eprint + Net<Listener = TcpListener, Stream = TcpStream>,
+        R: Eprint + Clock + Net<Listener = TcpListener, Stream = TcpStream>,
     {
-        let port = place.port();
-        match listen(rt, place) {
-            Ok(listener) => Ok(Seat {
-                port,
-                idle,
-                door: Door::new(listener),
-                after: 0,
-                guest: None,
-            }),
-            Err(cause) => Err(no_port(rt, port, &cause)),
+        let address = served.place.address();
+        match listen(rt, address) {
+            Ok(listener) => {
+                say_listening(rt, address, served.taken);
+                Ok(Seat {
+                    served,
+                    idle,
+                    door: Door::new(listener),
+                    after: 0,
+                    guest: None,
+                })
+            }
+            Err(cause) => Err(no_port(rt, served.place, &cause)),
         }
     }
 
@@ -66,8 +70,7 @@ impl Seat {
             Ok(caller) => Some(caller),
             Err(cause) if cause.kind() == io::ErrorKind::WouldBlock => None,
             Err(cause) => {
-                let moment = Moment(utc(rt));
-                let _ = eprintln!(rt; "{moment} port {}: {cause}", self.port);
+                say(rt, &Line::NoCaller(self.served.place, &cause));
                 self.after = now.saturating_add(AFTER_MS);
                 None
             }
@@ -84,7 +87,7 @@ impl Seat {
     )
         requires { centre < CENTRES }
     {
-        if let Some(guest) = self.guest.take() {
+        if let Some(mut guest) = self.guest.take() {
             concentrator.hung_up_above(centre);
             guest.tell_end(rt, centre, how);
         }
@@ -107,7 +110,7 @@ impl Seat {
         self.hang_up(rt, concentrator, centre, Ending::Taken(peer));
         tell(rt, peer, centre, News::Connected);
         let prepared = prepare(&caller.stream);
-        let guest = Guest::new(rt.alloc(), caller, centre, now);
+        let mut guest = Guest::new(rt.alloc(), caller, self.served.taken, now);
         match prepared {
             Ok(()) => self.guest = Some(guest),
             Err(cause) => guest.tell_end(rt, centre, Ending::Unprepared(&cause)),

@@ -1,12 +1,13 @@
 //! The places of the centres of a concentrator that lives, which are served in turns.
 
 use crate::seat::Seat;
+use crate::sites::Served;
 use crate::turn::Span;
 use dnp_concentrator::Concentrator;
 use dnp_controls::Book;
 use dnp_eventbuf::PairLanes;
 use dnp_tcp::{Ending, moment};
-use std::net::{IpAddr, Net, SocketAddr, TcpListener, TcpStream};
+use std::net::{Net, TcpListener, TcpStream};
 use std::process::ExitCode;
 use std::rt::Clock;
 use std::time::Duration;
@@ -38,21 +39,20 @@ pub(crate) struct Seats {
 }
 
 impl Seats {
-    /// Listens at this address at the port of each centre, which may stand so long in which nothing whole comes, in seconds. Where a port can't
-    /// be had, that is said, and the exit status is told.
+    /// Listens where each centre is served, which may stand so long in which nothing whole comes, in seconds. Where a place can't be had,
+    /// that is said, and the exit status is told.
     pub(crate) fn open<R>(
         rt: &R,
-        address: IpAddr,
-        port: u16,
-        port2: Option<u16>,
+        first: Served,
+        second: Option<Served>,
         idle: u64,
     ) -> Result<Seats, ExitCode>
     where
-        R: Eprint + Net<Listener = TcpListener, Stream = TcpStream>,
+        R: Eprint + Clock + Net<Listener = TcpListener, Stream = TcpStream>,
     {
-        let first = Seat::open(rt, SocketAddr::new(address, port), idle)?;
-        let second = match port2 {
-            Some(port) => Some(Seat::open(rt, SocketAddr::new(address, port), idle)?),
+        let first = Seat::open(rt, first, idle)?;
+        let second = match second {
+            Some(served) => Some(Seat::open(rt, served, idle)?),
             None => None,
         };
         Ok(Seats {

@@ -1,13 +1,11 @@
 //! A turn of a centre: for a while, or until nothing comes, a station lives on its connection. What has begun stands over to
 //! the next turn, so that no turn waits for it: a frame that is not whole yet, and what can't be sent yet.
 
-ghost use Rattle.std.specs.Prelude.{◌≡◌, ◌↔◌, ◌<◌, ◌≤◌, IsTrue};
-ghost use Rattle.dnp_concentrator.specs.declared.addresses.TheConstants as addresses;
+ghost use Rattle.std.specs.Prelude.{◌≡◌, ◌↔◌, ◌≤◌, IsTrue};
 
 use crate::pending::Pending;
-use dnp_concentrator::addresses::{CONCENTRATOR_ABOVE, centre_address};
-use dnp_eventbuf::CENTRES;
 use dnp_linkframe::{Frame, FrameReader, MAX_UNIT, write_frame};
+use dnp_notices::Ends;
 use dnp_streams::Waiting;
 use dnp_tcp::{is_pause, moment};
 use std::alloc::Global;
@@ -51,8 +49,8 @@ pub(crate) enum Over {
 /// What came on a connection, from turn to turn.
 #[derive(Drop)]
 pub(crate) struct Heard {
-    /// The centre's link address.
-    of: u16,
+    /// The link addresses of the frames that the station takes.
+    taken: Ends,
     /// Finds the frames in what comes.
     frames: FrameReader,
     /// Those that came whole last.
@@ -63,28 +61,39 @@ pub(crate) struct Heard {
     whole: u64,
     /// How long a read of the connection waits now, in milliseconds.
     wait: u64,
+    /// Which frames came.
+    noted: dnp_notices::Heard,
 }
 
-/// Whether a frame is for the station, and of the centre with this address.
-fn is_of(frame: &Frame, centre: u16) -> bool
-    ensures { IsTrue result ↔ (frame.now.dest ≡ addresses.CONCENTRATOR_ABOVE) × (frame.now.source ≡ centre) }
+/// Whether a frame has these link addresses.
+fn is_of(frame: &Frame, taken: Ends) -> bool
+    ensures { IsTrue result ↔ (frame.now.dest ≡ taken.dest) × (frame.now.source ≡ taken.source) }
 {
-    frame.dest == CONCENTRATOR_ABOVE && frame.source == centre
+    frame.dest == taken.dest && frame.source == taken.source
 }
 
 impl Heard {
-    /// Nothing has come of this centre, at this moment.
-    pub(crate) fn new(alloc: Global, centre: u8, now: u64) -> Heard
-        requires { centre < CENTRES }
-    {
+    /// Nothing has come of a centre whose frames have these link addresses, at this moment.
+    pub(crate) fn new(alloc: Global, taken: Ends, now: u64) -> Heard {
         Heard {
-            of: centre_address(centre),
+            taken,
             frames: FrameReader::new(),
             came: Vec::new(alloc),
             units: Pending::new(alloc),
             whole: now,
             wait: 0,
+            noted: dnp_notices::Heard::NOTHING,
         }
+    }
+
+    /// Which frames came.
+    pub(crate) fn noted(&self) -> dnp_notices::Heard {
+        self.noted
+    }
+
+    /// The link addresses of the frames that the station takes.
+    pub(crate) fn taken(&self) -> Ends {
+        self.taken
     }
 
     /// The moment at which something whole came last, in milliseconds.
@@ -98,14 +107,22 @@ impl Heard {
         if self.frames.feed(octets, &mut self.came).is_err() {
             return Err(ErrorKind::OutOfMemory.into());
         }
+        let taken = self.taken;
+        let mut noted = self.noted.with_octets();
         for frame in self.came.iter() {
+            let ends = Ends {
+                source: frame.source,
+                dest: frame.dest,
+            };
+            noted = noted.with_frame(ends, taken);
             if self.units.add(write_frame(frame).as_slice()).is_err() {
                 return Err(ErrorKind::OutOfMemory.into());
             }
-            if is_of(frame, self.of) {
+            if is_of(frame, taken) {
                 self.whole = now;
             }
         }
+        self.noted = noted;
         Ok(())
     }
 }

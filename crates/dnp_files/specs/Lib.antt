@@ -1,0 +1,2 @@
+-- Definitions, by which contracts promise.
+pub mod Sites
