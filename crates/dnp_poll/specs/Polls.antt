@@ -8,7 +8,7 @@ use Rattle.dnp_concentrator.specs.declared.relayed.Relayed.{Relayed}
 use Rattle.dnp_concentrator.specs.declared.relayed.Relayed.TheVariants.{Nothing}
 use Rattle.dnp_decode.specs.FragmentLines.{IsFaultPlace}
 use Rattle.dnp_master.specs.Calls.{Taking, ask_answer, asking, follow_of, is_awaited}
-use Rattle.dnp_master.specs.State.{State, closed, is_idle, is_timed_out, opened}
+use Rattle.dnp_master.specs.State.{State, closed, is_idle, is_timed_out, next_deadline, opened}
 use Rattle.dnp_master.specs.declared.fault.AskFault.{AskFault}
 use Rattle.dnp_master.specs.declared.task.Task.{Task}
 use Rattle.dnp_poll.specs.Rows.{rows_in}
@@ -142,6 +142,7 @@ abbrev pub poll_lives : {S : Type 0} → Life (PollSeen S)
 poll_lives = record {
   ticks = record { answers = TicksPoll; refuses = λ old now fault. ⊥ };
   changes = λ change. record { answers = λ old now answer new. ⊥; refuses = λ old now fault. fault ≡ Message };
+  deadline = λ s. next_deadline s.master;
 }
 
 -- ---- what it asks

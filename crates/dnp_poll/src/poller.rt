@@ -26,7 +26,7 @@ use std::alloc::Global;
 /// order, and only then confirms it. What isn't awaited is neither shown nor confirmed. What is no response stops it, and so does
 /// a response that doesn't come in time.
 ///
-/// `ask_live` asks tasks by it, on a stream.
+/// A loop over a `Link` asks tasks by it.
 pub struct Poller<S> {
     /// What asks and confirms. Its plan has no points.
     pub(crate) master: Master,

@@ -88,6 +88,10 @@ impl<S: Show> Living for Poller<S> {
         Ok(closing())
     }
 
+    fn next_deadline(&self) -> Option<u64> {
+        self.master.next_deadline()
+    }
+
     /// It has no points.
     fn change(
         &mut self,
