@@ -9,5 +9,5 @@ mod lives;
 mod plans;
 mod reports;
 mod scripts;
+mod sessions;
 mod stations;
-mod texts;

@@ -43,6 +43,4 @@ mod polls;
 #[cfg(test)]
 mod system_plans;
 #[cfg(test)]
-mod texts;
-#[cfg(test)]
 mod unsolicited;

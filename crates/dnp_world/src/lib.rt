@@ -32,6 +32,7 @@ pub mod relay_laws;
 mod report;
 mod room;
 mod round_fault;
+mod said;
 mod sending;
 pub mod settled_laws;
 pub mod standing_laws;

@@ -6,11 +6,9 @@ ghost use Rattle.dnp_world.specs.Causes.{cause_of_master};
 
 use dnp_concentrator::Cause;
 use dnp_master::MasterFault;
-use thiserror::Error;
 
 /// A list of events was not done to its end.
-#[derive(Clone, Copy, Debug, PartialEq, Eq, Hash, Error)]
-#[error("stopped at an event: {cause}")]
+#[derive(Clone, Copy, Debug, PartialEq, Eq, Hash)]
 pub struct Stopped {
     /// How many events were done. The one after them counts as `Lose` if it is `Deliver`, and else it is left out.
     pub done: usize,

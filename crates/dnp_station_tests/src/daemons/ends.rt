@@ -33,6 +33,22 @@ impl<'a> Read for Giving<'a> {
     }
 }
 
+/// A reader that counts how often it is asked for octets.
+#[derive(Drop)]
+pub struct Counting<'a> {
+    /// The reader.
+    pub reader: Giving<'a>,
+    /// How often it was asked. The count stops at the largest number.
+    pub reads: u64,
+}
+
+impl<'a> Read for Counting<'a> {
+    fn read(&mut self, piece: &mut [u8]) -> Result<usize> {
+        self.reads = self.reads.saturating_add(1);
+        self.reader.read(piece)
+    }
+}
+
 /// A writer that takes at most seven octets at a call, and fails where none are left to be taken.
 #[derive(Drop)]
 pub struct Taking {

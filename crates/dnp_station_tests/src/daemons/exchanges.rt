@@ -1,6 +1,7 @@
 //! What comes from a stream, and what is written to it.
 
-use crate::daemons::ends::{Giving, Taking};
+use crate::daemons::ends::{Counting, Giving, Taking};
+use crate::daemons::links::{POLL_1, centre};
 use crate::daemons::stations::Echo;
 use dnp_controls::NoOutputs;
 use dnp_eventbuf::PlainLanes;
@@ -8,7 +9,7 @@ use dnp_line::Port;
 use dnp_objects::LANES;
 use dnp_outstation::Outstation;
 use dnp_pointdb::{PointDb, PointPlan, Times};
-use dnp_streams::{Log, ServeFault, Served, Station, serve_noted, serve_stream};
+use dnp_streams::{Log, ServeFault, Served, Station, ask_stream, serve_noted, serve_stream};
 use std::alloc::Global;
 use std::process::Abort;
 
@@ -25,14 +26,14 @@ const RESPONSE: [u8; 17] = [
 ];
 
 /// An octet of noise, REQUEST_LINK_STATUS, RESET_LINK_STATES, and the same READ as CONFIRMED_USER_DATA.
-const CONFIRMED: [u8; 48] = [
+pub(super) const CONFIRMED: [u8; 48] = [
     0x05, 0x05, 0x64, 0x05, 0xC9, 0x0A, 0x00, 0x01, 0x00, 0xFE, 0xDA, 0x05, 0x64, 0x05, 0xC0, 0x0A,
     0x00, 0x01, 0x00, 0xB1, 0xAC, 0x05, 0x64, 0x14, 0xF3, 0x0A, 0x00, 0x01, 0x00, 0x52, 0xB6, 0xC0,
     0xC0, 0x01, 0x3C, 0x02, 0x06, 0x3C, 0x03, 0x06, 0x3C, 0x04, 0x06, 0x3C, 0x01, 0x06, 0x8A, 0x51,
 ];
 
 /// LINK_STATUS, ACK, and ACK again before the response.
-const ACKNOWLEDGED: [u8; 47] = [
+pub(super) const ACKNOWLEDGED: [u8; 47] = [
     0x05, 0x64, 0x05, 0x0B, 0x01, 0x00, 0x0A, 0x00, 0x6D, 0xED, 0x05, 0x64, 0x05, 0x00, 0x01, 0x00,
     0x0A, 0x00, 0x2E, 0xDD, 0x05, 0x64, 0x05, 0x00, 0x01, 0x00, 0x0A, 0x00, 0x2E, 0xDD, 0x05, 0x64,
     0x0A, 0x44, 0x01, 0x00, 0x0A, 0x00, 0x6E, 0x25, 0xC0, 0xC0, 0x81, 0x80, 0x00, 0xB3, 0xF3,
@@ -79,8 +80,12 @@ const STREAMS: [Stream; 11] = [
     (&READ, true, 300, 100, 128, Err(ServeFault::ReadFailed), &RESPONSE, 17, 2),
 ];
 
-/// An outstation without points and outputs, as after a restart.
-fn outstation(alloc: Global) -> Option<Outstation<PlainLanes, NoOutputs>> {
+/// An outstation without points and outputs, as after a restart. An unsolicited response that isn't confirmed is sent again
+/// once.
+pub(super) fn outstation(
+    alloc: Global,
+    unsolicited: bool,
+) -> Option<Outstation<PlainLanes, NoOutputs>> {
     let plan = PointPlan::new(Vec::new(alloc), Vec::new(alloc), Vec::new(alloc)).ok()?;
     let points = PointDb::new(alloc, plan).ok()?;
     let lanes = PlainLanes::new(alloc, [1; LANES]).ok()?;
@@ -88,8 +93,8 @@ fn outstation(alloc: Global) -> Option<Outstation<PlainLanes, NoOutputs>> {
         confirm_ms: 5_000,
         response_ms: 10_000,
         select_ms: 5_000,
-        retries: 0,
-        unsolicited: false,
+        retries: 1,
+        unsolicited,
     };
     Some(Outstation::new(points, lanes, NoOutputs, times))
 }
@@ -141,7 +146,7 @@ fn is_served(
 /// Streams to an outstation, in pieces of many sizes.
 #[test]
 fn streams_to_an_outstation(rt: HostRuntime) {
-    let mut station = outstation(rt.alloc()).expect(&rt, "an outstation");
+    let mut station = outstation(rt.alloc(), false).expect(&rt, "an outstation");
     for (case, stream) in STREAMS.iter().enumerate() {
         assert!(rt; is_served(rt.alloc(), &mut station, stream), "case {case}");
     }
@@ -174,4 +179,86 @@ fn a_reader_that_fails(rt: HostRuntime) {
         );
     }
     assert_eq!(rt; station.hang_ups, 4);
+}
+
+/// A reader of these octets, `most` at a call, that never fails.
+fn counting(octets: &'static [u8], most: usize) -> Counting<'static> {
+    Counting {
+        reader: Giving {
+            octets,
+            most,
+            fails: false,
+        },
+        reads: 0,
+    }
+}
+
+/// Whether the READ is served on a stream that never fails: to its end, or to the last of so many reads.
+fn ends_of_itself(
+    alloc: Global,
+    station: &mut Outstation<PlainLanes, NoOutputs>,
+    (most, reads): (usize, u64),
+    turns: u64,
+) -> bool {
+    let mut reader = counting(&READ, most);
+    let mut writer = Taking::new(128);
+    let mut port = Port::new(10, 1, false);
+    let served = serve_stream(
+        alloc,
+        station,
+        &mut port,
+        0,
+        &mut reader,
+        &mut writer,
+        turns,
+    );
+    let wanted = if turns < reads {
+        Err(ServeFault::TurnsSpent)
+    } else {
+        ONE
+    };
+    station.hung_up();
+    served == wanted && reader.reads == turns.min(reads)
+}
+
+/// The same of a poll to which noise comes.
+fn asks_to_its_end(alloc: Global, (most, reads): (usize, u64), turns: u64) -> bool {
+    let Some(mut centre) = centre(alloc) else {
+        return false;
+    };
+    let mut reader = counting(&[0; 27], most);
+    let mut writer = Taking::new(128);
+    let mut port = Port::new(1, 9, true);
+    let asked = ask_stream(
+        alloc,
+        &mut centre,
+        &mut port,
+        0,
+        &[POLL_1],
+        &mut reader,
+        &mut writer,
+        turns,
+    );
+    let is_spent = matches!(asked, Err(ServeFault::TurnsSpent));
+    is_spent == (turns < reads) && (is_spent || asked.is_ok()) && reader.reads == turns.min(reads)
+}
+
+/// Where reader and writer never fail, no fault of theirs is told, and no turns are called spent before they are.
+#[test]
+fn no_fault_is_made_up(rt: HostRuntime) {
+    let mut station = outstation(rt.alloc(), false).expect(&rt, "an outstation");
+    for cut in [(1, 28), (5, 7), (26, 3), (27, 2), (300, 2)] {
+        for turns in [0, 1, 2, 3, 6, 7, 27, 28, 100] {
+            assert!(rt;
+                ends_of_itself(rt.alloc(), &mut station, cut, turns),
+                "{} at {turns}",
+                cut.0
+            );
+            assert!(rt;
+                asks_to_its_end(rt.alloc(), cut, turns),
+                "{} at {turns}",
+                cut.0
+            );
+        }
+    }
 }

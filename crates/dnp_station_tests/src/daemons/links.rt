@@ -3,7 +3,7 @@
 ghost use Rattle.std.specs.Prelude.{◌<◌};
 
 use crate::daemons::ends::{Giving, Taking};
-use crate::daemons::lives::{link_lives, silent_is_left};
+use crate::daemons::lives::link_lives;
 use crate::daemons::plans::SMALL;
 use dnp_concentrator::{Centre, Concentrator};
 use dnp_controls::PlainBook;
@@ -303,8 +303,6 @@ enum Trial {
     Polls,
     /// A link lives without an answer.
     Lives,
-    /// A substation that never answers is left.
-    Leaves,
 }
 
 /// Tries this with a concentrator of its own.
@@ -314,13 +312,12 @@ fn tried(rt: &(impl Abort + AllocGlobal), trial: Trial) {
         Trial::Events => goes_above(rt, &mut concentrator),
         Trial::Polls => is_polled(rt, &mut concentrator),
         Trial::Lives => link_lives(rt, &mut concentrator),
-        Trial::Leaves => silent_is_left(rt, &mut concentrator),
     }
 }
 
 #[test]
 fn a_concentrator_on_streams(rt: HostRuntime) {
-    for trial in [Trial::Events, Trial::Polls, Trial::Lives, Trial::Leaves] {
+    for trial in [Trial::Events, Trial::Polls, Trial::Lives] {
         tried(&rt, trial);
     }
 }

@@ -1,13 +1,13 @@
 //! Stations that ask, and live on a stream on which no answer comes.
 
 use crate::daemons::ends::{Shown, Silent, Taking};
-use crate::daemons::links::{ASKED, POLL_1, centre};
+use crate::daemons::links::{POLL_1, centre};
 use dnp_concentrator::Concentrator;
 use dnp_controls::PlainBook;
 use dnp_eventbuf::PlainPair;
 use dnp_line::Port;
 use dnp_master::Fragment;
-use dnp_streams::{Asker, Below, Limits, Living, Log, Session, ask_live, live_stream};
+use dnp_streams::{Asker, Below, Limits, Living, Log, Session, live_stream};
 use std::alloc::Global;
 use std::cell::Cell;
 use std::process::Abort;
@@ -85,45 +85,4 @@ pub(crate) fn link_lives(
             None
         );
     }
-}
-
-/// A substation that is asked on a stream and never answers is left once its response timer has ended, and not before.
-pub(crate) fn silent_is_left(
-    rt: &(impl Abort + AllocGlobal),
-    concentrator: &mut Concentrator<PlainPair, PlainBook>,
-) {
-    for (wait_ms, read) in WAITS {
-        assert_eq!(rt; left_with(rt, concentrator, wait_ms), read);
-    }
-}
-
-/// With which read a silent substation is left, if that is among the first three.
-fn left_with(
-    rt: &(impl Abort + AllocGlobal),
-    concentrator: &mut Concentrator<PlainPair, PlainBook>,
-    wait_ms: u64,
-) -> Option<u64> {
-    let now = Cell::new(0);
-    let mut reader = Silent {
-        now: &now,
-        wait_ms: 0,
-    };
-    let mut writer = Taking::new(128);
-    let mut moment = 0;
-    let mut log = Log::new();
-    let asked = ask_live(
-        rt.alloc(),
-        &mut Below::new(concentrator, 0),
-        &mut Port::new(2, 10, true),
-        &Shown { now: &now },
-        &mut moment,
-        &[POLL_1],
-        &mut reader,
-        &mut writer,
-        Limits { turns: 3, wait_ms },
-        &mut log,
-    );
-    assert!(rt; writer.taken.as_slice() == &ASKED[..18]);
-    assert_eq!(rt; moment, now.get());
-    asked.is_ok().then_some(log.reads)
 }
