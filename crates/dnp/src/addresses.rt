@@ -1,7 +1,8 @@
 //! The address to listen at, on the command line.
 
-use crate::options::{Choice, HINT, defaulted};
+use crate::options::{Choice, defaulted};
 use clap::ArgMatches;
+use dnp_lines::{Wanted, Wrong};
 use std::net::IpAddr;
 
 /// The option that says at which address is listened: this machine alone reaches the one that it has otherwise.
@@ -10,8 +11,9 @@ pub(crate) fn bind() -> Choice {
         "bind",
         "ADDRESS",
         "127.0.0.1",
-        "The address to listen at, as 127.0.0.1 or 0.0.0.0",
+        "The IP address to listen at; excludes --network",
     )
+    .excluding("network")
 }
 
 /// The address at which is listened. Where the word is none, that is printed.
@@ -20,10 +22,8 @@ pub(crate) fn bind_given<R: Eprint>(rt: &R, given: &ArgMatches<'_>) -> Option<Ip
     match IpAddr::parse_ascii(text.as_bytes()) {
         Ok(address) => Some(address),
         Err(_) => {
-            let _ = eprintln!(rt;
-                "error: invalid value '{}' for '--bind <ADDRESS>': not an IP address{HINT}",
-                text.escape_debug()
-            );
+            let wrong = Wrong::Value(text, "bind", "ADDRESS", Wanted::IpAddress);
+            let _ = eprintln!(rt; "{wrong}");
             None
         }
     }

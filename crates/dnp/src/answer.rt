@@ -1,8 +1,11 @@
 //! `dnp answer`: the outstation's answer to one link frame.
 
-use crate::options::{HINT, defaulted, subcommand};
+use crate::check_words::word_of_frame;
+use crate::options::{defaulted, subcommand};
 use clap::{ArgMatches, Command};
+use dnp_captures::octets_of_text;
 use dnp_daemons::{AnswerFault, answer_line, read_address, read_text, text_fault};
+use dnp_lines::{Of, Wanted, Wrong};
 use dnp_tcp::{Noted, exit, lost, unwritten};
 use std::alloc::{AllocError, Global};
 use std::io;
@@ -17,45 +20,47 @@ const ABOUT: &str = "Answer one link frame as an outstation does, and print the 
 /// What its help text says after the options.
 const AFTER: &str = "\
 INPUT
-  One line on standard input, and then the end of the input (Ctrl-D at a terminal): the octets
-  of one data link frame as it stands on the wire, header, data and check words. Each octet is
-  two hexadecimal digits, upper or lower case, with one space between octets. At most 2,000
-  characters, and then a line feed or none.
+  Standard input has one line: the octets of one link frame, with header, data and check words.
+  Each octet has two hexadecimal digits, upper or lower case. One space separates two octets. The
+  line has at most 2,000 characters, and may end with a line feed. Ctrl-D ends it at a terminal.
 
 EXAMPLE
-  Master 1 asks outstation 10 for its events and its static data:
+  Master 1 asks outstation 10 for its events:
 
-    echo '05 64 14 C4 0A 00 01 00 8F ED C0 C0 01 3C 02 06 3C 03 06 3C 04 06 3C 01 06 8A 51' |
-      dnp answer
+    echo '05 64 11 C4 0A 00 01 00 06 15 C0 C0 01 3C 02 06 3C 03 06 3C 04 06 9E 30' | dnp answer
 
   05 64 0A 44 01 00 0A 00 6E 25 C0 C0 81 80 00 B3 F3
 
+THE OUTSTATION
+  It has no points. It has just restarted, and its connection has just been opened.
+
 OUTPUT
-  On standard output:
-    a line for each frame that is sent back, its octets written as above: the link layer's
-    reply, as to a reset or a request for the link's status, or the frames of the response to
-    a request; the outstation has no points, and was just restarted and opened;
-    'no answer', where the outstation stays silent, as for a frame to another address;
-    'refused N REASON', where the input is no frame: 0 Text (not written as above), 1 Short (under
-    10 octets), 2 Start (not 05 64), 3 HeaderCheck (the header's check word is wrong), 4 Length
-    (LENGTH is under 5), 5 Size (another number of octets than LENGTH says), 6 BlockCheck B (B is
-    the number of the first data block with a wrong check word, from 0).
-  With 'refused 0 Text' a line on standard error says why, and in which column the input stops
-  being written as above; where that is only that it has more than 2,000 characters, it is told
-  without a column.
+  Standard output has a line for each frame of the answer, in the form of the input. The frames
+  are a reply of the link layer, as to a reset, or the frames of the response to a request.
+  Other inputs have one of these lines:
+
+  - no answer: the outstation is silent, as for a frame to another address.
+  - refused 0 Text: the input is not written as above.
+  - refused 1 Short: there are fewer than 10 octets.
+  - refused 2 Start: the first octets are not 05 64.
+  - refused 3 HeaderCheck: the check word of the header is wrong.
+  - refused 4 Length: LENGTH is less than 5.
+  - refused 5 Size: the number of octets is not the one that LENGTH gives.
+  - refused 6 BlockCheck B: the check word of data block B is wrong. Blocks are counted from 0, and
+    the first wrong one is named.
+
+  With 'refused 0 Text' a line on standard error has the reason, and the column of the first wrong
+  character. A line of more than 2,000 characters has no column. With a wrong check word it has the
+  octet of the frame, counted from 0, and the right check word.
 
 EXIT STATUS
-  0  the frame was read: there is an answer, or there is none to give
-  1  the input was refused
-  2  the command line is wrong
-  3  the program failed: out of memory, or the input or the output was lost; a line on
-     standard error says which, and why, but for an output whose reader has gone";
-
-/// What is wrong with an address that is refused.
-const NO_ADDRESS: &str = "not a decimal number from 0 to 65519";
+  0: The input is a frame, with or without an answer.
+  1: The input was refused.
+  2: The command line is wrong.
+  3: The program failed: out of memory, or the input or the output was lost.";
 
 /// What is said of the options.
-const OWN: &str = "The outstation's own link address, 0 to 65519";
+const OWN: &str = "The link address of the outstation, 0 to 65519";
 
 const PEER: &str = "The link address of its master, 0 to 65519";
 
@@ -94,10 +99,16 @@ pub(crate) fn run<R: AllocGlobal + Input + Print + Eprint>(
     }
 }
 
-/// Says on standard error where and why a text is no line of octets, if it isn't.
-fn explain<R: Eprint>(rt: &R, text: &[u8]) {
+/// Says on standard error where and why a text is no line of octets, if it isn't, or which check word of its frame is wrong.
+fn explain<R: AllocGlobal + Eprint>(rt: &R, text: &[u8]) {
     if let Some(fault) = text_fault(text) {
-        let _ = eprintln!(rt; "dnp: standard input: {fault}");
+        let line = Of("standard input", &fault);
+        let _ = eprintln!(rt; "{line}");
+    } else if let Ok(octets) = octets_of_text(rt.alloc(), text)
+        && let Some(wrong) = word_of_frame(octets.as_slice())
+    {
+        let line = Of("standard input", &wrong);
+        let _ = eprintln!(rt; "{line}");
     }
 }
 
@@ -106,19 +117,21 @@ fn unanswered<R: Eprint>(rt: &R, fault: AnswerFault, cause: Option<&io::Error>) 
     if let Some(cause) = cause {
         return unwritten(rt, cause);
     }
-    let _ = eprintln!(rt; "dnp: standard output: {fault}");
+    let line = Of("standard output", &fault);
+    let _ = eprintln!(rt; "{line}");
     ExitCode::from(exit::FAULT)
 }
 
 /// The address that an option gives. Where it gives none, what is wrong with it is printed.
-fn address_given<R: Eprint>(rt: &R, given: &ArgMatches<'_>, option: &str) -> Option<u16> {
-    let text = given.get_str(option).unwrap_or("");
+fn address_given<'a, R: Eprint>(rt: &R, given: &'a ArgMatches<'_>, option: &'a str) -> Option<u16> {
+    let text = match given.get_str(option) {
+        Some(text) => text,
+        None => "",
+    };
     let address = read_address(text);
     if address.is_none() {
-        let _ = eprintln!(rt;
-            "error: invalid value '{}' for '--{option} <ADDRESS>': {NO_ADDRESS}{HINT}",
-            text.escape_debug()
-        );
+        let wrong = Wrong::Value(text, option, "ADDRESS", Wanted::LinkAddress);
+        let _ = eprintln!(rt; "{wrong}");
     }
     address
 }

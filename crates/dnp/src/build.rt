@@ -4,6 +4,7 @@
 
 use crate::VERSION;
 use dnp_decode::Moment;
+use dnp_lines::{Begun, Version};
 use dnp_tcp::utc;
 use std::alloc::Global;
 use std::io::Read;
@@ -12,9 +13,6 @@ use std::{env, fs, io};
 
 /// The most octets of the file that are read.
 const MAX_SAID: u64 = 200;
-
-/// What the log says where no file tells.
-const UNKNOWN: &str = "build unknown";
 
 /// The octets of the file beside the program, as many as are read.
 fn octets_beside<R: AllocGlobal + Files>(rt: &R) -> io::Result<Vec<u8>> {
@@ -46,22 +44,26 @@ fn first_line(alloc: Global, octets: Vec<u8>) -> Option<String> {
     String::from_str(alloc, line).ok()
 }
 
+/// A text that is owned, if there is one.
+fn text_of(text: &Option<String>) -> Option<&str> {
+    match text {
+        Some(text) => Some(text.as_str()),
+        None => None,
+    }
+}
+
 /// Says on standard error that the program begins to serve or to poll, and which build it is. It has no clause: none says what
 /// standard error takes.
 pub(crate) fn note_start<R: AllocGlobal + Eprint + Files + Clock>(rt: &R) {
     let moment = Moment(utc(rt));
     let said = said(rt);
-    let build = match &said {
-        Some(said) => said.as_str(),
-        None => UNKNOWN,
-    };
-    let _ = eprintln!(rt; "{moment} started: dnp {VERSION} ({build})");
+    let begun = Begun(VERSION, text_of(&said));
+    let _ = eprintln!(rt; "{moment} {begun}");
 }
 
 /// Prints the program's name and version, and which build it is, where the file beside it tells.
 pub(crate) fn print_version<R: AllocGlobal + Print + Files>(rt: &R) -> io::Result<()> {
-    match said(rt) {
-        Some(build) => println!(rt; "dnp {VERSION} ({build})"),
-        None => println!(rt; "dnp {VERSION}"),
-    }
+    let said = said(rt);
+    let version = Version(VERSION, text_of(&said));
+    println!(rt; "{version}")
 }

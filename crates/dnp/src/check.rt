@@ -3,17 +3,16 @@
 ghost use Rattle.dnp_concentrator.specs.Plan.{KeepsLimits};
 
 mod csv;
-mod files;
 mod json;
 mod system;
 mod table;
 
 use crate::check::csv::write_csv;
-use crate::check::files::{network_given, points_given};
 use crate::check::json::write_json;
 use crate::check::system::System;
 use crate::check::table::write_table;
-use crate::options::{flag, plan, subcommand, valued};
+use crate::network_file::{network_given, points_given};
+use crate::options::{flag, network, plan, subcommand};
 use crate::plan_file::plan_given;
 use clap::{ArgMatches, Command};
 use dnp_concentrator::Plan;
@@ -32,37 +31,40 @@ const ABOUT: &str = "Check a plan and its network file, and print the system as 
 
 /// What its help text says after the options.
 const AFTER: &str = "\
-WHAT IT CHECKS
-  The plan alone, or with --network FILE both files. The plan says which points the stations have.
-  The network file says where the stations are, and has names for them and for their points. Only
-  these files are opened, and no name of a host is looked up. docs/network.md describes the network
-  file.
+EXAMPLE
+  At the top of the repository:
+
+    dnp check --plan examples/plan.toml --network examples/network.toml
+
+INPUT
+  The plan has the points of the stations. The network file says where the stations are, and has
+  names for them and for their points. docs/scripts.md describes the plan, and docs/network.md the
+  network file. Without --network the plan alone is checked. The program opens these files only, and
+  looks up no name of a host.
 
 OUTPUT
-  With --network a line for each station: where it is found, where it listens, its link address,
-  that of its peer (the master of a substation, the centre of the concentrator), and its name. Then
-  a line for each point: its substation, kind, index at the substation, index above, class,
+  With --network each station has a line: where it is found, where it listens, its link address,
+  the address of its peer, and its name. The peer of a substation is its master. The peer of the
+  concentrator is the centre.
+  Then each point has a line: its substation, kind, index at the substation, index above, class,
   deadband, and name with the unit. '-' means none.
-  --csv prints CSV records (RFC 4180) after the header
+  With --csv there are CSV records (RFC 4180) after this header:
     station,name,at,listen,address,peer,kind,index,above,class,deadband,point,unit,scale,zero,one
-  The records of the stations come first and have no kind. The station is the number of a
+  The records of the stations come first, and have no kind. The station is the number of a
   substation, 'concentrator', or 'concentrator2' for the link to the second centre.
-  --json prints one object with \"name\", \"concentrator\", \"substations\" and \"points\"; null means
-  none.
+  With --json there is one object with \"name\", \"concentrator\", \"substations\" and \"points\"; null
+  means none.
   A refused plan prints 'refused plan N', as with 'dnp sim'. Standard error then has the file, the
   line if it is known, the key, the wrong value, and the form of a right one.
 
 EXIT STATUS
-  0  the files are right and agree
-  1  a file is refused
-  2  the command line is wrong
-  3  the program failed: a file can't be read, out of memory, or the output was lost; a line on
-     standard error says which, and why, but for an output whose reader has gone";
+  0: The files are right and agree.
+  1: A file is refused.
+  2: The command line is wrong.
+  3: The program failed: a file can't be read, out of memory, or the output was lost.";
 
 /// What is said of the options.
-const NETWORK: &str = "The hosts and names of the stations, as TOML";
-
-const CSV: &str = "Print records of CSV";
+const CSV: &str = "Print CSV records; excludes --json";
 
 const JSON: &str = "Print a JSON object";
 
@@ -81,7 +83,7 @@ enum Form {
 pub(crate) fn command<'a>(alloc: Global) -> Result<Command<'a>, AllocError> {
     let choices = [
         plan(),
-        valued("network", "FILE", NETWORK),
+        network(),
         flag("csv", CSV).excluding("json"),
         flag("json", JSON),
     ];

@@ -1,9 +1,14 @@
 //! `dnp decode`: octets as lines for people.
 
+use crate::check_words::first_wrong;
 use crate::inputs::octets_of;
-use crate::options::{HINT, flag, subcommand, valued};
+use crate::options::{flag, subcommand, valued};
 use clap::{ArgMatches, Command};
-use dnp_captures::{CaptureFault, Item, Printer, items_of_capture, items_of_text, place_octets};
+use dnp_captures::{
+    CaptureFault, Decoded, Item, What, decode_capture, items_of_text, octets_of_text, place_octets,
+    print_decoded, push_refused,
+};
+use dnp_lines::{AtLine, AtOctet, Of, Own, Refused, Wrong};
 use dnp_tcp::{Noted, exit, unwritten};
 use std::alloc::{AllocError, Global};
 use std::io::{BufWriter, Write};
@@ -15,90 +20,131 @@ use std::{fs, io};
 pub const NAME: &str = "decode";
 
 /// What it does, in a line.
-const ABOUT: &str = "Print what octets are: frames, segments, fragments, headers and rows";
+const ABOUT: &str = "Print the frames, segments, fragments, headers and objects in octets";
 
 /// What its help text says after the options.
 const AFTER: &str = "\
 INPUT
-  Lines of hexadecimal octets on standard input, two digits each, upper or lower case, with blanks
-  between them or none: the octets of all lines, one after the other, are one stream. With --raw the
-  octets themselves. With --pcap a capture in the classic form (Ethernet, raw IP or loopback): the
-  octets that TCP and UDP carry, each direction of each connection a stream of its own. One that would
-  have nothing but 'skipped' and 'Cut' lines is taken for another protocol's: it has none, and doesn't
-  count as refused. Octets that the capture lacks are not told of, and what it has before and after
-  them is joined. At most 16,777,216 octets of input.
+  Standard input has hexadecimal octets in lines. Each octet has two digits, upper or lower case.
+  Blanks, commas, colons, semicolons and dashes between octets are optional, and so are 0x and \\x
+  before them. Dumps of xxd, hexdump -C and Wireshark are read without their addresses and
+  characters. The octets of all lines are one stream. With --raw standard input has the octets
+  themselves. The input has at most 16,777,216 octets.
 
 EXAMPLE
-  Master 1 asks outstation 10 for its events and its static data:
+  Master 1 asks outstation 10 for its events:
 
-    echo '05 64 14 C4 0A 00 01 00 8F ED C0 C0 01 3C 02 06 3C 03 06 3C 04 06 3C 01 06 8A 51' |
-      dnp decode
+    echo '05 64 11 C4 0A 00 01 00 06 15 C0 C0 01 3C 02 06 3C 03 06 3C 04 06 9E 30' | dnp decode
 
-  1 1>10 C4 UNCONFIRMED_USER_DATA 15 octets, words good
+  1 1>10 C4 UNCONFIRMED_USER_DATA 12 octets, words good
   1   transport FIR FIN 0
   1   request seq 0 fir fin READ
   1     60.2 all
   1     60.3 all
   1     60.4 all
-  1     60.1 all
 
 OUTPUT
-  On standard output a line for each link frame, transport segment, fragment, object header and
-  object, in the words of the standard. It begins with the line of the input in which the frame ends,
-  with the number of its packet in a capture, or with the place of its first octet under --raw, from
-  0. The segments of what one station sends to another are joined apart from all others. After that
-  number stands, with two blanks more for each layer above frames:
+  Each link frame, transport segment, fragment, object header and object has a line on standard
+  output. The line begins with a number: the line of the input in which the frame ends. In a
+  capture it is the number of the packet. With --raw it is the first octet of the frame, counted
+  from 0. Each layer above frames is indented by two more blanks.
+
     1>10 C4 UNCONFIRMED_USER_DATA 15 octets, words good
-              a frame from station 1 to station 10, its CONTROL octet and function, how many octets
-              of user data it has; its check words are right
+              A frame from station 1 to station 10: the CONTROL octet, the function, and the number
+              of octets of user data. The check words are right.
+
     transport FIR FIN 0
-              a segment, the first and the last of its fragment, with the number 0
-    request seq 0 fir fin con READ, response seq 0 fir fin, iin 80 00
-              a fragment, with the bits that are set, its function or its internal indications; 'uns'
-              is the bit of an unsolicited response, whose function --json has
+              A segment with sequence number 0, which is the first and the last of its fragment.
+              The segments from one station to another are joined apart from all others.
+
+    request seq 0 fir fin con READ
+              A request: its sequence number, the bits that are set, and its function.
+
+    response seq 0 fir fin, iin 80 00
+              A response with its internal indications. An unsolicited response has 'uns'; --json
+              has its function.
+
     30.1 5..6, 2.2 x1, 60.2 all
-              an object header, group 30 variation 1: the indexes 5 to 6, one object, or all; one with
-              objects has no line of its own (with --json it has): each of its objects repeats it
+              Object headers: group 30 variation 1 with the indexes 5 to 6, one object, and all
+              objects. Without --json a header with objects has no line; each object repeats it.
+
     2.2 x1: 3 = 1 flags 01 at 2026-01-31T12:00:00.000Z
-              an object after its header: the index, the value, the flags without the state bit, the
-              time (UTC). So are the states of outputs, 10.2, and setpoints, 40.1 and 40.2; 1.1,
-              20.5, 20.6, 30.3 and 30.4 have no flags of their own, and are printed with 01; an
-              indication, 80.1, has no flags, and a time, 50.1, common times, 51.1 and 51.2, and a
-              delay, 52.2, have no index; the time of 2.3 is printed whole
-    12.1 x1: 5 code 81 count 2 on 100 off 200 status 0, 41.2 x1: 5 set -2 status 0
-              a command to output 5, its code in hexadecimal, times in milliseconds
-  What is refused has a line with the fault's name and its place, an octet of the frame or the
-  fragment, from 0, as 'frame refused: BlockCheck 1 at octet 28'. Of a frame: Length (under 5) and
-  BlockCheck; of a segment: Size (under 2 octets) and Series (it doesn't continue the one before, or
-  makes the fragment too long); of a fragment: Short (too few octets for one), FunctionUnknown, and of
-  a header HeaderCut, QualifierUnknown, ObjectUnknown, RangeBackward, ObjectsCut and CommonTime, with
-  the place where the header begins; those before it have their lines. Functions and objects that the
-  stations here don't speak are unknown to it; an unknown function of the link layer isn't refused.
-  Octets at which no frame begins are 'skipped', and so is a header with a wrong check word, after
-  which a frame is looked for at each octet; those at the end that are too few for a frame are 'Cut',
-  with their number: all count as refused. A fragment whose first or last segments are missing has no
-  line, and doesn't. A line that isn't hexadecimal is 'text refused', and none of its octets are
-  taken. Of no octets there is no line, and the status is 0. docs/decode.md lists all the names.
-  With --json each line is a JSON object: 'at' is that number, 'layer' says what the line is of, and
-  'refused' is there where something is refused; docs/decode.md has the members. A file that is no
-  capture is 'refused capture NAME' with or without it, and standard error says why; one that ends
-  within a packet is '1 packet refused: the capture ends in it'.
+              An object after its header: the index, the value, the flags without the state bit,
+              and the time in UTC. States of outputs (10.2) and setpoints (40.1, 40.2) have the
+              same form.
+
+    12.1 x1: 5 code 81 count 2 on 100 off 200 status 0
+              A command to output 5: the code in hexadecimal, and the times in milliseconds.
+
+    41.2 x1: 5 set -2 status 0
+              A command to setpoint 5.
+
+  Some objects lack a part. The flags of 1.1, 20.5, 20.6, 30.3 and 30.4 are printed as 01. An
+  indication (80.1) has no flags. Times (50.1, 51.1, 51.2) and a delay (52.2) have no index. The
+  relative time of 2.3 is printed as a whole time.
+
+BEYOND THE PROFILE
+  The stations of dnp speak a part of the standard. Other functions and objects have lines that end
+  in 'beyond the profile':
+
+    request seq 0 fir fin COLD_RESTART, beyond the profile
+    30.5 0..1 analog input, single-precision with flag, beyond the profile
+    30.5 0..1: 0 octets 01 00 00 C0 3F, beyond the profile
+    3.1 0..3: 0 = 2, beyond the profile
+              A function, an object header by name, an object with its index and its octets, and a
+              packed object with its bits.
+
+  They are not refused, and the rest of the fragment is read.
+
+REFUSED OCTETS
+  Refused octets have a line with the name of the fault and its place, as 'frame refused: BlockCheck
+  1 at octet 28'. The place is an octet of the frame or the fragment, counted from 0. For a header
+  it is the octet in which the header begins; the headers before it have their lines.
+
+  - frame refused: Length (less than 5) or BlockCheck.
+  - segment refused: Size (less than 2 octets) or Series. With Series it does not continue the
+    segment before it, or the fragment is too long.
+  - fragment refused: Short (too few octets) or FunctionUnknown.
+  - header refused: HeaderCut, QualifierUnknown, ObjectUnknown, RangeBackward, SizeUnknown (of the
+    objects), ObjectsCut or CommonTime.
+  - text refused: a line is not hexadecimal. None of its octets are taken.
+  - skipped: octets begin no frame, or a header has a wrong check word. The next octet may begin a
+    frame.
+  - Cut: the last octets are too few for a frame. The line has their number.
+
+  Standard error has the right word for the first wrong check word, and its octet in the frame. It
+  has none for a capture, and none if there is a 'text refused'.
+  A function or an object is unknown if the standard doesn't have it. An unknown function of the
+  link layer is not refused. A fragment without its first or last segments has no line, and is not
+  refused. docs/decode.md lists all names.
+
+CAPTURES
+  --pcap reads a capture, pcap or pcapng, of Ethernet, raw IP, loopback or Linux's 'any'. It takes
+  the octets of TCP and UDP. Each direction of each connection is a stream. A stream that would have
+  only 'skipped' and 'Cut' lines is another protocol's: it has no lines, and is not refused. Missing
+  octets are not reported; the octets before and after them are joined. Packets of a pcapng that
+  another interface brought are left out.
+  A file that is not such a capture has the line 'refused capture NAME'. Standard error has the
+  reason. A capture that ends within packet 1 has '1 packet refused: the capture ends in it'.
+
+JSON
+  With --json each line is a JSON object. 'at' is the number, 'layer' is the layer, and 'refused' is
+  there if something is refused. docs/decode.md has all members.
 
 EXIT STATUS
-  0  all was read
-  1  something was refused, or the file is no capture that is read here
-  2  the command line is wrong
-  3  the program failed: the file can't be read, the input is over its limit, out of
-     memory, or the input or the output was lost; a line on standard error says which, and why, but
-     for an output whose reader has gone";
+  0: All was read, or there was nothing to read.
+  1: Something was refused, or the file is not a capture that this program reads.
+  2: The command line is wrong.
+  3: The program failed: the file can't be read, the input is over its limit, out of memory, or the
+     input or the output was lost.";
 
 /// The most octets of input that are read. So no input can fill the memory.
 const MAX_INPUT: u64 = 16 * 1_024 * 1_024;
 
 /// What is said of the options.
-const RAW: &str = "Take standard input as octets, and not as hexadecimal lines";
+const RAW: &str = "Read octets, and not hexadecimal lines, on standard input";
 
-const PCAP: &str = "Read a capture in place of standard input";
+const PCAP: &str = "Read a capture instead of standard input";
 
 const JSON: &str = "Print each line as a JSON object";
 
@@ -121,13 +167,12 @@ pub(crate) fn run<R: AllocGlobal + Input + Print + Eprint + Files>(
     let raw = given.get_flag("raw");
     match given.get_str("pcap") {
         Some(_) if raw => {
-            let _ = eprintln!(rt;
-                "error: '--raw' and '--pcap <FILE>' can't be used together{HINT}"
-            );
+            let wrong = Wrong::Together("--raw", "--pcap <FILE>");
+            let _ = eprintln!(rt; "{wrong}");
             Ok(ExitCode::from(exit::USAGE))
         }
         Some(path) => match octets_of(rt, path, fs::open(rt, path), MAX_INPUT) {
-            Ok(octets) => decode_capture(rt, path, octets.as_slice(), json),
+            Ok(octets) => print_capture(rt, path, octets.as_slice(), json),
             Err(status) => Ok(status),
         },
         None => match octets_of(rt, "standard input", Ok(rt.reader()), MAX_INPUT) {
@@ -140,60 +185,106 @@ pub(crate) fn run<R: AllocGlobal + Input + Print + Eprint + Files>(
 /// Prints what raw octets carry, or hexadecimal lines, and tells the exit status.
 fn decode_octets<R: AllocGlobal + Print + Eprint>(
     rt: &R,
-    octets: &[u8],
+    given: &[u8],
     raw: bool,
     json: bool,
 ) -> anyhow::Result<ExitCode> {
-    let items = if raw {
-        place_octets(rt.alloc(), octets)?
+    let decoded = if raw {
+        let items = place_octets(rt.alloc(), given)?;
+        with_refused(rt.alloc(), given, items)?
     } else {
-        items_of_text(rt.alloc(), octets)?
+        let items = items_of_text(rt.alloc(), given)?;
+        let octets = octets_of_text(rt.alloc(), given)?;
+        with_refused(rt.alloc(), octets.as_slice(), items)?
     };
-    print_items(rt, items.as_slice(), json)
+    let status = print_all(rt, &decoded, json)?;
+    if status == ExitCode::from(exit::REFUSED) {
+        say_word(rt, given, decoded.items.as_slice(), raw)?;
+    }
+    Ok(status)
+}
+
+/// The items of a stream with the fragments of it that are refused.
+fn with_refused(alloc: Global, stream: &[u8], items: Vec<Item>) -> Result<Decoded, AllocError> {
+    let mut fragments = Vec::new(alloc);
+    push_refused(alloc, stream, items.as_slice(), &mut fragments)?;
+    Ok(Decoded { items, fragments })
+}
+
+/// Says on standard error which check word is the first that is wrong in raw octets or hexadecimal lines, which have these items, if
+/// one is. Of lines of which some are refused it says nothing: those have no octets in the stream.
+fn say_word<R: AllocGlobal + Eprint>(
+    rt: &R,
+    octets: &[u8],
+    items: &[Item],
+    raw: bool,
+) -> Result<(), AllocError> {
+    if raw {
+        if let Some((number, wrong)) = first_wrong(rt.alloc(), octets)?
+            && let Some(item) = items.get(number)
+        {
+            let line = AtOctet(item.at, &wrong);
+            let _ = eprintln!(rt; "{line}");
+        }
+        return Ok(());
+    }
+    if items.iter().any(|item| matches!(item.what, What::Text(_))) {
+        return Ok(());
+    }
+    let octets = octets_of_text(rt.alloc(), octets)?;
+    if let Some((number, wrong)) = first_wrong(rt.alloc(), octets.as_slice())?
+        && let Some(item) = items.get(number)
+    {
+        let line = AtLine(item.at, &wrong);
+        let _ = eprintln!(rt; "{line}");
+    }
+    Ok(())
 }
 
 /// Prints what a capture carries, or why it is refused, and tells the exit status.
-fn decode_capture<R: AllocGlobal + Print + Eprint>(
+fn print_capture<R: AllocGlobal + Print + Eprint>(
     rt: &R,
     path: &str,
     octets: &[u8],
     json: bool,
 ) -> anyhow::Result<ExitCode> {
-    match items_of_capture(rt.alloc(), octets) {
-        Ok(items) => print_items(rt, items.as_slice(), json),
+    match decode_capture(rt.alloc(), octets) {
+        Ok(decoded) => print_all(rt, &decoded, json),
         Err(CaptureFault::Memory) => {
-            let _ = eprintln!(rt; "dnp: out of memory");
+            let line = Own(&CaptureFault::Memory);
+            let _ = eprintln!(rt; "{line}");
             Ok(ExitCode::from(exit::FAULT))
         }
         Err(fault) => {
-            let name = fault.name();
-            if let Err(cause) = println!(rt; "refused capture {name}") {
+            let refused = Refused::Capture(fault.name());
+            if let Err(cause) = println!(rt; "{refused}") {
                 return Ok(unwritten(rt, &cause));
             }
-            let _ = eprintln!(rt; "dnp: {path}: {fault}");
+            let line = Of(path, &fault);
+            let _ = eprintln!(rt; "{line}");
             Ok(ExitCode::from(exit::REFUSED))
         }
     }
 }
 
-/// Prints the items, and tells the exit status.
-fn print_items<R: AllocGlobal + Print + Eprint>(
+/// Prints what was decoded, and tells the exit status.
+fn print_all<R: AllocGlobal + Print + Eprint>(
     rt: &R,
-    items: &[Item],
+    decoded: &Decoded,
     json: bool,
 ) -> anyhow::Result<ExitCode> {
     let mut out = BufWriter::new(rt.alloc(), Noted::new(io::writer(rt)))?;
-    print_into(rt, items, json, &mut out)
+    print_into(rt, decoded, json, &mut out)
 }
 
-/// Prints the items into this buffer, and tells the exit status.
-fn print_into<R: Eprint, W: Write + Drop>(
+/// Prints it into this buffer, and tells the exit status.
+fn print_into<R: AllocGlobal + Eprint, W: Write + Drop>(
     rt: &R,
-    items: &[Item],
+    decoded: &Decoded,
     json: bool,
     out: &mut BufWriter<Noted<W>>,
 ) -> anyhow::Result<ExitCode> {
-    let printed = Printer::new(json).print_all(items, &mut *out);
+    let printed = print_decoded(rt.alloc(), decoded, json, &mut *out);
     let flushed = out.flush();
     if let Some(cause) = out.get_ref().cause() {
         return Ok(unwritten(rt, cause));

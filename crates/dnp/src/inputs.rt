@@ -1,5 +1,6 @@
 //! Inputs that are read whole.
 
+use dnp_lines::Line;
 use dnp_tcp::{exit, lost};
 use std::io;
 use std::io::Read;
@@ -20,7 +21,8 @@ pub(crate) fn octets_of<R: AllocGlobal + Eprint, S: Read + Drop>(
     };
     match read {
         Ok(_) if octets.len() as u64 > most => {
-            let _ = eprintln!(rt; "dnp: {name}: over {most} octets");
+            let line = Line::Over(name, most);
+            let _ = eprintln!(rt; "{line}");
             Err(ExitCode::from(exit::FAULT))
         }
         Ok(_) => Ok(octets),

@@ -7,6 +7,7 @@ use crate::watched::watch;
 use clap::ArgMatches;
 use dnp_concentrator::Plan;
 use dnp_daemons::{read_plan, read_script};
+use dnp_lines::Misuse;
 use dnp_tcp::{lost, unwritten};
 use dnp_trace::{Log, capture_octets, chart_text, trace_text};
 use std::alloc::{AllocError, Global};
@@ -28,22 +29,22 @@ fn is_one(file: &str, other: &str) -> bool {
 }
 
 /// Why what is asked for can't all be written, if so.
-pub(crate) fn misuse(given: &ArgMatches<'_>) -> Option<&'static str> {
+pub(crate) fn misuse(given: &ArgMatches<'_>) -> Option<Misuse> {
     let trace = given.get_str("trace").unwrap_or("");
     let chart = given.get_str("chart").unwrap_or("");
     let capture = given.get_str("capture").unwrap_or("");
     let plan = given.get_str("plan").unwrap_or("");
     if chart == STANDARD || capture == STANDARD {
-        return Some("only '--trace' can go to standard output");
+        return Some(Misuse::Standard);
     }
     if trace == STANDARD && given.get_flag("json") {
-        return Some("'--json' and '--trace -' can't be used together");
+        return Some(Misuse::Both);
     }
     if is_one(trace, chart) || is_one(trace, capture) || is_one(chart, capture) {
-        return Some("'--trace', '--chart' and '--capture' can't name one file");
+        return Some(Misuse::OneFile);
     }
     if is_one(plan, trace) || is_one(plan, chart) || is_one(plan, capture) {
-        return Some("the plan's file can't be written over");
+        return Some(Misuse::Plan);
     }
     None
 }

@@ -5,6 +5,7 @@ use crate::texts::{Texts, finish, limit, plain, stores_given, texts_given};
 use crate::wire::Wire;
 use clap::{ArgMatches, Command};
 use dnp_daemons::{Stores, loop_text};
+use dnp_lines::WIRE;
 use dnp_tcp::{Noted, lost};
 use std::alloc::{AllocError, Global};
 use std::io;
@@ -18,34 +19,37 @@ pub const NAME: &str = "loopback";
 
 /// What it does, in a line.
 const ABOUT: &str =
-    "Run a script as 'sim' does, with each unit going over TCP to the program itself";
-
-/// What is said to have failed where the wire did.
-const WIRE: &str = "the connection to this program itself";
+    "Run a script as 'sim' does, with each frame sent over TCP to the program itself";
 
 /// What its help text says after the options.
 const AFTER: &str = "\
-INPUT
-  A plan and a script as for 'dnp sim', but the script loses, repeats and damages nothing: lines
-  'lose', 'repeat' and 'damage' are refused as lines that don't fit. The stores, and --plain, are
-  as there.
+EXAMPLE
+  A change at the substation goes to the concentrator, and then to the first centre. At the top of
+  the repository:
 
-THE LINES
-  Each unit that comes to the end of a line is first written to a TCP connection of the program to
-  itself, on the loopback interface, and read from its other end: what comes has to be what went.
-  It listens on a port of the machine's choice, for that connection alone.
+    printf 'open 0\\nopen above\\nchange 0 binary 0 1 01 1000\\nround 0\\nround above\\n' |
+      dnp loopback --plan examples/plan.toml
+
+INPUT
+  The plan and the script are those of 'dnp sim', without the lines 'lose', 'repeat' and 'damage'.
+  These are refused. The databases, and --plain, are those of 'dnp sim'.
+
+TCP
+  The program connects to itself on the loopback interface, at a port that the machine chooses. It
+  writes each frame that arrives to this connection, reads it at the other end, and compares both.
 
 OUTPUT
-  What 'dnp sim' prints for the same plan and script. Where the connection fails, 'stopped N', N
-  lines of the script having been done.
+  The output is that of 'dnp sim' for the same plan and script. If the connection fails after N
+  lines of the script, the output has 'stopped N'.
 
 EXIT STATUS
-  0  the script was run, and the report was printed
-  1  the plan or the script was refused
-  2  the command line is wrong
-  3  the program failed: the plan can't be read, the script is over its limit, no connection can be
-     had, or it failed, a database failed, out of memory, or the input or the output was lost; a line
-     on standard error says which, and why, but for an output whose reader has gone";
+  0: The script ran, and the report was printed.
+  1: The plan or the script was refused.
+  2: The command line is wrong.
+  3: The program failed:
+     - The plan can't be read, or the script is over its limit.
+     - The connection failed, or the input or the output was lost.
+     - A database failed, or memory ran out.";
 
 /// What `clap` has to know of `dnp loopback`.
 pub(crate) fn command<'a>(alloc: Global) -> Result<Command<'a>, AllocError> {

@@ -6,13 +6,17 @@
 mod addresses;
 mod answer;
 mod build;
+mod called;
 mod centre;
 mod check;
+mod check_words;
 mod concentrate;
 mod decode;
+mod hosts;
 mod inputs;
 mod looks;
 mod loopback;
+mod network_file;
 mod numbers;
 mod options;
 mod outstation;
@@ -21,14 +25,18 @@ mod poll;
 mod replay;
 mod rows;
 mod sim;
+mod store_files;
 mod texts;
+mod tips;
+mod toml_faults;
 mod watched;
 mod wire;
 
 use crate::build::print_version;
-use crate::options::HINT;
+use crate::tips::say_mistake;
 use clap::error::ErrorKind;
 use clap::{ArgMatches, Command};
+use dnp_lines::{Own, Wrong};
 use dnp_tcp::{exit, unwritten};
 use std::alloc::{AllocError, Global};
 use std::process::ExitCode;
@@ -42,8 +50,9 @@ const ABOUT: &str = "DNP3 (IEEE Std 1815-2012) from the command line.";
 const AFTER: &str = "\
 Each subcommand has a help text of its own, such as 'dnp answer --help'.
 
-Exit status: 2 where the command line is wrong, and 3 where the program itself failed,
-as when it is out of memory. The others are each subcommand's own.";
+Exit status: 2 if the command line is wrong, and 3 if the program itself failed, as when it is out
+of memory. Standard error then has the reason; status 3 has none if the reader of the output has
+gone. Each subcommand's help has its other statuses.";
 
 /// What `dnp --version` prints after the program's name. It stands here alone: scripts read it off this line.
 pub(crate) const VERSION: &str = "0.2.0";
@@ -56,7 +65,8 @@ fn main(rt: HostRuntime) -> ExitCode {
     match run(&rt) {
         Ok(status) => status,
         Err(fault) => {
-            let _ = eprintln!(rt; "dnp: {fault}");
+            let line = Own(&fault);
+            let _ = eprintln!(rt; "{line}");
             ExitCode::from(exit::FAULT)
         }
     }
@@ -67,7 +77,8 @@ fn run(rt: &HostRuntime) -> anyhow::Result<ExitCode> {
     let words = match env::args(rt) {
         Ok(words) => words,
         Err(fault) if fault.kind() == io::ErrorKind::InvalidData => {
-            let _ = eprintln!(rt; "error: a word of the command line is not UTF-8 text{HINT}");
+            let wrong = Wrong::NotText;
+            let _ = eprintln!(rt; "{wrong}");
             return Ok(ExitCode::from(exit::USAGE));
         }
         Err(fault) => return Err(fault.into()),
@@ -80,7 +91,7 @@ fn run(rt: &HostRuntime) -> anyhow::Result<ExitCode> {
 fn judge(rt: &HostRuntime, words: &[String]) -> anyhow::Result<ExitCode> {
     match command(rt.alloc())?.try_get_matches_from(words) {
         Ok(matches) => dispatch(rt, &matches),
-        Err(error) => refuse(rt, &error),
+        Err(error) => refuse(rt, &error, words),
     }
 }
 
@@ -90,6 +101,7 @@ fn command<'a>(alloc: Global) -> Result<Command<'a>, AllocError> {
         .about(ABOUT)
         .after_help(AFTER)
         .version(VERSION)
+        .propagate_version(true)
         .subcommand_required(true)
         .arg_required_else_help(true);
     for number in 0..SUBCOMMANDS {
@@ -149,9 +161,11 @@ fn dispatch(rt: &HostRuntime, matches: &ArgMatches<'_>) -> anyhow::Result<ExitCo
 fn refuse<R: AllocGlobal + Print + Eprint + Files>(
     rt: &R,
     error: &clap::Error,
+    words: &[String],
 ) -> anyhow::Result<ExitCode> {
     let printed = match error.kind() {
         ErrorKind::DisplayVersion => print_version(rt),
+        ErrorKind::UnknownArgument => say_mistake(rt, error, words),
         _ => error.print(rt),
     };
     if let Err(cause) = printed

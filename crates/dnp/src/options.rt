@@ -4,9 +4,6 @@
 use clap::{Arg, ArgAction, Command};
 use std::alloc::{AllocError, Global};
 
-/// How a message ends that says what is wrong with the command line, as `clap`'s own do.
-pub(crate) const HINT: &str = "\n\nFor more information, try '--help'.";
-
 /// What comes with an option.
 #[derive(Clone, Copy)]
 enum Takes {
@@ -16,6 +13,8 @@ enum Takes {
     Value(&'static str),
     /// A value that has to be given.
     Needed(&'static str),
+    /// A value that has to be given, unless the option with the second text is.
+    NeededUnless(&'static str, &'static str),
     /// A value that is the second text where none is given.
     Defaulted(&'static str, &'static str),
     /// A value that has to be given, without the option's name before it.
@@ -76,6 +75,16 @@ pub(crate) fn required(name: &'static str, value: &'static str, help: &'static s
     taking(name, Takes::Needed(value), help)
 }
 
+/// An option with a value that has to be given, unless `other` is, with which it can't be given.
+pub(crate) fn required_unless(
+    name: &'static str,
+    value: &'static str,
+    other: &'static str,
+    help: &'static str,
+) -> Choice {
+    taking(name, Takes::NeededUnless(value, other), help).excluding(other)
+}
+
 /// An option with a value that is `default` where none is given.
 pub(crate) fn defaulted(
     name: &'static str,
@@ -101,17 +110,31 @@ pub(crate) fn plan() -> Choice {
     required("plan", "FILE", "The plan of the system, as TOML")
 }
 
+/// The option that names the network's file.
+pub(crate) fn network() -> Choice {
+    valued(
+        "network",
+        "FILE",
+        "The hosts and names of the stations, as TOML; needs --plan",
+    )
+}
+
+/// An option of this name with a value, which `value` stands for in the help text. A number below 0 is its value too, so that it
+/// is judged as one, and not taken for an option that there isn't.
+fn named<'a>(arg: Arg<'a>, name: &'static str, value: &'static str) -> Arg<'a> {
+    arg.long(name)
+        .value_name(value)
+        .allow_negative_numbers(true)
+}
+
 /// What `clap` has to know of an option by itself.
 fn alone<'a>(alloc: Global, choice: &Choice) -> Arg<'a> {
     let arg = Arg::new(alloc, choice.name).help(choice.help);
     match choice.takes {
         Takes::Nothing => arg.long(choice.name).action(ArgAction::SetTrue),
-        Takes::Value(value) => arg.long(choice.name).value_name(value),
-        Takes::Needed(value) => arg.long(choice.name).value_name(value).required(true),
-        Takes::Defaulted(value, default) => arg
-            .long(choice.name)
-            .value_name(value)
-            .default_value(default),
+        Takes::Value(value) | Takes::NeededUnless(value, _) => named(arg, choice.name, value),
+        Takes::Needed(value) => named(arg, choice.name, value).required(true),
+        Takes::Defaulted(value, default) => named(arg, choice.name, value).default_value(default),
         Takes::Bare(value) => arg.value_name(value).required(true),
     }
 }
@@ -122,9 +145,10 @@ fn arg_of<'a>(alloc: Global, choice: &Choice) -> Result<Arg<'a>, AllocError> {
         Some(other) => alone(alloc, choice).conflicts_with(other)?,
         None => alone(alloc, choice),
     };
-    match choice.needed {
-        Some(other) => arg.requires_arg(other),
-        None => Ok(arg),
+    match (choice.takes, choice.needed) {
+        (Takes::NeededUnless(_, other), _) => arg.required_unless_present(other),
+        (_, Some(other)) => arg.requires_arg(other),
+        (_, None) => Ok(arg),
     }
 }
 

@@ -2,16 +2,24 @@
 
 use crate::addresses::{bind, bind_given};
 use crate::build::note_start;
+use crate::hosts::{Sought, Whose, address_found, taken_by};
+use crate::network_file::all_given;
 use crate::numbers::{MAX_IDLE, number_given};
-use crate::options::{HINT, defaulted, flag, plan, required, subcommand, valued};
+use crate::options::{
+    defaulted, flag, network, plan, required, required_unless, subcommand, valued,
+};
 use crate::plan_file::{plan_text, refused};
 use crate::replay::replay_given;
 use clap::{ArgMatches, Command};
 use dnp_concentrator::MAX_SUBSTATIONS;
-use dnp_daemons::{Living, PlanTextFault, outstation_address, planned_outstation};
-use dnp_tcp::{Listening, Replay, exit, live_on_connections};
+use dnp_daemons::{
+    Living, MASTER_BELOW, PlanTextFault, outstation_address, planned_outstation, read_plan,
+};
+use dnp_lines::{Wanted, Wrong};
+use dnp_network::Network;
+use dnp_tcp::{Ends, Listening, Place, Replay, exit, live_on_connections};
 use std::alloc::{AllocError, Global};
-use std::net::{IpAddr, Net, TcpListener, TcpStream};
+use std::net::{Net, SocketAddr, TcpListener, TcpStream};
 use std::process::ExitCode;
 use std::rt::{Clock, Files};
 use std::str;
@@ -24,95 +32,135 @@ const ABOUT: &str = "Serve an outstation of a plan to masters that connect by TC
 
 /// What its help text says after the options.
 const AFTER: &str = "\
-THE STATION
-  Substation S of the plan, as after a restart: its points, its outputs and its events stand in
-  memory, and last as long as the program runs, over all its connections. Its link address is
-  10 + S, and it answers the master with the link address 2 alone. Points read 0 with the flags 02
-  (RESTART) until a replay changes them; outputs take commands.
+EXAMPLE
+  At the top of the repository:
 
-REPLAY
-  Each line of the file is a change of a point, MS change KIND I VALUE FLAGS TIME, as in
-  '1500 change binary 3 1 01 now': MS milliseconds after the program began the binary input 3
-  becomes 1 with the flags 01. No MS is below that of the line before. Single spaces separate the
-  words, and a file has 16 MiB at most. KIND is binary, counter or analog; FLAGS are two
-  hexadecimal digits; TIME is in milliseconds since 1970-01-01 00:00 UTC, or '-' for none, or
-  'now' for the time at which the change is due. A change that the plan has no point for, or whose
-  value doesn't fit, does nothing. Changes are made in the order of the file, also while no master
-  is connected. With --repeat the file begins again when its last change is made: each change is
-  due as long after that one as it was after the start, and 'now' is the time then. The last change
-  has to be due after 0 ms, and between two runs of the file the station waits for the end of a
-  frame that has begun.
+    dnp outstation --plan examples/plan.toml --station 0 --port 20000 --forever &
+    dnp poll 127.0.0.1:20000
+
+THE STATION
+  It is substation S of the plan, in the state after a restart. Its link address is 10 + S. It
+  answers the master with link address 2 only. With --network it has the 'address' and the 'master'
+  of the network file.
+  Points have value 0 and flags 02 (RESTART) until a replay changes them. Outputs take commands.
+  Points, outputs and events are in memory. They last over all connections, until the program ends.
+
+HOSTS AND PORTS
+  The program listens on --port at the address of --bind. The port of DNP3 is 20000. Address
+  127.0.0.1 is for masters on the same machine, and 0.0.0.0 for all IPv4 addresses of the machine.
+  --bind takes an IPv6 address, as ::1, too.
+  With --network the program listens at 'listen' of the substation in the network file, or at 'at'
+  if there is no 'listen'. A name of a host is looked up once, and its first address is used; the
+  log has it. docs/network.md describes the file, and 'dnp check' checks it.
+  Everyone who can connect can operate the outputs.
 
 CONNECTIONS
-  It listens on the port at the address of --bind: at 127.0.0.1, for masters on the same machine,
-  unless another is given, as 0.0.0.0 for all addresses of the machine, or one of IPv6 as ::1. Who
-  reaches it may operate its outputs. It serves one master at a time, the newest: who connects
-  meanwhile takes the place of the one that is served as soon as that one sends nothing for 50 ms,
-  or else after a second. Only on the last of the connections of --connections is nobody hung up
-  so: who connects then waits, and is not served. With --forever it serves without an end: a signal
-  ends it, as SIGTERM, at once and with all that stands in memory.
-  A connection ends when the master ends it, when the station closes it, when another master takes
-  its place, or after --idle seconds in which no frame from the master for the station came whole,
-  whatever else came, and whether the master reads what is sent or not. It has its 'served N' then,
-  the next master is served, and the status stays 0. What the station ignores, such as a frame for
-  another address, is not told.
-  Timers run while nothing comes: a read waits 50 ms at most. With unsolicited responses on, one
-  is sent when the master connects, and when an event of an enabled class comes; one that isn't
-  confirmed in time is repeated as often as the plan says, and then the station closes the
-  connection. It closes it at the first of these times where a READ waits for that confirm.
+  The station serves one master at a time. With --connections N the program ends after N
+  connections. With --forever it serves until a signal ends it, as SIGTERM. It ends at once then,
+  and all that is in memory is lost.
+  A new connection takes over. The old one ends as soon as it sends nothing for 50 ms, and after a
+  second at the latest. With --connections N the last connection is never taken over: a new client
+  waits, and is not served.
+  A connection ends in these cases. The program then prints 'served N', and serves the next master.
+  The status stays 0.
 
-LOG
-  On standard error first which build this is, with the time in UTC, as '2026-11-26T03:12:40.000Z
-  started: dnp VERSION (proved, ..)'. Then a line for each connection that begins or ends, with the
-  master's address, as '2026-11-26T03:12:44.120Z 127.0.0.1:51234 connected', and 'ended, served N'
-  with the cause: the master or the station closed it, it was idle, it was taken over by another,
-  whose address is told, or it failed, and why. With --verbose a line for each fragment that came
-  whole, too, with how many octets are sent for it.
+  - The master or the station closes it.
+  - A new one takes over.
+  - It fails.
+  - No complete frame from the master comes for --idle seconds. Other octets, and reading, do not
+    count.
+
+UNSOLICITED RESPONSES
+  With 'unsolicited = true' in the plan the station sends one if the master connects, and if an
+  event of an enabled class comes. It repeats an unconfirmed one as often as the plan says, and then
+  closes the connection. If a READ waits, it closes the connection at the first timeout. Timers are
+  checked each 50 ms at least.
+
+REPLAY
+  The replay is a file of changes of points, one in a line. This one changes binary 0 after 1.5 s:
+
+    1500 change binary 0 1 01 now
+
+  The form of a line is 'MS change KIND I VALUE FLAGS TIME'.
+
+  MS:     The change is due so many milliseconds after the start of the program. No MS is less than
+          the one in the line before.
+  KIND:   The kind is binary, counter or analog.
+  I:      The index of the point.
+  VALUE:  The new value.
+  FLAGS:  Two hexadecimal digits.
+  TIME:   Milliseconds since 1970-01-01 00:00 UTC, '-' for none, or 'now' for the time at which the
+          change is due.
+
+  One space separates words. The file has at most 16 MiB. The changes are made in the order of the
+  file, with or without a master. A change of a point that the plan lacks, or to a value that does
+  not fit, does nothing.
+  --repeat begins the file again after the last change. The moment of that change is the new start:
+  each change is due MS after it, and 'now' is the time then. The last change must have an MS over
+  0. Between two runs the station waits for the end of a frame that has begun.
 
 OUTPUT
-  On standard output a line for each connection when it has ended, 'served N': N is how many
-  fragments came whole from its master. Or 'refused plan N', where the plan is refused: 1 it is
-  no TOML, 2 a key is missing, unknown or of another type, or two lists have not as many items as
-  they must, 3 a number is outside its range, or a list has too few or too many items, 4 a class is
-  4 to 255, 5 an index above would be over 65,535, 6 two substations would share an index above;
-  then a line on standard error names the key, what stands there, and what belongs there. Or
-  'refused line N', where line N of the replay is the first that doesn't fit, and why on standard
-  error; both come before it listens. That it listens is not told.
+  Each connection that has ended has the line 'served N' on standard output. N is the number of
+  complete fragments from its master. These come before the program listens:
+
+    refused plan N    the plan is refused; 'dnp sim --help' has the numbers
+    refused line N    line N of the replay is the first wrong one
+
+  Standard error then has the place, the wrong value, and the form of a right one.
+
+LOG
+  The log is on standard error. Each line has the time in UTC. The first lines are:
+
+    2026-11-26T03:12:40.000Z started: dnp VERSION (proved, ..)
+    2026-11-26T03:12:40.000Z listening on 127.0.0.1:20000 as 10 for master 2
+
+  Each connection has a line at its beginning and at its end, with the master's address:
+
+    127.0.0.1:51234 connected
+    127.0.0.1:51234 ended, served 3: the master closed the connection
+
+  Other ends are: the station closed it, it was idle, another address took it over, or it failed.
+  Frames with other link addresses have 'frames came from 5 to 10; this takes those from 2 to 10'.
+  Octets without a frame have 'octets came, and no frame'.
+  With --verbose each complete fragment has a line, with the number of octets that are sent for it.
+  docs/log.md explains each line.
 
 EXIT STATUS
-  0  all connections were served
-  1  the plan or the replay was refused
-  2  the command line is wrong, or the plan has no such substation
-  3  the program failed: the plan or the replay can't be read or is too long, the port can't be
-     had, as when it is in use, out of memory, or the output was lost; a line on standard error
-     says which, and why, but for an output whose reader has gone";
+  0: All connections were served.
+  1: The plan, the network file, its file of points or the replay was refused.
+  2: The command line is wrong, or the plan has no such substation.
+  3: The program failed:
+     - A file can't be read, or is too long.
+     - The name of a host can't be looked up, or the port can't be had.
+     - Memory ran out, or the output was lost.";
 
 /// The highest number that a substation of a plan can have.
 const MAX_STATION: u64 = MAX_SUBSTATIONS as u64 - 1;
 
 /// What is said of the options.
-const STATION: &str = "The number of the substation in the plan, from 0";
+const STATION: &str = "The number of the substation in the plan, counted from 0";
 
-const PORT: &str = "The TCP port to listen on, 1 to 65535; DNP3's own is 20000";
+const PORT: &str = "The TCP port to listen on, 1 to 65535; needed without --network";
 
-const REPLAY: &str = "Changes of points, a line each, to be made while it runs";
+const REPLAY: &str = "A file of changes of points that are made while it runs";
 
-const CONNECTIONS: &str = "How many connections to serve, 1 to 1000000";
+const CONNECTIONS: &str = "The number of connections to serve, 1 to 1000000";
 
-const FOREVER: &str = "Serve connections without an end";
+const FOREVER: &str = "Serve until a signal ends the program; excludes --connections";
 
-const IDLE: &str = "How long a master may send nothing whole, in seconds, 1 to 86400";
+const IDLE: &str = "The most seconds without a frame from the master, 1 to 86400";
 
-const REPEAT: &str = "Begin the replay again at its end";
+const REPEAT: &str = "Begin the replay again at its end; needs --replay";
 
-const VERBOSE: &str = "Say each request on standard error";
+const VERBOSE: &str = "Log each request";
 
 /// What `clap` has to know of `dnp outstation`.
 pub(crate) fn command<'a>(alloc: Global) -> Result<Command<'a>, AllocError> {
     let choices = [
         plan(),
         required("station", "S", STATION),
-        required("port", "P", PORT),
+        network(),
+        required_unless("port", "P", "network", PORT),
         bind(),
         defaulted("connections", "N", "1", CONNECTIONS),
         flag("forever", FOREVER).excluding("connections"),
@@ -124,6 +172,39 @@ pub(crate) fn command<'a>(alloc: Global) -> Result<Command<'a>, AllocError> {
     subcommand(alloc, NAME, ABOUT, AFTER, &choices)
 }
 
+/// Where the station listens.
+#[derive(Clone, Copy)]
+enum Whereabouts<'a> {
+    /// At this address and TCP port.
+    Here(SocketAddr),
+    /// As the network in this file says.
+    Network(&'a str),
+}
+
+/// The port that the words give, or 0 where a network says it. Where it is wrong, that is printed.
+fn port_given<R: Eprint>(rt: &R, given: &ArgMatches<'_>) -> Option<u64> {
+    match given.get_str("network") {
+        Some(_) => Some(0),
+        None => number_given(rt, given, "port", "P", 1, 65_535),
+    }
+}
+
+/// Where the words, which give this port, say that the station listens. Where one is wrong, that is printed.
+fn whereabouts_given<'a, R: Eprint>(
+    rt: &R,
+    given: &ArgMatches<'a>,
+    port: u64,
+) -> Option<Whereabouts<'a>> {
+    match given.get_str("network") {
+        Some(path) => Some(Whereabouts::Network(path)),
+        None => {
+            let address = bind_given(rt, given)?;
+            let port = u16::try_from(port).ok()?;
+            Some(Whereabouts::Here(SocketAddr::new(address, port)))
+        }
+    }
+}
+
 /// What the words of the command line say.
 #[derive(Clone, Copy)]
 struct Words<'a> {
@@ -131,10 +212,8 @@ struct Words<'a> {
     plan: &'a str,
     /// The number of the substation.
     number: u8,
-    /// The TCP port.
-    port: u16,
-    /// The address at which it listens.
-    bind: IpAddr,
+    /// Where it listens.
+    whereabouts: Whereabouts<'a>,
     /// How many connections are served; none where there is no end.
     connections: Option<u64>,
     /// How long a master may send nothing whole, in seconds.
@@ -150,16 +229,15 @@ struct Words<'a> {
 /// What the words say. Where one is wrong, that is printed.
 fn words_given<'a, R: Eprint>(rt: &R, given: &ArgMatches<'a>) -> Option<Words<'a>> {
     let number = number_given(rt, given, "station", "S", 0, MAX_STATION)?;
-    let port = number_given(rt, given, "port", "P", 1, 65_535)?;
+    let port = port_given(rt, given)?;
     let connections = number_given(rt, given, "connections", "N", 1, 1_000_000)?;
     let idle = number_given(rt, given, "idle", "SECONDS", 1, MAX_IDLE)?;
-    let bind = bind_given(rt, given)?;
+    let whereabouts = whereabouts_given(rt, given, port)?;
     let is_forever = given.get_flag("forever");
     Some(Words {
         plan: given.get_str("plan").unwrap_or(""),
         number: u8::try_from(number).ok()?,
-        port: u16::try_from(port).ok()?,
-        bind,
+        whereabouts,
         connections: if is_forever { None } else { Some(connections) },
         idle,
         replay: given.get_str("replay"),
@@ -188,24 +266,89 @@ fn run_plan<R>(
     rt: &R,
     given: &ArgMatches<'_>,
     words: &Words<'_>,
-    text: &[u8],
+    octets: &[u8],
 ) -> anyhow::Result<ExitCode>
 where
     R: AllocGlobal + Print + Eprint + Files + Clock,
     R: Net<Listener = TcpListener, Stream = TcpStream>,
 {
-    let Ok(text) = str::from_utf8(text) else {
-        return Ok(refused(rt, words.plan, None, PlanTextFault::Syntax));
+    let Ok(text) = str::from_utf8(octets) else {
+        return Ok(refused(rt, words.plan, octets, PlanTextFault::Syntax));
     };
     match planned_outstation(rt.alloc(), text, words.number) {
-        Ok(Some(mut station)) => serve(rt, words, &mut station),
+        Ok(Some(mut station)) => match words.whereabouts {
+            Whereabouts::Here(_) => serve(rt, words, &mut station, None),
+            Whereabouts::Network(path) => serve_in_network(rt, words, &mut station, path, text),
+        },
         Ok(None) => Ok(no_station(rt, given.get_str("station").unwrap_or(""))),
-        Err(fault) => Ok(refused(rt, words.plan, Some(text), fault)),
+        Err(fault) => Ok(refused(rt, words.plan, octets, fault)),
     }
 }
 
-/// Reads the replay, where there is one, and serves the station; tells the exit status.
-fn serve<S, R>(rt: &R, words: &Words<'_>, station: &mut S) -> anyhow::Result<ExitCode>
+/// Serves the station where the network in a file says, for a plan with this text; tells the exit status.
+fn serve_in_network<S, R>(
+    rt: &R,
+    words: &Words<'_>,
+    station: &mut S,
+    path: &str,
+    text: &str,
+) -> anyhow::Result<ExitCode>
+where
+    S: Living,
+    R: AllocGlobal + Print + Eprint + Files + Clock,
+    R: Net<Listener = TcpListener, Stream = TcpStream>,
+{
+    let plan = match read_plan(rt.alloc(), text) {
+        Ok(plan) => plan,
+        Err(fault) => return Ok(refused(rt, words.plan, text.as_bytes(), fault)),
+    };
+    match all_given(rt, path, &plan)? {
+        Ok(given) => serve(rt, words, station, Some(&given.network)),
+        Err(status) => Ok(status),
+    }
+}
+
+/// Where the station listens, and the link addresses of the frames that it takes, by the network where there is one. Where a name can't be
+/// looked up, that is said, and the exit status is told.
+fn place_found<R>(
+    rt: &R,
+    words: &Words<'_>,
+    network: Option<&Network>,
+) -> Result<(Place, Ends), ExitCode>
+where
+    R: Eprint + Clock + Net<Listener = TcpListener, Stream = TcpStream>,
+{
+    let number = usize::from(words.number);
+    let path = match words.whereabouts {
+        Whereabouts::Here(address) => {
+            let taken = Ends {
+                source: MASTER_BELOW,
+                dest: outstation_address(words.number),
+            };
+            return Ok((Place::Port(address), taken));
+        }
+        Whereabouts::Network(path) => path,
+    };
+    let Some(site) = network.and_then(|network| network.substations.as_slice().get(number)) else {
+        return Err(ExitCode::from(exit::FAULT));
+    };
+    let sought = Sought {
+        path,
+        whose: Whose::Substation(number),
+        key: "listen",
+        endpoint: site.listen(),
+    };
+    let address = address_found(rt, &sought)?;
+    Ok((Place::Whole(address), taken_by(site.ends())))
+}
+
+/// Reads the replay, where there is one, and serves the station, by the network where there is one; tells the exit status.
+fn serve<S, R>(
+    rt: &R,
+    words: &Words<'_>,
+    station: &mut S,
+    network: Option<&Network>,
+) -> anyhow::Result<ExitCode>
 where
     S: Living,
     R: AllocGlobal + Print + Eprint + Files + Clock,
@@ -218,23 +361,24 @@ where
         },
         None => Replay::new(rt.alloc()),
     };
+    note_start(rt);
+    let (place, taken) = match place_found(rt, words, network) {
+        Ok(found) => found,
+        Err(status) => return Ok(status),
+    };
     let listening = Listening {
-        own: outstation_address(words.number),
-        address: words.bind,
-        port: words.port,
+        taken,
+        place,
         connections: words.connections,
         idle: words.idle,
         is_said: words.is_said,
     };
-    note_start(rt);
     Ok(live_on_connections(rt, station, &listening, replay))
 }
 
 /// Says on standard error that the plan has no such substation, and gives the exit status of a wrong command line.
 fn no_station<R: Eprint>(rt: &R, text: &str) -> ExitCode {
-    let _ = eprintln!(rt;
-        "error: invalid value '{}' for '--station <S>': the plan has no such substation{HINT}",
-        text.escape_debug()
-    );
+    let wrong = Wrong::Value(text, "station", "S", Wanted::Substation);
+    let _ = eprintln!(rt; "{wrong}");
     ExitCode::from(exit::USAGE)
 }

@@ -4,8 +4,10 @@ ghost use Rattle.std.specs.Prelude.{IfOk};
 ghost use Rattle.dnp_concentrator.specs.Plan.{KeepsLimits};
 
 use crate::inputs::octets_of;
+use crate::toml_faults::TomlFault;
 use dnp_concentrator::Plan;
 use dnp_daemons::{PlanTextFault, plan_fault, read_plan};
+use dnp_lines::{NotToml, Of, Own, Refused};
 use dnp_tcp::{exit, unwritten};
 use std::process::ExitCode;
 use std::rt::Files;
@@ -31,42 +33,50 @@ pub(crate) fn plan_given<R: AllocGlobal + Print + Eprint + Files>(
 {
     let octets = plan_text(rt, path)?;
     let Ok(text) = str::from_utf8(octets.as_slice()) else {
-        return Err(refused(rt, path, None, PlanTextFault::Syntax));
+        return Err(refused(rt, path, octets.as_slice(), PlanTextFault::Syntax));
     };
     match read_plan(rt.alloc(), text) {
         Ok(plan) => Ok(plan),
-        Err(fault) => Err(refused(rt, path, Some(text), fault)),
+        Err(fault) => Err(refused(rt, path, octets.as_slice(), fault)),
     }
 }
 
 /// Prints that the plan is refused, says on standard error at which place of its text and why, or that memory ran out, and
-/// gives the exit status. There is no text where the file isn't UTF-8.
+/// gives the exit status.
 pub(crate) fn refused<R: AllocGlobal + Print + Eprint>(
     rt: &R,
     path: &str,
-    text: Option<&str>,
+    octets: &[u8],
     fault: PlanTextFault,
 ) -> ExitCode {
     if fault == PlanTextFault::Memory {
-        let _ = eprintln!(rt; "dnp: {fault}");
+        let line = Own(&fault);
+        let _ = eprintln!(rt; "{line}");
         return ExitCode::from(exit::FAULT);
     }
-    let number = fault as u8;
-    if let Err(cause) = println!(rt; "refused plan {number}") {
+    let refused = Refused::Plan(fault as u8);
+    if let Err(cause) = println!(rt; "{refused}") {
         return unwritten(rt, &cause);
     }
-    explain(rt, path, text, fault);
+    explain(rt, path, octets, fault);
     ExitCode::from(exit::REFUSED)
 }
 
-/// Says on standard error why the text is no plan, and at which place. Where no memory is left for that, the cause alone is
-/// said.
-fn explain<R: AllocGlobal + Eprint>(rt: &R, path: &str, text: Option<&str>, fault: PlanTextFault) {
-    if let Some(text) = text
+/// Says on standard error why the octets of the file are no plan, and at which place. Where no memory is left for that, the cause
+/// alone is said.
+fn explain<R: AllocGlobal + Eprint>(rt: &R, path: &str, octets: &[u8], fault: PlanTextFault) {
+    if fault == PlanTextFault::Syntax
+        && let Some(found) = TomlFault::of(rt.alloc(), octets)
+    {
+        let line = NotToml(path, found.place(), &fault, found.reason());
+        let _ = eprintln!(rt; "{line}");
+    } else if let Ok(text) = str::from_utf8(octets)
         && let Ok(Some(reason)) = plan_fault(rt.alloc(), text)
     {
-        let _ = eprintln!(rt; "dnp: {path}: {reason}");
+        let line = Of(path, &reason);
+        let _ = eprintln!(rt; "{line}");
     } else {
-        let _ = eprintln!(rt; "dnp: {path}: {fault}");
+        let line = Of(path, &fault);
+        let _ = eprintln!(rt; "{line}");
     }
 }

@@ -18,65 +18,85 @@ use std::time::Duration;
 pub const NAME: &str = "poll";
 
 /// What it does, in a line.
-const ABOUT: &str = "Ask an outstation for its rows over TCP, as a master without a plan";
+const ABOUT: &str =
+    "Ask an outstation for its events and values over TCP, as a master without a plan";
 
 /// What its help text says after the options.
 const AFTER: &str = "\
-WHAT IT ASKS
+EXAMPLE
+  At the top of the repository, with an outstation of the plan on port 20000:
+
+    dnp outstation --plan examples/plan.toml --station 0 --port 20000 --forever &
+    dnp poll 127.0.0.1:20000
+    dnp poll 127.0.0.1:20000 --operate 'latch-on 0'
+
+REQUESTS
   HOST:PORT is the outstation, as 10.0.0.7:20000, rtu7.example:20000 or [::1]:20000. On one
-  connection it asks, in this order, what is given: to clear the restart indication
-  (--clear-restart), to set the clock (--time), a READ of classes (--classes), and a command
-  (--operate). Where none of these is given it reads the classes 1, 2, 3 and 0: all events, and then
-  all present values. --repeat asks again and again, on the same connection.
-  Rows are printed as their fragment comes, and only then is the fragment confirmed; so an event is
-  printed before the outstation forgets it. With --confirm no nothing is confirmed, and the events
-  stay where they are; of those that fill more than one fragment the first alone is printed then. A
-  response that nobody asked for, as where unsolicited responses are on, is printed and confirmed in
-  the same way. What comes with another sequence number is passed over.
+  connection the master sends the given requests in this order: clear the restart indication
+  (--clear-restart), set the clock (--time), read classes (--classes), operate (--operate).
+  Without any of these it reads the classes 1, 2, 3 and 0: all events, and then all present values.
+  --repeat sends all again and again, on the same connection.
+
+EVENTS
+  A fragment is confirmed after its rows are printed. So an event is printed before the outstation
+  removes it. An unsolicited response is printed and confirmed in the same way. A response with
+  another sequence number is ignored.
+  With --confirm no nothing is confirmed, and the events stay in the outstation. If they fill
+  several fragments, only the first one is printed.
 
 COMMANDS
-  --operate takes the words of a command, as 'dnp centre --issue' after the substation:
-    latch-on 5            output 5 is latched on: code 0x03, LATCH_ON
-    latch-off 5           it is latched off: code 0x04, LATCH_OFF
-    pulse-on 5 100ms      it is on for 100 ms: code 0x01, PULSE_ON
-    pulse-off 5 2s        it is off for two seconds: code 0x02, PULSE_OFF
-    close 5 100ms         the close relay of the pair 5 is on for 100 ms: code 0x41, PULSE_ON, CLOSE
-    trip 5 100ms          the trip relay of that pair is: code 0x81, PULSE_ON, TRIP
-    set16 2 -1            the setpoint 2 gets this value, of 16 bits
-    set32 2 -1            the same, of 32 bits
-    block 5 0x81 1 100 0  output 5, a code, how many times, ms on, ms off: decimal numbers, and the
-                          code may be hexadecimal, after 0x; 129 is 0x81
-  The words for a code act once. A time is at most 4294967295ms. A code that no output of 'dnp
-  outstation' takes (queue, clear, NUL or reserved bits) is refused, and the word that was probably
-  meant is said: 'block 5 81 1 100 0' is code 0x51, not a trip. --raw sends it all the same.
-  --operate sends a SELECT, and the OPERATE only where the answer to that is the same command with
-  the status SUCCESS. Neither is sent twice, also where no answer comes: look at the output before
-  you give the command again. It can't be given with --repeat.
+  --operate takes these words. 'dnp centre --issue' takes the same words behind a substation.
+
+    latch-on 0:            Output 0 is latched on: code 0x03, LATCH_ON.
+    latch-off 0:           It is latched off: code 0x04, LATCH_OFF.
+    pulse-on 0 100ms:      It is on for 100 ms: code 0x01, PULSE_ON.
+    pulse-off 0 2s:        It is off for 2 s: code 0x02, PULSE_OFF.
+    close 0 100ms:         The close relay of pair 0 is on for 100 ms: code 0x41, PULSE_ON, CLOSE.
+    trip 0 100ms:          The trip relay of pair 0 is on for 100 ms: code 0x81, PULSE_ON, TRIP.
+    set16 2 -1:            Setpoint 2 gets the value -1 of 16 bits.
+    set32 2 -1:            The same with 32 bits.
+    block 0 0x81 1 100 0:  Output 0, code, count, ms on and ms off. Numbers are decimal, and the
+                           code may be hexadecimal after 0x: 129 is 0x81.
+
+  All words except 'block' act once. A time is at most 4294967295ms.
+  The program sends a SELECT. It sends the OPERATE only if the answer repeats the command with the
+  status SUCCESS. It sends neither twice, even without an answer: look at the output before you give
+  the command again.
+  A code that no output of 'dnp outstation' takes (queue, clear, NUL or reserved bits) is refused.
+  Standard error has the word that was probably meant. For example 'block 5 81 1 100 0' has code
+  0x51, which is not a trip. With --raw the code is sent.
 
 OUTPUT
-  A line for each row, and for how each task came out:
+  Each row has a line, and then each request:
+
     binary 3 1 01 2026-11-25T03:00:01.000Z event
-              what it is (binary, counter, analog, output, setpoint), its index, value, flags, time
-              (UTC, or '-'), and 'event' or 'static'; 'unsolicited' after that where nobody asked
+              A row. It has its kind (binary, counter, analog, output, setpoint), index, value,
+              flags, time (UTC or '-'), and 'event' or 'static'. In an unsolicited response
+              'unsolicited' follows.
+
     iin 80 00 restart
-              the internal indications of a READ's response, in hexadecimal, and a word for each
-              that is set; 'clear-restart iin 00 00' and 'time iin 00 00' say whose they are
-    select 5 SUCCESS
-              the command's status; 'unanswered' where the answer holds something else than it
-  With --json each is an object in a line: {\"kind\":\"binary\",\"index\":3,\"value\":1,\"flags\":\"01\",
-  \"time\":1795575601000,\"event\":true,\"unsolicited\":false}, where \"time\" is in milliseconds since
-  1970-01-01 00:00 UTC or null; {\"task\":\"poll\",\"iin\":[\"80\",\"00\"],\"restart\":true}; and
-  {\"task\":\"select\",\"index\":5,\"status\":0,\"name\":\"SUCCESS\",\"iin\":[\"00\",\"00\"]}.
+              The internal indications in the response to a READ. They are in hexadecimal, and each
+              that is set has a word. The lines 'clear-restart iin 00 00' and 'time iin 00 00' have
+              those of the other requests.
+
+    select 0 SUCCESS
+              The status of the command, or 'unanswered' if the response does not repeat it.
+
+  With --json each line is an object. \"time\" is in milliseconds since 1970-01-01 00:00 UTC, or null:
+
+    {\"kind\":\"binary\",\"index\":3,\"value\":1,\"flags\":\"01\",\"time\":1795575601000,\"event\":true,
+    \"unsolicited\":false}
+    {\"task\":\"poll\",\"iin\":[\"80\",\"00\"],\"restart\":true}
+    {\"task\":\"select\",\"index\":0,\"status\":0,\"name\":\"SUCCESS\",\"iin\":[\"00\",\"00\"]}
 
 EXIT STATUS
-  0  all was answered, and no error indicated
-  1  the outstation refused something: a bit of IIN2 is set, a command's status is not SUCCESS, or an
-     answer is none by the standard's grammar as far as it is spoken here; then a line on standard
-     error says the fault's name, and its octet in the fragment
-  2  the command line is wrong
-  3  the program failed: no connection, no answer in time, the connection ended before the answer, out
-     of memory, or the output was lost; a line on standard error says which, and why, but for an
-     output whose reader has gone";
+  0: All was answered without an error.
+  1: The outstation refused something: a bit of IIN2 is set, or a status is not SUCCESS. Or a
+     response is malformed or has an object outside of the profile. Standard error names the object
+     with its octet in the fragment.
+  2: The command line is wrong.
+  3: The program failed: no connection, no answer in time, the connection ended before the answer,
+     out of memory, or the output was lost.";
 
 /// What is said of the options.
 const OUTSTATION: &str = "The outstation: a host's name or address, and a TCP port";
@@ -85,23 +105,23 @@ const OWN: &str = "The link address of this master, 0 to 65519";
 
 const PEER: &str = "The link address of the outstation, 0 to 65519";
 
-const CLASSES: &str = "The classes to read, as digits of 0 to 3";
+const CLASSES: &str = "The classes to read, a digit each, as in 123 or 1230";
 
 const CLEAR: &str = "Clear the restart indication";
 
 const TIME: &str = "Set the clock: 'now', or milliseconds since 1970";
 
-const OPERATE: &str = "Select and operate, as in 'latch-on 5' or 'trip 3 100ms'";
+const OPERATE: &str = "Select and operate, as 'latch-on 0' or 'trip 0 100ms'; excludes --repeat";
 
-const RAW: &str = "Operate by any control code, also one that no output of ours takes";
+const RAW: &str = "Send any control code; needs --operate";
 
-const REPEAT: &str = "Ask again after this time, as 500ms, 5s, 2m or 1h";
+const REPEAT: &str = "Ask again after each such time, as 500ms, 5s, 2m or 1h";
 
-const COUNT: &str = "How often to ask with --repeat; without end unless given";
+const COUNT: &str = "The number of rounds with --repeat; without it there is no limit";
 
-const CONFIRM: &str = "Whether to confirm what is printed: yes or no";
+const CONFIRM: &str = "Confirm printed events: yes or no";
 
-const TIMEOUT: &str = "How long to wait for the connection and for each fragment";
+const TIMEOUT: &str = "The time to wait for the connection and for each fragment";
 
 const JSON: &str = "Print each line as a JSON object";
 

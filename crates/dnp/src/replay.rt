@@ -4,6 +4,7 @@ ghost use Rattle.std.specs.Prelude.{◌<◌, IfOk, IfSome};
 
 use crate::inputs::octets_of;
 use dnp_daemons::{Change, number_in, octet_of};
+use dnp_lines::{Line, Misfit, Refused};
 use dnp_objects::{Kind, MAX_TIME};
 use dnp_pointdb::Reading;
 use dnp_tcp::{Both, Replay, exit, unwritten};
@@ -14,49 +15,6 @@ use std::{fs, str};
 
 /// The most octets of a replay that are read. So no file can fill the memory.
 const MAX_REPLAY: u64 = 16 * 1_024 * 1_024;
-
-/// Why a line of a replay doesn't fit.
-#[derive(Clone, Copy)]
-enum Reason {
-    /// The first word is no number of milliseconds.
-    Ms,
-    /// The first word falls below that of the line before.
-    Falls,
-    /// The second word is another.
-    Verb,
-    /// The third word is no kind of points.
-    Kind,
-    /// The fourth word is no index.
-    Index,
-    /// The fifth word is no value.
-    Value,
-    /// The sixth word is no flags octet.
-    Flags,
-    /// The seventh word is no time.
-    Time,
-    /// There are more words.
-    Words,
-    /// It is the last one, of a replay that begins again at the moment at which it began.
-    Again,
-}
-
-/// What is said of a line that doesn't fit.
-fn said(reason: Reason) -> &'static str {
-    match reason {
-        Reason::Ms => "word 1: a whole number of milliseconds from the start belongs there",
-        Reason::Falls => "word 1: it falls below that of the line before",
-        Reason::Verb => "word 2: change belongs there",
-        Reason::Kind => "word 3: binary, counter or analog belongs there",
-        Reason::Index => "word 4: a whole number from 0 to 65535 belongs there",
-        Reason::Value => "word 5: a whole number belongs there",
-        Reason::Flags => "word 6: a word of two hexadecimal digits belongs there",
-        Reason::Time => {
-            "word 7: a time in milliseconds below 281474976710656, - or now belongs there"
-        }
-        Reason::Words => "word 8: nothing belongs behind MS change KIND I VALUE FLAGS TIME",
-        Reason::Again => "word 1: with '--repeat' the last change has to be due after 0 ms",
-    }
-}
 
 /// What a word says that a point measures.
 fn kind_in(word: &str) -> Option<Kind> {
@@ -85,16 +43,16 @@ fn flags_in(word: &str) -> Option<u8> {
 }
 
 /// When a change is due, in milliseconds from the start, by a word; not before the change before it.
-fn ms_in(word: &str, before: u64) -> Result<u64, Reason> {
+fn ms_in(word: &str, before: u64) -> Result<u64, Misfit> {
     match number_in(word) {
-        Some(ms) if ms < before => Err(Reason::Falls),
+        Some(ms) if ms < before => Err(Misfit::Falls),
         Some(ms) => Ok(ms),
-        None => Err(Reason::Ms),
+        None => Err(Misfit::Ms),
     }
 }
 
 /// The time of a change that is due so many milliseconds from the start, by a word.
-fn time_in(word: &str, ms: u64, start: Both) -> Result<Option<u64>, Reason>
+fn time_in(word: &str, ms: u64, start: Both) -> Result<Option<u64>, Misfit>
     ensures { IfOk result (λ time. IfSome time (λ known. known < MAX_TIME)) }
 {
     match word {
@@ -102,16 +60,16 @@ fn time_in(word: &str, ms: u64, start: Both) -> Result<Option<u64>, Reason>
         "now" => Ok(Some(start.time_at(start.moment.saturating_add(ms)))),
         _ => match number_in(word) {
             Some(time) if time < MAX_TIME => Ok(Some(time)),
-            _ => Err(Reason::Time),
+            _ => Err(Misfit::Time),
         },
     }
 }
 
 /// A point's index, by a word.
-fn index_in(word: &str) -> Result<u16, Reason> {
+fn index_in(word: &str) -> Result<u16, Misfit> {
     match number_in(word) {
-        Some(number) => u16::try_from(number).map_err(|_| Reason::Index),
-        None => Err(Reason::Index),
+        Some(number) => u16::try_from(number).map_err(|_| Misfit::Index),
+        None => Err(Misfit::Index),
     }
 }
 
@@ -121,24 +79,24 @@ fn next_word<'a>(words: &mut str::Split<'a, char>) -> &'a str {
 }
 
 /// The reading that the last words ask for, of a change that is due so many milliseconds from the start.
-fn reading_in(words: &mut str::Split<'_, char>, ms: u64, start: Both) -> Result<Reading, Reason> {
-    let value = value_in(next_word(words)).ok_or(Reason::Value)?;
-    let flags = flags_in(next_word(words)).ok_or(Reason::Flags)?;
+fn reading_in(words: &mut str::Split<'_, char>, ms: u64, start: Both) -> Result<Reading, Misfit> {
+    let value = value_in(next_word(words)).ok_or(Misfit::Value)?;
+    let flags = flags_in(next_word(words)).ok_or(Misfit::Flags)?;
     let time = time_in(next_word(words), ms, start)?;
     if words.next().is_some() {
-        return Err(Reason::Words);
+        return Err(Misfit::Words);
     }
     Ok(Reading { value, flags, time })
 }
 
 /// The change that a line asks for, not before the one before it. Single spaces separate its words.
-fn change_in(line: &str, before: u64, start: Both) -> Result<Change, Reason> {
+fn change_in(line: &str, before: u64, start: Both) -> Result<Change, Misfit> {
     let mut words = line.split(' ');
     let ms = ms_in(next_word(&mut words), before)?;
     if next_word(&mut words) != "change" {
-        return Err(Reason::Verb);
+        return Err(Misfit::Verb);
     }
-    let kind = kind_in(next_word(&mut words)).ok_or(Reason::Kind)?;
+    let kind = kind_in(next_word(&mut words)).ok_or(Misfit::Kind)?;
     let index = index_in(next_word(&mut words))?;
     let reading = reading_in(&mut words, ms, start)?;
     Ok(Change {
@@ -155,21 +113,23 @@ fn replay_text<R: AllocGlobal + Eprint + Files>(rt: &R, path: &str) -> Result<Ve
 }
 
 /// Prints that a line is refused, says on standard error why, and gives the exit status.
-fn refused<R: Print + Eprint>(rt: &R, path: &str, line: u64, reason: &str) -> ExitCode {
-    if let Err(cause) = println!(rt; "refused line {line}") {
+fn refused<R: Print + Eprint>(rt: &R, path: &str, line: u64, misfit: Misfit) -> ExitCode {
+    let refused = Refused::Line(line);
+    if let Err(cause) = println!(rt; "{refused}") {
         return unwritten(rt, &cause);
     }
-    let _ = eprintln!(rt; "dnp: {path}: line {line}: {reason}");
+    let line = Line::Replay(path, line, misfit);
+    let _ = eprintln!(rt; "{line}");
     ExitCode::from(exit::REFUSED)
 }
 
 /// A line of a replay that doesn't fit.
 #[derive(Clone, Copy)]
-struct Misfit {
+struct Place {
     /// Its number, from 1.
     line: u64,
     /// Why it doesn't.
-    reason: Reason,
+    misfit: Misfit,
 }
 
 /// Adds the changes of a text that begins then, up to its first line that doesn't fit; they begin again where that is asked
@@ -179,7 +139,7 @@ fn add_all(
     text: &str,
     begins: Both,
     repeats: bool,
-) -> Result<Result<(), Misfit>, AllocError> {
+) -> Result<Result<(), Place>, AllocError> {
     let mut line = 0u64;
     let mut before = 0;
     for words in text.lines() {
@@ -189,13 +149,13 @@ fn add_all(
                 before = change.at.saturating_sub(begins.moment);
                 replay.add(change, words.ends_with(" now"))?;
             }
-            Err(reason) => return Ok(Err(Misfit { line, reason })),
+            Err(misfit) => return Ok(Err(Place { line, misfit })),
         }
     }
     if repeats && line > 0 {
         if before == 0 {
-            let reason = Reason::Again;
-            return Ok(Err(Misfit { line, reason }));
+            let misfit = Misfit::Again;
+            return Ok(Err(Place { line, misfit }));
         }
         replay.repeat(before);
     }
@@ -214,11 +174,11 @@ pub(crate) fn replay_given<R: AllocGlobal + Print + Eprint + Files + Clock>(
         Err(status) => return Ok(Err(status)),
     };
     let Ok(text) = str::from_utf8(octets.as_slice()) else {
-        return Ok(Err(refused(rt, path, 1, "the file is not UTF-8")));
+        return Ok(Err(refused(rt, path, 1, Misfit::NotText)));
     };
     let mut replay = Replay::new(rt.alloc());
     match add_all(&mut replay, text, Both::now(rt), repeats)? {
         Ok(()) => Ok(Ok(replay)),
-        Err(misfit) => Ok(Err(refused(rt, path, misfit.line, said(misfit.reason)))),
+        Err(place) => Ok(Err(refused(rt, path, place.line, place.misfit))),
     }
 }

@@ -1,15 +1,21 @@
 //! `dnp rows`: the rows of a store's file, beside the program that writes it.
 
 mod files;
+mod named;
 mod words;
 
-use crate::options::{defaulted, flag, subcommand, valued};
+use crate::network_file::all_given;
+use crate::options::{defaulted, flag, network, subcommand, valued};
+use crate::plan_file::plan_given;
 use crate::rows::files::Opened;
+use crate::rows::named::{COLUMNS, PointTexts};
 use crate::rows::words::{Words, words_given};
 use clap::{ArgMatches, Command};
-use dnp_rows::{Form, PrintFault, ReadFault, Store, Stored, head_line, print_over};
+use dnp_lines::Line;
+use dnp_rows::{
+    Form, Nameless, Naming, PrintFault, ReadFault, Source, Store, Stored, head_names, print_over,
+};
 use dnp_tcp::{exit, lost, unwritten};
-use sqlite::{Error, ErrorCode};
 use std::alloc::{AllocError, Global};
 use std::io::Write;
 use std::process::ExitCode;
@@ -25,80 +31,138 @@ const GONE: u8 = 4;
 
 /// What the subcommand does, in a line.
 const ABOUT: &str =
-    "Print the rows of a journal, a queue or a book of controls, also while a program writes it";
+    "Print the rows of a journal, a queue or a book of controls, even of one in use";
 
 /// What its help text says after the options.
 const AFTER: &str = "\
-WHAT IT PRINTS
-  The rows of one store, each in a line, in the order of their ids: those of a journal (--journal), of
-  a queue for a centre (--queue), or of a book of controls (--controls). With --after ID those that
-  come after the row of that id. With --follow it goes on with rows that come later, for which it looks
-  every MS milliseconds, until it is ended. Each page of rows is out as it is printed: up to 1000 lines
-  in one write. So who keeps the id of the last whole line goes on with --after, and has no row twice
-  and misses none. A control is printed once, as it stands then.
+EXAMPLES
+  All events of a centre:
 
-BESIDE A PROGRAM
-  The file and its log, FILE-wal, are read alone, and no lock is taken: a program that has the store
-  goes on as if nobody looked, and nothing is written or made. What is not committed isn't printed. A
-  row that a queue's centre confirms between two looks is not seen. A power cut may take back rows that
-  were printed within the moment before it; no end of a program does.
+    dnp rows --journal journal.db
+
+  Those after id 40, and then those that come, as JSON:
+
+    dnp rows --journal journal.db --after 40 --follow --json
+
+  The events that wait for the second centre:
+
+    dnp rows --queue queue.db --centre 2
+
+  The controls of a concentrator, and the results:
+
+    dnp rows --controls below.db --of concentrator
+
+ROWS
+  The program prints the rows of one store in the order of their ids. The store is a journal
+  (--journal), a queue for one centre (--queue), or a book of controls (--controls). With
+  --after ID it begins after the row with that id.
+  --follow goes on with rows that come later, until a signal ends it. It looks for them each MS
+  milliseconds. To go on after an end, give --after the id of the last complete line: no row is
+  missing, and none comes twice. Up to 1000 lines are written at once.
+  A control is printed once, with its state at that moment.
+
+A STORE IN USE
+  Another program may have the store: rows are read without a lock, and nothing is written. The
+  files FILE and FILE-wal are read. Only committed rows are printed. A queue's row that is confirmed
+  between two looks is not printed. The end of a program takes no printed row back. A power cut may
+  take back rows that were committed in the moment before it.
 
 OUTPUT
-  Plain text: the id, 'centre N class N' of a queue's rows, what the row is of (binary, counter,
-  analog), its index, value, flags in hexadecimal, and time in UTC, or '-':
+  An event has its id, its kind (binary, counter, analog), index, value, flags in hexadecimal, and
+  the time in UTC or '-'. A queue's event has its centre and class too:
+
     7 binary 3 1 01 2026-11-25T03:00:01.000Z
     7 centre 1 class 2 analog 12 -5 01 -
-  Of a control its id, target, command as in 'dnp centre --issue', and what became of it, with the
-  number of the status where it is known (pending, spent, finished):
-    4 target 0 block 3 1 1 250 0 finished status 0
-  Indices are those above, but for controls of a concentrator, which have the substation as their
-  target and its own index.
-  --json prints an object in a line, with \"time\" in milliseconds since 1970-01-01 00:00 UTC, or null:
+
+  A control has its id, target, command as in 'dnp centre --issue', and state. The state is
+  'pending', 'spent' (sent without a known answer), or the status of the answer. The answer is the
+  concentrator's in a centre's book, and the substation's in a concentrator's book: --of says whose
+  book it is.
+
+  Without --of:
+
+    4 target 0 block 3 1 1 250 0 finished: answered by the next station below (status 0 SUCCESS)
+
+  With --of centre. The concentrator passes a control on after it has taken it:
+
+    4 target 0 block 203 1 1 250 0 taken by the concentrator (status 0 SUCCESS)
+
+  With --of concentrator:
+
+    4 target 0 block 3 1 1 250 0 operated by the substation (status 0 SUCCESS)
+
+    5 target 0 block 3 9 1 250 0 refused by the substation (status 4 NOT_SUPPORTED)
+
+  Indices are those above. The controls of a concentrator have the substation as their target, and
+  its own index.
+  With --json each line is an object. Its \"time\" is in milliseconds since 1970-01-01 00:00 UTC, or
+  null:
+
     {\"id\":7,\"kind\":\"binary\",\"index\":3,\"value\":1,\"flags\":\"01\",\"time\":1795575601000,
     \"utc\":\"2026-11-25T03:00:01.000Z\"}
-  --csv prints records of CSV (RFC 4180) after a head line, which is one of:
+
+  --csv prints CSV records (RFC 4180) after one of these headers:
+
     id,kind,index,value,flags,time,utc
     id,centre,class,kind,index,value,flags,time,utc
     id,target,command,index,code,count,on_ms,off_ms,value,state,status
 
+NAMES
+  With --plan and --network a line ends in the names of the substation and of the point. The names
+  are in the network file and its file of points, which docs/network.md describes. A line without
+  names is not changed:
+
+    7 binary 100 1 01 2026-11-25T03:00:01.000Z Kirchberg 110 kV: Feeder 1, breaker
+
+  --json adds \"substation\", \"station\" and \"point\". --csv adds the columns substation,station,point.
+  The substation is its number. A book of controls with names needs --of, because the indices of a
+  centre's book are not those of a concentrator's book.
+
 EXIT STATUS
-  0  all rows that stood there are printed
-  1  the file is none of such a store: a text, another store, an altered one, one of an earlier
-     release, or one whose last id is below ID; a line on standard error says so
-  2  the command line is wrong
-  3  the program failed: the file can't be read, out of memory, or the output was lost; a line on
-     standard error says which, and why
-  4  the reader of the output has gone: nothing is said. It shows at the next row";
+  0: All rows of the file are printed.
+  1: The file has no such store: it is a text, another store, an altered one, one of an earlier
+     release, or one whose last id is below ID. Or the plan, the network file or its file of points
+     was refused. Standard error has the reason.
+  2: The command line is wrong.
+  3: The program failed: the file can't be read, out of memory, or the output was lost.
+  4: The reader of the output has gone, which shows at the next row. Standard error has no line.";
 
 /// What is said of the options.
-const JOURNAL: &str = "The file of a journal";
+const JOURNAL: &str = "The file of a journal; excludes --centre";
 
 const QUEUE: &str = "The file of a queue";
 
-const CONTROLS: &str = "The file of a book of controls";
+const CONTROLS: &str = "The file of a book of controls; excludes --centre";
 
-const CENTRE: &str = "Of a queue, the centre whose rows are printed: 1 or 2";
+const OF: &str = "The owner of the book: centre or concentrator; needs --controls";
 
-const AFTER_ID: &str = "Print the rows after that of this id";
+const PLAN: &str = "The plan of the points, as TOML; needs --network";
+
+const CENTRE: &str = "The centre of a queue's events, 1 or 2; needs --queue";
+
+const AFTER_ID: &str = "Print the rows after the one with this id";
 
 const FOLLOW: &str = "Go on with rows that come later";
 
-const EVERY: &str = "How often to look for them, in milliseconds";
+const EVERY: &str = "The time between two looks, in milliseconds; needs --follow";
 
-const CSV: &str = "Print each row as a record of CSV";
+const CSV: &str = "Print each row as a CSV record";
 
 const JSON: &str = "Print each row as a JSON object";
 
 /// What `clap` has to know of `dnp rows`.
 pub(crate) fn command<'a>(alloc: Global) -> Result<Command<'a>, AllocError> {
     let choices = [
-        valued("journal", "FILE", JOURNAL),
+        valued("journal", "FILE", JOURNAL).excluding("centre"),
         valued("queue", "FILE", QUEUE),
-        valued("controls", "FILE", CONTROLS),
-        defaulted("centre", "N", "1", CENTRE),
+        valued("controls", "FILE", CONTROLS).excluding("centre"),
+        valued("of", "WHO", OF).needing("controls"),
+        valued("plan", "FILE", PLAN).needing("network"),
+        network().needing("plan"),
+        defaulted("centre", "N", "1", CENTRE).needing("queue"),
         defaulted("after", "ID", "0", AFTER_ID),
         flag("follow", FOLLOW),
-        defaulted("every", "MS", "1000", EVERY),
+        defaulted("every", "MS", "1000", EVERY).needing("follow"),
         flag("csv", CSV),
         flag("json", JSON),
     ];
@@ -113,28 +177,62 @@ where
     let Some(words) = words_given(rt, given) else {
         return Ok(ExitCode::from(exit::USAGE));
     };
+    let Some(names) = words.names else {
+        return Ok(print_with(rt, &words, &Nameless));
+    };
+    let plan = match plan_given(rt, names.plan) {
+        Ok(plan) => plan,
+        Err(status) => return Ok(status),
+    };
+    let given = match all_given(rt, names.network, &plan)? {
+        Ok(given) => given,
+        Err(status) => return Ok(status),
+    };
+    let names = PointTexts::of(rt.alloc(), &plan, &given, words.form, words.whose)?;
+    Ok(print_with(rt, &words, &names))
+}
+
+/// Prints the rows that the given words name, with these names, and tells the exit status.
+fn print_with<N: Naming, R>(rt: &R, words: &Words<'_>, names: &N) -> ExitCode
+where
+    R: AllocGlobal + Print + Eprint + Clock + Files,
+{
     let opened = match Opened::at(rt, words.path) {
         Ok(opened) => opened,
-        Err(cause) => return Ok(lost(rt, words.path, &cause)),
+        Err(cause) => return lost(rt, words.path, &cause),
     };
     let mut stored = Stored::new(opened, words.store, words.centre);
-    Ok(ExitCode::from(print_all(rt, &words, &mut stored)))
+    ExitCode::from(print_all(rt, words, names, &mut stored))
+}
+
+/// Writes the head line of CSV.
+fn write_head<W: Write>(out: &mut W, words: &Words<'_>) -> io::Result<()> {
+    out.write_all(head_names(words.store))?;
+    if words.names.is_some() {
+        out.write_all(COLUMNS)?;
+    }
+    out.write_all(b"\r\n")
 }
 
 /// Prints the rows that stand there, and those that come later, where they are followed; tells the exit status.
-fn print_all<R>(rt: &R, words: &Words<'_>, stored: &mut Stored<Opened<R::File>>) -> u8
+fn print_all<N: Naming, R>(
+    rt: &R,
+    words: &Words<'_>,
+    names: &N,
+    stored: &mut Stored<Opened<R::File>>,
+) -> u8
 where
     R: AllocGlobal + Print + Eprint + Clock + Files,
 {
     let mut out = io::writer(rt);
     if words.form == Form::Csv
-        && let Err(cause) = out.write_all(head_line(words.store))
+        && let Err(cause) = write_head(&mut out, words)
     {
         return unprinted(rt, words, PrintFault::Unwritten(cause));
     }
     let mut last = words.after;
     for _ in 0..u64::MAX {
-        match print_over(stored, rt.alloc(), words.form, last, &mut out) {
+        match print_over(stored, rt.alloc(), words.form, names, last, &mut out) {
             Ok(id) => last = id,
             Err(fault) => return unprinted(rt, words, fault),
         }
@@ -177,7 +275,7 @@ fn name_of(store: Store) -> &'static str {
 
 /// Says on standard error why rows are not printed, and tells the exit status. Where the reader of standard output has gone,
 /// nothing is said.
-fn unprinted<R: Eprint>(rt: &R, words: &Words<'_>, fault: PrintFault) -> u8 {
+fn unprinted<R: AllocGlobal + Eprint + Files>(rt: &R, words: &Words<'_>, fault: PrintFault) -> u8 {
     match fault {
         PrintFault::Unread(fault) => unread(rt, words, fault),
         PrintFault::OutOfOrder => unread(rt, words, ReadFault::OtherForm),
@@ -192,11 +290,12 @@ fn unprinted<R: Eprint>(rt: &R, words: &Words<'_>, fault: PrintFault) -> u8 {
 
 /// Says on standard error why rows can't be read, and tells the exit status: that of a refused input where the file is of no
 /// such store.
-fn unread<R: Eprint>(rt: &R, words: &Words<'_>, fault: ReadFault) -> u8 {
+fn unread<R: AllocGlobal + Eprint + Files>(rt: &R, words: &Words<'_>, fault: ReadFault) -> u8 {
     let path = words.path;
     match fault {
         ReadFault::Memory => {
-            let _ = eprintln!(rt; "dnp: {path}: out of memory");
+            let line = Line::NoMemory(path);
+            let _ = eprintln!(rt; "{line}");
             exit::FAULT
         }
         ReadFault::Unreadable(cause) => {
@@ -204,38 +303,58 @@ fn unread<R: Eprint>(rt: &R, words: &Words<'_>, fault: ReadFault) -> u8 {
             exit::FAULT
         }
         ReadFault::Busy => {
-            let _ = eprintln!(rt; "dnp: {path}: changed each time while it was read");
+            let line = Line::Changed(path);
+            let _ = eprintln!(rt; "{line}");
             exit::FAULT
         }
         fault => {
-            say_refused(rt, path, name_of(words.store), &fault);
+            match other_there(rt, words) {
+                Some(other) => say_other(rt, path, words.store, other),
+                None => say_refused(rt, path, name_of(words.store), &fault),
+            }
             exit::REFUSED
         }
     }
 }
 
+/// Which other store's rows stand in the file whole, if one's do.
+fn other_there<R: AllocGlobal + Files>(rt: &R, words: &Words<'_>) -> Option<Store> {
+    for store in [Store::Journal, Store::Queue, Store::Controls] {
+        if store != words.store
+            && let Ok(opened) = Opened::at(rt, words.path)
+            && Stored::new(opened, store, 1)
+                .items_over(rt.alloc(), 0, 1)
+                .is_ok()
+        {
+            return Some(store);
+        }
+    }
+    None
+}
+
+/// The option that names a file with the rows of a store.
+fn option_of(store: Store) -> &'static str {
+    match store {
+        Store::Journal => "--journal",
+        Store::Queue => "--queue",
+        Store::Controls => "--controls",
+    }
+}
+
+/// Says on standard error that a file is of another store, and by which option its rows are printed.
+fn say_other<R: Eprint>(rt: &R, path: &str, store: Store, other: Store) {
+    let line = Line::Other(path, name_of(store), name_of(other), option_of(other));
+    let _ = eprintln!(rt; "{line}");
+}
+
 /// Says on standard error why a file is of no such store.
 fn say_refused<R: Eprint>(rt: &R, path: &str, store: &str, fault: &ReadFault) {
-    let _ = match fault {
-        ReadFault::NoDatabase => {
-            let error = Error::SqliteFailure(ErrorCode::NotADatabase);
-            eprintln!(rt; "dnp: {path}: no {store}: {error}")
-        }
-        ReadFault::NotMade => {
-            eprintln!(rt;
-                "dnp: {path}: no {store} was made there: remove the file, and let '--new' make one"
-            )
-        }
-        ReadFault::OldForm => {
-            eprintln!(rt;
-                "dnp: {path}: a {store} of an earlier release, for one centre: let '--migrate' bring it to the form for two"
-            )
-        }
-        ReadFault::Behind(last) => {
-            eprintln!(rt;
-                "dnp: {path}: its last id is {last}: another file than the one that ids were taken from"
-            )
-        }
-        _ => eprintln!(rt; "dnp: {path}: no {store}, or not whole"),
+    let line = match fault {
+        ReadFault::NoDatabase => Line::NoDatabase(path, store),
+        ReadFault::NotMade => Line::NotMade(path, store),
+        ReadFault::OldForm => Line::OldForm(path, store),
+        ReadFault::Behind(last) => Line::Behind(path, *last),
+        _ => Line::NoStore(path, store),
     };
+    let _ = eprintln!(rt; "{line}");
 }

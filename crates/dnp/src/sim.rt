@@ -1,10 +1,11 @@
 //! `dnp sim`: a whole system of a plan, run by a script.
 
 use crate::looks::{misuse, write_looks};
-use crate::options::{HINT, flag, plan, subcommand, valued};
+use crate::options::{flag, plan, subcommand, valued};
 use crate::texts::{Texts, finish, limit, plain, stores_given, texts_given};
 use clap::{ArgMatches, Command};
 use dnp_daemons::{Stores, sim_text};
+use dnp_lines::Wrong;
 use dnp_tcp::{Noted, exit};
 use dnp_trace::report_json;
 use std::alloc::{AllocError, Global};
@@ -17,126 +18,163 @@ use std::rt::Files;
 pub const NAME: &str = "sim";
 
 /// What it does, in a line.
-const ABOUT: &str =
-    "Run a script on a whole system of a plan, and report what became of everything";
+const ABOUT: &str = "Run a script on a simulated network, and report every event and command";
 
 /// What is said of the option for the trace.
-const TRACE: &str = "Write what each unit does, a line each; '-' is standard output";
+const TRACE: &str = "Write the steps of each frame, a line each; '-' is standard output";
 
 /// What is said of the one for the chart.
-const CHART: &str = "Draw what each unit does, as a sequence chart (SVG)";
+const CHART: &str = "Draw the steps of each frame as a sequence chart (SVG)";
 
 /// What is said of the one for the capture.
-const CAPTURE: &str = "Write what arrives, as a capture (pcap)";
+const CAPTURE: &str = "Write the frames that arrive as a capture (pcap)";
 
 /// What is said of the one for the form of the report.
-const JSON: &str = "Print the report as one object of JSON";
+const JSON: &str = "Print the report as a JSON object";
 
 /// What its help text says after the options.
 const AFTER: &str = "\
-INPUT
-  The plan says which substations there are, with their points and outputs. The script, on
-  standard input, says line by line what happens in a system of them, a concentrator and two
-  centres: what points read, polls and commands, and which units of the lines arrive, are lost,
-  come twice or are damaged. What is of the second centre has a 2 to its word: 'above2' is the
-  link to it, and 'issue2' issues a command there. docs/scripts.md says how both are written. A
-  script of more octets than --limit allows is not run.
-
 EXAMPLE
-  A change at the substation is polled by the concentrator, and then by the first centre; at the
-  top of the repository:
+  A change at the substation goes to the concentrator, and then to the first centre. At the top of
+  the repository:
 
     printf 'open 0\\nopen above\\nchange 0 binary 0 1 01 1000\\nround 0\\nround above\\n' |
       dnp sim --plan examples/plan.toml
 
-  Then the change stands in the report below 'journal 1' and below 'confirmed 1', and below
-  'queue2 1' for the second centre, which has not polled.
+  The report has the change below 'journal 1' and below 'confirmed 1'. It is below 'queue2 1' too,
+  because the second centre has not polled.
 
-THE STORES
-  The concentrator's queue, the centres' journals and the controls of all three stand in SQL
-  databases in memory, of the form that 'dnp concentrate' and 'dnp centre' have in files. With
-  --plain they stand in lists, and the same is printed sooner.
+INPUT
+  The plan has the substations with their points and outputs. The script is on standard input. Each
+  of its lines is an event in a system of these substations, a concentrator and two centres. Events
+  are changes of points, polls, commands, and frames that are delivered, lost, repeated or damaged.
+  Words for the second centre end in 2: 'above2' is the link to it, and 'issue2' issues a command
+  there. docs/scripts.md describes plans and scripts. A script over --limit is not run.
 
-OUTPUT
-  On standard output:
-    'round L ok' or 'round L refused N' for each line 'round L', one poll of all events, its
-    response's first fragment and the confirm of that; the rest of a longer response then stands
-    on the line. 1 the link is not quiet: something stands on its lines, its master awaits an
-    answer, or it is broken or closed, as by a master that has waited too long ('open L' opens it);
-    'control ID ok' or 'control ID refused N' for each line 'control ID', and 'control2' with the
-    same for each line 'control2 ID': 1 a link is not quiet, 2 it is not the next control, or
-    another one is on its way to its substation, 3 a station refused it;
-    and at the end the report: each list's name and length, and below it its events, as
-    ' 0 binary 3 1 01 1000' (substation, kind, index, value, flags in hexadecimal, time in
-    milliseconds or '-'), or its commands, as
-    ' 0 block 3 129 1 100 200' (substation, form, index, code, here 0x81 PULSE_ON with TRIP, count,
-    ms on, ms off) or
-    ' 0 set16 3 -2' (substation, form, index, value). The index is the substation's own; on the
-    link above the plan's base is added to it.
-  The report's lists:
-    journal      events that the first centre has
-    journal2     events that the second centre has
-    queue        events that wait in the concentrator for the first centre
-    queue2       events that wait there for the second
-    dropped      events that the concentrator's full lanes for the first centre dropped
-    dropped2     events that those for the second dropped
-    confirmed    events that substations have let go, since the concentrator confirmed them
-    buffered     events that wait in substations
-    overwritten  events that substations' full lanes dropped
-    gone         events that were lost as a substation restarted
-    issued       commands that were issued at either centre
-    operated     commands that outputs have performed
-  and last 'lost N': N events for the first centre were dropped so far, by the concentrator's own
-  count, and 'lost2 N', the same of the second.
-  Or one line, and then nothing has run:
-    'refused plan N', by the first of these faults: 1 it is no TOML, as where a key stands twice or a
-    number has over 64 bits, 2 a key is missing, unknown or of another type, or two lists have not as
-    many items as they must, 3 a number is outside its range, below 0 or over 255 for a class, or a
-    list has too few or too many items, 4 a class is 4 to 255, 5 an index above would be over 65,535,
-    6 two substations would share an index above; then a line on standard error names the key, its
-    substation, counted from 0, its item, counted from 1, what stands there, and what belongs there;
-    'refused line N', where line N of the script, counted from 1, is the first that doesn't fit;
-    then a line on standard error says which of its words stops fitting, and what belongs there; a
-    long word is shown cut ('and more').
-  Where a line of the script is out of memory, 'stopped N', N lines having been done.
-  On standard error, where lines can do nothing, as one that names no point of the plan: how many
-  they are, the number of the first, and why it does nothing. A line that finds nothing to do as
-  the system stands, as a delivery where no unit is, isn't counted.
+OUTPUT OF THE SCRIPT'S LINES
+  'round L' polls all events on link L: it takes the first fragment of the response, and its
+  confirm. The rest of a longer response stays on the line. The output is one of these:
 
-SOMETHING TO LOOK AT
-  What the units on the lines do, in a run of its own: the report stays as it is. A file is written
-  before the report is printed, and not where the plan or the script is refused.
-    --trace FILE    a line for each thing that a unit does: the moment in milliseconds, the link, the
-                    way, what it does and what it says, as '12 link 0 up sent RESPONSE seq 1 fir fin
-                    con iin 80 00, 2.2 x1' (iin: the internal indications, where any is set), or of a
-                    segment of a longer fragment 'segment FIR 0'; of a damaged one what it said
-                    before. It is 'sent', it 'arrives', is 'repeated' (it arrives, and stays on the
-                    line), 'lost', 'damaged' or 'dropped' (its line was cleared), or 'stands' on the
-                    line at the end. What comes after 32 others on a line may be 'unseen'. The way is
-                    up to the master, or down. A station that closes its connection has no line.
-                    With '-' the lines stand on standard output, before the report, which then can't
-                    be JSON; the other two can't go there. No two may name one file, nor the plan's.
-    --chart FILE    the same as a sequence chart for a browser, time going down: an arrow for each
-                    unit, broken off where it is lost (a cross) or damaged (a jag), dashed where it
-                    is repeated, dotted where it is dropped or stands at the end; at the left stand
-                    the script's lines. A label that is cut ends in '..'; at most 1500 rows are shown.
-                    The second centre is drawn where a unit is on its link
-    --capture FILE  what arrives, and so no unit that is lost, damaged or dropped, for Wireshark: a
-                    TCP conversation to port 20000 for each link, from and to 192.0.2.A, where A is
-                    the station's link address: the first centre's is 1, the second's 3, the
-                    concentrator's 9 above and 2 below, substation S's 10 + S
-    --json          in place of the text an object: 'outcomes' has how rounds and controls came out,
-                    with the N of 'refused N' as 'reason', and then come the report's lists by their
-                    names, what has no time with 'null'. What is refused, or stops, is printed as
-                    without it.
+  - round L ok: it was done.
+  - round L refused 1: the link is not quiet.
+
+  A link is not quiet if it is closed or broken, if it has a frame, or if its master awaits an
+  answer. A master that has waited too long closes its link; 'open L' opens it.
+
+  'control ID' carries a command to its output; 'control2 ID' does so for the second centre. The
+  output is one of these:
+
+  - control ID ok: it was done.
+  - control ID refused 1: a link is not quiet.
+  - control ID refused 2: it is not the next control, or another one is on its way to its
+    substation.
+  - control ID refused 3: a station refused it.
+
+THE REPORT
+  The report comes at the end. Each of its lists has a line with the name and the length, and then a
+  line for each item:
+
+  - An event as ' 0 binary 3 1 01 1000': substation, kind, index, value, flags in hexadecimal, and
+    time in milliseconds or '-'.
+  - A command as ' 0 block 3 129 1 100 200': substation, form, index, code, count, ms on, ms off.
+    Code 129 is 0x81, PULSE_ON with TRIP.
+  - A command as ' 0 set16 3 -2': substation, form, index, value.
+
+  The index is that of the substation. On the link above, the plan's base is added to it.
+
+    journal:      Events that the first centre has.
+    journal2:     Events that the second centre has.
+    queue:        Events that wait in the concentrator for the first centre.
+    queue2:       Events that wait there for the second centre.
+    dropped:      Events that the concentrator dropped, because an event buffer for the first
+                  centre was full.
+    dropped2:     The same for the second centre.
+    confirmed:    Events that substations removed, because the concentrator confirmed them.
+    buffered:     Events that wait in substations.
+    overwritten:  Events that substations dropped, because an event buffer was full.
+    gone:         Events that were lost as a substation restarted.
+    issued:       Commands that were issued at either centre.
+    operated:     Commands that outputs have performed.
+
+  The last lines are 'lost N' and 'lost2 N': the concentrator's own counts of the events that it has
+  dropped for each centre.
+
+REFUSED INPUT
+  One of these lines is the whole output if nothing has run:
+
+  - refused plan 1: it is not TOML, a key is there twice, or a number has over 64 bits.
+  - refused plan 2: a key is missing, unknown or of another type, or two lists differ in length.
+  - refused plan 3: a number is outside of its range, or a list has too few or too many items.
+  - refused plan 4: a class is 4 to 255.
+  - refused plan 5: an index above would be over 65,535.
+  - refused plan 6: two substations would share an index above.
+  - refused line N: line N of the script, counted from 1, is the first wrong one.
+
+  The first fault decides. Standard error has the key, its substation (from 0), its item (from 1),
+  the wrong value, and the form of a right one. For a line it has the wrong word, and the form of a
+  right one; a long word is cut ('and more').
+  If memory runs out after N lines of the script, the output has 'stopped N'.
+  Some lines can do nothing, as one with a point that the plan lacks. Standard error then has their
+  number, the first of them, and the reason. A line that finds nothing to do in the system's state,
+  as a delivery without a frame, is not counted.
+
+TRACE, CHART AND CAPTURE
+  Each of these shows the frames on the lines. The report stays the same. The files are written
+  before the report is printed, and only if the plan and the script are right. No two of them may
+  be one file, or the plan's file.
+
+  --trace FILE
+    Each step of a frame has a line: the moment in milliseconds, the link, the direction, the step,
+    and the content. 'up' is towards the master. For example:
+
+      12 link 0 up sent RESPONSE seq 1 fir fin con iin 80 00, 2.2 x1
+
+    iin are the internal indications, if any is set. A segment of a longer fragment has 'segment FIR
+    0'. A damaged frame has the content that it had before. The steps are:
+
+      sent:      The station sends it.
+      arrives:   It is delivered.
+      repeated:  It is delivered, and stays on the line.
+      lost:      It is lost on the line.
+      damaged:   It becomes other octets, and nobody gets it.
+      dropped:   Its line was cleared.
+      stands:    It is on the line at the end.
+
+    Frames behind 32 others on a line may be 'unseen'. A station that closes its connection has no
+    line. With '-' the trace is on standard output, before the report; --json is refused then. The
+    chart and the capture can't go there.
+
+  --chart FILE
+    The chart is an SVG sequence chart for a browser, in which time goes down. The script's lines
+    are at the left. Each frame is an arrow. An arrow ends early in a cross if the frame is lost,
+    and in a jag if it is damaged. It is dashed if the frame is repeated. It is dotted if the
+    frame is dropped or is on the line at the end. A cut label ends in '..'. The chart has at most
+    1500 rows. It has the second centre if a frame is on its link.
+
+  --capture FILE
+    The capture has the frames that arrive, for Wireshark. It has no frames that are lost, damaged
+    or dropped. Each link is a TCP conversation to port 20000, from and to 192.0.2.A. A is the link
+    address of the station. The first centre has 1, and the second centre has 3. The concentrator
+    has 9 above and 2 below. Substation S has 10 + S.
+
+JSON
+  --json prints the report as one object. 'outcomes' has the results of rounds and controls, with N
+  of 'refused N' as 'reason'. Then come the lists of the report by their names. No time is null.
+  'refused' and 'stopped' lines are printed as they are without --json.
+
+DATABASES
+  The concentrator's queue, the centres' journals and the books of controls are SQL databases in
+  memory. They have the form that 'dnp concentrate' and 'dnp centre' have in files. With --plain
+  they are lists; the output is the same, and comes sooner.
 
 EXIT STATUS
-  0  the script was run, and the report was printed
-  1  the plan or the script was refused
-  2  the command line is wrong
-  3  the program failed: the plan can't be read, the script is over its limit, a file can't be
-     written, a database failed, out of memory, or the input or the output was lost; a line on
-     standard error says which, and why, but for an output whose reader has gone";
+  0: The script ran, and the report was printed.
+  1: The plan or the script was refused.
+  2: The command line is wrong.
+  3: The program failed:
+     - The plan can't be read, or the script is over its limit.
+     - A file can't be written, or the input or the output was lost.
+     - A database failed, or memory ran out.";
 
 /// What `clap` has to know of `dnp sim`.
 pub(crate) fn command<'a>(alloc: Global) -> Result<Command<'a>, AllocError> {
@@ -158,7 +196,8 @@ pub(crate) fn run<R: AllocGlobal + Input + Print + Eprint + Files>(
     given: &ArgMatches<'_>,
 ) -> anyhow::Result<ExitCode> {
     if let Some(why) = misuse(given) {
-        let _ = eprintln!(rt; "error: {why}{HINT}");
+        let wrong = Wrong::Misuse(why);
+        let _ = eprintln!(rt; "{wrong}");
         return Ok(ExitCode::from(exit::USAGE));
     }
     let texts = match texts_given(rt, given)? {

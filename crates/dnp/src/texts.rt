@@ -9,8 +9,8 @@ use crate::wire::Wire;
 use clap::ArgMatches;
 use dnp_concentrator::Plan;
 use dnp_daemons::{PlanTextFault, ScriptStop, Stores, idle_lines, read_plan, script_fault};
+use dnp_lines::{Line, Own, Starved};
 use dnp_tcp::{Noted, exit, lost, unwritten};
-use dnp_world::Cause;
 use std::alloc::{AllocError, Global};
 use std::io;
 use std::io::{BufWriter, Read, Write};
@@ -36,7 +36,7 @@ const NO_CHARACTER: &str = "\u{FFFD}";
 const LIMIT: &str = "The most octets of the script, 1 to 1099511627776";
 
 /// What is said of the option for the stores.
-const PLAIN: &str = "Run over lists, and not over SQL databases in memory";
+const PLAIN: &str = "Use lists instead of SQL databases in memory";
 
 /// The option that says over which stores a script runs.
 pub(crate) fn plain() -> Choice {
@@ -93,8 +93,12 @@ fn judged_plan<R: AllocGlobal + Print + Eprint + Files>(
     rt: &R,
     path: &str,
 ) -> Result<String, ExitCode> {
-    let Ok(plan) = String::from_utf8(plan_text(rt, path)?) else {
-        return Err(refused(rt, path, None, PlanTextFault::Syntax));
+    let plan = match String::from_utf8(plan_text(rt, path)?) {
+        Ok(plan) => plan,
+        Err(fault) => {
+            let octets = fault.into_bytes();
+            return Err(refused(rt, path, octets.as_slice(), PlanTextFault::Syntax));
+        }
     };
     match plan_status(rt, path, plan.as_str()) {
         Some(status) => Err(status),
@@ -110,7 +114,7 @@ fn plan_status<R: AllocGlobal + Print + Eprint>(
 ) -> Option<ExitCode> {
     match read_plan(rt.alloc(), text) {
         Ok(_) => None,
-        Err(fault) => Some(refused(rt, path, Some(text), fault)),
+        Err(fault) => Some(refused(rt, path, text.as_bytes(), fault)),
     }
 }
 
@@ -143,9 +147,8 @@ fn unread_status<R: Eprint>(
     match read {
         Err(cause) => Some(lost(rt, "standard input", &cause)),
         Ok(_) if octets > limit => {
-            let _ = eprintln!(rt;
-                "dnp: standard input: over the {limit} octets that '--limit' allows"
-            );
+            let line = Line::OverLimit(limit);
+            let _ = eprintln!(rt; "{line}");
             Some(ExitCode::from(exit::FAULT))
         }
         Ok(_) => None,
@@ -201,8 +204,14 @@ pub(crate) fn finish<R: AllocGlobal + Eprint, W: Write + Drop>(
 /// was said, or else out of memory: where a database failed, that is the fault, and the stores' numbers end at 2^62.
 fn say_stop<R: Eprint>(rt: &R, stop: ScriptStop, is_lost: bool) {
     let _ = match stop {
-        ScriptStop::Stopped(_) if !is_lost => eprintln!(rt; "dnp: {stop}: {}", Cause::Memory),
-        _ => eprintln!(rt; "dnp: {stop}"),
+        ScriptStop::Stopped(_) if !is_lost => {
+            let line = Starved(&stop);
+            eprintln!(rt; "{line}")
+        }
+        _ => {
+            let line = Own(&stop);
+            eprintln!(rt; "{line}")
+        }
     };
 }
 
@@ -225,11 +234,13 @@ fn say_fault<R: AllocGlobal + Eprint>(rt: &R, texts: &Texts, plan: &Plan, carrie
 {
     match script_fault(rt.alloc(), texts.script.as_str(), plan, carried) {
         Ok(Some(fault)) => {
-            let _ = eprintln!(rt; "dnp: {fault}");
+            let line = Own(&fault);
+            let _ = eprintln!(rt; "{line}");
         }
         Ok(None) => {}
         Err(fault) => {
-            let _ = eprintln!(rt; "dnp: {fault}");
+            let line = Own(&fault);
+            let _ = eprintln!(rt; "{line}");
         }
     }
 }
@@ -238,11 +249,13 @@ fn say_fault<R: AllocGlobal + Eprint>(rt: &R, texts: &Texts, plan: &Plan, carrie
 fn say_idle<R: AllocGlobal + Eprint>(rt: &R, texts: &Texts, plan: &Plan) {
     match idle_lines(rt.alloc(), texts.script.as_str(), plan) {
         Ok(Some(lines)) => {
-            let _ = eprintln!(rt; "dnp: {lines}");
+            let line = Own(&lines);
+            let _ = eprintln!(rt; "{line}");
         }
         Ok(None) => {}
         Err(fault) => {
-            let _ = eprintln!(rt; "dnp: {fault}");
+            let line = Own(&fault);
+            let _ = eprintln!(rt; "{line}");
         }
     }
 }

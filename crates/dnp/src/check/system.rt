@@ -1,10 +1,8 @@
 //! A system as it is printed.
 
-use dnp_concentrator::{IndexKind, Plan};
-use dnp_network::{
-    Endpoint, Network, PointCounts, PointId, PointKind, PointName, Site, Words, name_of_point,
-};
-use std::alloc::{AllocError, Global};
+use crate::network_file::index_kind;
+use dnp_concentrator::Plan;
+use dnp_network::{Endpoint, Network, PointId, PointKind, PointName, Site, Words, name_of_point};
 
 /// A plan, and where its stations are and what people call its points, as far as that is given.
 #[derive(Clone, Copy)]
@@ -107,34 +105,6 @@ pub(crate) struct PointRow<'a> {
     pub deadband: Option<u32>,
     /// What people call it, if they call it something.
     pub name: Option<&'a PointName>,
-}
-
-/// The kind of the indices of points of a kind.
-fn index_kind(kind: PointKind) -> IndexKind {
-    match kind {
-        PointKind::Binary => IndexKind::Binary,
-        PointKind::Counter => IndexKind::Counter,
-        PointKind::Analog => IndexKind::Analog,
-        PointKind::Output => IndexKind::Output,
-        PointKind::Setpoint => IndexKind::Setpoint,
-    }
-}
-
-/// How many points each substation of the plan has.
-pub(crate) fn counts_of(alloc: Global, plan: &Plan) -> Result<Vec<PointCounts>, AllocError> {
-    let mut all = Vec::new(alloc);
-    for substation in plan.substations.as_slice() {
-        let spans = substation.spans();
-        let counts = PointCounts {
-            binary: spans.of(IndexKind::Binary).count,
-            counter: spans.of(IndexKind::Counter).count,
-            analog: spans.of(IndexKind::Analog).count,
-            output: spans.of(IndexKind::Output).count,
-            setpoint: spans.of(IndexKind::Setpoint).count,
-        };
-        all.extend_from_slice(&[counts])?;
-    }
-    Ok(all)
 }
 
 impl<'a> System<'a> {

@@ -3,9 +3,9 @@
 ghost use Rattle.std.specs.Prelude.{◌<◌, IfSome};
 
 use crate::numbers::number_given;
-use crate::options::HINT;
 use clap::ArgMatches;
 use dnp_daemons::number_in;
+use dnp_lines::{Wanted as Belongs, Wrong};
 use dnp_master::{Classes, Task};
 use dnp_objects::{Command, MAX_TIME};
 use dnp_orders::{ToldFault, code_doubt, read_command};
@@ -45,11 +45,9 @@ pub(crate) struct Words<'a> {
 }
 
 /// Says that the value of an option is wrong, and what it should be.
-fn say_wrong<R: Eprint>(rt: &R, option: &str, name: &str, text: &str, wanted: &str) {
-    let _ = eprintln!(rt;
-        "error: invalid value '{}' for '--{option} <{name}>': {wanted}{HINT}",
-        text.escape_debug()
-    );
+fn say_wrong<R: Eprint>(rt: &R, option: &str, name: &str, text: &str, wanted: Belongs<'_>) {
+    let wrong = Wrong::Value(text, option, name, wanted);
+    let _ = eprintln!(rt; "{wrong}");
 }
 
 /// The classes that these digits name, each once.
@@ -109,7 +107,7 @@ fn is_yes<R: Eprint>(rt: &R, text: &str) -> Option<bool> {
         "yes" => Some(true),
         "no" => Some(false),
         _ => {
-            say_wrong(rt, "confirm", "WORD", text, "not 'yes' or 'no'");
+            say_wrong(rt, "confirm", "WORD", text, Belongs::YesOrNo);
             None
         }
     }
@@ -133,8 +131,7 @@ fn classes_given<R: Eprint>(rt: &R, given: &ArgMatches<'_>) -> Option<Option<Cla
     };
     let classes = classes_in(text);
     if classes.is_none() {
-        let wanted = "not digits of 0 to 3, each once";
-        say_wrong(rt, "classes", "DIGITS", text, wanted);
+        say_wrong(rt, "classes", "DIGITS", text, Belongs::Classes);
         return None;
     }
     Some(classes)
@@ -147,8 +144,7 @@ fn time_given<R: Eprint + Clock>(rt: &R, given: &ArgMatches<'_>) -> Option<Optio
     };
     let time = time_in(rt, text);
     if time.is_none() {
-        let wanted = "not 'now', nor a decimal number below 2^48";
-        say_wrong(rt, "time", "MS", text, wanted);
+        say_wrong(rt, "time", "MS", text, Belongs::Time);
         return None;
     }
     Some(time)
@@ -160,19 +156,13 @@ fn command_in<R: Eprint>(rt: &R, text: &str, is_raw: bool) -> Option<Command> {
     let command = match read_command(text) {
         Ok(command) => command,
         Err(fault) => {
-            let told = ToldFault { text, fault };
-            let shown = text.escape_debug();
-            let _ = eprintln!(rt;
-                "error: invalid value '{shown}' for '--operate <COMMAND>': {told}{HINT}"
-            );
+            let told = Belongs::Order(ToldFault { text, fault });
+            say_wrong(rt, "operate", "COMMAND", text, told);
             return None;
         }
     };
     if !is_raw && let Some(doubt) = code_doubt(text) {
-        let shown = text.escape_debug();
-        let _ = eprintln!(rt;
-            "error: invalid value '{shown}' for '--operate <COMMAND>': {doubt} ('--raw' sends it all the same){HINT}"
-        );
+        say_wrong(rt, "operate", "COMMAND", text, Belongs::Certain(doubt));
         return None;
     }
     Some(command)
@@ -211,10 +201,8 @@ fn place_given<'a, R: Eprint>(rt: &R, given: &ArgMatches<'a>) -> Option<&'a str>
     {
         return Some(text);
     }
-    let _ = eprintln!(rt;
-        "error: invalid value '{}' for '<HOST:PORT>': not a host, a colon, and a port from 1 to {MAX_PORT}{HINT}",
-        text.escape_debug()
-    );
+    let wrong = Wrong::Place(text);
+    let _ = eprintln!(rt; "{wrong}");
     None
 }
 
@@ -222,25 +210,19 @@ fn place_given<'a, R: Eprint>(rt: &R, given: &ArgMatches<'a>) -> Option<&'a str>
 fn rounds_given<R: Eprint>(rt: &R, given: &ArgMatches<'_>) -> Option<(u64, u64)> {
     let Some(text) = given.get_str("repeat") else {
         if given.get_str("count").is_some() {
-            let _ = eprintln!(rt; "error: '--count <N>' needs '--repeat <TIME>'{HINT}");
+            let wrong = Wrong::Needs("--count <N>", "--repeat <TIME>");
+            let _ = eprintln!(rt; "{wrong}");
             return None;
         }
         return Some((0, 1));
     };
     if given.get_str("operate").is_some() {
-        let _ = eprintln!(rt;
-            "error: '--operate <COMMAND>' and '--repeat <TIME>' can't be used together{HINT}"
-        );
+        let wrong = Wrong::Together("--operate <COMMAND>", "--repeat <TIME>");
+        let _ = eprintln!(rt; "{wrong}");
         return None;
     }
     let Some(ms) = interval_in(text) else {
-        say_wrong(
-            rt,
-            "repeat",
-            "TIME",
-            text,
-            "not a time as 500ms, 5s, 2m or 1h, a day at most",
-        );
+        say_wrong(rt, "repeat", "TIME", text, Belongs::Interval);
         return None;
     };
     match given.get_str("count") {

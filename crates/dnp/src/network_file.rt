@@ -2,15 +2,16 @@
 
 ghost use Rattle.dnp_concentrator.specs.Plan.{KeepsLimits};
 
-use crate::check::system::counts_of;
 use crate::inputs::octets_of;
-use dnp_concentrator::Plan;
+use crate::toml_faults::TomlFault;
+use dnp_concentrator::{IndexKind, Plan};
+use dnp_lines::{Line, NETWORK, NotToml, Of};
 use dnp_network::{
-    Listed, Network, NetworkFault, PointName, PointsReason, network_reason, points_in,
-    read_network, records_of,
+    Listed, Network, NetworkFault, PointCounts, PointKind, PointName, PointsReason, network_reason,
+    points_in, read_network, records_of,
 };
 use dnp_tcp::exit;
-use std::alloc::AllocError;
+use std::alloc::{AllocError, Global};
 use std::process::ExitCode;
 use std::rt::Files;
 use std::{fs, str};
@@ -20,6 +21,34 @@ const MAX_NETWORK: u64 = 1_024 * 1_024;
 
 /// The most octets of a table of points that are read.
 const MAX_POINTS_TEXT: u64 = 16 * 1_024 * 1_024;
+
+/// The kind of the indices of points of a kind.
+pub(crate) fn index_kind(kind: PointKind) -> IndexKind {
+    match kind {
+        PointKind::Binary => IndexKind::Binary,
+        PointKind::Counter => IndexKind::Counter,
+        PointKind::Analog => IndexKind::Analog,
+        PointKind::Output => IndexKind::Output,
+        PointKind::Setpoint => IndexKind::Setpoint,
+    }
+}
+
+/// How many points each substation of the plan has.
+fn counts_of(alloc: Global, plan: &Plan) -> Result<Vec<PointCounts>, AllocError> {
+    let mut all = Vec::new(alloc);
+    for substation in plan.substations.as_slice() {
+        let spans = substation.spans();
+        let counts = PointCounts {
+            binary: spans.of(IndexKind::Binary).count,
+            counter: spans.of(IndexKind::Counter).count,
+            analog: spans.of(IndexKind::Analog).count,
+            output: spans.of(IndexKind::Output).count,
+            setpoint: spans.of(IndexKind::Setpoint).count,
+        };
+        all.extend_from_slice(&[counts])?;
+    }
+    Ok(all)
+}
 
 /// The octets of a file. Where it can't be read, that is said, and the exit status is told.
 fn file_given<R: AllocGlobal + Eprint + Files>(
@@ -32,7 +61,8 @@ fn file_given<R: AllocGlobal + Eprint + Files>(
 
 /// Says that a file is not UTF-8, and gives the exit status.
 fn not_text<R: Eprint>(rt: &R, path: &str) -> ExitCode {
-    let _ = eprintln!(rt; "dnp: {path}: not UTF-8, where a text belongs");
+    let line = Line::NotText(path);
+    let _ = eprintln!(rt; "{line}");
     ExitCode::from(exit::REFUSED)
 }
 
@@ -46,8 +76,16 @@ fn refused<R: AllocGlobal + Eprint>(
     if let NetworkFault::Memory = fault {
         return Err(AllocError);
     }
+    if let NetworkFault::Syntax = fault
+        && let Some(found) = TomlFault::of(rt.alloc(), text.as_bytes())
+    {
+        let line = NotToml(path, found.place(), &NETWORK, found.reason());
+        let _ = eprintln!(rt; "{line}");
+        return Ok(ExitCode::from(exit::REFUSED));
+    }
     let reason = network_reason(rt.alloc(), text, fault)?;
-    let _ = eprintln!(rt; "dnp: {path}: {reason}");
+    let line = Of(path, &reason);
+    let _ = eprintln!(rt; "{line}");
     Ok(ExitCode::from(exit::REFUSED))
 }
 
@@ -69,6 +107,34 @@ pub(crate) fn network_given<R: AllocGlobal + Eprint + Files>(
     match read_network(rt.alloc(), text, plan.substations.as_slice().len()) {
         Ok(network) => Ok(Ok(network)),
         Err(fault) => Ok(Err(refused(rt, path, text, fault)?)),
+    }
+}
+
+/// What a network's file says, and the file with the names of its points.
+#[derive(Drop)]
+pub(crate) struct Given {
+    /// Where the stations are.
+    pub network: Network,
+    /// What people call their points.
+    pub points: Listed<PointName>,
+}
+
+/// The network of a plan in its file, and the names of its points. Where a file can't be read or is refused, that is said, and the exit
+/// status is told.
+pub(crate) fn all_given<R: AllocGlobal + Eprint + Files>(
+    rt: &R,
+    path: &str,
+    plan: &Plan,
+) -> Result<Result<Given, ExitCode>, AllocError>
+    requires { KeepsLimits plan.now }
+{
+    let network = match network_given(rt, path, plan)? {
+        Ok(network) => network,
+        Err(status) => return Ok(Err(status)),
+    };
+    match points_given(rt, path, plan, &network)? {
+        Ok(points) => Ok(Ok(Given { network, points })),
+        Err(status) => Ok(Err(status)),
     }
 }
 
@@ -126,7 +192,8 @@ fn points_at<R: AllocGlobal + Eprint + Files>(
                 rows: rows.as_slice(),
                 counts: counts.as_slice(),
             };
-            let _ = eprintln!(rt; "dnp: {path}: {reason}");
+            let line = Of(path, &reason);
+            let _ = eprintln!(rt; "{line}");
             Ok(Err(ExitCode::from(exit::REFUSED)))
         }
     }
