@@ -63,14 +63,17 @@ says() {
     printf '    expected on standard error  %s\n    came                        %s\n' "$(part want 1)" "$(part err 1)"
 }
 
-# logs NAME STDERR: the same of a program that begins its log with which build it is.
+# logs NAME STDERR: the same of a program that begins its log with which build it is. Each line has the time in UTC, which is left away
+# here, and so are lines that say where it listens; a time within a line is TIME, and how long something took is LONG.
 started="started: $("$dnp" --version)"
+utc='[0-9]{4}-[0-9]{2}-[0-9]{2}T[0-9]{2}:[0-9]{2}:[0-9]{2}\.[0-9]{3}Z'
 logs() {
     local first
     first=$(head -n 1 err)
-    if [[ $first =~ ^[0-9]{4}-[0-9]{2}-[0-9]{2}T[0-9]{2}:[0-9]{2}:[0-9]{2}\.[0-9]{3}Z\ (.*)$ && ${BASH_REMATCH[1]} = "$started" ]]; then
-        tail -n +2 err >rest
-        mv rest err
+    if [[ $first =~ ^$utc\ (.*)$ && ${BASH_REMATCH[1]} = "$started" ]]; then
+        tail -n +2 err >lines
+        sed -E "s/^$utc //; t timed; s/^/(without a time) /; :timed; /^listening on .* as [0-9]+ for master [0-9]+$/d
+            s/$utc/TIME/; s/back after [0-9]+ m?s /back after LONG /" lines >err
         says "$@"
     else
         echo "FAILED $1"

@@ -253,11 +253,11 @@ def lost_substation(living, first):
     """A substation is gone, and then silent: the other one's events come all the same."""
     first.kill()
     first.wait()
-    wrong = living.says(f"dnp: substation 0: port {living.below}: Connection refused")
+    wrong = living.says(f"port {living.below}: Connection refused")
     before = count_of(living, 100)
     rounds = living.goes_on(4, PATIENCE)
     silent = living.substation(0, "silent")
-    late = living.says(f"dnp: substation 0: no answer in {RESPONSE} ms")
+    late = living.says(f": no answer in {RESPONSE} ms")
     slower = living.goes_on(3, 6 * SLOWER)
     rows, fault = polled(living.centre("--every", "100", "--polls", "2"), 2)
     after = count_of(living, 100)
@@ -303,8 +303,10 @@ def unsolicited(room):
         living.substation(1, "none")
         with open(living.room / "polls", "w", encoding="ascii") as polls, open(living.room / "refused", "w", encoding="ascii") as refused:
             late = living.centre("--new", "--every", "200", "--forever", stdout=polls, stderr=refused)
-        line = f"dnp: the concentrator: port {living.ports[0]}: Connection refused (os error 111)\n"
-        awaited(lambda: living.text("refused").count(line) >= 2, BEGIN)
+        # (it is said once that nobody is there, whatever the number of polls)
+        line = f": port {living.ports[0]}: Connection refused (os error 111)\n"
+        awaited(lambda: line in living.text("refused"), BEGIN)
+        time.sleep(0.5 * SLOWER)
         concentrator = living.concentrate("--new", "--every", "100", "--rounds", "30")
         deaf, octets, begun = living.connect(2), b"", time.monotonic()
         while piece := deaf.recv(4096):
@@ -324,8 +326,11 @@ def unsolicited(room):
         late.terminate()
         late.wait()
         came, said = living.text("polls"), living.text("refused")
-        begun = STARTED.match(said)
-        whole = on and late.returncode == -15 and came.count("rows ") >= 2 and begun and said[begun.end():].startswith(line * 2)
+        back = re.search(r" the concentrator: back after \d+ m?s and (\d+) tries\n", said)
+        # (once more where it polled between the end of the last round and its own)
+        before, after = said[: back.start()] if back else said, said[back.end() :] if back else ""
+        told = STARTED.match(said) and before.count(line) == 1 and after.count(line) <= 1 and back and int(back[1]) >= 2
+        whole = on and late.returncode == -15 and came.count("rows ") >= 2 and told
         return judge("a-centre-goes-on-where-polls-fail", "" if whole else f"status {late.returncode}, {came!r}, {said!r}") and good
     finally:
         living.end()

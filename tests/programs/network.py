@@ -171,16 +171,17 @@ class Network:
         return counting.rows(self.room / name, query)
 
     def count(self):
-        """What came of all events and controls, once all has ended. The substation never ends before, so it let go of all its
-        events, or has them still, in which case they come with the last polls."""
+        """What came of all events and controls, once all has ended. A round that is under way then leaves its events at the
+        substation: only those that it let go have to be here."""
         lines = [line.split() for line in (self.room / "log").read_text(encoding="ascii").split("\n") if line]
-        made = max([int(number) for word, number in lines if word == "value"], default=0)
+        made, let_go = (max([int(number) for word, number in lines if word == which], default=0) for which in ("value", "gone"))
         operated = collections.Counter(int(number) for word, number in lines if word == "operated")
-        all_of_them, faults, again = {(value,) for value in range(1, made + 1)}, [], []
+        gone, all_of_them = ({(value,) for value in range(1, last + 1)} for last in (let_go, made))
+        faults, again = ["the substation let no event go"] * (made > 0 and not gone), []
         for number in CENTRES:
-            events = counting.events(self.room, number, all_of_them, all_of_them)
+            events = counting.events(self.room, number, gone, all_of_them)
             faults += events.faults + [f"centre {number}: {events.dropped} events were dropped"] * bool(events.dropped)
             again.append(str(events.again))
         more, issued = counting.controls(self.room, operated)
         told = " and ".join(again)
-        return faults + more, f"{made} events, {told} of them again; {issued} controls, {operated.total()} operated"
+        return faults + more, f"{made} events, {let_go} let go, {told} of them again; {issued} controls, {operated.total()} operated"

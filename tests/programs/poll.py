@@ -49,6 +49,7 @@ class Outstation:
         self.listener = socket.create_server(("127.0.0.1", 0))
         self.place = f"127.0.0.1:{self.listener.getsockname()[1]}"
         self.serve, self.heard, self.kept, self.number, self.wrong = serve, [], b"", 0, None
+        self.ends = MASTER, OUTSTATION
         self.thread = threading.Thread(target=self.run, daemon=True)
         self.thread.start()
 
@@ -101,7 +102,7 @@ class Outstation:
         for k, piece in enumerate(pieces):
             user = bytes([(k == len(pieces) - 1) << 7 | (k == 0) << 6 | self.number]) + piece
             self.number = (self.number + 1) % 64
-            header = struct.pack("<HBBHH", 0x6405, 5 + len(user), 0x44, MASTER, OUTSTATION)
+            header = struct.pack("<HBBHH", 0x6405, 5 + len(user), 0x44, *self.ends)
             blocks = [user[k : k + 16] for k in range(0, len(user), 16)]
             octets += b"".join(block + check(block) for block in [header, *blocks])
         self.stream.sendall(octets)
@@ -138,14 +139,15 @@ def case(name, holds, *seen):
     return bool(holds)
 
 
-def against(name, serve, status, lines, says, *words, functions=None):
-    """A poll of an outstation that serves so ends with this status, these lines, and these words on standard error."""
+def against(name, serve, status, lines, says, *words, functions=None, strange=()):
+    """A poll of an outstation that serves so ends with this status, these lines, and these words on standard error, behind a line that
+    says what strange came."""
     station = Outstation(serve)
     came = ended(poll(station.place, *words))
     station.thread.join(5)
     heard = station.functions()
-    good = came[0] == status and came[1] == lines and len(came[2]) == (1 if says else 0)
-    good = good and all(said in came[2][0] for said in says) and station.wrong is None
+    good = came[0] == status and came[1] == lines and len(came[2]) == (1 if says else 0) + bool(strange)
+    good = good and all(said in came[2][-1] for said in says) and all(said in came[2][0] for said in strange) and station.wrong is None
     return case(name, good and (functions is None or heard == functions), came, heard, station.wrong)
 
 
@@ -201,6 +203,25 @@ def reports_on(station):
         except ConnectionError:
             raise Ended from None
         time.sleep(0.03)
+
+
+def answers_as(source, dest=MASTER):
+    """What is asked is answered, by frames with these link addresses."""
+    def serve(station):
+        sequence = station.fragment()[0]
+        station.ends = dest, source
+        station.answer(sequence, VALUES)
+    return serve
+
+
+def numbered_otherwise(station):
+    """What is asked is answered with the sequence number after the next one, and waits."""
+    station.answer((station.fragment()[0] + 2) % 16, VALUES)
+
+
+def greets(station):
+    station.stream.sendall(b"SSH-2.0-OpenSSH_9.2p1 Debian-2\r\n")
+    station.fragment()
 
 
 def noise(station):
@@ -260,9 +281,9 @@ def foreign_cases():
     # what it refuses
     good &= against("tells-an-error-bit", one_answer(two=2), 1, ["iin 00 02 object-unknown"], [])
     nonsense = one_answer(EVENT, bytes([110, 1, 0, 0, 0, 65]), bits=CON)
-    good &= against("refuses-an-answer-out-of-the-grammar", nonsense, 1, [], ["ObjectUnknown at octet 18"], functions=[1])
+    good &= against("refuses-an-answer-out-of-the-grammar", nonsense, 1, [], ["response refused: 110.1 at octet 18 is not in the profile"], functions=[1])
     short = lambda station: (station.fragment(), station.send(b"\xc0\x81"))  # noqa: E731
-    good &= against("refuses-a-cut-answer", short, 1, [], ["Short at octet 2"], functions=[1])
+    good &= against("refuses-a-cut-answer", short, 1, [], ["response refused: Short at octet 2"], functions=[1])
 
     # commands
     operate = ("--operate", COMMAND)
@@ -283,7 +304,15 @@ def foreign_cases():
     good &= against("waits-no-longer-while-other-things-come", reports_on, 3, [], ["no response in 300 ms"], *patience, functions=[1])
     took = time.monotonic() - began
     good &= case("waits-as-long-as-told", 0.3 <= took < 3, took)
-    good &= against("ends-where-the-connection-does", noise, 3, [], ["the connection ended before the answer"])
+    good &= against("ends-where-the-connection-does", noise, 3, [], ["the connection ended before the answer"], strange=["octets came, and no frame"])
+    good &= against("tells-of-frames-of-others", answers_as(1), 3, [], ["no response in 300 ms"], *patience, functions=[1],
+                    strange=["frames came from 1 to 2; this asks 10 as 2"])
+    good &= against("tells-of-frames-for-others", answers_as(10, 7), 3, [], ["no response in 300 ms"], *patience, functions=[1],
+                    strange=["frames came from 10 to 7; this asks 10 as 2"])
+    good &= against("tells-of-another-sequence-number", numbered_otherwise, 3, [], ["no response in 300 ms"], *patience, functions=[1],
+                    strange=["a response with sequence number 2 came, where 0 is awaited"])
+    good &= against("tells-of-another-protocol", greets, 3, [], ["no response in 300 ms"], *patience, functions=[1],
+                    strange=["octets came, and no frame"])
     station = Outstation(read)
     with open("/dev/full", "wb") as full:
         came = ended(poll(station.place, out=full))
@@ -399,8 +428,9 @@ def own_cases():
         Path(room, "day.txt").write_text(f"0 change binary 3 1 01 {TIME}\n", encoding="ascii")
         with socket.create_server(("127.0.0.1", 0)) as taken:
             port = taken.getsockname()[1]
-        words = ["--plan", "plan.toml", "--station", "0", "--port", str(port), "--replay", "day.txt", "--connections", "9"]
-        station = subprocess.Popen([DNP, "outstation", *words], cwd=room, stdin=subprocess.DEVNULL, stdout=subprocess.DEVNULL)
+        words = ["--plan", "plan.toml", "--station", "0", "--port", str(port), "--replay", "day.txt", "--connections", "10"]
+        station = subprocess.Popen([DNP, "outstation", *words], cwd=room, stdin=subprocess.DEVNULL, stdout=subprocess.DEVNULL,
+                                   stderr=subprocess.DEVNULL)
         try:
             place = f"127.0.0.1:{port}"
             for _ in range(400):
@@ -427,6 +457,9 @@ def own_cases():
             good &= case("sets", came == (0, ["select 0 SUCCESS", "operate 0 SUCCESS"], []), came)
             came = ended(poll(place, "--peer", "11", "--timeout", "300"))
             good &= case("tells-a-wrong-address", came[0] == 3 and "no response in 300 ms" in came[2][0], came)
+            # (as a station of another number answers: its frames are told)
+            came = ended(poll(place, "--own", "3", "--timeout", "300"))
+            good &= case("is-no-other-master", came[0] == 3 and "no response in 300 ms" in came[2][0], came)
         finally:
             station.kill()
             station.wait()

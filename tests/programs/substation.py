@@ -3,11 +3,18 @@
 
     substation.py PORT STATION EVENTS LOG
 
-It serves connections of the master 2 one by one as substation STATION. Before each READ its analog 0 changes EVENTS times,
-to each value once: 1, 2, 3 and so on. An event goes once it was confirmed. Its one output takes each command, and its
-setpoint too. LOG gets a line 'value V' before the response to a READ, V being the last value, and 'operated N' for each
+It serves connections of the master 2 one by one as substation STATION, and says on standard error when it listens.
+Before each READ its analog 0 changes EVENTS times, to each value once: 1, 2, 3 and so on. An event goes once it was
+confirmed. Its one output takes each command, and its setpoint too. LOG gets a line 'value V' before the response to a
+READ, V being the last value, 'gone V' where events up to that value were confirmed, and 'operated N' for each
 command, N being its on-time or its value. With EVENTS 'none' it has no event, with 'silent' it answers nothing, with
-'noise' it answers octets that are no frame, without an end, and with 'stranger' events of a point that is not planned.
+'noise' it answers octets that are no frame, without an end, and with 'stranger' events of a point that is not
+planned.
+
+Other words for EVENTS have it answer a READ so: 'float' by a value that the profile lacks, 'odd' by a qualifier that no object has,
+'classless' by an event of the analog 1, 'elsewhere' from the link address 99, 'numbered' with the next sequence number but one, 'later' without
+FIR, 'leaving' by the end of the connection; 'refusing' refuses the first two, and 'overflown' has lost events until then. Or a command: 'select-4' and 'operate-6' by that status, a
+'select-odd' and an 'operate-odd' without it, a 'select-none' and an 'operate-none' not at all.
 """
 import socket
 import struct
@@ -15,6 +22,19 @@ import sys
 import time
 
 MASTER, PAGE = 2, 200
+WORDS = {3: "select", 4: "operate"}
+# what follows the function of a response to the READ of this number, by the word for EVENTS: IIN and objects
+READS = {
+    "float": lambda _: b"\0\0" + struct.pack("<BBBBBBf", 30, 5, 0, 0, 0, 1, 1.5),
+    "odd": lambda _: b"\0\0" + bytes([30, 1, 0x5B, 0]),
+    "classless": lambda _: b"\0\0" + struct.pack("<BBBHHBi", 32, 1, 0x28, 1, 1, 1, 5),
+    "elsewhere": lambda _: b"\0\0",
+    "numbered": lambda _: b"\0\0",
+    "later": lambda _: b"\0\0",
+    "leaving": lambda _: None,
+    "refusing": lambda number: bytes([0, 2 if number <= 2 else 0]),
+    "overflown": lambda number: bytes([0, 8 if number <= 2 else 0]),
+}
 
 
 def check(octets):
@@ -34,6 +54,7 @@ class Ended(Exception):
 class Substation:
     def __init__(self, station, events, log):
         self.address, self.kind, self.log = 10 + station, events, open(log, "a", encoding="ascii")
+        self.own, self.reads = self.address, 0
         self.each = int(events) if events.isdigit() else 2 if events == "stranger" else 0
         self.value = 0
         self.waiting = []
@@ -91,7 +112,23 @@ class Substation:
 
     def answer(self, fragment):
         control, function = fragment[0], fragment[1]
-        if function == 0:
+        if function == 1 and self.kind in READS:
+            if self.kind == "elsewhere":
+                self.address = 99
+            self.reads += 1
+            answered = READS[self.kind](self.reads)
+            if answered is None:
+                raise Ended
+            number = control + 2 if self.kind == "numbered" else control
+            self.send(bytes([(0x40 if self.kind == "later" else 0xC0) | number % 16, 0x81]) + answered)
+            self.address = self.own
+        elif function in (3, 4) and self.kind.split("-")[0] == WORDS[function]:
+            how = self.kind.split("-")[1]
+            if how != "none":
+                self.send(bytes([0xC0 | control % 16, 0x81, 0, 0]) + (fragment[2:-1] + bytes([int(how)]) if how != "odd" else b""))
+        elif function == 0:
+            if self.offered:
+                self.note(f"gone {self.offered[-1]}")
             del self.waiting[: len(self.offered)]
             self.offered = []
             if self.left:
@@ -131,6 +168,7 @@ def main():
     listener.setsockopt(socket.SOL_SOCKET, socket.SO_REUSEADDR, 1)
     listener.bind(("127.0.0.1", int(port)))
     listener.listen()
+    print(f"listening on 127.0.0.1:{port} as {substation.address} for master {MASTER}", file=sys.stderr, flush=True)
     while True:
         stream, _ = listener.accept()
         stream.setsockopt(socket.IPPROTO_TCP, socket.TCP_NODELAY, 1)

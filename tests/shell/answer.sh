@@ -110,6 +110,23 @@ expect refuses-a-length-of-4 1 'refused 4 Length' "05 64 04 C4 0A 00 01 00 4E 95
 expect refuses-20-octets 1 'refused 5 Size' "${asked:0:59}$lf" answer
 expect refuses-a-wrong-block-check 1 'refused 6 BlockCheck 0' "${asked%51}52$lf" answer
 
+# The check word that would be right, which standard error says: as `check` makes it
+# corrects NAME PLACE STANDS BELONGS INPUT: the word at this octet of the frame is wrong
+corrects() {
+    expect "refuses-a-wrong-word:$1" 1 "refused $6" "$5$lf" answer
+    says "says-the-right-word:$1" "dnp: standard input: at octet $2 of the frame, from 0, is $3, where the check word$4 belongs"
+}
+corrects of-the-header 8 '8E ED' "$(check 05 64 14 C4 0A 00 01 00)" "${asked/8F ED/8E ED}" '3 HeaderCheck'
+corrects of-the-block 25 '8A 52' "$(check $(cut -d ' ' -f 11-25 <<<"$asked"))" "${asked%51}52" '6 BlockCheck 0'
+three=$(frame C4 0A 01 $(printf 'C0 %.0s' {1..40}))
+corrects of-the-third-block 54 'FF FF' "$(check $(printf 'C0 %.0s' {1..8}))" "${three% * *} FF FF" '6 BlockCheck 2'
+corrects of-the-second-block 44 "00 ${three:135:2}" "$(check $(printf 'C0 %.0s' {1..16}))" "${three:0:132}00 ${three:135}" '6 BlockCheck 1'
+# (the first that is wrong, in small letters too)
+both=${asked/8F ED/8E ED}
+corrects the-first 8 '8E ED' "$(check 05 64 14 C4 0A 00 01 00)" "$(tr A-F a-f <<<"${both%51}52" | tr -d '\n')" '3 HeaderCheck'
+expect refuses-no-word-that-is-right 1 'refused 5 Size' "$asked 00$lf" answer
+says says-no-word-where-the-size-is-wrong ''
+
 # What is refused as text, and what standard error says of it. 667 octets are 2,000 characters, and 668 are 2,003.
 long=$asked$(printf ' 00%.0s' {1..640})
 expect reads-2000-characters 1 'refused 5 Size' "$long$lf" answer
@@ -140,6 +157,52 @@ for words in '' 'reply' 'answer --own' 'answer --own 65520' 'answer --own 999999
     # (each word is an argument of its own)
     expect "takes-no-words:dnp ${words:-(none)}" 2 '' "$asked$lf" $words
 done
+# misuses NAME WORDS SAID: words that are refused, with what is said of them before the usage
+misuses() {
+    expect "takes-no-words:$1" 2 '' '' $2
+    sed '/^Usage: /,$d' err >said && mv said err
+    says "says-what-is-wrong-with:$1" "error: $3$lf"
+}
+file="names the plan, and the script stands on standard input, as in 'dnp sim --plan plan.toml <script'"
+misuses a-frame "answer 05" "unexpected argument '05' found
+
+  tip: the frame stands on standard input, as in 'dnp answer <FILE'"
+misuses a-control "centre --plan p --issue 0 trip" "unexpected argument 'trip' found
+
+  tip: each file has its option's name before it, and the words of a control stand within quotation marks, as in --issue '0 trip 3 100ms'"
+misuses a-plan-to-check "check plan.toml" "unexpected argument 'plan.toml' found
+
+  tip: '--plan <FILE>' names the plan, and '--network <FILE>' says where its stations are"
+misuses a-plan-to-concentrate "concentrate plan.toml" "unexpected argument 'plan.toml' found
+
+  tip: each file and each port has its option's name before it, as in '--plan <FILE>'"
+misuses a-capture "decode file.pcap" "unexpected argument 'file.pcap' found
+
+  tip: '--pcap <FILE>' names a capture, and all else stands on standard input, as in 'dnp decode <FILE'"
+misuses a-script "sim plan.toml script" "unexpected argument 'plan.toml' found
+
+  tip: '--plan <FILE>' $file"
+misuses a-script-behind-a-plan "loopback --plan plan.toml script" "unexpected argument 'script' found
+
+  tip: '--plan <FILE>' $file"
+misuses a-plan-to-serve "outstation plan.toml" "unexpected argument 'plan.toml' found
+
+  tip: '--plan <FILE>' names the plan, and '--station <S>' the substation in it"
+misuses a-command-in-words "poll 127.0.0.1:1 --operate trip 3" "unexpected argument '3' found
+
+  tip: the words of a command stand within quotation marks, as in --operate 'trip 3 100ms'"
+misuses a-store "rows journal.db" "unexpected argument 'journal.db' found
+
+  tip: '--journal <FILE>', '--queue <FILE>' or '--controls <FILE>' names the store"
+misuses an-option-that-is-none "sim --verson" "unexpected argument '--verson' found
+
+  tip: a similar argument exists: '--version'"
+misuses an-option-like-none "answer --far 1" "unexpected argument '--far' found"
+# (a number below 0 is the value, and not an option)
+expect takes-no-address-below-0 2 '' '' answer --own -1
+says says-which-addresses-there-are "error: invalid value '-1' for '--own <ADDRESS>': not a decimal number from 0 to 65519
+
+For more information, try '--help'."
 expect takes-no-space-in-an-address 2 '' "$asked$lf" answer --own ' 1'
 expect takes-no-argument-that-is-no-text 2 '' "$asked$lf" answer --own $'\xff'
 expect takes-the-last-address 0 'no answer' "$asked$lf" answer --own 65519 --peer 65519
@@ -177,6 +240,9 @@ done
 for word in --version -V; do
     expect "says-its-version-and-build:$word" 0 "dnp $(version) ($(said_of "$program"))" '' "$word"
 done
+for name in answer centre check concentrate decode loopback outstation poll rows sim; do
+    expect "says-its-version-behind:$name" 0 "dnp $(version) ($(said_of "$program"))" '' "$name" --version
+done
 cp "$program" alone
 got=0
 ./alone --version >out 2>err </dev/null || got=$?
@@ -194,7 +260,9 @@ rm alone alone.build
 # Words that are refused: what ./dnp says of them where it is not built is what the program says
 for words in '' foo help\ foo -x answer\ extra 'answer --own=3 y' sim 'sim extra' loopback 'loopback extra' \
     'sim --json' 'outstation --connections 3 --plan p --far 1' outstation 'outstation --port 1' 'outstation --plan p x' 'outstation extra' centre 'centre --new x' 'centre --plan p --rounds 1' \
-    'centre --every 3 --plan p' concentrate 'concentrate --plan p --new' 'concentrate --new --issue x' 'concentrate --every 5'; do
+    'centre --every 3 --plan p' 'centre --every 3 --forever --plan p' 'outstation --plan p --network n' concentrate 'concentrate --plan p --new' 'concentrate --new --issue x' \
+    'concentrate --every 5' 'concentrate --below 3 --every 5' 'concentrate --plan p --network n' 'concentrate x' 'check x' 'decode x' \
+    'concentrate --plan p --port 5' 'concentrate --below 5 --far' 'centre --port 3 --far 1' 'centre --port 3' 'concentrate --plan p --port2 5 --far'; do
     "$dnp" $words >want 2>want.err </dev/null
     wanted=$?
     got=0

@@ -125,8 +125,8 @@ refuses() {
     expect "refuses-$name" 1 '' '' check --plan plan.toml --network n.toml
     says "says-why:$name" "dnp: n.toml: $reason"
 }
-refuses no-toml 'line 2: the network is no TOML' 'name = "Net"' 'points = '
-refuses a-key-twice 'line 2: the network is no TOML' 'name = "Net"' 'name = "Net"'
+refuses no-toml 'line 2, column 10: the network is no TOML: invalid value, expected a string, number, boolean, date-time, array or inline table' 'name = "Net"' 'points = '
+refuses a-key-twice 'line 2, column 1: the network is no TOML: duplicate key' 'name = "Net"' 'name = "Net"'
 refuses no-substations "substation is missing, where a table [[substation]] for each substation of the plan belongs" 'name = "Net"'
 refuses too-few-substations 'substation: 1 in this file, where the plan has 2' "$sub" "$one"
 refuses too-many-substations 'substation: 3 in this file, where the plan has 2' "$sub" "$one" "$sub" "$two" "$sub" 'at = "a:1"'
@@ -249,11 +249,14 @@ awk -v room="$room" '
     /^```/ { inside = !inside; if (inside) { file = ""; first = 1 } else if (file) close(file); next }
     inside && first { first = 0; if (/^\$ /) { file = room "/network-" (++n) ".block"; sub(/^\$ /, "") } }
     inside && file { print > file }' "$top/docs/network.md"
+# (in a folder with the examples, and with a journal of one event)
+mkdir document && ln -s "$top/examples" document/examples
+sqlite3 document/journal.db ".read $top/tests/files/journal.sql" 'DELETE FROM journal; INSERT INTO journal VALUES (7, 0, 100, 1, 1, 1795575601000)'
 for block in "$room"/network-*.block; do
     name=$(basename "$block" .block)
     command=$(head -n 1 "$block")
     tail -n +2 "$block" >want
-    (cd "$top" && PATH=$top:$PATH bash -c "$command") </dev/null 2>err | tr -d '\r' >out
+    (cd document && PATH=$top:$PATH bash -c "$command") </dev/null 2>err | tr -d '\r' >out
     cmp -s want out && echo "ok $name: $command" || { echo "FAILED $name: $command" && diff want out; }
 done
 [ -e "$room/network-2.block" ] && echo ok network-has-commands || echo FAILED network-has-commands

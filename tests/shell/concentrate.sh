@@ -28,7 +28,7 @@ expect looks-at-ports-before-files 2 '' '' concentrate --plan plan.toml --queue 
 
 # Files: what is there, or isn't
 expect has-no-queue 3 '' '' concentrate --plan plan.toml $words
-logs tells-that-it-has-no-queue 'dnp: queue.db: No such file or directory (os error 2)'
+logs tells-that-it-has-no-queue "queue.db: No such file or directory (os error 2): give '--new' in the first run"
 [ ! -e queue.db ] && [ ! -e below.db ] && echo ok makes-no-file || echo FAILED makes-no-file
 refused="--plan plan.toml --port $port --below $below"
 echo 'no database, but longer than the head of one is, which has a hundred octets, and so a text of some length' >text.db
@@ -36,17 +36,21 @@ echo 'no database, but longer than the head of one is, which has a hundred octet
 sqlite3 other.db 'CREATE TABLE form (number INTEGER NOT NULL); INSERT INTO form VALUES (1)'
 mkdir folder.db
 expect takes-no-text-for-a-queue 1 '' '' concentrate $refused --queue text.db --controls below.db
-logs tells-that-a-text-is-no-queue 'dnp: text.db: no queue: file is not a database that obeys its schema'
+logs tells-that-a-text-is-no-queue "text.db: no queue: file is not a database that obeys its schema: give the file of a queue, or with '--new' one that isn't there"
 expect takes-no-empty-file 1 '' '' concentrate $refused --queue empty.db --controls below.db
-logs tells-that-no-queue-was-made "dnp: empty.db: no queue was made there: remove the file, and let '--new' make one"
+logs tells-that-no-queue-was-made "empty.db: no queue was made there: remove the file, and let '--new' make one"
 expect takes-no-other-tables-for-a-queue 1 '' '' concentrate $refused --queue other.db --controls below.db
-logs tells-that-other-tables-are-no-queue 'dnp: other.db: no queue, or not whole'
+logs tells-that-other-tables-are-no-queue 'other.db: no queue, or not whole'
 expect makes-no-queue-over-a-name-of-its-own 1 '' '' concentrate $refused --queue other.db --controls below.db --new
-logs tells-what-is-there-already "dnp: other.db: a queue is there already, or tables of its names: leave '--new' away, or remove the file"
+logs tells-what-is-there-already "other.db: a queue is there already, or tables of its names: leave '--new' away, or remove the file"
 expect takes-no-folder 3 '' '' concentrate $refused --queue folder.db --controls below.db
-expect takes-no-file-twice 3 '' '' concentrate $refused --queue twice.db --controls twice.db --new
-logs tells-that-a-file-is-given-twice 'dnp: twice.db: in use by another program, or given for two stores'
-rm -f twice.db*
+expect takes-no-file-twice 2 '' '' concentrate $refused --queue twice.db --controls twice.db --new
+says tells-that-a-file-is-given-twice "error: invalid value 'twice.db' for '--controls <FILE>': it is that of --queue, and each store has a file of its own
+
+For more information, try '--help'."
+expect takes-no-file-twice-by-two-names 3 '' '' concentrate $refused --queue twice.db --controls ./twice.db --new
+logs tells-that-a-file-is-given-twice-by-two-names './twice.db: in use by another program, or given for two stores: end that program, or give each store a file of its own'
+[ ! -e twice.db ] && echo ok leaves-no-half-of-its-stores || echo FAILED leaves-no-half-of-its-stores
 
 # A round: the events of one substation, and none of one of ours
 substation 0 3
@@ -59,7 +63,8 @@ polls takes-a-control 0 'rows 3' --issue '1 block 0 3 1 250 0'
 ended prints-each-round 0 'round 1 rows 3
 round 2 rows 3
 round 3 rows 3'
-logs says-nothing-of-good-rounds ''
+restarted='substation 1: indicates DEVICE_RESTART'
+logs says-what-good-rounds-show "$restarted"
 holds has-let-the-confirmed-go queue.db 'SELECT count(*) FROM queue' 0
 holds keeps-them-for-the-second-centre queue.db 'SELECT group_concat(value) FROM queue_b' '1,2,3,4,5,6,7,8,9'
 holds has-the-control below.db 'SELECT target, point, code, on_ms, state FROM control' '1|0|3|250|0'
@@ -69,13 +74,13 @@ for store in queue below; do
 done
 expect makes-no-second-queue 1 '' '' concentrate $refused --queue queue.db --controls below.db --new
 expect takes-no-book-for-a-queue 1 '' '' concentrate $refused --queue below.db --controls queue.db
-logs tells-that-a-book-is-no-queue 'dnp: below.db: no queue, or not whole'
+logs tells-that-a-book-is-no-queue 'below.db: no queue: a book of controls is there: give the file of a queue'
 expect has-no-book 3 '' '' concentrate $refused --queue queue.db --controls none.db
-logs tells-that-it-has-no-book 'dnp: none.db: No such file or directory (os error 2)'
+logs tells-that-it-has-no-book "none.db: No such file or directory (os error 2): give '--new' in the first run"
 [ ! -e none.db ] && echo ok makes-no-book || echo FAILED makes-no-book
 sqlite3 queue.db '.backup altered.db' && sqlite3 altered.db 'DROP TABLE lanes'
 expect takes-no-altered-queue 1 '' '' concentrate $refused --queue altered.db --controls below.db
-logs tells-that-a-queue-is-altered 'dnp: altered.db: no queue, or not whole'
+logs tells-that-a-queue-is-altered 'altered.db: no queue, or not whole'
 
 # The next run sends the control, and goes on with what stands
 concentrates
@@ -109,7 +114,7 @@ both() {
     mv err2 err
     judge "serves-the-second-after:$1" 0 "rows $2" "$got"
     ended "serves-both-in-a-round:$1" 0 'round 1 rows 3'
-    logs "says-nothing-of-both:$1" ''
+    logs "says-nothing-of-centres:$1" "$restarted"
 }
 expect makes-the-second-centre 3 '' '' centre --plan plan.toml --number 2 --journal journal2.db --controls above2.db --port "$port2" --new
 both behind 18
@@ -122,13 +127,16 @@ holds has-the-same-events-in-the-second journal2.db 'SELECT group_concat(value) 
 concentrates
 listens "$port"
 expect takes-no-file-in-use 3 '' '' concentrate $refused --queue queue.db --controls below.db
-logs tells-that-a-file-is-in-use 'dnp: queue.db: in use by another program, or given for two stores'
+logs tells-that-a-file-is-in-use 'queue.db: in use by another program, or given for two stores: end that program, or give each store a file of its own'
 expect takes-no-port-in-use 3 '' '' concentrate $refused --queue second.db --controls third.db --new
-logs tells-that-a-port-is-in-use "dnp: port $port: Address already in use (os error 98)"
+logs tells-that-a-port-is-in-use "port $port: Address already in use (os error 98): another program listens there: end it, or give another port"
+[ ! -e second.db ] && [ ! -e third.db ] && echo ok leaves-no-store-without-a-port || echo FAILED leaves-no-store-without-a-port
 polls is-served-all-the-same 0 'rows 3'
 ended serves-all-the-same 0 'round 1 rows 3'
-expect takes-no-port-twice 3 '' '' concentrate $refused --port2 "$port" --queue fourth.db --controls fifth.db --new
-logs tells-that-a-port-is-given-twice "dnp: port $port: Address already in use (os error 98)"
+expect takes-no-port-twice 2 '' '' concentrate $refused --port2 "$port" --queue fourth.db --controls fifth.db --new
+says tells-that-a-port-is-given-twice "error: invalid value '$port' for '--port2 <P>': it is that of --port, and each centre has a port of its own
+
+For more information, try '--help'."
 
 # A plan that has changed under what is stored
 concentrates
@@ -142,16 +150,16 @@ for _ in {1..100}; do
     sleep 0.05
 done
 expect takes-no-row-that-is-not-planned 1 '' '' concentrate --plan changed.toml $words
-logs names-the-row-that-is-not-planned 'dnp: queue.db: row 25, analog 0 25 01 -: the plan has no such point with a class'
+logs names-the-row-that-is-not-planned 'queue.db: row 25, analog 0 25 01 -: the plan has no such point with a class'
 plan changed.toml 1 1
 expect takes-no-control-that-is-not-planned 1 '' '' concentrate --plan changed.toml $words
-logs names-the-control-that-is-not-planned 'dnp: below.db: control 1, 1 block 0 3 1 250 0: the plan has no such output'
+logs names-the-control-that-is-not-planned 'below.db: control 1, 1 block 0 3 1 250 0: the plan has no such output'
 # (nor one that was not sent yet, or was not answered)
 sqlite3 below.db '.backup unplanned.db'
 for state in 0 1; do
     sqlite3 unplanned.db "UPDATE control SET state = $state, status = 0"
     expect "takes-no-control-that-is-not-planned:state-$state" 1 '' '' concentrate --plan changed.toml ${words/below.db/unplanned.db}
-    logs "names-the-control-that-is-not-planned:state-$state" 'dnp: unplanned.db: control 1, 1 block 0 3 1 250 0: the plan has no such output'
+    logs "names-the-control-that-is-not-planned:state-$state" 'unplanned.db: control 1, 1 block 0 3 1 250 0: the plan has no such output'
 done
 
 # A round that can't be printed
@@ -159,7 +167,7 @@ got=0
 "$dnp" concentrate --plan plan.toml $words >/dev/full 2>err </dev/null || got=$?
 : >out
 judge fails-without-an-output 3 '' "$got"
-logs tells-that-its-output-is-full 'dnp: standard output: No space left on device (os error 28)'
+logs tells-that-its-output-is-full "$restarted${lf}standard output: No space left on device (os error 28)"
 
 # Other tables beside the queue's: it works
 sqlite3 beside.db 'CREATE TABLE beside (x INTEGER)'
@@ -168,21 +176,21 @@ concentrating=$!
 listens "$port"
 polls polls-over-other-tables 0 'rows 3'
 ended works-beside-other-tables 0 'round 1 rows 3'
-logs tells-of-other-tables 'dnp: beside.db: other tables stand there too: nothing is promised of what is stored beside them'
+logs tells-of-other-tables "beside.db: other tables stand there too: nothing is promised of what is stored beside them$lf$restarted"
 
 # A queue of an earlier release, for one centre, whose last row had the id 28
 grep -v '^INSERT INTO queue ' "$top/tests/files/old.sql" | sqlite3 old.db
 expect takes-no-old-queue 1 '' '' concentrate $refused --queue old.db --controls next.db
-logs tells-that-a-queue-is-old "dnp: old.db: a queue of an earlier release, for one centre: let '--migrate' bring it to the form for two"
+logs tells-that-a-queue-is-old "old.db: a queue of an earlier release, for one centre: let '--migrate' bring it to the form for two"
 expect takes-no-migration-of-a-new-one 2 '' '' concentrate $refused --queue old.db --controls next.db --migrate --new
 holds leaves-an-old-queue old.db 'SELECT number FROM form' 1
-for said in 'dnp: old.db: the queue was for one centre, and has the form for two now' ''; do
+for said in 'old.db: the queue was for one centre, and has the form for two now' ''; do
     "$dnp" concentrate $refused --queue old.db --controls next.db --migrate >rounds 2>said </dev/null &
     concentrating=$!
     listens "$port"
     polls "goes-on-from-an-old-queue:${said:+first}" 0 'rows 3'
     ended "works-after-a-migration:${said:+first}" 0 'round 1 rows 3'
-    logs "tells-of-a-migration:${said:+first}" "$said"
+    logs "tells-of-a-migration:${said:+first}" "${said:+$said$lf}$restarted"
 done
 holds has-migrated old.db "SELECT number, seq FROM form, sqlite_sequence WHERE name = 'queue'" '2|34'
 holds keeps-its-places old.db 'SELECT sum(cap) FROM lanes' 36
@@ -201,7 +209,7 @@ listens "$port"
 ended serves-at-another-address 0 'round 1 rows 3'
 gone
 
-# Substations that are not there, silent, send noise, or rows that are not planned: a line each, and the next one is polled
+# Substations that are not there, silent, send noise, or rows that are not planned: a line each as it begins, and the next one is polled
 # printed COUNT: waits until so many rounds are printed
 printed() {
     while { [ ! -e rounds ] || [ "$(wc -l <rounds)" -lt "$1" ]; } && kill -0 "$concentrating" 2>/dev/null; do sleep 0.01; done
@@ -223,7 +231,7 @@ fails() {
     ended=$(ms)
     polls "is-served-again-after-$1" 0 'rows 2'
     ended "goes-on-after-$1" 0 $'round 1 rows 2\nround 2 rows 2'
-    logs "tells-of-$1" "dnp: substation 0: $5${lf}dnp: substation 0: $5"
+    logs "tells-of-$1" "substation 0: $5"
     if ((ended - before >= $3 && ended - after <= $4)); then
         echo "ok waits-in-time-for-$1"
     else
@@ -231,7 +239,8 @@ fails() {
     fi
     gone
 }
-fails one-that-is-not-there none 0 "$response" "port $below: Connection refused (os error 111)"
-fails a-silent-one silent "$response" $((2 * response)) "no answer in $response ms"
-fails noise noise "$response" $((2 * response)) "no answer in $response ms"
-fails rows-that-are-not-planned stranger "$response" $((2 * response)) "no answer in $response ms"
+fails one-that-is-not-there none 0 "$response" "lost, no good answer since the start: port $below: Connection refused (os error 111)"
+fails a-silent-one silent "$response" $((2 * response)) "lost, no good answer since the start: no answer in $response ms"
+fails noise noise "$response" $((2 * response)) "lost, no good answer since the start: octets came, and no frame"
+# (what is refused is said at once, and nothing is waited for)
+fails rows-that-are-not-planned stranger 0 "$response" 'response refused: event of analog 7, which the plan lacks'

@@ -153,7 +153,7 @@ decodes objects-that-are-cut 1 '1 10>2 44 UNCONFIRMED_USER_DATA 17 octets, words
 1   fragment refused: ObjectsCut at octet 10' "$(frame 44 02 0A C0 C0 81 00 00 01 01 00 00 02 02 1E 01 00 05 06 01)$lf"
 decodes an-unknown-function 1 '1 2>10 C4 UNCONFIRMED_USER_DATA 3 octets, words good
 1   transport FIR FIN 0
-1   fragment refused: FunctionUnknown at octet 1' "$(frame C4 0A 02 C0 C0 0D)$lf"
+1   fragment refused: FunctionUnknown at octet 1' "$(frame C4 0A 02 C0 C0 22)$lf"
 decodes a-short-response 1 '1 10>2 44 UNCONFIRMED_USER_DATA 4 octets, words good
 1   transport FIR FIN 0
 1   fragment refused: Short at octet 3' "$(frame 44 02 0A C0 C0 81 00)$lf"
@@ -170,6 +170,28 @@ got=0
 judge decodes-octets 1 "0 1 octets skipped: no frame begins there
 $read_lines
 $(read_at 28)" "$got"
+
+# The first check word that is wrong, and the one that would be right
+head_right=$(check 05 64 05 C0 01 00 00 04)
+expect decodes-a-header-with-a-wrong-word 1 "$read_lines
+2 1 octets skipped: HeaderCheck at octet 8
+2 frame refused: Cut at octet 9" "$asked${lf}05 64 05 C0 01 00 00 04 E9 22$lf" decode
+says says-the-right-word-of-a-header "dnp: standard input: line 2: at octet 8 of the frame, from 0, is E9 22, where the check word$head_right belongs"
+# (a skipped octet before it, the first of two that are wrong, and digits without blanks)
+wrong=${asked% *}
+expect decodes-two-frames-with-a-wrong-word 1 "1 1 octets skipped: no frame begins there
+1 1>10 frame refused: BlockCheck 0 at octet 10
+1 1>10 frame refused: BlockCheck 0 at octet 10" "FF$(tr -d ' ' <<<"${wrong}00")${wrong}01$lf" decode
+says says-the-right-word-of-the-first "dnp: standard input: line 1: at octet 25 of the frame, from 0, is 8A 00, where the check word$(check $(cut -d ' ' -f 11-25 <<<"$asked")) belongs"
+octets "FF ${wrong}00" >octets
+got=0
+"$dnp" decode --raw <octets >out 2>err || got=$?
+judge decodes-octets-with-a-wrong-word 1 '0 1 octets skipped: no frame begins there
+1 1>10 frame refused: BlockCheck 0 at octet 10' "$got"
+says says-the-right-word-in-octets "dnp: standard input: octet 1: at octet 25 of the frame, from 0, is 8A 00, where the check word$(check $(cut -d ' ' -f 11-25 <<<"$asked")) belongs"
+expect decodes-a-wrong-word-beside-a-refused-line 1 '1 1>10 frame refused: BlockCheck 0 at octet 10
+2 text refused: no hexadecimal digit in column 1' "${wrong}00${lf}x$lf" decode
+says says-no-word-beside-a-refused-line ''
 
 # JSON
 decodes json 1 '{"at":1,"layer":"frame","source":10,"dest":2,"control":"44","function":"UNCONFIRMED_USER_DATA","octets":17}
@@ -260,9 +282,9 @@ refuses() {
 refuses an-empty-file Start ''
 refuses a-text Start '48 65 6C 6C 6F'
 refuses a-header-that-is-cut Start "${header:0:50}"
-refuses a-newer-capture Newer '0A 0D 0D 0A 1C 00 00 00'
+refuses a-newer-capture-that-is-cut Start '0A 0D 0D 0A 1C 00 00 00'
 refuses another-link Link "${header% 65 00 00 00} 69 00 00 00"
-says names-the-link 'dnp: capture: packets of link type 105, where 1 (Ethernet), 101 (raw IP) or 0 (loopback) is read'
+says names-the-link "dnp: capture: packets of link type 105, where 1 (Ethernet), 101 (raw IP), 0 (loopback), 113 or 276 (Linux's any) is read"
 
 # The command line, and a lost input or output
 for words in 'decode x' 'decode --far' 'decode --pcap' 'decode --raw=1' 'decode --raw --pcap capture'; do

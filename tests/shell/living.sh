@@ -76,7 +76,8 @@ judge hangs-up-who-does-not-read-in-time 0 1 0
 grep -v request err >rest
 mv rest err
 line='TIME PEER ended, served 0: idle, nothing whole came for 2 seconds'
-tells says-who-was-idle 'TIME PEER connected' "$line" 'TIME PEER connected' "$line" 'TIME PEER connected' "$line" 'TIME PEER connected' \
+tells says-who-was-idle 'TIME PEER connected' "$line" 'TIME PEER connected' 'TIME PEER octets came, and no frame' "$line" \
+    'TIME PEER connected' 'TIME PEER frames came from 2 to 11; this takes those from 2 to 10' "$line" 'TIME PEER connected' \
     "$(sed -E 's/.*served ([0-9]+):.*/\1/' <<<"$(tail -n 1 err)" | sed 's/.*/TIME PEER ended, served &: idle, nothing whole came for 2 seconds/')"
 # Whole frames keep it, also those without a request
 plan plan.toml

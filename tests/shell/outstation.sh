@@ -50,6 +50,8 @@ nothing
 LINES
 ended counts-the-fragments "served 6
 served 10"
+sed -n 2p err | cut -d ' ' -f 2- >out
+judge tells-where-it-listens 0 "listening on 127.0.0.1:$port as 10 for master 2" 0
 
 # An unsolicited response first, which the master confirms; a READ waits for that
 plan plan.toml unsolicited=true
@@ -157,14 +159,14 @@ mv out first
 got=0
 "$dnp" outstation --plan plan.toml --station 0 --port "$port" >out 2>err </dev/null || got=$?
 judge stops-where-the-port-is-in-use 3 '' "$got"
-logs tells-that-the-port-is-in-use "dnp: port $port: Address already in use (os error 98)"
+logs tells-that-the-port-is-in-use "port $port: Address already in use (os error 98): another program listens there: end it, or give another port"
 # (where nothing says which build a program is, it claims nothing)
 cp "$program" alone
 got=0
 ./alone outstation --plan plan.toml --station 0 --port "$port" >out 2>err </dev/null || got=$?
 judge stops-where-nothing-is-beside-it 3 '' "$got"
 started="started: dnp $("$dnp" --version | cut -d ' ' -f 2) (build unknown)" \
-    logs tells-that-its-build-is-unknown "dnp: port $port: Address already in use (os error 98)"
+    logs tells-that-its-build-is-unknown "port $port: Address already in use (os error 98): another program listens there: end it, or give another port"
 rm alone
 echo | talks serves-on-after-another-call
 mv first out
@@ -180,7 +182,10 @@ refuses() {
     expect "$name" 1 "refused plan $number" '' outstation --plan wrong.toml $rules
     says "says-why-it-$name" "dnp: wrong.toml: $reason"
 }
-refuses takes-no-text-that-is-no-toml 1 'line 1: the plan is no TOML' 'confirm_ms=' 'response_ms=' 'select_ms=' 'retries=' 'unsolicited=' 'queue=' 'queue2='
+# (which key stands in the first line is up to the shell)
+none=('confirm_ms=' 'response_ms=' 'select_ms=' 'retries=' 'unsolicited=' 'queue=' 'queue2=')
+plan wrong.toml "${none[@]}"
+refuses takes-no-text-that-is-no-toml 1 "line 1, column $(head -n 1 wrong.toml | wc -c): the plan is no TOML: invalid value, expected a string, number, boolean, date-time, array or inline table" "${none[@]}"
 refuses takes-no-unknown-key 2 "substation 0, unknown key 'colour'" 'colour=3'
 refuses takes-no-fourth-retry 3 'retries: 4, where a whole number from 0 to 3 belongs' retries=4
 refuses takes-no-class-4 4 'substation 0, binary: item 1 is 4, where a class from 0 to 3 belongs' 'binary=[4]'
@@ -191,7 +196,7 @@ expect takes-no-shared-index 1 'refused plan 6' '' outstation --plan wrong.toml 
 says says-which-index-is-shared 'dnp: wrong.toml: substation 0, base: by item 4 its binary outputs share an index above with those of substation 1'
 printf '\xff' >wrong.toml
 expect takes-no-plan-that-is-no-text 1 'refused plan 1' '' outstation --plan wrong.toml $rules
-says says-that-it-is-no-toml 'dnp: wrong.toml: the plan is no TOML'
+says says-that-it-is-no-toml 'dnp: wrong.toml: line 1, column 1: the plan is no TOML: invalid UTF-8'
 expect takes-no-station-of-another-plan 2 '' '' outstation --plan plan.toml --port "$port" --station 1
 expect refuses-the-plan-before-the-station 1 'refused plan 1' '' outstation --plan wrong.toml --port "$port" --station 1
 for words in '' '--station 0' "$rules" '--plan plan.toml --port 0 --station 0' '--plan none.toml --port 65536 --station 0' \

@@ -12,7 +12,7 @@ cd "$room" || exit 1
 
 # tree NAME: a copy of what the scripts need, with two crates.
 tree() {
-    mkdir -p "$1"/{rt,share,docs,examples/network,bench/crates,tests/programs} "$1"/crates/{dnp,dnp_low}/src
+    mkdir -p "$1"/{rt,share,docs,examples/{network,services},bench/crates,tests/programs} "$1"/crates/{dnp,dnp_low}/src
     cp "$top"/{dnp,build} "$1"
     cp -r "$top/tools" "$1/tools"
     cp -r "$top/crates/dnp/help" "$1/crates/dnp/help"
@@ -20,8 +20,8 @@ tree() {
     cp "$top"/share/* "$1/share"
     printf 'dnp_low: std\ndnp: dnp_low\n' >"$1/crates.txt"
     echo "pub(crate) const VERSION: &str = \"7.8.9\";" >"$1/crates/dnp/src/main.rt"
-    touch "$1"/{HANDLES,README.md,CHANGELOG.md,bench/crates/crates,docs/tour.md,examples/a.script,crates/dnp_low/src/lib.rt}
-    touch "$1"/{examples/network/a.sh,examples/network/plan.toml,tests/programs/substation.py}
+    touch "$1"/{HANDLES,README.md,CHANGELOG.md,SECURITY.md,bench/crates/crates,docs/tour.md,examples/a.script,crates/dnp_low/src/lib.rt}
+    touch "$1"/{examples/services/a.service,examples/network/a.sh,examples/network/plan.toml,tests/programs/substation.py}
     find "$1" -exec touch -d '2026-01-01' {} +
 }
 
@@ -322,16 +322,20 @@ prefix/lib/dnp/dnp.build
 prefix/share/bash-completion/completions/dnp
 prefix/share/doc/dnp/CHANGELOG.md
 prefix/share/doc/dnp/README.md
+prefix/share/doc/dnp/SECURITY.md
 prefix/share/doc/dnp/dnp
 prefix/share/doc/dnp/docs/tour.md
 prefix/share/doc/dnp/examples/a.script
 prefix/share/doc/dnp/examples/network/a.sh
 prefix/share/doc/dnp/examples/network/plan.toml
+prefix/share/doc/dnp/examples/services/a.service
 prefix/share/doc/dnp/tests/programs/substation.py
 prefix/share/man/man1/dnp.1
 prefix/share/zsh/site-functions/_dnp' ''
 DESTDIR=$room/staged build made --install /opt
 judge installs-below-DESTDIR 0 "$room/staged/opt/bin/dnp is dnp VERSION (proved, rattle-kit-stand-in logic 0)" ''
+DESTDIR=$room/staged build made --install
+judge installs-below-the-usual-folder 0 "$room/staged/usr/local/bin/dnp is dnp VERSION (proved, rattle-kit-stand-in logic 0)" ''
 touch file
 build made --install "$room/file"
 judge says-where-it-can-not-install 3 '' "build: ROOM/share/man/man1 can't be written to"

@@ -73,7 +73,7 @@ ls empty >out
 judge has-one-folder 0 "$name" 0
 cd "empty/$name" || exit 1
 LC_ALL=C ls >"$room/out"
-(cd "$room" && judge has-these-parts 0 $'CHANGELOG.md\nREADME.md\nRELEASE\nSHA256SUMS\ndnp\ndnp.build\ndocs\nexamples\nshare\ntests' 0)
+(cd "$room" && judge has-these-parts 0 $'CHANGELOG.md\nREADME.md\nRELEASE\nSECURITY.md\nSHA256SUMS\ndnp\ndnp.build\ndocs\nexamples\nshare\ntests' 0)
 sha256sum --check --quiet SHA256SUMS >"$room/out" 2>&1
 (cd "$room" && judge has-the-sums 0 '' $?)
 { cut -c 67- SHA256SUMS && echo SHA256SUMS; } | LC_ALL=C sort | diff - <(find . -type f -printf '%P\n' | LC_ALL=C sort) >"$room/out"

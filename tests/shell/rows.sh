@@ -29,8 +29,30 @@ as_json() { sqlite3 "$1" "SELECT json_object('id', id, 'kind', $kinds, 'index', 
 
 # Words
 for wrong in '' '--csv' '--journal journal.db --queue queue.db' '--journal journal.db --csv --json' '--queue queue.db --centre 3' \
-    '--journal journal.db --after -1' '--journal journal.db --after 4611686018427387905' '--journal journal.db --every 0'; do
+    '--journal journal.db --after -1' '--journal journal.db --after 4611686018427387905' '--journal journal.db --follow --every 0' \
+    '--journal journal.db --every 5' '--journal journal.db --centre 2' '--journal journal.db --of centre' '--controls book.db --of station'; do
     expect "takes-no-words:rows $wrong" 2 '' '' rows $wrong
+done
+
+expect takes-no-id-below-0 2 '' '' rows --journal journal.db --after -1
+says says-which-ids-there-are "error: invalid value '-1' for '--after <ID>': not a decimal number from 0 to $last
+
+For more information, try '--help'."
+# needs OPTION VALUE WORDS..: which are wrong without another option
+needs() {
+    expect "needs-another-option:$*" 2 '' '' rows --journal journal.db "${@:3}"
+    sed '/^Usage: /,$d' err >said && mv said err
+    says "says-which-option-is-needed:$*" "error: the following required arguments were not provided:
+  $1${2:+ $2}
+"
+}
+needs --follow '' --every 5
+needs --controls '<FILE>' --of centre
+for store in journal controls; do
+    expect "takes-no-centre-of-another-store:$store" 2 '' '' rows --$store journal.db --centre 2
+    sed '/^Usage: /,$d' err >said && mv said err
+    says "says-that-a-centre-is-of-a-queue:$store" "error: the argument '--$store <FILE>' cannot be used with '--centre <N>'
+"
 done
 
 # Files
@@ -53,8 +75,16 @@ says tells-that-no-journal-was-made "dnp: empty.db: no journal was made there: r
 expect takes-no-other-tables 1 '' '' rows --journal other.db
 says tells-that-other-tables-are-no-journal 'dnp: other.db: no journal, or not whole'
 expect takes-no-journal-for-a-book 1 '' '' rows --controls journal.db
-says tells-that-a-journal-is-no-book 'dnp: journal.db: no book of controls, or not whole'
+says tells-that-a-journal-is-no-book "dnp: journal.db: no book of controls: a journal is there, whose rows '--journal' prints"
 expect takes-no-book-for-a-journal 1 '' '' rows --journal book.db
+says tells-that-a-book-is-no-journal "dnp: book.db: no journal: a book of controls is there, whose rows '--controls' prints"
+expect takes-no-queue-for-a-journal 1 '' '' rows --journal queue.db
+says tells-that-a-queue-is-no-journal "dnp: queue.db: no journal: a queue is there, whose rows '--queue' prints"
+# (which is no queue of an earlier release, though its form has the same number)
+for other in 'journal journal' 'book controls'; do
+    expect "takes-no-other-for-a-queue:$other" 1 '' '' rows --queue "${other% *}.db" --centre 2
+    says "tells-that-it-is-no-queue:$other" "dnp: ${other% *}.db: no queue: a $([ "$other" = 'journal journal' ] && echo journal || echo 'book of controls') is there, whose rows '--${other#* }' prints"
+done
 for centre in 1 2; do
     expect "takes-no-queue-of-an-earlier-release:$centre" 1 '' '' rows --queue old.db --centre $centre
     says "tells-that-a-queue-is-of-an-earlier-release:$centre" "dnp: old.db: a queue of an earlier release, for one centre: let '--migrate' bring it to the form for two"
@@ -78,8 +108,18 @@ expect queue-of-centre-1 0 $'28 centre 1 class 3 analog 7 1 01 1970-01-01T00:00:
     '' rows --queue queue.db
 expect queue-of-centre-2 0 $'id,centre,class,kind,index,value,flags,time,utc\r\n4,2,2,analog,3,-9,02,,\r' '' rows --queue queue.db --centre 2 --csv
 expect queue-as-json 0 '{"id":4,"centre":2,"class":2,"kind":"analog","index":3,"value":-9,"flags":"02","time":null,"utc":null}' '' rows --queue queue.db --centre 2 --json
-expect controls-as-text 0 "$(sqlite3 book.db "SELECT id || ' target ' || target || ' ' || CASE kind WHEN 0 THEN 'block ' || point || ' ' || code || ' ' || count || ' ' || on_ms || ' ' || off_ms
-WHEN 1 THEN 'set16 ' || point || ' ' || value ELSE 'set32 ' || point || ' ' || value END || CASE state WHEN 0 THEN ' pending' WHEN 1 THEN ' spent' ELSE ' finished status ' || status END FROM control ORDER BY id")" '' rows --controls book.db
+# of OPTION PENDING SPENT DONE REFUSED: the controls as text, with what is said of each state in these words
+name="CASE status WHEN 0 THEN 'SUCCESS' WHEN 4 THEN 'NOT_SUPPORTED' WHEN 8 THEN 'TOO_MANY_OBJS' WHEN 127 THEN 'UNDEFINED' ELSE '?' END"
+of() {
+    expect "controls-as-text:$1" 0 "$(sqlite3 book.db "SELECT id || ' target ' || target || ' ' || CASE kind WHEN 0 THEN 'block ' || point || ' ' || code || ' ' || count || ' ' || on_ms || ' ' || off_ms
+WHEN 1 THEN 'set16 ' || point || ' ' || value ELSE 'set32 ' || point || ' ' || value END || CASE state WHEN 0 THEN ' $2' WHEN 1 THEN ' $3'
+ELSE CASE status WHEN 0 THEN ' $4' ELSE ' $5' END || ' (status ' || status || ' ' || $name || ')' END FROM control ORDER BY id")" '' rows --controls book.db $1
+}
+of '' pending spent 'finished: answered by the next station below' 'finished: answered by the next station below'
+of '--of centre' 'pending: no OPERATE was sent to the concentrator yet' 'spent: sent to the concentrator, and its answer is not known' \
+    'taken by the concentrator' 'refused by the concentrator'
+of '--of concentrator' 'pending: no OPERATE was sent to the substation yet' 'spent: sent to the substation, and its answer is not known' \
+    'operated by the substation' 'refused by the substation'
 expect controls-as-csv 0 "$( (echo id,target,command,index,code,count,on_ms,off_ms,value,state,status
     sqlite3 -csv book.db "SELECT id, target, CASE kind WHEN 0 THEN 'block' WHEN 1 THEN 'set16' ELSE 'set32' END, point, CASE kind WHEN 0 THEN code END, CASE kind WHEN 0 THEN count END,
 CASE kind WHEN 0 THEN on_ms END, CASE kind WHEN 0 THEN off_ms END, CASE kind WHEN 0 THEN NULL ELSE value END, CASE state WHEN 0 THEN 'pending' WHEN 1 THEN 'spent' ELSE 'finished' END,

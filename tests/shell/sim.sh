@@ -207,11 +207,12 @@ refuses_plan() {
     says "says-why-it-refuses-a-plan-$1" "dnp: changed.toml: $3"
 }
 nine='1, 1, 1, 1, 1, 1, 1, 1, 1'
-refuses_plan that-is-no-TOML 1 'line 1: the plan is no TOML' '1s/=//'
+refuses_plan that-is-no-TOML 1 'line 1, column 13: the plan is no TOML: key with no value, expected `=`' '1s/=//'
 # (a list may go on in the next line, and there the text ends)
-refuses_plan that-is-no-TOML-at-its-end 1 'line 17: the plan is no TOML' '$s/\]$//'
-refuses_plan with-a-number-of-65-bits 1 'line 4: the plan is no TOML' 's/^retries = 0/retries = 9223372036854775808/'
-refuses_plan that-is-not-UTF-8 1 'the plan is no TOML' '1s/$/ # \xff/'
+refuses_plan that-is-no-TOML-at-its-end 1 'line 17, column 1: the plan is no TOML: missing comma between array elements, expected `,` or `]`' '$s/\]$//'
+refuses_plan with-a-number-of-65-bits 1 'line 4, column 11: the plan is no TOML: number out of range' 's/^retries = 0/retries = 9223372036854775808/'
+refuses_plan that-is-not-UTF-8 1 'line 1, column 21: the plan is no TOML: invalid UTF-8' '1s/$/ # \xff/'
+refuses_plan with-a-key-twice 1 'line 5, column 1: the plan is no TOML: duplicate key' '4s/.*/&\n&/'
 refuses_plan without-retries 2 'retries is missing' '/^retries/d'
 refuses_plan with-another-key 2 "unknown key 'color'" '1s/^/color = 1\n/'
 refuses_plan with-a-long-key 2 "unknown key '1234567890123456789012345678901234567890' and more" '1s/^/12345678901234567890123456789012345678901 = 1\n/'
