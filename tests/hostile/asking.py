@@ -11,16 +11,24 @@ import time
 import polling
 import serving
 import wire
-from program import DNP, DONE, FAULT, PATIENCE, REFUSED, Broken
+from program import DNP, DONE, FAULT, PATIENCE, REFUSED, Broken, scaled
 
 SIZE = 2_000
 # polls of the one run, each with as many units before its response; and units of each of the other runs
-POLLS, BEFORE, INSTEAD = 10, 150, 20
+POLLS, BEFORE, INSTEAD = scaled(10, 2), scaled(150, 20), 20
 # where units drip, one comes each so many seconds, and so many milliseconds it waits for the answer, and all in all no more than these
 DRIP, WAITS, MOST = 0.02, 300, 10
 COMMAND, ECHO = "block 1 3 1 0 0", bytes.fromhex("0C 01 28 01 00 01 00 03 01 00 00 00 00 00 00 00 00 00")
 LINE = re.compile(r"(binary|counter|analog|output|setpoint) \d+ -?\d+ [0-9A-F]{2} (-|\d+-\d\d-\d\dT\d\d:\d\d:\d\d\.\d{3}Z) (event|static)( unsolicited)?"
                   r"|iin [0-9A-F]{2} [0-9A-F]{2}( [a-z0-9-]+)*|(select|operate) 1 [A-Za-z0-9_ -]+")
+# What it may say, a line each: what came in place of a frame that is awaited, what came in place of the response, and why it ended
+PLACE = r"dnp: 127\.0\.0\.1:\d+: "
+STRANGE = rf"{PLACE}(?:frames came from \d+ to \d+; this asks {serving.OUTSTATION} as {serving.MASTER}|octets came, and no frame)\n"
+UNLIKE = (rf"{PLACE}a response (?:with sequence number \d+ came, where \d+ is awaited|with FIR came, where a fragment after the first one is "
+          r"awaited|without FIR came, where the first fragment is awaited|came whose function, UNS, FIR and FIN don't fit together)\n")
+ENDED = (rf"{PLACE}(?:no response in \d+ ms|the connection ended before the answer)(?:; output 1 may have been operated: look at it before the "
+         rf"command is given again)?\n|{PLACE}response refused: (?:\d+\.\d+ at octet \d+ is not in the profile|[A-Za-z]+ at octet \d+)\n|{PLACE}the stream could not be (?:read|written): [^\n]+\n")
+SAYS = re.compile(f"(?:{STRANGE})?(?:{UNLIKE})?(?:{ENDED})|")
 
 
 class Outstation(polling.Concentrator):
@@ -34,28 +42,12 @@ class Answering(Outstation):
     """One that answers each READ with an event of its own, and sends so many hostile units before that: whole responses that no
     request waits for, and what is no fragment, since a fragment that is no response ends a poll."""
 
-    def hostile(self, base):
-        how, to, of = self.r.random(), serving.MASTER, serving.OUTSTATION
-        if how < 0.5:
-            response = self.r.choice(wire.RESPONSES)
-            return wire.frame(0x44, to, of, bytes([0xC0 | self.r.randrange(64), response[0] & 0xE0 | 0x0F, 0x81]) + response[2:])
-        if how < 0.65:
-            return wire.spoilt_header(self.r, self.r.choice(base))
-        if how < 0.8:
-            return wire.spoilt_user(self.r, self.r.choice(base))
-        if how < 0.9:
-            to, of = self.r.choice(((to, of + 1), (to + 1, of), (of, to), (to, to), (0xFFFF, of), (0xFFFC, 0)))
-            return wire.frame(0x44, to, of, b"\xC0" + wire.fragment(self.r)[:100])
-        if how < 0.95:
-            return wire.frame(self.r.choice((0x00, 0x01, 0x0B, 0x0F, 0x40, 0x42, 0x49, 0x4B, 0xC0, 0xC9)), to, of)
-        return wire.noise(self.r)
-
     def serve(self, stream):
         reads = 0
         while (asked := self.fragment(stream)) is not None:
             if asked[1] == 1:
                 base = self.framed(bytes([0xE0 | asked[0] % 16, 0x81, 0, 0]) + struct.pack("<BBBHHBi", 32, 1, 0x28, 1, 0, 1, reads))
-                self.sent.append(b"".join([self.hostile(base) for _ in range(self.size)] + base))
+                self.sent.append(b"".join([polling.ignored(self.r, base, serving.MASTER, serving.OUTSTATION) for _ in range(self.size)] + base))
                 stream.sendall(self.sent[-1])
                 self.number, reads = self.number + len(base), reads + 1
 
@@ -129,7 +121,7 @@ def poll(r, size, room, bounded):
         words = ("--operate", COMMAND) if number % 2 else ("--classes", "1230", "--repeat", "1ms", "--count", "2")
         status, lines, said = asked(outstation, room, *words, "--timeout", "100")
         wrong = [line for line in lines if not LINE.fullmatch(line)]
-        if status not in (DONE, REFUSED, FAULT) or wrong or said.count("\n") > 2 or status == FAULT and not said:
+        if status not in (DONE, REFUSED, FAULT) or wrong or not SAYS.fullmatch(said) or status == FAULT and not said:
             raise Broken(f"status {status}, {said!r}, {wrong}", sent=b"".join(outstation.sent), out="\n".join(lines).encode())
         if outstation.operates > 1 or outstation.operates and not outstation.echoed:
             raise Broken(f"{outstation.operates} times was operated what was {'' if outstation.echoed else 'not '}selected",

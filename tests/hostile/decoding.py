@@ -6,7 +6,7 @@ import json
 import re
 
 import wire
-from program import DONE, REFUSED, ran
+from program import CHECK_WORD, DONE, REFUSED, ran
 
 SIZE = 10_000
 # the kilobytes that it may have: to begin with, and for each octet of the input
@@ -18,14 +18,23 @@ HEADER = r"\d+\.\d+ (?:all|\d+\.\.\d+|x\d+)"
 MOMENT = r"[-+\d]+T[\d:.]+Z"
 OBJECT = (rf"-?\d+ = -?\d+ flags [\dA-F]{{2}}(?: at {MOMENT})?|\d+ = [01]|{MOMENT}|\d+ ms|"
           r"\d+ code [\dA-F]{2} count \d+ on \d+ off \d+ status \d+|\d+ set -?\d+ status \d+")
-FAULT = "Short|FunctionUnknown|HeaderCut|QualifierUnknown|ObjectUnknown|RangeBackward|ObjectsCut|CommonTime"
+FAULT = "Short|FunctionUnknown|HeaderCut|QualifierUnknown|ObjectUnknown|RangeBackward|SizeUnknown|ObjectsCut|CommonTime"
+# what the profile lacks: functions, the names of headers, and objects
+BEYOND = ", beyond the profile"
+OTHERS = ("IMMED_FREEZE|IMMED_FREEZE_NR|FREEZE_CLEAR|FREEZE_CLEAR_NR|FREEZE_AT_TIME|FREEZE_AT_TIME_NR|COLD_RESTART|WARM_RESTART|"
+          "INITIALIZE_DATA|INITIALIZE_APPL|START_APPL|STOP_APPL|SAVE_CONFIG|ASSIGN_CLASS|RECORD_CURRENT_TIME|OPEN_FILE|CLOSE_FILE|"
+          "DELETE_FILE|GET_FILE_INFO|AUTHENTICATE_FILE|ABORT_FILE|ACTIVATE_CONFIG|AUTHENTICATE_REQ|AUTH_REQ_NO_ACK")
+NAMED = r"[-a-z0-9 ]+, [-a-zA-Z0-9 ,]+"
+LACKED = r"(?: \d+)?(?: = [0-3])?(?: octets [\dA-F]{2}(?: [\dA-F]{2})*)?"
 NAMES = ("CONFIRM|READ|WRITE|SELECT|OPERATE|DIRECT_OPERATE|DIRECT_OPERATE_NR|ENABLE_UNSOLICITED|DISABLE_UNSOLICITED|"
          "DELAY_MEASURE")
 BITS = r"seq \d+(?: fir)?(?: fin)?(?: con)?(?: uns)?"
 BELOW = re.compile(
     rf"  transport(?: FIR)?(?: FIN)? \d+|  transport refused: (?:Series|Size, \d+ octets)|  request {BITS} (?:{NAMES})|"
-    rf"  response {BITS}, iin [\dA-F]{{2}} [\dA-F]{{2}}|    {HEADER}(?:: (?:{OBJECT}))?|  fragment refused: (?:{FAULT}) at octet \d+")
-LAYERS = {"transport", "request", "response", "header", "row", "indication", "time", "delay", "command", "fragment"}
+    rf"  response {BITS}, iin [\dA-F]{{2}} [\dA-F]{{2}}|    {HEADER}(?:: (?:{OBJECT}))?|  fragment refused: (?:{FAULT}) at octet \d+|"
+    rf"  request {BITS} (?:{OTHERS}){BEYOND}|  response {BITS}, iin [\dA-F]{{2}} [\dA-F]{{2}}, AUTHENTICATE_RESP{BEYOND}|"
+    rf"    {HEADER} {NAMED}{BEYOND}|    {HEADER}:{LACKED}{BEYOND}")
+LAYERS = {"transport", "request", "response", "header", "row", "indication", "time", "delay", "command", "fragment", "object"}
 
 
 class Units:
@@ -91,7 +100,7 @@ class Units:
             line = line[: column - 1] + " " + line[column - 1 :]
         else:
             column = r.randint(1, len(line))
-            line = line[: column - 1] + r.choice("gG-.:,x\x7f\u00e4\0") + line[column - 1 :]
+            line = line[: column - 1] + r.choice("gG./_\x7f\u00e4\0") + line[column - 1 :]
         self.lines.append(line)
         self.by_line.append((len(self.lines), f"text refused: no hexadecimal digit in column {column}", None))
 
@@ -198,8 +207,8 @@ def tried(r, size, room, bounded):
     wanted = hold(ran("decode", *words, given=without, room=room).ends(DONE), others, None)
     run = ran("decode", *words, given=given, room=room).ends(REFUSED)
     hold(run, told, wanted)
-    if run.err:
-        raise run.broken("standard error says something")
+    if run.err and not (CHECK_WORD.fullmatch(run.err) and "Check" in run.out):
+        raise run.broken("standard error says something else than which check word is right")
     if bounded and run.kilobytes > OWN + EACH * len(given):
         raise run.broken(f"{run.kilobytes} kilobytes of memory for {len(given)} octets")
     if r.random() < 0.1:

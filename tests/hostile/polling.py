@@ -14,12 +14,23 @@ SIZE = 4_000
 PAGE, PAGES = 20, 3
 
 
-def response(r):
-    """A mutated response that no request waits for: of another number, and unsolicited in no way."""
-    octets = bytearray(wire.fragment(r) + bytes(2))
-    octets[0] = octets[0] & 0xE0 | 0x0F
-    octets[1] = 0x81 if octets[1] == 0x82 else octets[1]
-    return bytes(octets)
+def ignored(r, base, to, of):
+    """A unit that a poll leaves aside: a whole response that no request waits for, a spoilt one, one of other link addresses, a link
+    function or noise. A fragment that is refused ends a poll."""
+    how = r.random()
+    if how < 0.5:
+        octets = r.choice(wire.RESPONSES)
+        return wire.frame(0x44, to, of, bytes([0xC0 | r.randrange(64), octets[0] & 0xE0 | 0x0F, 0x81]) + octets[2:])
+    if how < 0.65:
+        return wire.spoilt_header(r, r.choice(base))
+    if how < 0.8:
+        return wire.spoilt_user(r, r.choice(base))
+    if how < 0.9:
+        to, of = r.choice(((to, of + 1), (to + 1, of), (of, to), (to, to), (0xFFFF, of), (0xFFFC, 0)))
+        return wire.frame(0x44, to, of, b"\xC0" + wire.fragment(r)[:100])
+    if how < 0.95:
+        return wire.frame(r.choice((0x00, 0x01, 0x0B, 0x0F, 0x40, 0x42, 0x49, 0x4B, 0xC0, 0xC9)), to, of)
+    return wire.noise(r)
 
 
 class Concentrator(threading.Thread):
@@ -84,7 +95,7 @@ class Concentrator(threading.Thread):
         if not fragment:
             return
         base = wire.frames(0x44, serving.CENTRE, serving.CONCENTRATOR, fragment, self.number)
-        units = [serving.hostile(self.r, base, serving.CENTRE, serving.CONCENTRATOR, response) for _ in range(self.size)]
+        units = [ignored(self.r, base, serving.CENTRE, serving.CONCENTRATOR) for _ in range(self.size)]
         self.number += len(base)
         octets = b"".join(units + base)
         self.sent.append(octets)

@@ -14,6 +14,9 @@ from scale import DNP, STORES, scaled  # noqa: E402
 DONE, REFUSED, USAGE, FAULT = range(4)
 # the line with which outstation, concentrate and centre begin their log: which build the program is
 STARTED = re.compile(r"\d{4}-\d\d-\d\dT\d\d:\d\d:\d\d\.\d{3}Z started: dnp [\d.]+ \((?:proved.*|built without proof|build unknown)\)")
+# what answer and decode say of the first check word that is wrong
+CHECK_WORD = re.compile(r"dnp: standard input: (?:(?:line|octet) \d+: )?at octet \d+ of the frame, from 0, is [\dA-F]{2} [\dA-F]{2}, where the check word "
+                        r"[\dA-F]{2} [\dA-F]{2} belongs\n")
 # so many seconds for one run
 PATIENCE = scaled(60, 180)
 

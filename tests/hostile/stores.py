@@ -25,6 +25,7 @@ KINDS, STATES = ("Block", "Set16", "Set32"), ("Pending", "Spent", "Finished")
 SAID = [(REFUSED, r"no (?:journal|book of controls): .+|no (?:journal|book of controls), or not whole|no (?:journal|book of controls) was made "
                   r"there: remove the file, and let '--new' make one|row \d+, .+: the plan has no such point|control \d+, .+: the plan has no such output"),
         (FAULT, r"its rows can't be read: out of memory, or its device failed|the device under the database failed|[^:]+")]
+UTC = re.compile(r"\d{4}-\d\d-\d\dT\d\d:\d\d:\d\d\.\d{3}Z ")
 WORDS = {"queue": "--queue", "journal": "--journal", "book": "--controls"}
 STORE = {"queue": "queue", "journal": "journal", "book": "book of controls"}
 EVENTS, COMMANDS = ("binary", "counter", "analog"), ("block", "set16", "set32")
@@ -127,11 +128,13 @@ def is_documented(run, name):
     begun, *said = run.err.split("\n")[:-1] or [""]
     if not STARTED.fullmatch(begun):
         return False
-    said = [line for line in said if line != f"dnp: {name}.db: {OTHERS}"]
+    if not all(UTC.match(line) for line in said):
+        return False
+    said = [line for line in (UTC.sub("", line) for line in said) if line != f"{name}.db: {OTHERS}"]
     if run.status == FAULT and len(said) == 1 and said[0].endswith("Connection refused (os error 111)"):
         return True
     wanted = next((words for status, words in SAID if status == run.status), "")
-    return len(said) == 1 and not run.out and re.fullmatch(f"dnp: {name}\\.db: (?:{wanted})", said[0]) is not None
+    return len(said) == 1 and not run.out and re.fullmatch(f"{name}\\.db: (?:{wanted})", said[0]) is not None
 
 
 def tried(r, size, room, bounded):

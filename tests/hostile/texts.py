@@ -3,10 +3,11 @@ by a documented text, and where it is known what is wrong, by the right one; wha
 import json
 import random
 import re
+import struct
 import sys
 
 import wire
-from program import DONE, FAULT, REFUSED, TOP, Broken, ran
+from program import CHECK_WORD, DONE, FAULT, REFUSED, TOP, Broken, ran
 
 sys.path.insert(0, str(TOP / "tests/headline"))
 import holds
@@ -20,7 +21,7 @@ FRAMES = "Short", "Start", "HeaderCheck", "Length", "Size", "BlockCheck"
 LINKED = re.compile(r"\d+ (?:\d+>\d+ [\dA-F]{2} (?:[A-Z_]+|unknown function) \d+ octets, words good|\d+>\d+ frame refused: (?:Length at octet 2|"
                     r"BlockCheck \d+ at octet \d+)|\d+ octets skipped: (?:no frame begins there|HeaderCheck at octet 8)|frame refused: Cut at octet \d+|"
                     r"packet refused: the capture ends in it)")
-CAPTURE = re.compile(r"refused capture (?:Start|Newer|Link)\n")
+CAPTURE = re.compile(r"refused capture (?:Start|Link)\n")
 # a key of a plan, what is put there, and the number of the refusal
 WRONG = [("retries", "4", 3), ("retries", "-1", 3), ("confirm_ms", "0", 3), ("select_ms", "3600001", 3), ("response_ms", "1.5", 2),
          ("unsolicited", "1", 2), ("queue", "[1, 1, 1, 1, 1, 1, 1, 1]", 2), ("queue", "[1, 1, 1, 1, 1, 1, 1, 1, 4097]", 3),
@@ -88,7 +89,8 @@ def answer(r, size, room, bounded):
         number = fault_of(octets)
         if number:
             block = f" {wire.spoilt_block(octets)}" if number == 6 else ""
-            if run.ends(REFUSED).out != f"refused {number} {FRAMES[number - 1]}{block}\n" or run.err:
+            says = CHECK_WORD.fullmatch(run.err) is not None if "Check" in FRAMES[number - 1] else not run.err
+            if run.ends(REFUSED).out != f"refused {number} {FRAMES[number - 1]}{block}\n" or not says:
                 raise run.broken("another refusal belongs there")
             continue
         is_own = int.from_bytes(octets[4:6], "little") == OWN
@@ -282,14 +284,42 @@ def events(r, size, room, bounded):
     return size - left
 
 
+def newer(classic):
+    """The packets of a classic capture, in the order of this machine, as one of the newer form with blocks of all kinds in between."""
+    octets = block(0x0A0D0D0A, struct.pack("<IHHq", 0x1A2B3C4D, 1, 0, -1)) + block(1, struct.pack("<HHI", classic[20], 0, 65535))
+    place, kind = 24, 0
+    while place + 16 <= len(classic):
+        count = int.from_bytes(classic[place + 8 : place + 12], "little")
+        packet = classic[place + 16 : place + 16 + count]
+        if len(packet) < count:
+            break
+        body = [struct.pack("<IQII", 0, 0, count, count), struct.pack("<I", count), struct.pack("<HHQII", 0, 0, 0, count, count)][kind % 3] + packet
+        octets += block((6, 3, 2)[kind % 3], body) + block(5, b"") * (kind % 7 == 0)
+        place, kind = place + 16 + count, kind + 1
+    return octets
+
+
+def block(kind, body):
+    """A block of a capture of the newer form."""
+    body += bytes(-len(body) % 4)
+    return struct.pack("<II", kind, 12 + len(body)) + body + struct.pack("<I", 12 + len(body))
+
+
 def captures(r, size, room, bounded):
     """Tries so many captures."""
     script = planned(r, room)
     ran("sim", "--plain", "--plan", "plan.toml", "--capture", "whole.pcap", given=script.text().encode(), room=room).ends(DONE)
     whole = (room / "whole.pcap").read_bytes()[:20_000]
     import decoding
+    # (whole, both forms print the same lines)
+    (room / "whole.pcap").write_bytes(whole)
+    (room / "newer.pcap").write_bytes(newer(whole))
+    runs = [ran("decode", "--pcap", name, room=room).ends(DONE, REFUSED) for name in ("whole.pcap", "newer.pcap")]
+    lines = [[line for line in run.out.split("\n") if not line.endswith(" packet refused: the capture ends in it")] for run in runs]
+    if lines[0] != lines[1]:
+        raise runs[1].broken("a capture of the newer form is decoded otherwise")
     for _ in range(size):
-        octets = bytearray(whole)
+        octets = bytearray(r.choice((whole, newer(whole))))
         for _ in range(r.choice((1, 1, 3, 20))):
             place = r.randrange(40) if r.random() < 0.2 else r.randrange(len(octets))
             octets[place % len(octets)] = r.choice((0, 0xFF, r.randrange(256)))
