@@ -45,9 +45,9 @@ def costs():
 
 
 def side_by_side():
-    """How many checks this machine takes at a time: as many as it has cores, and 3 GiB of memory for each."""
+    """How many checks go at a time: one for each core that this process may use, with 3 GiB of memory for each."""
     free = next(line for line in Path("/proc/meminfo").read_text().split("\n") if line.startswith("MemAvailable:"))
-    return max(1, min(os.cpu_count() or 1, int(free.split()[1]) // 3145728))
+    return max(1, min(len(os.sched_getaffinity(0)), int(free.split()[1]) // 3145728))
 
 
 def library_in(folders, name):
