@@ -1,7 +1,7 @@
 //! A master: one request at a time, responses of several fragments and such that nobody asked for, rows
 //! that are given to a sink and then confirmed, and the outcomes of tasks.
 
-// The yardstick asks polls alone.
+// The benchmark asks polls alone.
 #![allow(dead_code)]
 
 use crate::fragments::{count, headers, rows, Header, Headers, Range, Row};
