@@ -4,11 +4,9 @@ use crate::said::first_unlike;
 use dnp_appfragment::AppFault;
 use dnp_concentrator::{Cause, IssueFault, MapFault};
 use dnp_master::{AskFault, MasterFault};
-use dnp_objects::Status;
 use dnp_outstation::Fault;
 use dnp_poll::PollFault;
 use dnp_streams::{ServeFault, StationFault};
-use dnp_world::{ControlFault, RoundFault, Stopped};
 use std::rt::HostRuntime;
 use std::test::Fail;
 
@@ -103,38 +101,6 @@ fn each_fault_of_a_stream_is_said_so(rt: HostRuntime) -> Result<(), Fail> {
         (
             StationFault::Cause(Cause::Exhausted),
             "a store has no number left",
-        ),
-    ];
-    assert_eq!(rt; first_unlike(rt.alloc(), &faults)?, None);
-    Ok(())
-}
-
-#[test]
-fn each_stop_of_a_system_is_said_so(rt: HostRuntime) -> Result<(), Fail> {
-    let stopped = Stopped {
-        done: 3,
-        cause: Cause::Exhausted,
-    };
-    let stops = [(stopped, "stopped at an event: a store has no number left")];
-    assert_eq!(rt; first_unlike(rt.alloc(), &stops)?, None);
-    let faults = [
-        (RoundFault::NotQuiet, "the link isn't quiet"),
-        (
-            RoundFault::Fault(Cause::Device),
-            "stopped at an event: a store's device failed",
-        ),
-    ];
-    assert_eq!(rt; first_unlike(rt.alloc(), &faults)?, None);
-    let faults = [
-        (ControlFault::NotQuiet, "a link isn't quiet"),
-        (ControlFault::NotNext, "the control isn't next"),
-        (
-            ControlFault::Refused(Status::LOCAL),
-            "a station refused the control",
-        ),
-        (
-            ControlFault::Fault(Cause::Memory),
-            "stopped at an event: out of memory",
         ),
     ];
     assert_eq!(rt; first_unlike(rt.alloc(), &faults)?, None);

@@ -8,6 +8,7 @@ mod links;
 mod lives;
 mod plans;
 mod reports;
+mod said;
 mod scripts;
 mod sessions;
 mod stations;

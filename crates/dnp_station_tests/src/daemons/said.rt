@@ -1,10 +1,27 @@
-//! What is said of a script, each text once.
+//! What is said of a script and of a system, each text once.
 
-use crate::said::first_unlike;
 use dnp_concentrator::Cause;
 use dnp_daemons::{IdleLines, IdleReason, LineFault, PrintFault, ScriptFault, ScriptStop};
+use dnp_objects::Status;
+use dnp_world::{ControlFault, RoundFault, Stopped};
+use std::alloc::Global;
+use std::fmt::Display;
 use std::rt::HostRuntime;
 use std::test::Fail;
+
+/// The number of the first of these things, from 0, that is not printed as it is to be, if one isn't.
+fn first_unlike<T: Display>(
+    alloc: Global,
+    things: &[(T, &str)],
+) -> Result<Option<usize>, Fail> {
+    for (number, (thing, text)) in things.iter().enumerate() {
+        let said = format!(in alloc; "{thing}")?;
+        if said.as_str() != *text {
+            return Ok(Some(number));
+        }
+    }
+    Ok(None)
+}
 
 /// A line 7 of which so many words begin a line that fits, in a plan of one substation.
 fn stops(good: usize, text: &str) -> LineFault<'_> {
@@ -202,6 +219,38 @@ fn each_end_of_a_script_is_said_so(rt: HostRuntime) -> Result<(), Fail> {
     let faults = [
         (PrintFault::WriteFailed, "the report could not be written"),
         (PrintFault::Memory, "out of memory"),
+    ];
+    assert_eq!(rt; first_unlike(rt.alloc(), &faults)?, None);
+    Ok(())
+}
+
+#[test]
+fn each_stop_of_a_system_is_said_so(rt: HostRuntime) -> Result<(), Fail> {
+    let stopped = Stopped {
+        done: 3,
+        cause: Cause::Exhausted,
+    };
+    let stops = [(stopped, "stopped at an event: a store has no number left")];
+    assert_eq!(rt; first_unlike(rt.alloc(), &stops)?, None);
+    let faults = [
+        (RoundFault::NotQuiet, "the link isn't quiet"),
+        (
+            RoundFault::Fault(Cause::Device),
+            "stopped at an event: a store's device failed",
+        ),
+    ];
+    assert_eq!(rt; first_unlike(rt.alloc(), &faults)?, None);
+    let faults = [
+        (ControlFault::NotQuiet, "a link isn't quiet"),
+        (ControlFault::NotNext, "the control isn't next"),
+        (
+            ControlFault::Refused(Status::LOCAL),
+            "a station refused the control",
+        ),
+        (
+            ControlFault::Fault(Cause::Memory),
+            "stopped at an event: out of memory",
+        ),
     ];
     assert_eq!(rt; first_unlike(rt.alloc(), &faults)?, None);
     Ok(())
