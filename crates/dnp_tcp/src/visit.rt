@@ -11,7 +11,7 @@ use crate::hearing::{ends_of, heard_with};
 use crate::lines::{Asked, Visited};
 use crate::logged::note;
 use dnp_line::Port;
-use dnp_linkframe::{Frame, MAX_UNIT};
+use dnp_linkframe::Frame;
 use dnp_notices::{Ends, Strange, StrangeLine, news_of};
 use dnp_streams::{Heard, Link, Living, StationFault, Told};
 use std::io;
@@ -19,6 +19,9 @@ use std::io::{ErrorKind, Read, Write};
 use std::net::{SocketAddr, TcpStream};
 use std::rt::Clock;
 use std::time::Duration;
+
+/// How many octets are read at once, at most: a call for each frame costs more than the frame.
+const PIECE: usize = 16_384;
 
 /// How long a write waits, in milliseconds, before it is looked whether the connection has to end.
 const WRITE_MS: u64 = 50;
@@ -220,14 +223,19 @@ impl<'v, R: AllocGlobal + Eprint + Clock> Visit<'v, R> {
         Ok(())
     }
 
-    /// Reads once, for so long at most, in milliseconds, and feeds what came to the link.
-    fn read(&mut self, link: &mut Link, course: &mut Course, ms: u64) -> Result<(), Leave> {
+    /// Reads once into this room, for so long at most, in milliseconds, and feeds what came to the link.
+    fn read(
+        &mut self,
+        link: &mut Link,
+        course: &mut Course,
+        piece: &mut [u8],
+        ms: u64,
+    ) -> Result<(), Leave> {
         if let Err(error) = self.wait_at_most(ms) {
             return Err(Leave::Unread(error));
         }
-        let mut piece = [0; MAX_UNIT];
         let mut stream = &self.caller.stream;
-        match stream.read(&mut piece) {
+        match stream.read(piece) {
             Ok(0) => Err(Leave::Master),
             Ok(count) => {
                 if link.feed(&piece[..count]).is_err() {
@@ -324,12 +332,13 @@ impl<'v, R: AllocGlobal + Eprint + Clock> Visit<'v, R> {
         station: &mut S,
         link: &mut Link,
         course: &mut Course,
+        piece: &mut [u8],
     ) -> Result<(), Leave>
         ensures kept { S.kept station.new ≡ S.kept station.old }
         ensures held { S.honest station.new → S.honest station.old }
     {
         let ms = course.wait_ms(station.next_deadline());
-        self.read(link, course, ms)?;
+        self.read(link, course, piece, ms)?;
         if !link.has_frame() {
             course.go_on(self.rt);
             return self.settle(station, link, course);
@@ -355,8 +364,9 @@ impl<'v, R: AllocGlobal + Eprint + Clock> Visit<'v, R> {
         ensures held { S.honest station.new → S.honest station.old }
     {
         self.open(station, link, course)?;
+        let mut piece = [0; PIECE];
         for _ in 0..u64::MAX {
-            self.take_turn(station, link, course)?;
+            self.take_turn(station, link, course, &mut piece)?;
         }
         Ok(())
     }
