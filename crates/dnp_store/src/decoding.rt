@@ -332,6 +332,7 @@ fn last_shown(rows: &[Shown]) -> Option<u64>
 pub(crate) fn last_used(counts: &[Shown], rows: &[Shown], table: &str) -> Option<(u64, bool)>
     ensures counted { IfSome result (λ last. (last.0 ≤ limits.MAX_ID) × (IsTrue last.1 → ShowsCount table.now counts.now last.0)) }
     ensures most { IfSome result (λ last. IsMost table.now counts.now last.0) }
+    ensures over { IfSome result (λ last. (n : ℕ) → column (slice_index_or rows.now (length rows.now - 1) []) 0 ≡ Int (pos n) → n ≤ last.0) }
     ensures alone { IfSome result (λ last. (n : ℕ) → ShowsCount table.now counts.now n → ShowIds rows.now n → (last.0 ≡ n) × IsTrue last.1) }
     ensures found { (n : ℕ) → ShowsCount table.now counts.now n → ShowIds rows.now n → n ≤ limits.MAX_ID → result ≡ Some (n, true) }
 {
