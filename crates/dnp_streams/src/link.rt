@@ -1,11 +1,14 @@
 //! A station's end of a link, without reading or writing: frames are found in octets that came, and heard one by one, and
 //! what the station answers waits to be sent.
 
-ghost use Rattle.std.specs.Prelude.{◌≡◌, ℕ, ◌+◌, ◌<◌, ◌≤◌, ◌↔◌, ◌∷◌, [], drop, List, length, IfNone, IfSome, IsTrue, OnErr, OnOk};
+ghost use Rattle.std.specs.Prelude.{◌≡◌, ℕ, ◌+◌, ◌<◌, ◌≤◌, ◌↔◌, ◌∷◌, [], drop, List, length, IfNone, IfOk, IfSome, IsTrue, OnErr, OnOk};
+ghost use Rattle.dnp_concentrator.specs.Relayed.{with_request};
 ghost use Rattle.dnp_line.specs.Ports.{IsShown};
 ghost use Rattle.dnp_linkframe.specs.declared.frame.Frame.{Frame as FrameValue};
 ghost use Rattle.dnp_streams.specs.links.Deeds.{Asked, Came, Changed, Joined, Opened, Relaid, Reply, Ticked, done_of, heard_of, relaid_of, told_of, ways};
-ghost use Rattle.dnp_streams.specs.links.Links.{Feeds, HasRoom, Makes, after_sent, new_link};
+ghost use Rattle.dnp_streams.specs.links.Links.{Feeds, HasRoom, Makes, after_sent, new_link, request_in};
+ghost use Rattle.dnp_streams.specs.links.Outputs.{Puts};
+ghost use Rattle.dnp_streams.specs.streams.Dialogues.{sendable, sent_by};
 ghost use Rattle.arrayvec.specs.ArrayVec.{ArrayVec as Octets};
 ghost use Rattle.std.specs.Prelude.{Result as ResultValue};
 ghost use Rattle.dnp_master.specs.declared.fault.AskFault.{AskFault as AskFaultValue};
@@ -254,7 +257,7 @@ impl Link {
         make(room, station, port, now, change, output)
     }
 
-    /// Asks a task.
+    /// Asks a task. The room then shows the request.
     ///
     /// # Errors
     /// The station's refusal, as of a task while another one is under way. Then it is as it was, and nothing is sent.
@@ -270,12 +273,13 @@ impl Link {
         ensures held { S.honest station.new → S.honest station.old }
         ensures asked { (reply : ResultValue (List ℕ) AskFaultValue) × (result ≡ done_of reply) × Makes (ways S.opens S.receives S.asking S.life) (S.honest station.new)
             self.old (S.state station.old) (Asked now task reply) self.new (S.state station.new) }
+        ensures shown { OnOk result (Puts self.old.port (sendable (request_in room.new)) self.old.pending self.new.port self.new.pending) }
     {
         let (port, output) = (&mut self.port, &mut self.output);
         ask(room, station, port, now, task, output)
     }
 
-    /// Relays a control, or goes on with the one that is under way.
+    /// Relays a control, or goes on with the one that is under way. The room then shows the request, if the step has one.
     ///
     /// # Errors
     /// The refusal of the book of controls. Then the station is as it was, and nothing is sent.
@@ -290,6 +294,7 @@ impl Link {
         ensures held { S.honest station.new → S.honest station.old }
         ensures relayed { (request : Octets ℕ) × Makes (ways S.opens S.receives S.asking S.life) (S.honest station.new)
             self.old (S.state station.old) (Relaid now (relaid_of result request)) self.new (S.state station.new) }
+        ensures shown { IfOk result (λ step. Puts self.old.port (sent_by (with_request step room.new.request)) self.old.pending self.new.port self.new.pending) }
     {
         relay(room, station, &mut self.port, now, &mut self.output)
     }

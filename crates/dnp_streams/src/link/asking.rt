@@ -1,8 +1,10 @@
 //! Steps of a station that asks.
 
-ghost use Rattle.std.specs.Prelude.{◌≡◌, ◌+◌, ◌≤◌, length};
-ghost use Rattle.dnp_concentrator.specs.Relayed.{has_request};
-ghost use Rattle.dnp_streams.specs.links.Links.{AsksFor, RelaysOn};
+ghost use Rattle.std.specs.Prelude.{◌≡◌, ◌+◌, ◌≤◌, length, IfOk, OnOk};
+ghost use Rattle.dnp_concentrator.specs.Relayed.{has_request, with_request};
+ghost use Rattle.dnp_streams.specs.links.Links.{AsksFor, RelaysOn, request_in};
+ghost use Rattle.dnp_streams.specs.links.Outputs.{Puts};
+ghost use Rattle.dnp_streams.specs.streams.Dialogues.{sendable, sent_by};
 
 use crate::link::outgoing::{MAX_OUTPUT, MAX_STEP, Output, put_request};
 use crate::link::room::StepRoom;
@@ -26,6 +28,7 @@ pub(super) fn ask<S: Asker>(
     ensures held { S.honest station.new → S.honest station.old }
     ensures asked { AsksFor (S.honest station.new) S.asking (S.state station.old) now task result (S.state station.new)
         port.old out.old.items port.new out.new.items }
+    ensures shown { OnOk result (Puts port.old (sendable (request_in room.new)) out.old.items port.new out.new.items) }
 {
     let request = &mut room.request;
     match station.ask_into(request, now, task) {
@@ -60,6 +63,7 @@ pub(super) fn relay<S: Asker>(
     ensures held { S.honest station.new → S.honest station.old }
     ensures relayed { RelaysOn (S.honest station.new) S.asking (S.state station.old) now result (S.state station.new)
         port.old out.old.items port.new out.new.items }
+    ensures shown { IfOk result (λ step. Puts port.old (sent_by (with_request step room.new.request)) out.old.items port.new out.new.items) }
 {
     let request = &mut room.request;
     match station.relay_into(request, room.alloc, now) {

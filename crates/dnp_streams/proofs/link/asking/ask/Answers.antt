@@ -17,3 +17,6 @@ returns-in-Err-clause-asked g c = record {
   acts = λ honest. (c.in-Err.ensures.refused honest, c.in-Err.ensures.unchanged honest);
   puts = puts_none c.args.port.now c.args.out.now.items;
 }
+
+pub returns-in-Ok-clause-shown : goal.returns-in-Ok-clause-shown
+returns-in-Ok-clause-shown g c = record { put = c.put_request.ensures.put; moved = c.put_request.ensures.moved }
