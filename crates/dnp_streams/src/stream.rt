@@ -10,6 +10,7 @@ mod centre;
 mod change;
 mod clocked;
 mod course;
+mod dialogue;
 mod kept;
 mod live;
 mod live_steps;

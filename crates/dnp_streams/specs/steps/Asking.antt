@@ -24,6 +24,7 @@ use Rattle.dnp_streams.specs.declared.link.answering.Heard.{Heard}
 use Rattle.dnp_streams.specs.declared.link.answering.Heard.TheVariants as heard
 use Rattle.dnp_streams.specs.declared.link.answering.Told.{Told}
 use Rattle.dnp_streams.specs.declared.stream.agenda.Agenda.{Agenda}
+use Rattle.dnp_streams.specs.declared.stream.dialogue.Dialogue.{Dialogue as DialogueValue}
 use Rattle.dnp_streams.specs.links.Deeds.{Ways}
 use Rattle.dnp_streams.specs.links.Links.{LinkState}
 use Rattle.dnp_streams.specs.links.Outputs.{ArePut}
@@ -98,6 +99,10 @@ pub record Steps {S : Type 0} (Made : Dialogue S → List Frame → Dialogue S �
   pub partial : link'.partial ≡ link.partial
   pub waiting : link.waiting ≡ frames ++ link'.waiting
 
+-- so of a dialogue, in the code's own terms
+abbrev pub StepsOn : {S : Type 0} → (Dialogue S → List Frame → Dialogue S → Type 0) → List Frame → S → DialogueValue → S → DialogueValue → Type 0
+StepsOn Made frames s d s' d' = Steps Made frames (dialogue_of s d.link.port d.agenda) d.link (dialogue_of s' d'.link.port d'.agenda) d'.link
+
 -- A dialogue under way: these steps were made, and so many reads at least brought the octets.
 pub record Talking {S : Type 0} (w : Ways S) (now reads : ℕ) (began : Dialogue S) (left left' held held' : Option (List ℕ)) (d : Dialogue S) (link : LinkState)
     : Type 0 where
@@ -118,10 +123,11 @@ stops_by (Ok stops) = stops
 stops_by (Err fault) = false
 
 -- A dialogue that was under way still is; where it stops, all was over, or the largest number of steps was made.
-abbrev pub TalksOn : {S : Type 0} → Ways S → ℕ → Bool → Dialogue S → LinkState → Option (List ℕ) → Dialogue S → LinkState → Option (List ℕ) → Type 0
-TalksOn {S} w now stops d link held d' link' held' =
-    (reads : ℕ) (began : Dialogue S) (left left' from : Option (List ℕ)) → Talking w now reads began left left' from held d link
-    → (t : Talking w now reads began left left' from held' d' link') × (stops ≡ true → (d'.is_over ≡ true) ⊎ (most ≤ length t.steps))
+abbrev pub TalksOn : {S : Type 0} → Ways S → ℕ → Bool → S → DialogueValue → Option (List ℕ) → S → DialogueValue → Option (List ℕ) → Type 0
+TalksOn {S} w now stops s d held s' d' held' =
+    (reads : ℕ) (began : Dialogue S) (left left' from : Option (List ℕ)) → Talking w now reads began left left' from held (dialogue_of s d.link.port d.agenda) d.link
+    → (t : Talking w now reads began left left' from held' (dialogue_of s' d'.link.port d'.agenda) d'.link)
+    × (stops ≡ true → (d'.agenda.is_over ≡ true) ⊎ (most ≤ length t.steps))
 
 -- nothing was done yet
 pub record IsFresh (c : Agenda) : Type 0 where
