@@ -1,3 +1,2 @@
 mod Keeping
-mod Order
 mod Standing

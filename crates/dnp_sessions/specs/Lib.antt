@@ -1,3 +1,2 @@
 -- Definitions, by which contracts promise.
-pub mod Orders
 pub mod Sessions

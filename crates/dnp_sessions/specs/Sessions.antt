@@ -5,8 +5,8 @@ use Rattle.dnp_streams.specs.declared.stream.change.Change.{Change}
 use Rattle.dnp_streams.specs.links.Deeds.{ActsAll, Ways}
 use Rattle.dnp_streams.specs.links.Laws.{Stands}
 use Rattle.dnp_streams.specs.links.Links.{LinkState, new_link}
-use Rattle.dnp_sessions.specs.declared.stage.Stage.TheVariants.{Unopened}
-use Rattle.dnp_sessions.specs.Orders.{FollowsAll, Standing, Step, changes_in, deeds_in, standing}
+use Rattle.dnp_streams.specs.declared.link.stage.Stage.TheVariants.{Unopened}
+use Rattle.dnp_streams.specs.links.Orders.{FollowsAll, Standing, Step, changes_in, deeds_in, standing}
 
 -- The station and the port with which a session began, alone in a list; its station, its link and where it stands now; the octets that it
 -- received and those that were handed out, and the changes that were made, in order.

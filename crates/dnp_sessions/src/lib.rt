@@ -3,9 +3,7 @@
 #![tactic(auto)]
 
 mod history;
-pub mod laws;
 mod session;
-mod stage;
 
+pub use dnp_streams::Stage;
 pub use session::Session;
-pub use stage::Stage;

@@ -1,23 +1,27 @@
 //! A station on its link, with the order of their steps and their history.
 
-ghost use Rattle.std.specs.Prelude.{◌≡◌, ◌<◌, ◌≤◌, ◌∷◌, ◌++◌, ℕ, List, [], IfNone, IfSome, OnErr, OnOk, length, take};
+ghost use Rattle.std.specs.Prelude.{◌≡◌, ◌<◌, ◌≤◌, ◌∷◌, ◌++◌, ℕ, List, [], IfNone, IfOk, IfSome, OnErr, OnOk, length, take};
 ghost use Rattle.arrayvec.specs.ArrayVec.{ArrayVec as Octets};
+ghost use Rattle.dnp_concentrator.specs.Relayed.{with_request};
 ghost use Rattle.dnp_master.specs.declared.fault.AskFault.{AskFault as AskFaultValue};
 ghost use Rattle.std.specs.Prelude.{Result as ResultValue};
 ghost use Rattle.dnp_linkframe.specs.declared.frame.Frame.{Frame as FrameValue};
 ghost use Rattle.dnp_streams.specs.links.Deeds.{Asked, Came, Changed, Joined, Opened, Relaid, Reply, Ticked, done_of, heard_of, relaid_of, told_of, ways};
-ghost use Rattle.dnp_streams.specs.links.Links.{Feeds, HasRoom, Makes, after_sent};
-ghost use Rattle.dnp_sessions.specs.Orders.{has_closed, heard_closing, standing, turn_closing, unless_closed};
+ghost use Rattle.dnp_streams.specs.links.Links.{Feeds, HasRoom, Makes, after_sent, request_in};
+ghost use Rattle.dnp_streams.specs.links.Orders.{has_closed, heard_closing, standing, turn_closing, unless_closed};
+ghost use Rattle.dnp_streams.specs.links.Outputs.{Puts};
+ghost use Rattle.dnp_streams.specs.streams.Dialogues.{sendable, sent_by};
 ghost use Rattle.dnp_sessions.specs.Sessions.{KeepsLaw, new_session};
-ghost use Rattle.dnp_sessions.specs.declared.stage.Stage.TheVariants.{Idle, Owing, Unopened};
+ghost use Rattle.dnp_streams.specs.declared.link.stage.Stage.TheVariants.{Idle, Owing, Unopened};
 
 use crate::history::note;
-use crate::stage::Stage;
 use dnp_concentrator::RelayedStep;
 use dnp_controls::BookFault;
 use dnp_line::Port;
 use dnp_master::{AskFault, Task};
-use dnp_streams::{Asker, Change, Heard, Link, Living, Station, StationFault, StepRoom, Told};
+use dnp_streams::{
+    Asker, Change, Heard, Link, Living, Stage, Station, StationFault, StepRoom, Told,
+};
 use http_server::Log;
 use std::alloc::{AllocError, Global};
 use std::marker::Model;
@@ -52,7 +56,7 @@ pub struct Session<S: Station> {
 
 impl<S: Station> Model for Session<S> {
     ghost use Rattle.dnp_streams.specs.links.Deeds.{ways};
-    ghost use Rattle.dnp_sessions.specs.Orders.{standing};
+    ghost use Rattle.dnp_streams.specs.links.Orders.{standing};
     ghost use Rattle.dnp_sessions.specs.Sessions.{KeepsLaw, SessionState, noted_in};
 
     ghost Value = { SessionState S };
@@ -300,7 +304,7 @@ impl<S: Living> Session<S> {
 }
 
 impl<S: Asker> Session<S> {
-    /// Asks a task.
+    /// Asks a task. The room then shows the request.
     ///
     /// # Errors
     /// The station's refusal, as of a task while another one is under way. Then it is as it was, and nothing is sent.
@@ -312,6 +316,7 @@ impl<S: Asker> Session<S> {
         ensures held { S.honest self.new.station → S.honest self.old.station }
         ensures asked { (reply : ResultValue (List ℕ) AskFaultValue) × (result ≡ done_of reply) × Makes (ways S.opens S.receives S.asking S.life) (S.honest self.new.station)
             self.old.link (S.state self.old.station) (Asked now task reply) self.new.link (S.state self.new.station) }
+        ensures shown { OnOk result (Puts self.old.link.port (sendable (request_in room.new)) self.old.link.pending self.new.link.port self.new.link.pending) }
         ensures stands { self.new.stands ≡ standing Idle now }
         ensures else_same { self.new ≡ record self.old { station = self.new.station; link = self.new.link; stands = self.new.stands } }
     {
@@ -319,7 +324,7 @@ impl<S: Asker> Session<S> {
         self.link.ask(room, &mut self.station, now, task)
     }
 
-    /// Relays a control, or goes on with the one that is under way.
+    /// Relays a control, or goes on with the one that is under way. The room then shows the request, if the step has one.
     ///
     /// # Errors
     /// The refusal of the book of controls. Then the station is as it was, and nothing is sent.
@@ -331,6 +336,7 @@ impl<S: Asker> Session<S> {
         ensures held { S.honest self.new.station → S.honest self.old.station }
         ensures relayed { (request : Octets ℕ) × Makes (ways S.opens S.receives S.asking S.life) (S.honest self.new.station)
             self.old.link (S.state self.old.station) (Relaid now (relaid_of result request)) self.new.link (S.state self.new.station) }
+        ensures shown { IfOk result (λ step. Puts self.old.link.port (sent_by (with_request step room.new.request)) self.old.link.pending self.new.link.port self.new.link.pending) }
         ensures stands { self.new.stands ≡ standing Idle now }
         ensures else_same { self.new ≡ record self.old { station = self.new.station; link = self.new.link; stands = self.new.stands } }
     {

@@ -9,4 +9,4 @@ mod SpacedPieces
 mod SpacedWriting
 mod TextPlaces
 mod streams
-mod links
+pub mod links

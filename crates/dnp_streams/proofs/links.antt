@@ -1,4 +1,6 @@
 pub mod Dialogues
+pub mod Following
+pub mod Order
 pub mod Serving
 pub mod Showing
 pub mod Standing

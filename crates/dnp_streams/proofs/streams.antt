@@ -1,9 +1,7 @@
-pub mod Hearing
 pub mod OneOutput
 pub mod OutstationsOneWay
 pub mod Putting
 pub mod Spelling
-pub mod Clocking
 pub mod Taken
 pub mod Unasked
 pub mod Dialogues
@@ -13,8 +11,4 @@ pub mod MastersOneWay
 pub mod AboveOneWay
 pub mod AboveSteps
 pub mod BelowTicked
-pub mod Alive
-pub mod Answering
 pub mod Changing
-pub mod Living
-pub mod Order

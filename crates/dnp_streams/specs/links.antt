@@ -4,3 +4,4 @@ pub mod Deeds
 pub mod Links
 pub mod Laws
 pub mod Counts
+pub mod Orders

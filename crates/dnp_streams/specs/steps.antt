@@ -1,8 +1,5 @@
 -- Private steps: words of clauses that no caller sees.
 pub mod Appended
 pub mod Asking
-pub mod Hearing
-pub mod Outgoing
 pub mod Pieces
 pub mod Serving
-pub mod Living

@@ -1,6 +1,5 @@
 -- Definitions of stations on streams.
 pub mod Stations
-pub mod Clocks
 pub mod Logs
 pub mod Spelled
 pub mod Exchanges
@@ -19,4 +18,3 @@ pub mod Lent
 pub mod Dialogues
 pub mod Asking
 pub mod Talking
-pub mod Living

@@ -4,12 +4,15 @@ ghost use Rattle.dnp_line.specs.Ports.{HasHistory, IsShown, PortState};
 ghost use Rattle.dnp_linkframe.specs.declared.frame.Frame.{Frame as FrameValue};
 ghost use Rattle.dnp_linkframe.specs.Stream.{Gives};
 ghost use Rattle.dnp_streams.specs.AnswerLine.{IsPrinted};
+ghost use Rattle.dnp_streams.specs.declared.link.stage.Stage.TheVariants.{Owing, Unopened};
+ghost use Rattle.dnp_streams.specs.links.Counts.{StopsLast};
 ghost use Rattle.dnp_streams.specs.links.Deeds.{Came, Reply, Whole};
 ghost use Rattle.dnp_streams.specs.links.Laws.{Event, HappenAll, Stands, deeds_in, fed_in};
 ghost use Rattle.dnp_streams.specs.links.Links.{Does, LinkState, new_link};
+ghost use Rattle.dnp_streams.specs.links.Orders.{EachPasses, FollowsAll, NeverFall, NoneEarly, OpensFirst, Standing, Step};
+ghost use Rattle.dnp_streams.specs.links.Orders as orders;
 ghost use Rattle.dnp_streams.specs.streams.Spelled.{AreSpelled};
 ghost use Rattle.dnp_streams.specs.streams.OneWay.{OpensOneWay, ReceivesOneWay, OneOutput};
-ghost use Rattle.dnp_streams.specs.streams.Living.{FollowsAll, NeverFalls, Standing, Step, changes_in};
 ghost use Rattle.dnp_streams.specs.streams.Outstations.{ShowOneWay, outstation_opens, outstation_receives};
 ghost use Rattle.dnp_streams.specs.streams.Centres.{centre_opens, centre_receives};
 ghost use Rattle.dnp_streams.specs.streams.Concentrators.{above_opens, above_receives, below_opens, below_receives};
@@ -45,11 +48,15 @@ pub fn one_output<S: Station>()
     frames::a_frame_has_one_spelling();
 }
 
-/// The moments of a live session's steps don't fall, and the changes that they make and those that are left are the changes
-/// that were to come: each is made once at most, and in order.
+/// Moments of a session's steps never fall. The opening is the first step, and the only one of its kind. After each frame, and
+/// after each wait, time passes at once, if that isn't still owed. No change is made before it is due, and no step comes after
+/// one that closed the connection.
 pub fn a_session_keeps_its_order()
-    ensures moments { (old new : Standing) (steps : List Step) → FollowsAll old steps new → NeverFalls old.now steps }
-    ensures changes { (old new : Standing) (steps : List Step) → FollowsAll old steps new → old.changes ≡ changes_in steps ++ new.changes }
+    ensures moments { (old new : Standing) (steps : List Step) → FollowsAll old steps new → NeverFall old.now steps }
+    ensures opens { (old new : Standing) (steps : List Step) → FollowsAll old steps new → old.stage ≡ Unopened → OpensFirst steps }
+    ensures passes { (old new : Standing) (steps : List Step) → FollowsAll old steps new → (new.stage ≡ Owing → ⊥) → EachPasses steps }
+    ensures due { (old new : Standing) (steps : List Step) → FollowsAll old steps new → NoneEarly steps }
+    ensures stops { (old new : Standing) (steps : List Step) → FollowsAll old steps new → StopsLast (orders.deeds_in steps) }
 {}
 
 /// Whatever is done with a new link, what was handed out and what waits to be sent is what its steps sent, on the frames of

@@ -19,12 +19,11 @@ mod writing;
 pub use address::{MAX_ADDRESS, read_address};
 pub use answer::{AnswerFault, answer_line};
 pub use input::{MAX_INPUT, read_text};
-pub use link::{Heard, Link, MAX_OUTPUT, MAX_STEP, StepRoom, Told};
+pub use link::{Heard, Link, MAX_OUTPUT, MAX_STEP, Stage, StepRoom, Told};
 pub use octets::{MAX_CHARACTERS, digit_of, octet_of};
 pub use stream::{
-    Above, Answer, Asked, Asker, Below, Change, Clocked, KeptAnswer, Limits, Lived, Living, Log,
-    ServeFault, Served, Session, Station, StationFault, Waiting, ask_noted, ask_stream,
-    live_stream, serve_noted, serve_stream,
+    Above, Answer, Asked, Asker, Below, Change, KeptAnswer, Living, Log, ServeFault, Served,
+    Station, StationFault, ask_noted, ask_stream, serve_noted, serve_stream,
 };
 pub use text::{TextFault, text_fault};
 pub use writing::{NotWritten, write_out};

@@ -17,6 +17,7 @@ mod answering;
 mod asking;
 mod outgoing;
 mod room;
+mod stage;
 
 use crate::link::answering::{hear, make, open, pass_time};
 use crate::link::asking::{ask, relay};
@@ -32,6 +33,7 @@ use dnp_master::{AskFault, Task};
 use dnp_transport::MAX_FRAGMENT;
 pub use outgoing::{MAX_OUTPUT, MAX_STEP};
 pub use room::StepRoom;
+pub use stage::Stage;
 use std::alloc::{AllocError, Global};
 use std::marker::Model;
 

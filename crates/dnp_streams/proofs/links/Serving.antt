@@ -23,10 +23,26 @@ use Rattle.dnp_streams.specs.links.Deeds.{Acts, ActsAll, CarriesAll, Deed, Hears
 use Rattle.dnp_streams.specs.links.Laws.{Stands}
 use Rattle.dnp_streams.specs.links.Links.{Does, Feeds, LinkState, Makes, after_sent, new_link}
 use Rattle.dnp_streams.specs.steps.Serving.{Runs, Tells, TellsHeard, WritesOut, closed_told, faults_told, left_with}
-use Rattle.dnp_streams.proofs.streams.Hearing.{or_assoc, or_left, or_none, or_right}
 use Rattle.dnp_streams.proofs.links.Standing.{acts_more, stands_fed, stands_made, stands_new}
 
 -- ---- numbers, one step more
+
+or_none : (b : Bool) → (b || false) ≡ b
+or_none true = refl
+or_none false = refl
+
+or_assoc : (a b c : Bool) → ((a || b) || c) ≡ (a || (b || c))
+or_assoc true b c = refl
+or_assoc false b c = refl
+
+or_left : (a b : Bool) → (a || b) ≡ false → a ≡ false
+or_left true b open_still = open_still
+or_left false b open_still = refl
+
+or_right : (a b : Bool) → (a || b) ≡ false → b ≡ false
+or_right true true open_still = open_still
+or_right true false open_still = refl
+or_right false b open_still = open_still
 
 closed_more : (deeds : List Deed) (deed : Deed) → closed_in (deeds ++ deed ∷ []) ≡ (closed_in deeds || closes deed)
 closed_more [] deed = or_none (closes deed)

@@ -14,10 +14,6 @@ use Rattle.dnp_streams.specs.links.Outputs.{ArePut}
 use Rattle.dnp_streams.proofs.streams.Spelling.{put_more}
 
 -- some fragments, and others after them
-pub port_after_more : (p : PortState) (fs gs : List (List ℕ)) → port_after p (fs ++ gs) ≡ port_after (port_after p fs) gs
-port_after_more p [] gs = refl
-port_after_more p (f ∷ fs) gs = port_after_more (moved_on (cut_count (length f)) p) fs gs
-
 pub sent_frames_more : (p : PortState) (fs gs : List (List ℕ)) → sent_frames p (fs ++ gs) ≡ sent_frames p fs ++ sent_frames (port_after p fs) gs
 sent_frames_more p [] gs = refl
 sent_frames_more p (f ∷ fs) gs =

@@ -47,10 +47,6 @@ put_more old mid new fs gs first second = record {
 pub put_unit : (old new : List ℕ) (frame : Frame) (unit : List ℕ) → Spells unit frame → new ≡ old ++ unit → ArePut old (frame ∷ []) new
 put_unit old new frame unit spells is = record { octets = unit; spelled = spelled_one frame unit spells; whole = is }
 
--- what is put after no octets is all there is
-pub put_alone : (frames : List Frame) (new : List ℕ) → ArePut [] frames new → AreSpelled frames new
-put_alone frames new put = subst (λ (t : List ℕ). AreSpelled frames t) (sym put.whole) put.spelled
-
 -- ---- the units of a fragment
 
 -- whatever octets stand for the segments from the k-th on, with them those of all are put

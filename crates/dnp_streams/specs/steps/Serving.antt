@@ -1,6 +1,7 @@
 -- Private steps: a stream under way.
-use Rattle.std.specs.Prelude.{◌≡◌, ℕ, ◌+◌, ◌≤◌, min, Bool, true, false, ◌||◌, List, [], ◌∷◌, ◌++◌, length, Option, Result, Ok, Err, ⊤}
+use Rattle.std.specs.Prelude.{◌≡◌, ℕ, ◌+◌, ◌≤◌, min, Bool, true, false, ◌||◌, List, [], ◌∷◌, ◌++◌, length, Option, Result, Ok, Err, MatchResult, ⊤}
 use Rattle.std.specs.Io.KnownBytes.{Appends, Consumes}
+use Rattle.dnp_streams.specs.declared.stream.log.Log.{Log}
 use Rattle.dnp_streams.specs.declared.stream.served.Served.{Served}
 use Rattle.dnp_streams.specs.declared.stream.station.StationFault.{StationFault}
 use Rattle.dnp_streams.specs.declared.writing.NotWritten.{NotWritten}
@@ -23,6 +24,10 @@ abbrev pub WritesOut : LinkState → Option (List ℕ) → Result ⊤ NotWritten
 WritesOut old held (Ok done) new held' = (new ≡ left_with old []) × Appends held held' old.pending
 WritesOut old held (Err fault) new held' =
     (part : List ℕ) × (rest : List ℕ) × (old.pending ≡ part ++ rest) × (new ≡ left_with old rest) × Appends held held' part
+
+-- what the log notes of octets that were to be written
+abbrev pub IsWriteNoted : Result ⊤ NotWritten → Log → Log → Type 0
+IsWriteNoted result old new = MatchResult result (λ _. new ≡ old) (λ _. new ≡ record old { write_failed = true })
 
 -- what a reply brings, in numbers
 abbrev pub faults_told : Result Told StationFault → ℕ

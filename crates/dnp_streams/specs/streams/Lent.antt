@@ -1,5 +1,4 @@
--- Definition: what stations on streams were lent: a concentrator, or a station and a clock; and what of that no call of theirs
--- changes.
+-- Definition: the concentrators that stations on streams were lent, and what of them no call of theirs changes.
 use base.Fml.{GName}
 use Rattle.std.specs.Prelude.{ℕ, if◌then◌else◌, List}
 use Rattle.std.specs.Borrow.{MutBor}
@@ -10,7 +9,6 @@ use Rattle.dnp_eventbuf.specs.Sides.{other_than}
 use Rattle.dnp_outstation.specs.State.{Core}
 use Rattle.dnp_streams.specs.declared.stream.above.Above.{Above}
 use Rattle.dnp_streams.specs.declared.stream.below.Below.{Below}
-use Rattle.dnp_streams.specs.declared.stream.clocked.Clocked.{Clocked}
 
 -- the concentrator whose outstation it is
 abbrev pub lent_above : {Q B : Type 0} → Above Q B → MutBor (Concentrator Q B)
@@ -50,24 +48,3 @@ pub record KeptBelow : Type 0 where
 
 abbrev pub kept_below : {Q B : Type 0} → Below Q B → KeptBelow
 kept_below s = record { reference = s.concentrator.ghost_name; substation = s.substation }
-
--- the station and the clock; the moment of the station's last step, and how many fragments it was given
-abbrev pub lent_station : {S C : Type 0} → Clocked S C → MutBor S
-lent_station s = s.station
-
-abbrev pub clock_of : {S C : Type 0} → Clocked S C → C
-clock_of s = s.clock.now
-
-abbrev pub moment_of : {S C : Type 0} → Clocked S C → ℕ
-moment_of s = s.now
-
-abbrev pub fragments_given : {S C : Type 0} → Clocked S C → ℕ
-fragments_given s = s.fragments
-
--- the reference by which it holds the station, and what no call changes of that
-pub record KeptClocked (Kept : Type 0) : Type 0 where
-  pub reference : GName
-  pub station : Kept
-
-abbrev pub kept_clocked : {S C Kept : Type 0} → (S → Kept) → Clocked S C → KeptClocked Kept
-kept_clocked kept s = record { reference = s.station.ghost_name; station = kept s.station.now }

@@ -1,4 +1,4 @@
-//! What a stream keeps for the steps of its station.
+//! What is kept for the answers of a station.
 
 ghost use Rattle.std.specs.Prelude.{◌≡◌, ◌<◌, [], false, None, All, IfSome, IsSome, length, option_to_list};
 ghost use Rattle.dnp_outstation.specs.Station.{actions_of, sent_of};
@@ -6,7 +6,6 @@ ghost use Rattle.dnp_streams.specs.streams.Masters.{closing, nothing_answered};
 ghost use Rattle.dnp_streams.specs.streams.Outstations.{answer_by};
 ghost use Rattle.dnp_streams.specs.streams.Stations.{answer_in, answer_of};
 
-use crate::stream::outgoing::Outgoing;
 use crate::stream::station::Answer;
 use dnp_master::{MasterActions, Outcome};
 use dnp_outstation::{Actions, Fragment};
@@ -135,53 +134,6 @@ impl KeptAnswer {
             close: self.actions.close,
             taken: self.taken,
             outcome: self.outcome,
-        }
-    }
-}
-
-/// What a stream keeps for its steps, so that none of them asks for room again.
-pub(super) struct StreamKept {
-    /// What the station answers to confirms, and where time passes: mostly nothing. It stands apart, since a place in which there was a fragment
-    /// is written over whole where it is emptied, and where it is filled after that.
-    pub confirmed: KeptAnswer,
-    /// What it answers to all else that comes.
-    pub answer: KeptAnswer,
-    /// What it answers to changes: nothing, or report after report. So it stands apart too.
-    pub changed: KeptAnswer,
-    /// The request that was asked last: none by a station that never asks.
-    pub request: Fragment,
-    /// The octets that are sent.
-    pub octets: Outgoing,
-}
-
-impl Drop for StreamKept {
-    /// One call for whoever lets it go: its parts are looked at here alone.
-    fn drop(self) {
-        let StreamKept {
-            confirmed: _,
-            answer: _,
-            changed: _,
-            request: _,
-            octets: _,
-        } = self;
-    }
-}
-
-impl StreamKept {
-    /// Nothing is answered and sent.
-    pub fn new(alloc: Global) -> StreamKept
-        ensures confirmed { answer_in result.confirmed ≡ nothing_answered }
-        ensures answer { answer_in result.answer ≡ nothing_answered }
-        ensures changed { answer_in result.changed ≡ nothing_answered }
-        ensures request { result.request.items ≡ [] }
-        ensures octets { result.octets.items ≡ [] }
-    {
-        StreamKept {
-            confirmed: KeptAnswer::new(alloc),
-            answer: KeptAnswer::new(alloc),
-            changed: KeptAnswer::new(alloc),
-            request: Fragment::new(),
-            octets: Outgoing::new(),
         }
     }
 }

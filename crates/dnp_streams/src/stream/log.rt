@@ -1,15 +1,13 @@
 //! What was asked of a reader and a writer. A contract sees the octets of a reader and of a writer, and neither how
 //! often they were called nor why a call failed: the calls of this module, through which a stream goes, write that down.
 
-ghost use Rattle.std.specs.Prelude.{◌≡◌, ℕ, ◌+◌, ◌-◌, ◌^◌, ◌<◌, ◌++◌, true, List, OnOk, OnErr, MatchResult};
+ghost use Rattle.std.specs.Prelude.{◌≡◌, ◌+◌, ◌-◌, ◌^◌, ◌<◌, true, MatchResult};
 ghost use Rattle.std.specs.Io.{ReadsAtMost};
-ghost use Rattle.std.specs.Io.KnownBytes.{Appends, ReadConsumes};
+ghost use Rattle.std.specs.Io.KnownBytes.{ReadConsumes};
 ghost use Rattle.dnp_streams.specs.streams.Logs.{new_log};
-ghost use Rattle.dnp_streams.specs.steps.Living.{IsWriteNoted};
 
-use crate::writing::{NotWritten, write_out};
 use std::io;
-use std::io::{Read, Write};
+use std::io::Read;
 
 /// What was asked of a reader and a writer, and whether one of them failed.
 #[derive(Clone, Copy, Debug, PartialEq, Eq)]
@@ -51,24 +49,6 @@ pub(super) fn read_noted<R: Read>(
     let result = reader.read(piece);
     if result.is_err() {
         log.read_failed = true;
-    }
-    result
-}
-
-/// Writes all the octets, or a beginning of them where the writer fails, and notes that.
-pub(super) fn write_noted<W: Write>(
-    octets: &[u8],
-    out: &mut W,
-    log: &mut Log,
-) -> Result<(), NotWritten>
-    ensures whole { OnOk result (Appends (W.contents out.old) (W.contents out.new) octets.now) }
-    ensures part { OnErr result ((part rest : List ℕ) × (octets.now ≡ part ++ rest)
-        × Appends (W.contents out.old) (W.contents out.new) part) }
-    ensures noted { IsWriteNoted result log.old log.new }
-{
-    let result = write_out(octets, out);
-    if result.is_err() {
-        log.write_failed = true;
     }
     result
 }

@@ -1,7 +1,6 @@
 //! The octets that wait on a link, written.
 
-ghost use Rattle.dnp_streams.specs.steps.Living.{IsWriteNoted};
-ghost use Rattle.dnp_streams.specs.steps.Serving.{WritesOut};
+ghost use Rattle.dnp_streams.specs.steps.Serving.{IsWriteNoted, WritesOut};
 
 use crate::link::Link;
 use crate::stream::log::Log;

@@ -3,8 +3,7 @@
 ghost use Rattle.std.specs.Prelude.{◌≡◌, [], false, OnOk};
 ghost use Rattle.dnp_streams.specs.links.Deeds.{ways};
 ghost use Rattle.dnp_streams.specs.links.Links.{new_link};
-ghost use Rattle.dnp_streams.specs.steps.Living.{IsWriteNoted};
-ghost use Rattle.dnp_streams.specs.steps.Serving.{GoesOn, Tells, TellsHeard, closed_told, faults_told};
+ghost use Rattle.dnp_streams.specs.steps.Serving.{GoesOn, IsWriteNoted, Tells, TellsHeard, closed_told, faults_told};
 ghost use Rattle.dnp_streams.specs.streams.Logs.{new_log};
 ghost use Rattle.dnp_streams.specs.streams.Serving.{IsLeft, IsNoted, Serves};
 ghost use Rattle.dnp_streams.specs.streams.Stations.{endpoint};

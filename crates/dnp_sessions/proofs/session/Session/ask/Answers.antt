@@ -1,5 +1,5 @@
 use Rattle.std.proofs.Common.{append-nil, sym, ap, ◌∙◌}
-use Rattle.dnp_sessions.specs.Orders.{standing}
+use Rattle.dnp_streams.specs.links.Orders.{standing}
 use Rattle.dnp_sessions.proofs.Keeping.{keeps_made}
 use Rattle.dnp_sessions.proofs.session.Session.ask.Goals as goal
 

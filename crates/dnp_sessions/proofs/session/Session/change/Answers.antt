@@ -1,5 +1,6 @@
 use Rattle.std.proofs.Common.{refl}
-use Rattle.dnp_sessions.proofs.Keeping.{keeps_made, leads_told, noted_more}
+use Rattle.dnp_sessions.proofs.Keeping.{keeps_made, noted_more}
+use Rattle.dnp_streams.proofs.links.Following.{leads_told}
 use Rattle.dnp_sessions.proofs.session.Session.change.Goals as goal
 
 pub invariant_of-self : goal.invariant_of-self

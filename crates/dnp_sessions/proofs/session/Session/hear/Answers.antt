@@ -1,5 +1,6 @@
 use Rattle.std.proofs.Common.{append-nil, sym}
-use Rattle.dnp_sessions.proofs.Keeping.{keeps_made, leads_heard}
+use Rattle.dnp_sessions.proofs.Keeping.{keeps_made}
+use Rattle.dnp_streams.proofs.links.Following.{leads_heard}
 use Rattle.dnp_sessions.proofs.session.Session.hear.Goals as goal
 
 pub invariant_of-self : goal.invariant_of-self

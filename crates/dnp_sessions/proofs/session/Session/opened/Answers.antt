@@ -1,5 +1,6 @@
 use Rattle.std.proofs.Common.{append-nil, refl, sym}
-use Rattle.dnp_sessions.proofs.Keeping.{keeps_made, leads_told}
+use Rattle.dnp_sessions.proofs.Keeping.{keeps_made}
+use Rattle.dnp_streams.proofs.links.Following.{leads_told}
 use Rattle.dnp_sessions.proofs.session.Session.opened.Goals as goal
 
 pub invariant_of-self : goal.invariant_of-self

@@ -2,9 +2,9 @@
 use Rattle.std.proofs.Common.{◌≡◌, ℕ, ◌≤◌, Bool, true, false, List, [], ◌∷◌, refl, sym, ap, ◌∙◌, subst}
 use Rattle.dnp_streams.specs.links.Counts.{StopsLast, closes}
 use Rattle.dnp_streams.specs.links.Deeds.{Deed, Opened, Came, Ticked, Changed, Asked, Relaid}
-use Rattle.dnp_sessions.specs.declared.stage.Stage.{Stage}
-use Rattle.dnp_sessions.specs.declared.stage.Stage.TheVariants.{Unopened, Idle, Owing, Closed}
-use Rattle.dnp_sessions.specs.Orders.{ComesTo, EachPasses, Follows, FollowsAll, FollowsDeed, Made, NeverFall, NeverOpens, NoneEarly, OpensFirst, PassesAt, Standing, Step, Waited, deeds_in, moment_of, unless_closed}
+use Rattle.dnp_streams.specs.declared.link.stage.Stage.{Stage}
+use Rattle.dnp_streams.specs.declared.link.stage.Stage.TheVariants.{Unopened, Idle, Owing, Closed}
+use Rattle.dnp_streams.specs.links.Orders.{ComesTo, EachPasses, Follows, FollowsAll, FollowsDeed, Made, NeverFall, NeverOpens, NoneEarly, OpensFirst, PassesAt, Standing, Step, Waited, deeds_in, moment_of, unless_closed}
 
 -- ---- one step
 

@@ -1,9 +1,10 @@
 //! Stages of a session.
 
 ghost use Rattle.std.specs.Prelude.{◌≡◌};
-ghost use Rattle.dnp_sessions.specs.Orders.{has_closed, heard_closing, unless_closed};
+ghost use Rattle.dnp_streams.specs.links.Orders.{has_closed, heard_closing, unless_closed};
 
-use dnp_streams::{Heard, StationFault, Told};
+use crate::link::{Heard, Told};
+use crate::stream::StationFault;
 
 /// How far a session has come, which says what step may follow.
 #[derive(Clone, Copy, Debug, PartialEq, Eq)]
@@ -27,7 +28,7 @@ impl Stage {
     }
 
     /// Gives this stage, unless the station has closed the connection by what it answered.
-    pub(super) fn after(self, answered: &Result<Told, StationFault>) -> Stage
+    pub fn after(self, answered: &Result<Told, StationFault>) -> Stage
         ensures { result ≡ unless_closed (has_closed answered.now) self }
     {
         match answered {
@@ -37,7 +38,7 @@ impl Stage {
     }
 
     /// Gives this stage, unless the station has closed the connection by what it answered to a frame.
-    pub(super) fn after_frame(self, heard: &Heard) -> Stage
+    pub fn after_frame(self, heard: &Heard) -> Stage
         ensures { result ≡ unless_closed (heard_closing heard.now) self }
     {
         match heard {

@@ -9,8 +9,8 @@ use Rattle.dnp_streams.specs.declared.link.answering.Heard.TheVariants as heard
 use Rattle.dnp_streams.specs.declared.link.answering.Told.{Told}
 use Rattle.dnp_streams.specs.links.Counts.{closes}
 use Rattle.dnp_streams.specs.links.Deeds.{Deed, Opened, Came, Ticked, Changed, Asked, Relaid}
-use Rattle.dnp_sessions.specs.declared.stage.Stage.{Stage}
-use Rattle.dnp_sessions.specs.declared.stage.Stage.TheVariants.{Unopened, Idle, Owing, Closed}
+use Rattle.dnp_streams.specs.declared.link.stage.Stage.{Stage}
+use Rattle.dnp_streams.specs.declared.link.stage.Stage.TheVariants.{Unopened, Idle, Owing, Closed}
 
 -- a step of the station on its link, or a wait in which no frame came, at a moment, in milliseconds
 pub data Step : Type 0 where
