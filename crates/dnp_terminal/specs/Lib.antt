@@ -1,0 +1,3 @@
+-- Definitions, by which contracts promise.
+pub mod Progresses
+pub mod Tones
