@@ -3,12 +3,13 @@
 ghost use Rattle.std.specs.Prelude.{◌≤◌, length};
 
 use crate::item::{Item, What};
-use crate::printing::Printer;
+use crate::printing::{Form, Printer};
 use crate::refused::{Decoded, is_refused_fragment};
 use crate::standard::{Own, Told, print_header_object, print_header_text};
 use dnp_appfragment::{AppFault, Header, Headers, read_request, read_response};
 use dnp_decode::{Line, object_line};
-use dnp_standard::{Block, Form, Function, Placed, Stop, Width, walk_from};
+use dnp_standard::{Block, Function, Placed, Stop, Width, walk_from};
+use dnp_terminal::Tone;
 use std::alloc::{AllocError, Global};
 use std::io;
 use std::io::Write;
@@ -34,8 +35,8 @@ struct Fragment<'a> {
     first: usize,
     /// From which octet on it is not read by the profile.
     begin: usize,
-    /// Whether JSON objects are printed.
-    json: bool,
+    /// How it is printed.
+    form: Form,
 }
 
 /// Where the headers of a fragment of this function begin.
@@ -49,7 +50,7 @@ fn first_header(function: Function) -> usize {
 
 impl<'a> Fragment<'a> {
     /// The fragment of this refusal, if it is one of what the standard may have: a function, an object, or a qualifier.
-    fn of(item: &Item, octets: &'a [u8], json: bool) -> Option<Fragment<'a>> {
+    fn of(item: &Item, octets: &'a [u8], form: Form) -> Option<Fragment<'a>> {
         let What::Line(Line::FragmentRefused { fault, place }) = item.what else {
             return None;
         };
@@ -69,7 +70,7 @@ impl<'a> Fragment<'a> {
             function,
             first,
             begin,
-            json,
+            form,
         })
     }
 
@@ -106,10 +107,12 @@ impl<'a> Fragment<'a> {
         else {
             return Ok(());
         };
-        match Own::of(self.function, self.octets) {
-            Some(own) if self.json => own.print_object(self.item.at, out),
-            Some(own) => own.print_text(self.item.at, out),
-            None => Ok(()),
+        let Some(own) = Own::of(self.function, self.octets) else {
+            return Ok(());
+        };
+        match self.form {
+            Form::Json => own.print_object(self.item.at, out),
+            Form::Text(screen) => own.print_text(self.item.at, screen, out),
         }
     }
 
@@ -117,10 +120,9 @@ impl<'a> Fragment<'a> {
     fn print_lacking<W: Write>(&self, placed: &Placed, out: &mut W) -> io::Result<()> {
         let at = self.item.at;
         let block = &placed.block;
-        if self.json {
-            print_header_object(at, block, out)?;
-        } else {
-            print_header_text(at, block, out)?;
+        match self.form {
+            Form::Json => print_header_object(at, block, out)?,
+            Form::Text(screen) => print_header_text(at, block, screen, out)?,
         }
         let objects = part_of(self.block(placed), block.begin, self.block(placed).len());
         if objects.is_empty() {
@@ -131,10 +133,9 @@ impl<'a> Fragment<'a> {
             let Some(told) = told_at(block, objects, k, &mut place) else {
                 break;
             };
-            if self.json {
-                told.print_object(at, out)?;
-            } else {
-                told.print_text(at, block, out)?;
+            match self.form {
+                Form::Json => told.print_object(at, out)?,
+                Form::Text(screen) => told.print_text(at, block, screen, out)?,
             }
         }
         Ok(())
@@ -143,13 +144,18 @@ impl<'a> Fragment<'a> {
     /// Prints where the standard can't read on.
     fn print_stop<W: Write>(&self, fault: &str, place: usize, out: &mut W) -> io::Result<()> {
         let at = self.item.at;
-        if self.json {
-            writeln!(
+        match self.form {
+            Form::Json => writeln!(
                 out,
                 "{{\"at\":{at},\"layer\":\"fragment\",\"refused\":\"{fault}\",\"octet\":{place}}}"
-            )
-        } else {
-            writeln!(out, "{at}   fragment refused: {fault} at octet {place}")
+            ),
+            Form::Text(screen) => {
+                let (opening, closing) = screen.escapes(Tone::Fault);
+                writeln!(
+                    out,
+                    "{opening}{at}   fragment refused: {fault} at octet {place}{closing}"
+                )
+            }
         }
     }
 }
@@ -167,8 +173,8 @@ fn part_of(octets: &[u8], begin: usize, end: usize) -> &[u8] {
 /// one begins.
 fn told_at<'a>(block: &Block, objects: &'a [u8], k: u32, place: &mut usize) -> Option<Told<'a>> {
     let numbered = match block.qualifier.form {
-        Form::Span => Some(block.first.saturating_add(u64::from(k))),
-        Form::All | Form::Count => None,
+        dnp_standard::Form::Span => Some(block.first.saturating_add(u64::from(k))),
+        dnp_standard::Form::All | dnp_standard::Form::Count => None,
     };
     if let Some(bits) = block.packed(objects, k) {
         let index = Some(numbered.unwrap_or(u64::from(k)));
@@ -261,7 +267,7 @@ fn print_block<W: Write>(
     if items.is_empty() {
         return fragment.print_lacking(placed, out);
     }
-    Printer::new(fragment.json).print_all(items.as_slice(), out)?;
+    Printer::new(fragment.form).print_all(items.as_slice(), out)?;
     Ok(())
 }
 
@@ -315,29 +321,29 @@ fn before_refused(items: &[Item]) -> usize
 pub fn print_decoded<W: Write>(
     alloc: Global,
     decoded: &Decoded,
-    json: bool,
+    form: Form,
     out: &mut W,
 ) -> io::Result<bool> {
     let mut refused = false;
     let mut items = decoded.items.as_slice();
     for octets in decoded.fragments.iter() {
         let (before, from) = items.split_at(before_refused(items));
-        if Printer::new(json).print_all(before, &mut *out)? {
+        if Printer::new(form).print_all(before, &mut *out)? {
             refused = true;
         }
         let Some((item, after)) = from.split_first() else {
             return Ok(refused);
         };
-        let still = match Fragment::of(item, octets.octets.as_slice(), json) {
+        let still = match Fragment::of(item, octets.octets.as_slice(), form) {
             Some(fragment) => print_fragment(alloc, &fragment, &mut *out)?,
-            None => Printer::new(json).print_all(&[*item], &mut *out)?,
+            None => Printer::new(form).print_all(&[*item], &mut *out)?,
         };
         if still {
             refused = true;
         }
         items = after;
     }
-    if Printer::new(json).print_all(items, &mut *out)? {
+    if Printer::new(form).print_all(items, &mut *out)? {
         refused = true;
     }
     Ok(refused)

@@ -22,5 +22,5 @@ pub use capture::{CaptureFault, decode_capture};
 pub use check_words::{WrongWord, wrong_word};
 pub use hexadecimal::{items_of_text, octets_of_text};
 pub use item::{Item, What, place_octets};
-pub use printing::Printer;
+pub use printing::{Form, Printer};
 pub use refused::{Decoded, Refused, push_refused};

@@ -1,18 +1,29 @@
 //! The lines of the output.
 
-ghost use Rattle.std.specs.Prelude.{◌≡◌, false, ◌||◌, IfOk};
+ghost use Rattle.std.specs.Prelude.{◌≡◌, ◌≢◌, true, false, ◌||◌, IfOk};
 ghost use Rattle.dnp_captures.specs.Items.{has_refused, refuses, some_refuses};
 
 use crate::item::{Item, What};
 use dnp_decode::{Line, Members};
-use std::io;
+use dnp_terminal::{Painted, Screen, Tone};
+use std::fmt::{Display, Formatter};
 use std::io::Write;
+use std::{fmt, io};
+
+/// How items are printed.
+#[derive(Clone, Copy)]
+pub enum Form {
+    /// As JSON objects.
+    Json,
+    /// As lines of text, which may have colours there.
+    Text(Screen),
+}
 
 /// Prints items, and remembers whether any of them was a refusal.
 #[derive(Drop)]
 pub struct Printer {
-    /// Whether each is printed as a JSON object.
-    json: bool,
+    /// How each is printed.
+    form: Form,
     /// The object header of which no object was printed yet.
     header: Option<Item>,
     /// The object header whose objects may come.
@@ -36,6 +47,20 @@ fn is_refusal(item: &Item) -> bool
                 | Line::FragmentRefused { .. }
         ),
         What::Text(_) | What::Packet => true,
+    }
+}
+
+/// How an item is coloured: a refusal, and a frame, which what it carries stands below.
+fn tone_of(item: &Item) -> Tone
+    ensures fault { refuses item.now ≡ true → result ≡ Tone.Fault }
+    ensures other { refuses item.now ≡ false → result ≢ Tone.Fault }
+{
+    if is_refusal(item) {
+        return Tone::Fault;
+    }
+    match item.what {
+        What::Line(Line::Frame { .. }) => Tone::Heading,
+        _ => Tone::Plain,
     }
 }
 
@@ -83,31 +108,44 @@ fn print_object<W: Write>(item: &Item, out: &mut W) -> io::Result<()> {
     }
 }
 
-/// Prints an item as a line of text.
-fn print_text<W: Write>(item: &Item, out: &mut W) -> io::Result<()> {
-    let at = item.at;
-    match item.what {
-        What::Line(line) => {
-            let indent = indent_of(&line);
-            writeln!(out, "{at}{indent}{line}")
-        }
-        What::Text(column) => {
-            writeln!(
-                out,
+/// An item as a line of text.
+#[derive(Clone, Copy)]
+struct Text<'a>(&'a Item);
+
+impl Display for Text<'_> {
+    fn fmt<W: fmt::Write>(&self, f: &mut Formatter<W>) -> fmt::Result {
+        let at = self.0.at;
+        match self.0.what {
+            What::Line(line) => {
+                let indent = indent_of(&line);
+                write!(f, "{at}{indent}{line}")
+            }
+            What::Text(column) => write!(
+                f,
                 "{at} text refused: no hexadecimal digit in column {column}"
-            )
+            ),
+            What::Packet => write!(f, "{at} packet refused: the capture ends in it"),
         }
-        What::Packet => writeln!(out, "{at} packet refused: the capture ends in it"),
     }
 }
 
+/// Prints an item as a line of text.
+fn print_text<W: Write>(item: &Item, screen: Screen, out: &mut W) -> io::Result<()> {
+    let text = Painted {
+        screen,
+        tone: tone_of(item),
+        what: &Text(item),
+    };
+    writeln!(out, "{text}")
+}
+
 impl Printer {
-    /// A printer that has printed nothing, of lines of text, or of JSON objects.
-    pub fn new(json: bool) -> Self
+    /// A printer that has printed nothing, of items in this form.
+    pub fn new(form: Form) -> Self
         ensures { has_refused result ≡ false }
     {
         Printer {
-            json,
+            form,
             header: None,
             current: None,
             refused: false,
@@ -124,33 +162,34 @@ impl Printer {
             if is_refusal(item) {
                 self.refused = true;
             }
-            if self.json {
-                print_object(item, out)?;
-            } else {
-                self.print(item, out)?;
+            match self.form {
+                Form::Json => print_object(item, out)?,
+                Form::Text(screen) => self.print(item, screen, out)?,
             }
         }
-        self.print_header(out)?;
+        if let Form::Text(screen) = self.form {
+            self.print_header(screen, out)?;
+        }
         Ok(self.refused)
     }
 
     /// Prints the header of which no object was printed, if there is one.
-    fn print_header<W: Write>(&mut self, out: &mut W) -> io::Result<()>
+    fn print_header<W: Write>(&mut self, screen: Screen, out: &mut W) -> io::Result<()>
         ensures { has_refused self.new ≡ has_refused self.old }
     {
         if let Some(item) = self.header.take() {
-            print_text(&item, out)?;
+            print_text(&item, screen, out)?;
         }
         Ok(())
     }
 
     /// Prints an item as text: an object after its header, and a header alone where it has no objects.
-    fn print<W: Write>(&mut self, item: &Item, out: &mut W) -> io::Result<()>
+    fn print<W: Write>(&mut self, item: &Item, screen: Screen, out: &mut W) -> io::Result<()>
         ensures { has_refused self.new ≡ has_refused self.old }
     {
         let What::Line(line) = item.what else {
-            self.print_header(out)?;
-            return print_text(item, out);
+            self.print_header(screen, out)?;
+            return print_text(item, screen, out);
         };
         if is_object(&line) {
             self.header = None;
@@ -158,15 +197,15 @@ impl Printer {
                 let at = item.at;
                 return writeln!(out, "{at}     {header}: {line}");
             }
-            return print_text(item, out);
+            return print_text(item, screen, out);
         }
-        self.print_header(out)?;
+        self.print_header(screen, out)?;
         if let Line::Header { .. } = line {
             self.header = Some(*item);
             self.current = Some(line);
             return Ok(());
         }
         self.current = None;
-        print_text(item, out)
+        print_text(item, screen, out)
     }
 }

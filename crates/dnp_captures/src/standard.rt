@@ -1,7 +1,9 @@
 //! What the profile lacks in a fragment, as lines of text and as JSON objects.
 
 use dnp_appfragment::{Control, Iin};
+use dnp_decode::IinNames;
 use dnp_standard::{Block, Form, Function, Width, group_name};
+use dnp_terminal::{Screen, Tone};
 use std::fmt::{Display, Formatter, Write};
 use std::{fmt, io};
 
@@ -96,15 +98,28 @@ impl Own {
     }
 
     /// Prints it as a line of text.
-    pub(crate) fn print_text<W: io::Write>(&self, at: u64, out: &mut W) -> io::Result<()> {
+    pub(crate) fn print_text<W: io::Write>(
+        &self,
+        at: u64,
+        screen: Screen,
+        out: &mut W,
+    ) -> io::Result<()> {
         let bits = Bits(self.control);
         let name = self.function.name();
+        let (opening, closing) = screen.escapes(Tone::Warning);
         match self.iin {
-            Some(Iin { one, two }) => writeln!(
+            Some(iin) => {
+                let Iin { one, two } = iin;
+                let set = IinNames(iin);
+                writeln!(
+                    out,
+                    "{opening}{at}   response {bits}, iin {one:02X} {two:02X}{set}, {name}, {BEYOND}{closing}"
+                )
+            }
+            None => writeln!(
                 out,
-                "{at}   response {bits}, iin {one:02X} {two:02X}, {name}, {BEYOND}"
+                "{opening}{at}   request {bits} {name}, {BEYOND}{closing}"
             ),
-            None => writeln!(out, "{at}   request {bits} {name}, {BEYOND}"),
         }
     }
 
@@ -177,11 +192,13 @@ impl Display for Name {
 pub(crate) fn print_header_text<W: io::Write>(
     at: u64,
     block: &Block,
+    screen: Screen,
     out: &mut W,
 ) -> io::Result<()> {
     let head = Head(*block);
     let name = Name(*block);
-    writeln!(out, "{at}     {head} {name}, {BEYOND}")
+    let (opening, closing) = screen.escapes(Tone::Warning);
+    writeln!(out, "{opening}{at}     {head} {name}, {BEYOND}{closing}")
 }
 
 /// Prints a header as a JSON object.
@@ -235,10 +252,12 @@ impl Told<'_> {
         &self,
         at: u64,
         block: &Block,
+        screen: Screen,
         out: &mut W,
     ) -> io::Result<()> {
         let head = Head(*block);
-        write!(out, "{at}     {head}:")?;
+        let (opening, closing) = screen.escapes(Tone::Warning);
+        write!(out, "{opening}{at}     {head}:")?;
         if let Some(index) = self.index {
             write!(out, " {index}")?;
         }
@@ -249,7 +268,7 @@ impl Told<'_> {
             let octets = Octets(self.octets);
             write!(out, " octets {octets}")?;
         }
-        writeln!(out, ", {BEYOND}")
+        writeln!(out, ", {BEYOND}{closing}")
     }
 
     /// Prints it as a JSON object.

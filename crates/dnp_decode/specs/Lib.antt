@@ -1,4 +1,5 @@
 -- Definitions, by which contracts promise.
+pub mod Bits
 pub mod FragmentLines
 pub mod FrameLines
 pub mod Names

@@ -2,6 +2,7 @@
 //! object header and object of a stream, and for each thing in it that is refused.
 #![tactic(auto)]
 
+mod bits;
 mod decoding;
 mod fragment;
 mod hearing;
@@ -13,6 +14,7 @@ mod shown;
 mod stream;
 mod time;
 
+pub use bits::{FlagNames, FlagsOf, IinNames, flag_name, indication_name};
 pub use decoding::decode;
 pub use fragment::{object_line, refused_place};
 pub use json::Members;

@@ -1,11 +1,12 @@
 //! The lines as texts, in the words of the standard.
 
+use crate::bits::{FlagNames, FlagsOf, IinNames};
 use crate::line::Line;
 use crate::names::{HEADER_CHECK_PLACE, Refusal, fault_name, link_function, setting_of};
 use crate::time::Moment;
 use dnp_appfragment::{Control, Range};
 use dnp_linkframe::FrameFault;
-use dnp_objects::{Command, Row, Status};
+use dnp_objects::{Command, Kind, Row, Status};
 use std::fmt;
 use std::fmt::{Display, Formatter, Write};
 
@@ -61,9 +62,18 @@ impl Display for Why {
     }
 }
 
-/// A point's reading or event.
+/// A point's reading or event, and what its flags are of.
 #[derive(Clone, Copy)]
-struct Reading(Row);
+struct Reading(Row, FlagsOf);
+
+/// What the flags of a kind of points are of.
+fn flags_of(kind: Kind) -> FlagsOf {
+    match kind {
+        Kind::Binary => FlagsOf::Binary,
+        Kind::Counter => FlagsOf::Counter,
+        Kind::Analog => FlagsOf::Analog,
+    }
+}
 
 impl Display for Reading {
     fn fmt<W: Write>(&self, f: &mut Formatter<W>) -> fmt::Result {
@@ -74,12 +84,14 @@ impl Display for Reading {
             time,
             ..
         } = self.0;
+        let names = FlagNames { of: self.1, flags };
+        write!(f, "{index} = {value} flags {flags:02X}{names}")?;
         match time {
             Some(time) => {
                 let moment = Moment(time);
-                write!(f, "{index} = {value} flags {flags:02X} at {moment}")
+                write!(f, " at {moment}")
             }
-            None => write!(f, "{index} = {value} flags {flags:02X}"),
+            None => Ok(()),
         }
     }
 }
@@ -199,7 +211,8 @@ impl Display for Own {
                 let bits = Bits(control);
                 let one = iin.one;
                 let two = iin.two;
-                write!(f, "response {bits}, iin {one:02X} {two:02X}")
+                let names = IinNames(iin);
+                write!(f, "response {bits}, iin {one:02X} {two:02X}{names}")
             }
             Line::FragmentRefused { fault, place } => {
                 let fault = fault_name(fault);
@@ -226,8 +239,12 @@ impl Display for Line {
                 let objects = Objects(range);
                 write!(f, "{group}.{variation} {objects}")
             }
-            Line::Row(row) | Line::Output(row) | Line::Setpoint(row) => {
-                let reading = Reading(row);
+            Line::Row(row) | Line::Setpoint(row) => {
+                let reading = Reading(row, flags_of(row.kind));
+                write!(f, "{reading}")
+            }
+            Line::Output(row) => {
+                let reading = Reading(row, FlagsOf::Output);
                 write!(f, "{reading}")
             }
             Line::Indication(Row { index, value, .. }) => write!(f, "{index} = {value}"),

@@ -6,3 +6,4 @@ pub mod Places
 pub mod Refusals
 pub mod Standings
 pub mod Strange
+pub mod Tones

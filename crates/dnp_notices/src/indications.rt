@@ -33,24 +33,3 @@ pub fn change_of(indication: Iin, before: Iin, now: Iin) -> Option<bool>
         _ => None,
     }
 }
-
-/// The standard's name of an indication (IEEE Std 1815-2012, application layer: internal indications).
-pub fn indication_name(indication: Iin) -> &'static str {
-    match (indication.one, indication.two) {
-        (0x01, 0) => "BROADCAST",
-        (0x02, 0) => "CLASS_1_EVENTS",
-        (0x04, 0) => "CLASS_2_EVENTS",
-        (0x08, 0) => "CLASS_3_EVENTS",
-        (0x10, 0) => "NEED_TIME",
-        (0x20, 0) => "LOCAL_CONTROL",
-        (0x40, 0) => "DEVICE_TROUBLE",
-        (0x80, 0) => "DEVICE_RESTART",
-        (0, 0x01) => "NO_FUNC_CODE_SUPPORT",
-        (0, 0x02) => "OBJECT_UNKNOWN",
-        (0, 0x04) => "PARAMETER_ERROR",
-        (0, 0x08) => "EVENT_BUFFER_OVERFLOW",
-        (0, 0x10) => "ALREADY_EXECUTING",
-        (0, 0x20) => "CONFIG_CORRUPT",
-        _ => "reserved",
-    }
-}

@@ -17,11 +17,12 @@ mod refusal;
 mod said;
 mod standing;
 mod strange;
+mod tones;
 
 pub use control::{ControlNotice, Doing, Happening};
 pub use dropping::{DropNotice, Dropping, Drops};
 pub use exchange::{Awaited, Exchange, Mismatch};
-pub use indications::{WATCHED, change_of, indication_name};
+pub use indications::{WATCHED, change_of};
 pub use line::{DropLine, Line, Notice, StrangeLine};
 pub use names::{InBrackets, Name, Names, Thing, output_in};
 pub use peer::Peer;

@@ -3,7 +3,6 @@
 use crate::control::ControlNotice;
 use crate::dropping::DropNotice;
 use crate::exchange::Mismatch;
-use crate::indications::indication_name;
 use crate::line::{DropLine, Line, Notice, StrangeLine};
 use crate::names::{InBrackets, Thing};
 use crate::peer::Peer;
@@ -13,7 +12,7 @@ use crate::refusal::Refusal;
 use crate::standing::{Failing, LinkNotice, Trouble};
 use crate::strange::{Ends, Strange};
 use dnp_appfragment::Iin;
-use dnp_decode::{Moment, fault_name};
+use dnp_decode::{Moment, fault_name, indication_name};
 use dnp_objects::Status;
 use dnp_orders::status_name;
 use std::fmt;
