@@ -8,6 +8,7 @@ use dnp_notices::{
     change_of, news_of, output_in, refusal_of,
 };
 use dnp_pointdb::PointPlan;
+use dnp_terminal::Terminal;
 use std::io;
 use std::rt::Clock;
 
@@ -53,7 +54,7 @@ impl Account {
     }
 
     /// A poll is over. It was not answered for this reason, if it wasn't, and for the failure of a call.
-    pub(crate) fn end<R: Eprint + Clock>(
+    pub(crate) fn end<R: Eprint + Terminal + Clock>(
         &mut self,
         rt: &R,
         call: &Call<'_>,
@@ -89,7 +90,7 @@ impl Account {
     }
 
     /// Something happened to the control there.
-    pub(crate) fn happens<R: Eprint + Clock>(
+    pub(crate) fn happens<R: Eprint + Terminal + Clock>(
         &mut self,
         rt: &R,
         call: &Call<'_>,
@@ -102,7 +103,12 @@ impl Account {
     }
 
     /// It indicates this, in the answer to a poll.
-    pub(crate) fn indicates<R: Eprint + Clock>(&mut self, rt: &R, call: &Call<'_>, iin: Iin) {
+    pub(crate) fn indicates<R: Eprint + Terminal + Clock>(
+        &mut self,
+        rt: &R,
+        call: &Call<'_>,
+        iin: Iin,
+    ) {
         for indication in WATCHED {
             if let Some(rises) = change_of(indication, self.iin, iin) {
                 call.say(rt, None, Notice::Indication(indication, rises), None);
@@ -113,7 +119,7 @@ impl Account {
 
     /// This came on the connection to it beside what was awaited. It is said where it is new, and was not the reason why the poll was
     /// not answered, which is said by itself.
-    pub(crate) fn heard<R: Eprint + Clock>(
+    pub(crate) fn heard<R: Eprint + Terminal + Clock>(
         &mut self,
         rt: &R,
         call: &Call<'_>,

@@ -8,13 +8,15 @@ use crate::course::Course;
 use crate::door::{Caller, Door, listen};
 use crate::exit::{DONE, FAULT};
 use crate::fault::unprinted;
+use crate::leave::{Leave, prepare};
 use crate::lines::{End, Ending, Line, Served, Visited};
 use crate::logged::{note, say, say_listening};
 use crate::replay::Replay;
 use crate::serving::no_port;
-use crate::visit::{Leave, Visit, prepare};
+use crate::visit::{Visit, WRITE_MS};
 use dnp_notices::{Ends, Place};
-use dnp_streams::{Living, ServeFault};
+use dnp_streams::Living;
+use dnp_terminal::Terminal;
 use std::io;
 use std::net::{Net, TcpListener, TcpStream};
 use std::process::ExitCode;
@@ -92,7 +94,12 @@ pub fn live_on_connections<S, R>(
 ) -> ExitCode
 where
     S: Living,
-    R: AllocGlobal + Print + Eprint + Clock + Net<Listener = TcpListener, Stream = TcpStream>,
+    R: AllocGlobal
+        + Print
+        + Eprint
+        + Terminal
+        + Clock
+        + Net<Listener = TcpListener, Stream = TcpStream>,
     ensures kept { S.kept station.new ≡ S.kept station.old }
     ensures held { S.honest station.new → S.honest station.old }
     ensures status { (exit_status result ≡ DONE) ⊎ (exit_status result ≡ FAULT) }
@@ -114,6 +121,7 @@ where
             Err(status) => return status,
         }
     }
+    say(rt, &Line::Over(count));
     ExitCode::from(DONE)
 }
 
@@ -128,7 +136,7 @@ fn serve_next<S, R>(
 ) -> Result<(), ExitCode>
 where
     S: Living,
-    R: AllocGlobal + Print + Eprint + Clock,
+    R: AllocGlobal + Print + Eprint + Terminal + Clock,
     ensures kept { S.kept station.new ≡ S.kept station.old }
     ensures held { S.honest station.new → S.honest station.old }
     ensures status { IfErr result (λ status. exit_status status ≡ FAULT) }
@@ -153,19 +161,6 @@ where
     }
 }
 
-/// How a connection ended, by why it did. It may be idle for so many seconds.
-fn ending_of(leave: &Leave, idle: u64) -> Ending<'_> {
-    match leave {
-        Leave::Master => Ending::Master,
-        Leave::Station => Ending::Station,
-        Leave::Idle => Ending::Idle(idle),
-        Leave::Taken(peer) => Ending::Taken(*peer),
-        Leave::Unread(cause) => Ending::Failed(ServeFault::ReadFailed, Some(cause)),
-        Leave::Unwritten(cause) => Ending::Failed(ServeFault::WriteFailed, cause.as_ref()),
-        Leave::Memory => Ending::Failed(ServeFault::Memory, None),
-    }
-}
-
 /// Lives on a connection to its end, hangs the station up, and tells how many fragments came whole; nothing where memory
 /// ran out. How it ended is said in the log. On a connection that can't be prepared the station is as it was.
 fn live_on_connection<S, R>(
@@ -178,13 +173,13 @@ fn live_on_connection<S, R>(
 ) -> Option<u64>
 where
     S: Living,
-    R: AllocGlobal + Eprint + Clock,
+    R: AllocGlobal + Eprint + Terminal + Clock,
     ensures kept { S.kept station.new ≡ S.kept station.old }
     ensures held { S.honest station.new → S.honest station.old }
 {
     let peer = caller.peer;
     note(rt, peer, &Visited::Connected);
-    if let Err(cause) = prepare(&caller.stream) {
+    if let Err(cause) = prepare(&caller.stream, WRITE_MS) {
         let how = Ending::Unprepared(&cause);
         note(rt, peer, &End { fragments: 0, how });
         return Some(0);
@@ -195,7 +190,7 @@ where
     let leave = visit.live(station, course);
     visit.tell_noise();
     let fragments = visit.fragments();
-    let how = ending_of(&leave, listening.idle);
+    let how = leave.ending(listening.idle);
     note(rt, peer, &End { fragments, how });
     match leave {
         Leave::Memory => None,

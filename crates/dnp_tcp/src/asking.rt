@@ -22,6 +22,7 @@ use dnp_notices::{
     Trouble,
 };
 use dnp_streams::{Asker, Link, Living, StepRoom};
+use dnp_terminal::Terminal;
 use std::alloc::Global;
 use std::io;
 use std::net::{Net, TcpListener, TcpStream};
@@ -88,7 +89,7 @@ impl<'a> Call<'a> {
 
     /// Says something of the station that is asked on standard error, with the time, for which output or setpoint it is, where that is
     /// known, and why a call failed, if one did. It has no clause: none says what standard error takes.
-    pub fn say<R: Eprint + Clock>(
+    pub fn say<R: Eprint + Terminal + Clock>(
         &self,
         rt: &R,
         output: Option<Thing>,
@@ -112,7 +113,7 @@ impl<'a> Call<'a> {
     /// peer is there.
     pub fn connect<R>(&self, rt: &R, account: &mut Account) -> Option<TcpStream>
     where
-        R: Eprint + Clock + Net<Listener = TcpListener, Stream = TcpStream>,
+        R: Eprint + Terminal + Clock + Net<Listener = TcpListener, Stream = TcpStream>,
     {
         account.begin(rt);
         let place = self.place.address();
@@ -130,7 +131,7 @@ impl<'a> Call<'a> {
     /// Asks tasks on a connection, relays controls, and hangs the station up. Where what came is refused, nothing more is awaited. What
     /// is new of it is kept in the account and said on standard error. On a connection that can't be prepared nothing is asked, and the
     /// station is as it was.
-    pub fn ask<S: Asker + Living, R: AllocGlobal + Eprint + Clock>(
+    pub fn ask<S: Asker + Living, R: AllocGlobal + Eprint + Terminal + Clock>(
         &self,
         rt: &R,
         station: &mut S,
@@ -154,7 +155,7 @@ impl<'a> Call<'a> {
     }
 
     /// The same on a connection that is prepared.
-    fn ask_on<S: Asker + Living, R: AllocGlobal + Eprint + Clock>(
+    fn ask_on<S: Asker + Living, R: AllocGlobal + Eprint + Terminal + Clock>(
         &self,
         rt: &R,
         station: &mut S,
@@ -181,7 +182,7 @@ impl<'a> Call<'a> {
     }
 
     /// Asks tasks on a connection, while it is seen what becomes of them, and hangs the station up, once.
-    fn ask_seen<S: Asker + Living, R: AllocGlobal + Eprint + Clock>(
+    fn ask_seen<S: Asker + Living, R: AllocGlobal + Eprint + Terminal + Clock>(
         &self,
         rt: &R,
         station: &mut S,
@@ -213,7 +214,12 @@ impl<'a> Call<'a> {
     }
 
     /// How tasks ended, by what was seen of the connection. What is new of it is said on standard error.
-    fn tell<R: Eprint + Clock>(&self, rt: &R, account: &mut Account, seen: &Seen) -> Ended
+    fn tell<R: Eprint + Terminal + Clock>(
+        &self,
+        rt: &R,
+        account: &mut Account,
+        seen: &Seen,
+    ) -> Ended
         ensures { IsTold seen.now.idle result }
     {
         if let Some(cause) = seen.cause {
@@ -234,7 +240,7 @@ impl<'a> Call<'a> {
 
     /// How tasks ended where the connection failed in nothing, by whether the station was idle at its end. Why it wasn't, or why what
     /// came was refused, is kept in the account, and said where it is new.
-    fn end<R: Eprint + Clock>(&self, rt: &R, account: &mut Account, seen: &Seen) -> Ended
+    fn end<R: Eprint + Terminal + Clock>(&self, rt: &R, account: &mut Account, seen: &Seen) -> Ended
         ensures { IsTold seen.now.idle result }
     {
         let trouble = Trouble::of(
@@ -253,7 +259,12 @@ impl<'a> Call<'a> {
     }
 
     /// Keeps in the account why the tasks came to no end, says it where it is new, and tells how they ended.
-    fn fail<R: Eprint + Clock>(&self, rt: &R, account: &mut Account, gone: &Gone) -> Ended
+    fn fail<R: Eprint + Terminal + Clock>(
+        &self,
+        rt: &R,
+        account: &mut Account,
+        gone: &Gone,
+    ) -> Ended
         ensures memory { gone.now ≡ why.Memory → result ≡ told.Lost }
         ensures undone { (is_idle : Bool) → IsTold is_idle result }
     {

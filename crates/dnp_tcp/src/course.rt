@@ -24,7 +24,7 @@ pub(crate) struct Course {
 }
 
 /// The earlier of a moment and of another one, if there is another.
-fn earlier(moment: u64, other: Option<u64>) -> u64
+pub(crate) fn earlier(moment: u64, other: Option<u64>) -> u64
     ensures no_later { result ≤ moment }
     ensures other { IfSome other (λ other. result ≤ other) }
 {

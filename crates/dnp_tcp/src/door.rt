@@ -98,6 +98,18 @@ impl Door {
         knock
     }
 
+    /// The address of a master that has come too late, at this moment: it may not take the place of the one that is served, and nobody is
+    /// served afterwards. It is hung up.
+    pub(crate) fn late(&self, now: u64) -> Option<SocketAddr> {
+        if self.is_open.get() || self.looked.get() == now {
+            return None;
+        }
+        self.looked.set(now);
+        // (let go here, and so hung up)
+        let (_stream, peer) = self.listener.accept().ok()?;
+        Some(peer)
+    }
+
     /// The master that waits for its place or has connected by now. WouldBlock where there is none. It has no clause: none says who
     /// connects, or what a cell holds.
     pub fn next(&self) -> io::Result<Caller> {

@@ -7,9 +7,9 @@ ghost use Rattle.dnp_tcp.specs.Causes.{noted_cause, noted_stream};
 use crate::exit::FAULT;
 use crate::lines::{Failure, Line};
 use crate::logged::say;
-use dnp_streams::Waiting;
+use dnp_terminal::Terminal;
 use std::io;
-use std::io::{Read, Write};
+use std::io::Write;
 use std::process::ExitCode;
 use std::rt::Clock;
 
@@ -34,7 +34,7 @@ pub fn unwritten<R: Eprint>(rt: &R, cause: &io::Error) -> ExitCode
 }
 
 /// The same of a program that has a log, in which each line has the time.
-pub fn unprinted<R: Eprint + Clock>(rt: &R, cause: &io::Error) -> ExitCode
+pub fn unprinted<R: Eprint + Terminal + Clock>(rt: &R, cause: &io::Error) -> ExitCode
     ensures { exit_status result ≡ FAULT }
 {
     if cause.kind() != io::ErrorKind::BrokenPipe {
@@ -43,17 +43,17 @@ pub fn unprinted<R: Eprint + Clock>(rt: &R, cause: &io::Error) -> ExitCode
     ExitCode::from(FAULT)
 }
 
-/// A reader or a writer that keeps the cause of its last failed call, for calls whose faults don't carry it.
+/// A writer that keeps the cause of its last failed call, for calls whose faults don't carry it.
 #[derive(Drop)]
 pub struct Noted<S> {
-    /// What is read from or written to.
+    /// What is written to.
     inner: S,
     /// Why its last failed call failed.
     cause: Option<io::Error>,
 }
 
 impl<S> Noted<S> {
-    /// A reader or a writer over this one, which has not failed.
+    /// A writer over this one, which has not failed.
     pub fn new(inner: S) -> Self
         ensures stream { noted_stream result ≡ inner }
         ensures cause { noted_cause result ≡ None }
@@ -73,24 +73,6 @@ impl<S> Noted<S> {
         let kind = error.kind();
         self.cause = Some(error);
         kind.into()
-    }
-}
-
-impl<R: Read> Read for Noted<R> {
-    fn read(&mut self, buf: &mut [u8]) -> io::Result<usize> {
-        match self.inner.read(buf) {
-            Ok(count) => Ok(count),
-            Err(error) => Err(self.note(error)),
-        }
-    }
-}
-
-impl<R: Waiting> Waiting for Noted<R> {
-    fn wait_at_most(&mut self, ms: u64) -> io::Result<()> {
-        match self.inner.wait_at_most(ms) {
-            Ok(()) => Ok(()),
-            Err(error) => Err(self.note(error)),
-        }
     }
 }
 

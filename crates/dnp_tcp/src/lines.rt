@@ -1,10 +1,12 @@
 //! The lines that stations on connections say, beside those of the stations that they ask and of what these answer, each at its place
 //! here.
 
-use dnp_appfragment::read_request;
+use dnp_appfragment::{Function, read_request};
 use dnp_concentrator::Cause;
-use dnp_notices::{Ends, Many, Mismatch, Place, Refusal, Strange, StrangeLine};
+use dnp_decode::Moment;
+use dnp_notices::{Awaited, Ends, Many, Mismatch, Place, Refusal, Strange, StrangeLine};
 use dnp_poll::PollFault;
+pub use dnp_poll::SILENCE_MS;
 use dnp_streams::ServeFault;
 use std::fmt::{Display, Formatter, Write};
 use std::net::SocketAddr;
@@ -29,6 +31,8 @@ pub enum Line<'a> {
     Still(u16, ServeFault, u64),
     /// The connection of the centre with this number failed, for this cause, as far as it is known.
     Broken(u16, ServeFault, Option<&'a io::Error>),
+    /// So many connections are over, after which the program ends.
+    Over(u64),
 }
 
 /// Why no connection can be had there, and what to do.
@@ -72,6 +76,14 @@ impl<'a> Display for Line<'a> {
                 write!(f, "centre {number}: {fault}: {cause}")
             }
             Line::Broken(number, fault, None) => write!(f, "centre {number}: {fault}"),
+            Line::Over(1) => write!(
+                f,
+                "the connection is over, and so the program ends: '--forever' serves more"
+            ),
+            Line::Over(count) => write!(
+                f,
+                "{count} connections are over, and so the program ends: '--forever' serves more"
+            ),
         }
     }
 }
@@ -93,6 +105,8 @@ pub enum Visited {
     Connected,
     /// This came, and the station doesn't take it.
     Strange(StrangeLine),
+    /// It is hung up, since the program ends after the connection that is served.
+    Late,
 }
 
 impl Display for Visited {
@@ -100,6 +114,9 @@ impl Display for Visited {
         match self {
             Visited::Connected => f.write_str("connected"),
             Visited::Strange(line) => write!(f, "{line}"),
+            Visited::Late => f.write_str(
+                "came too late and is hung up: the program ends after the connection that it serves; '--forever' serves more",
+            ),
         }
     }
 }
@@ -215,6 +232,8 @@ pub enum Stop<'a> {
     Unlike(Mismatch),
     /// What came is no response, for this reason.
     Refused(Refusal),
+    /// The outstation ended the connection while unsolicited responses were awaited.
+    EndedUnasked,
 }
 
 impl<'a> Display for Stop<'a> {
@@ -234,6 +253,9 @@ impl<'a> Display for Stop<'a> {
             Stop::Strange(Strange::Noise, _) => f.write_str("octets came, and no frame"),
             Stop::Unlike(mismatch) => write!(f, "{mismatch}"),
             Stop::Refused(refusal) => write!(f, "{refusal}"),
+            Stop::EndedUnasked => {
+                f.write_str("the outstation ended the connection while this listened")
+            }
         }
     }
 }
@@ -256,5 +278,99 @@ impl<'a> Display for Failure<'a> {
             Failure::Rounds(place, why) => write!(f, "dnp: {place}: {why}"),
             Failure::Own(fault) => write!(f, "dnp: {fault}"),
         }
+    }
+}
+
+/// A response that is awaited.
+#[derive(Clone, Copy)]
+pub struct Wait {
+    /// The link address of the station that owes it.
+    pub source: u16,
+    /// The function of the request.
+    pub function: Function,
+    /// Which fragment of it is awaited.
+    pub awaited: Awaited,
+    /// Since when, in milliseconds since 1970-01-01 00:00 UTC.
+    pub since: u64,
+    /// For how long it is awaited still, in milliseconds.
+    pub left_ms: u64,
+}
+
+/// What the outstation is waited for.
+#[derive(Clone, Copy)]
+pub struct Waits(pub Wait);
+
+impl Display for Waits {
+    fn fmt<W: Write>(&self, f: &mut Formatter<W>) -> fmt::Result {
+        let Wait {
+            source,
+            function,
+            awaited,
+            since,
+            left_ms,
+        } = self.0;
+        let part = if awaited.is_later {
+            "next fragment of the response"
+        } else {
+            "response"
+        };
+        let (name, seq, since) = (function.name(), awaited.seq, Moment(since));
+        write!(
+            f,
+            "dnp: waiting for station {source}: the {part} to {name}, sequence number {seq}, is awaited since {since}, for {left_ms} ms more"
+        )
+    }
+}
+
+/// The outstation at this host and port is to take a connection at this address, and it is waited for so many milliseconds more.
+#[derive(Clone, Copy)]
+pub struct Connects<'a>(pub &'a str, pub SocketAddr, pub u64);
+
+impl<'a> Display for Connects<'a> {
+    fn fmt<W: Write>(&self, f: &mut Formatter<W>) -> fmt::Result {
+        let Connects(name, place, left_ms) = *self;
+        write!(
+            f,
+            "dnp: {name}: waiting for a connection to {place}, for {left_ms} ms more"
+        )
+    }
+}
+
+/// Which way octets went.
+#[derive(Clone, Copy, Debug, PartialEq, Eq)]
+pub enum Way {
+    /// To the outstation.
+    Sent,
+    /// From it.
+    Received,
+}
+
+/// Octets that went over a connection.
+#[derive(Clone, Copy)]
+pub struct Passed<'a> {
+    /// When, in milliseconds since 1970-01-01 00:00 UTC.
+    pub utc: u64,
+    /// Which way.
+    pub way: Way,
+    /// Whether they are a link frame; else they belong to none.
+    pub is_frame: bool,
+    /// The octets.
+    pub octets: &'a [u8],
+}
+
+impl<'a> Display for Passed<'a> {
+    fn fmt<W: Write>(&self, f: &mut Formatter<W>) -> fmt::Result {
+        let moment = Moment(self.utc);
+        write!(f, "{moment} ")?;
+        f.write_str(match (self.way, self.is_frame) {
+            (Way::Sent, true) => "sent",
+            (Way::Sent, false) => "sent, in no frame:",
+            (Way::Received, true) => "received",
+            (Way::Received, false) => "received, in no frame:",
+        })?;
+        for octet in self.octets {
+            write!(f, " {octet:02X}")?;
+        }
+        Ok(())
     }
 }

@@ -7,23 +7,33 @@ ghost use Rattle.dnp_tcp.specs.declared.rounds.Ended.TheVariants.{Stopped};
 
 use crate::exit::{DONE, FAULT, REFUSED};
 use crate::fault::unwritten;
+use crate::following::Following;
 use crate::gone::Gone;
 use crate::lines::{Failure, Open, Stop};
 use crate::pace::Pace;
-use crate::screen::{Screen, print_ends};
+use crate::screen::{Form, Screen, print_ends};
+use crate::style::Style;
 use crate::talk::Talk;
-use crate::watcher::Watcher;
-use dnp_appfragment::read_response;
 use dnp_line::Port;
-use dnp_master::Task;
-use dnp_notices::{Ends, Exchange, Heard, Refusal, form_refusal};
-use dnp_poll::{PollFault, Poller, Show, TaskEnd};
+use dnp_master::{Classes, Task};
+use dnp_notices::{Ends, Exchange, Heard, Refusal};
+use dnp_poll::{Instead, PollFault, Poller, Show, TaskEnd};
 use dnp_streams::{Link, Station, StepRoom};
+use std::alloc::Global;
 use std::net::TcpStream;
 use std::process::ExitCode;
 use std::rt::Clock;
 use std::time::Duration;
 use std::{io, thread};
+
+/// Which events are to come unasked, and for how long they are listened to.
+#[derive(Clone, Copy)]
+pub struct Listen {
+    /// The classes of the events, 1 to 3.
+    pub classes: Classes,
+    /// For how long, in milliseconds; `u64::MAX` is without an end.
+    pub ms: u64,
+}
 
 /// Who is asked in rounds, by whom, and how.
 #[derive(Clone, Copy)]
@@ -44,15 +54,27 @@ pub struct RoundSettings<'a> {
     pub timeout_ms: u64,
     /// Whether lines are JSON objects.
     pub json: bool,
+    /// Whether each frame is said on standard error, by its octets.
+    pub hex: bool,
+    /// Whether each line begins with the time.
+    pub times: bool,
+    /// How rows are shown.
+    pub form: Form,
+    /// What is sent in place of the requests of tasks.
+    pub instead: Instead,
+    /// What is listened to after the rounds, if anything is.
+    pub listen: Option<Listen>,
 }
 
 /// The rounds on a connection.
 #[derive(Clone, Copy)]
-pub struct Rounds<'w, 's> {
+pub struct Rounds<'w, 's, 't> {
     /// What is said of them.
     pub words: &'w RoundSettings<'w>,
     /// The connection.
     pub stream: &'s TcpStream,
+    /// The tasks of each round.
+    pub tasks: &'t [Task],
 }
 
 /// How a round came to its end.
@@ -64,41 +86,34 @@ enum Ended {
     Stopped(u8),
 }
 
-/// What looks on while the rounds ask.
-#[derive(Clone, Copy)]
-struct Following {
-    /// What is awaited, and what came last in its place.
-    exchange: Exchange,
-    /// Why what came first that is no response is none, if such came.
-    refusal: Option<Refusal>,
+/// A master's end of the connection.
+#[derive(Drop)]
+struct Line {
+    /// The link.
+    link: Link,
+    /// The room of its steps.
+    room: StepRoom,
 }
 
-impl Following {
-    /// Nothing was asked, and nothing came.
-    const NEW: Following = Following {
-        exchange: Exchange::IDLE,
-        refusal: None,
-    };
-}
-
-impl Watcher for Following {
-    fn answered(&mut self, octets: &[u8]) {
-        self.exchange = self.exchange.came(octets);
-        if self.refusal.is_none()
-            && let Err(fault) = read_response(octets)
-        {
-            self.refusal = Some(form_refusal(fault, octets));
+impl Line {
+    /// The end of a master with this port, over which nothing went.
+    fn new(alloc: Global, port: Port) -> Line {
+        Line {
+            link: Link::new(alloc, port),
+            room: StepRoom::new(alloc),
         }
-    }
-
-    fn asked(&mut self, _task: &Task, request: &[u8]) {
-        self.exchange = Exchange::asked(request);
     }
 }
 
 /// Whether the outstation did all that it was asked.
 fn are_done(ends: &[TaskEnd]) -> bool {
     ends.iter().all(|end| end.is_done())
+}
+
+/// Whether the outstation was asked to send events unasked, and did as it was asked.
+fn is_enabled(ends: &[TaskEnd]) -> bool {
+    ends.iter()
+        .any(|end| matches!(end.task, Task::Enable(_)) && end.is_done())
 }
 
 /// Whether no answer came to what was asked last, and nothing else stopped the poll.
@@ -126,68 +141,161 @@ fn refused<'a>(fault: PollFault, refusal: Option<Refusal>) -> Stop<'a> {
     }
 }
 
-/// The output whose OPERATE was sent and is not answered, if there is one.
-fn open_of<S: Show>(poller: &Poller<S>) -> Open {
+/// The output that a task operates, if it does so: by OPERATE, or, where commands go so, by DIRECT_OPERATE.
+fn operated(task: &Task, is_direct: bool) -> Option<u16> {
+    match task {
+        Task::Operate(command) => Some(command.index()),
+        Task::Select(command) if is_direct => Some(command.index()),
+        _ => None,
+    }
+}
+
+/// The output whose OPERATE or DIRECT_OPERATE was sent and is not answered, if there is one.
+fn open_of<S: Show>(poller: &Poller<S>, is_direct: bool) -> Open {
     let is_answered = poller
         .ends()
         .iter()
-        .any(|end| matches!(end.task, Task::Operate(_)));
+        .any(|end| operated(&end.task, is_direct).is_some());
     match poller.asked() {
-        Some(Task::Operate(command)) if !is_answered => Open(Some(command.index())),
+        Some(task) if !is_answered => Open(operated(&task, is_direct)),
         _ => Open(None),
     }
 }
 
-impl<'w, 's> Rounds<'w, 's> {
-    /// Asks these tasks in each round, and tells the exit status. What goes wrong is said on standard error.
-    pub fn ask_all<R>(&self, rt: &R, tasks: &[Task]) -> ExitCode
+impl<'w, 's, 't> Rounds<'w, 's, 't> {
+    /// Asks the tasks in each round, listens then if it is to, and tells the exit status. What goes wrong is said on standard error.
+    pub fn ask_all<R>(&self, rt: &R) -> ExitCode
     where
         R: AllocGlobal + Print + Eprint + Clock,
         ensures { (exit_status result ≡ DONE) ⊎ (exit_status result ≡ REFUSED) ⊎ (exit_status result ≡ FAULT) }
     {
         let pace = Pace::new(rt);
-        let screen = Screen::new(rt, self.words.json, &pace);
+        let style = Style::of(self.words);
+        let screen = Screen::new(rt, style, &pace, self.tasks.len());
         let (confirms, wait) = (self.words.confirms, self.words.timeout_ms);
-        let mut poller = Poller::new(rt.alloc(), confirms, wait, screen);
-        let mut port = Port::new(self.words.own, self.words.peer, true);
-        let mut status = DONE;
+        let instead = self.words.instead;
+        let mut poller = Poller::new(rt.alloc(), confirms, wait, instead, screen);
+        let port = Port::new(self.words.own, self.words.peer, true);
+        let mut line = Line::new(rt.alloc(), port);
+        let mut following = Following::new(rt, style);
+        let ended = self.ask_each(rt, &mut poller, &mut line, &mut following, &pace);
+        following.end();
+        match ended {
+            Ended::Answered(true) => ExitCode::from(DONE),
+            Ended::Answered(false) => ExitCode::from(REFUSED),
+            Ended::Stopped(status) => ExitCode::from(status),
+        }
+    }
+
+    /// Asks the tasks in each round, and listens then, if it is to.
+    fn ask_each<'p, 'c, 'd, R>(
+        &self,
+        rt: &R,
+        poller: &mut Poller<Screen<'p, 'c, R>>,
+        line: &mut Line,
+        following: &mut Following<'d, R>,
+        pace: &'p Pace<'c, R>,
+    ) -> Ended
+    where
+        R: AllocGlobal + Print + Eprint + Clock,
+        ensures { StopsBy result }
+    {
+        let mut is_done = true;
         for round in 0..self.words.count {
             if round > 0 {
                 thread::sleep(rt, Duration::from_millis(self.words.repeat_ms));
             }
-            match self.ask(rt, &mut poller, &mut port, &pace, tasks) {
-                Ended::Answered(true) => {}
-                Ended::Answered(false) => status = REFUSED,
-                Ended::Stopped(stopped) => return ExitCode::from(stopped),
+            if let Err(cause) = poller.sink().begin(round + 1) {
+                let _status = unwritten(rt, &cause);
+                return Ended::Stopped(FAULT);
+            }
+            match self.ask(rt, poller, line, following, pace) {
+                Ended::Answered(done) => is_done = is_done && done,
+                Ended::Stopped(status) => return Ended::Stopped(status),
             }
         }
-        ExitCode::from(status)
+        match self.listen(rt, poller, line, following, pace) {
+            Ended::Answered(done) => Ended::Answered(is_done && done),
+            Ended::Stopped(status) => Ended::Stopped(status),
+        }
     }
 
-    /// Asks the tasks of a round, and prints how they came out.
-    fn ask<'p, 'c, R>(
+    /// The same rounds of these tasks.
+    fn of<'u>(&self, tasks: &'u [Task]) -> Rounds<'w, 's, 'u> {
+        Rounds {
+            words: self.words,
+            stream: self.stream,
+            tasks,
+        }
+    }
+
+    /// Listens to what comes unasked, if it is to, and then has the outstation send nothing unasked any more.
+    fn listen<'p, 'c, 'd, R>(
         &self,
         rt: &R,
         poller: &mut Poller<Screen<'p, 'c, R>>,
-        port: &mut Port,
+        line: &mut Line,
+        following: &mut Following<'d, R>,
         pace: &'p Pace<'c, R>,
-        tasks: &[Task],
+    ) -> Ended
+    where
+        R: AllocGlobal + Print + Eprint + Clock,
+        ensures { StopsBy result }
+    {
+        let Some(listen) = self.words.listen else {
+            return Ended::Answered(true);
+        };
+        if !is_enabled(poller.ends()) {
+            return Ended::Answered(true);
+        }
+        following.until = Some(pace.now().saturating_add(listen.ms));
+        let heard = self.of(&[]).ask(rt, poller, line, following, pace);
+        following.until = None;
+        if let Ended::Stopped(status) = heard {
+            return Ended::Stopped(status);
+        }
+        if !following.is_over {
+            self.say(rt, Stop::EndedUnasked);
+            return Ended::Stopped(FAULT);
+        }
+        following.is_over = false;
+        let last = [Task::Disable(listen.classes)];
+        self.of(&last).ask(rt, poller, line, following, pace)
+    }
+
+    /// Asks the tasks of a round, or listens, and prints how they came out.
+    fn ask<'p, 'c, 'd, R>(
+        &self,
+        rt: &R,
+        poller: &mut Poller<Screen<'p, 'c, R>>,
+        line: &mut Line,
+        following: &mut Following<'d, R>,
+        pace: &'p Pace<'c, R>,
     ) -> Ended
     where
         R: AllocGlobal + Print + Eprint + Clock,
         ensures { StopsBy result }
     {
         poller.forget_ends();
-        let mut room = StepRoom::new(rt.alloc());
-        let mut link = Link::new(rt.alloc(), port.copy());
-        let mut following = Following::NEW;
-        let mut talk = Talk::new(pace, self.stream, self.awaited(), tasks);
-        let asked = talk.ask(&mut *poller, &mut link, &mut room, &mut following);
-        link.port().copy_into(port);
+        following.begin();
+        let mut talk = Talk::new(pace, self.stream, self.awaited(), self.tasks);
+        if following.until.is_some() {
+            talk.turns = u64::MAX;
+        }
+        let asked = talk.ask(
+            &mut *poller,
+            &mut line.link,
+            &mut line.room,
+            &mut *following,
+        );
         if asked.is_err() {
             poller.hung_up();
         }
-        if let Err(cause) = print_ends(rt, self.words.json, poller.ends()) {
+        if let Some(cause) = following.cause.as_ref() {
+            let _status = unwritten(rt, cause);
+            return Ended::Stopped(FAULT);
+        }
+        if let Err(cause) = print_ends(rt, Style::of(self.words), poller.ends()) {
             let _status = unwritten(rt, &cause);
             return Ended::Stopped(FAULT);
         }
@@ -234,7 +342,8 @@ impl<'w, 's> Rounds<'w, 's> {
                 Ended::Stopped(REFUSED)
             }
             PollFault::Silent => {
-                self.say(rt, Stop::Silent(self.words.timeout_ms, open_of(poller)));
+                let open = self.open(poller);
+                self.say(rt, Stop::Silent(self.words.timeout_ms, open));
                 Ended::Stopped(FAULT)
             }
             PollFault::NotShown => {
@@ -249,6 +358,11 @@ impl<'w, 's> Rounds<'w, 's> {
                 Ended::Stopped(FAULT)
             }
         }
+    }
+
+    /// The output that may have been operated without an answer, if there is one.
+    fn open<S: Show>(&self, poller: &Poller<S>) -> Open {
+        open_of(poller, self.words.instead.direct)
     }
 
     /// The link addresses of the frames that are awaited.
@@ -283,7 +397,7 @@ impl<'w, 's> Rounds<'w, 's> {
         ensures { StopsBy result }
     {
         if poller.is_awaiting() {
-            self.say(rt, Stop::Ended(open_of(poller)));
+            self.say(rt, Stop::Ended(self.open(poller)));
             return Ended::Stopped(FAULT);
         }
         Ended::Answered(are_done(poller.ends()))
@@ -293,7 +407,7 @@ impl<'w, 's> Rounds<'w, 's> {
     fn fail<S: Show, R: Eprint>(&self, rt: &R, poller: &Poller<S>, gone: &Gone) -> Ended
         ensures { result ≡ Stopped FAULT }
     {
-        let open = open_of(poller);
+        let open = self.open(poller);
         let fault = gone.fault();
         let why = match gone.cause() {
             Some(cause) if is_late(cause) => Stop::Late(fault, self.words.timeout_ms, open),

@@ -1,32 +1,33 @@
 //! A station that serves connections of centres over TCP.
 
-ghost use Rattle.std.specs.Prelude.{◌≡◌, ◌⊎◌, Some, Err, false};
+ghost use Rattle.std.specs.Prelude.{◌≡◌, ◌⊎◌, Some};
 ghost use Rattle.std.specs.Process.{exit_status};
-ghost use Rattle.dnp_line.specs.Ports.{new_port};
-ghost use Rattle.dnp_streams.specs.streams.Clocks.{OpensSometime, ReceivesSometime};
-ghost use Rattle.dnp_streams.specs.streams.Counts.{most};
-ghost use Rattle.dnp_tcp.specs.Connections.{CountsOn, IsCounted, ServesOn};
+ghost use Rattle.dnp_streams.specs.links.Deeds.{ways};
+ghost use Rattle.dnp_tcp.specs.Connections.{LeadsOn, ServedOn, is_own_fault};
 
+use crate::clock::moment;
+use crate::door::Caller;
 use crate::exit::FAULT;
-use crate::fault::Noted;
-use crate::hearing::Heeding;
-use crate::lines::Line;
+use crate::leave::{Leave, prepare};
+use crate::lines::{Ending, Line};
 use crate::logged::say;
-use dnp_line::Port;
-use dnp_notices::{Ends, Heard, Place, StrangeLine};
-use dnp_streams::{Clocked, ServeFault, Served, Station, serve_stream};
-use std::cell::Cell;
+use crate::standing::StandingConnection;
+use crate::turn::Parting;
+use dnp_notices::{Ends, Place, StrangeLine};
+use dnp_streams::{Living, ServeFault, StepRoom};
+use dnp_terminal::Terminal;
 use std::io;
-use std::net::TcpStream;
 use std::process::ExitCode;
 use std::rt::Clock;
-use std::time::Duration;
 
 /// How long a connection may stand still, in seconds: nothing comes, or nothing can be sent.
 const SILENCE: u64 = 300;
 
+/// The same in milliseconds.
+const SILENCE_MS: u64 = SILENCE * 1_000;
+
 /// Says on standard error why no connection can be had at a place, and gives the exit status of a fault.
-pub fn no_port<R: Eprint + Clock>(rt: &R, place: Place, cause: &io::Error) -> ExitCode
+pub fn no_port<R: Eprint + Terminal + Clock>(rt: &R, place: Place, cause: &io::Error) -> ExitCode
     ensures { exit_status result ≡ FAULT }
 {
     say(rt, &Line::NoPort(place, cause));
@@ -34,108 +35,95 @@ pub fn no_port<R: Eprint + Clock>(rt: &R, place: Place, cause: &io::Error) -> Ex
 }
 
 /// Serves a connection of this centre, whose frames have these link addresses, to its end, or until it has stood still for `SILENCE`,
-/// hangs the station up, and tells how many fragments came whole; nothing where memory ran out. What goes wrong is said on standard
-/// error, and which frames came that the station doesn't take. A connection that can't be prepared isn't served, and the station is as
-/// it was.
+/// hangs the station up, and tells how many fragments came whole; nothing if memory ran out or a store of the station failed. What goes
+/// wrong is said on standard error, and which frames came that the station doesn't take. A connection that can't be prepared isn't
+/// served, and the station is as it was.
 pub fn serve_connection<S, R>(
     rt: &R,
     station: &mut S,
     centre: u8,
     taken: Ends,
-    stream: &TcpStream,
+    caller: Caller,
 ) -> Option<u64>
 where
-    S: Station,
-    R: AllocGlobal + Eprint + Clock,
+    S: Living,
+    R: AllocGlobal + Eprint + Terminal + Clock,
     ensures kept { S.kept station.new ≡ S.kept station.old }
     ensures held { S.honest station.new → S.honest station.old }
     ensures serves { S.honest station.new → ((result ≡ Some 0) × (S.state station.new ≡ S.state station.old))
-        ⊎ CountsOn (OpensSometime S.opens) (ReceivesSometime S.receives) S.hung_up_of most (S.state station.old)
-        (new_port taken.dest taken.source false) result (S.state station.new) }
+        ⊎ ServedOn (ways S.opens S.receives S.asking S.life) S.hung_up_of (S.state station.old) result (S.state station.new) }
 {
-    if let Err(cause) = prepare(stream) {
-        say(rt, &Line::Unprepared(u16::from(centre) + 1, &cause));
+    let number = u16::from(centre) + 1;
+    if let Err(cause) = prepare(&caller.stream, SILENCE_MS) {
+        say(rt, &Line::Unprepared(number, &cause));
         return Some(0);
     }
-    let mut port = Port::new(taken.dest, taken.source, false);
-    let mut station = Clocked::new(station, rt);
-    let heard = Cell::new(Heard::NOTHING);
-    let mut reader = Noted::new(Heeding::new(rt.alloc(), stream, &heard, taken));
-    let mut out = Noted::new(stream);
-    let served = serve_and_hang_up(rt, &mut station, &mut port, &mut reader, &mut out);
-    let number = u16::from(centre) + 1;
-    if let Some(strange) = heard.get().strange() {
+    let mut connection = StandingConnection::new(rt.alloc(), caller, taken, moment(rt, 0));
+    let parting = serve_to_end(rt, station, &mut connection);
+    station.hung_up();
+    if let Some(strange) = connection.heard().strange() {
         say(rt, &Line::Strange(number, StrangeLine { strange, taken }));
     }
-    match served {
-        Ok(served) => Some(served.fragments),
-        Err(fault) => {
-            tell(rt, number, fault, reader.cause(), out.cause());
-            told_after(fault, station.fragments())
-        }
+    if tell(rt, number, &parting) {
+        return None;
     }
+    Some(connection.fragments())
 }
 
-/// Serves a connection that is read and written so to its end, and hangs the station up, once.
-fn serve_and_hang_up<S: Station, R: AllocGlobal>(
+/// Serves a connection to its end, and tells why it isn't served any longer.
+fn serve_to_end<S: Living, R: AllocGlobal + Clock>(
     rt: &R,
     station: &mut S,
-    port: &mut Port,
-    reader: &mut Noted<Heeding<'_, &TcpStream>>,
-    out: &mut Noted<&TcpStream>,
-) -> Result<Served, ServeFault>
+    connection: &mut StandingConnection,
+) -> Stop
     ensures kept { S.kept station.new ≡ S.kept station.old }
     ensures held { S.honest station.new → S.honest station.old }
-    ensures serves { S.honest station.new → ServesOn S.opens S.receives S.hung_up_of most (S.state station.old) port.old result (S.state station.new) }
+    ensures leads { S.honest station.new → LeadsOn (ways S.opens S.receives S.asking S.life) (S.state station.old) connection.old (S.state station.new) connection.new }
 {
-    match serve_stream(rt.alloc(), station, port, 0, reader, out, u64::MAX) {
-        Ok(served) => {
-            station.hung_up();
-            Ok(served)
+    let mut room = StepRoom::new(rt.alloc());
+    for _ in 0..u64::MAX {
+        let span = connection.span_of_silence(SILENCE_MS);
+        if let Err(parting) = connection.serve(rt, &mut room, station, span) {
+            return Stop::Parted(parting);
         }
-        Err(fault) => Err(fault),
+        if connection.is_held_up() {
+            return Stop::Still(ServeFault::WriteFailed);
+        }
+        if connection.is_silent(SILENCE_MS) {
+            return Stop::Still(ServeFault::ReadFailed);
+        }
     }
+    Stop::Still(ServeFault::TurnsSpent)
 }
 
-/// What is told of a connection that failed, on which so many fragments came whole.
-fn told_after(fault: ServeFault, fragments: u64) -> Option<u64>
-    ensures { IsCounted (Err fault) result }
+/// Why a connection isn't served any longer.
+#[derive(Drop)]
+enum Stop {
+    /// It has ended, or the station failed.
+    Parted(Parting),
+    /// It stood still for so long that this counts as failed.
+    Still(ServeFault),
+}
+
+/// Says on standard error why a connection of the centre that counts so wasn't served to its end. Whether memory ran out, or a store of
+/// the station failed.
+fn tell<R: Eprint + Terminal + Clock>(rt: &R, number: u16, stop: &Stop) -> bool
+    ensures { result ≡ is_own_fault stop.now }
 {
-    match fault {
-        ServeFault::Memory => None,
-        ServeFault::ReadFailed | ServeFault::WriteFailed | ServeFault::TurnsSpent => Some(
-            fragments,
-        ),
+    match stop {
+        Stop::Still(fault) => {
+            say(rt, &Line::Still(number, *fault, SILENCE));
+            false
+        }
+        Stop::Parted(Parting::Refused(cause)) => {
+            say(rt, &Line::Failed(*cause));
+            true
+        }
+        Stop::Parted(Parting::Left(leave)) => {
+            if let Ending::Failed(fault, cause) = leave.ending(SILENCE) {
+                say(rt, &Line::Broken(number, fault, cause));
+            }
+            matches!(leave, Leave::Memory)
+        }
     }
-}
-
-/// Sends what is written at once, and ends reads and writes that stand still.
-fn prepare(stream: &TcpStream) -> io::Result<()> {
-    let silence = Some(Duration::from_secs(SILENCE));
-    stream.set_nodelay(true)?;
-    stream.set_read_timeout(silence)?;
-    stream.set_write_timeout(silence)
-}
-
-/// Says on standard error why a connection of the centre that counts so was not served to its end.
-fn tell<R: Eprint + Clock>(
-    rt: &R,
-    number: u16,
-    fault: ServeFault,
-    read: Option<&io::Error>,
-    written: Option<&io::Error>,
-) {
-    let line = match read.or(written) {
-        Some(cause) if is_silence(cause) => Line::Still(number, fault, SILENCE),
-        cause => Line::Broken(number, fault, cause),
-    };
-    say(rt, &line);
-}
-
-/// Whether nothing came, or nothing could be sent, for so long that the connection ends.
-fn is_silence(cause: &io::Error) -> bool {
-    matches!(
-        cause.kind(),
-        io::ErrorKind::WouldBlock | io::ErrorKind::NotConnected
-    )
 }

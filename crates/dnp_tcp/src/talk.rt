@@ -5,15 +5,17 @@ ghost use Rattle.dnp_streams.specs.links.Deeds.{ways};
 ghost use Rattle.dnp_streams.specs.links.Links.{HasRoom};
 ghost use Rattle.dnp_tcp.specs.Connections.{Leads};
 
+mod telling;
+
 use crate::clock::moment;
 use crate::gone::Gone;
 use crate::hearing::heard_with;
-use crate::visit::is_pause;
+use crate::leave::is_pause;
 use crate::watcher::{Watcher, tell_asked, tell_relayed};
 use dnp_linkframe::MAX_UNIT;
 use dnp_master::Task;
 use dnp_notices::Ends;
-use dnp_streams::{Asker, Heard, Link, Living, StationFault, StepRoom, Told};
+use dnp_streams::{Asker, Link, Living, StepRoom};
 use std::io;
 use std::io::{ErrorKind, Read, Write};
 use std::net::TcpStream;
@@ -41,6 +43,8 @@ pub(crate) struct Talk<'t, C> {
     now: u64,
     /// How long a read waits now, in milliseconds.
     wait: u64,
+    /// How often the connection is read at most.
+    pub turns: u64,
     /// Which frames came.
     pub heard: dnp_notices::Heard,
     /// How many event rows came. The count stops at the largest number.
@@ -63,13 +67,14 @@ impl<'t, C: Clock> Talk<'t, C> {
             left: tasks,
             now: 0,
             wait: 0,
+            turns: TURNS,
             heard: dnp_notices::Heard::NOTHING,
             rows: 0,
         }
     }
 
     /// Sends what waits.
-    fn send(&self, link: &mut Link) -> Result<(), Gone>
+    fn send<W: Watcher>(&self, link: &mut Link, watcher: &mut W) -> Result<(), Gone>
         ensures { OnOk result (link.new.pending ≡ []) }
     {
         for _ in 0..u64::MAX {
@@ -79,7 +84,10 @@ impl<'t, C: Clock> Talk<'t, C> {
             let mut stream = self.stream;
             match stream.write(link.output()) {
                 Ok(0) => return Err(Gone::Unwritten(None)),
-                Ok(count) => link.sent(count),
+                Ok(count) => {
+                    watcher.sent(&link.output()[..count]);
+                    link.sent(count);
+                }
                 Err(error) => return Err(Gone::Unwritten(Some(error))),
             }
         }
@@ -101,7 +109,12 @@ impl<'t, C: Clock> Talk<'t, C> {
     }
 
     /// Reads once, no longer than until this timer ends, and feeds what came to the link. Whether the connection goes on.
-    fn read(&mut self, link: &mut Link, timer: Option<u64>) -> Result<bool, Gone> {
+    fn read<W: Watcher>(
+        &mut self,
+        link: &mut Link,
+        timer: Option<u64>,
+        watcher: &mut W,
+    ) -> Result<bool, Gone> {
         if let Err(error) = self.wait_until(timer) {
             return Err(Gone::Unread(error));
         }
@@ -110,6 +123,7 @@ impl<'t, C: Clock> Talk<'t, C> {
         match stream.read(&mut piece) {
             Ok(0) => Ok(false),
             Ok(count) => {
+                watcher.read(&piece[..count]);
                 if link.feed(&piece[..count]).is_err() {
                     return Err(Gone::Memory);
                 }
@@ -119,52 +133,6 @@ impl<'t, C: Clock> Talk<'t, C> {
             Err(error) if is_pause(&error) || error.kind() == ErrorKind::TimedOut => Ok(true),
             Err(error) => Err(Gone::Unread(error)),
         }
-    }
-
-    /// Takes what a step told, or that it was refused. Whether the station has closed the connection.
-    fn tell<W: Watcher>(&mut self, told: Result<Told, StationFault>, watcher: &mut W) -> bool {
-        match told {
-            Ok(told) => {
-                let rows = u64::try_from(told.rows).unwrap_or(u64::MAX);
-                self.rows = self.rows.saturating_add(rows);
-                told.closed
-            }
-            Err(fault) => {
-                watcher.refused(fault);
-                false
-            }
-        }
-    }
-
-    /// Takes what a frame brought, which completed these octets, if it completed a fragment. Whether the station has closed the
-    /// connection.
-    fn tell_heard<W: Watcher>(&mut self, heard: Heard, octets: &[u8], watcher: &mut W) -> bool {
-        let Heard::Whole(told) = heard else {
-            return false;
-        };
-        match &told {
-            Ok(told) => {
-                watcher.answered(octets);
-                if let Some(outcome) = &told.outcome {
-                    watcher.came_out(outcome);
-                }
-            }
-            Err(StationFault::Message) => watcher.not_taken(octets),
-            Err(StationFault::Cause(_)) => {}
-        }
-        self.tell(told, watcher)
-    }
-
-    /// Takes what time that passed brought. Whether the station has closed the connection.
-    fn tell_ticked<W: Watcher>(
-        &mut self,
-        told: Result<Told, StationFault>,
-        watcher: &mut W,
-    ) -> bool {
-        if let Ok(told) = &told {
-            watcher.ticked(told.closed);
-        }
-        self.tell(told, watcher)
     }
 
     /// Opens the station. Whether it has closed the connection.
@@ -261,7 +229,7 @@ impl<'t, C: Clock> Talk<'t, C> {
     {
         let mut is_over = is_closed;
         for _ in 0..u64::MAX {
-            self.send(link)?;
+            self.send(link, watcher)?;
             if is_over {
                 return Ok(true);
             }
@@ -269,6 +237,9 @@ impl<'t, C: Clock> Talk<'t, C> {
                 return Ok(false);
             }
             is_over = self.ask_next(station, link, room, watcher);
+            if is_over && watcher.stays() {
+                return Ok(false);
+            }
         }
         Ok(true)
     }
@@ -285,7 +256,7 @@ impl<'t, C: Clock> Talk<'t, C> {
         ensures held { S.honest station.new → S.honest station.old }
         ensures leads { S.honest station.new → Leads (ways S.opens S.receives S.asking S.life) (S.state station.old) (S.state station.new) }
     {
-        self.send(link)?;
+        self.send(link, watcher)?;
         let is_closed = self.open(station, link, room, watcher);
         self.go_on(station, link, room, watcher, is_closed)
     }
@@ -320,7 +291,7 @@ impl<'t, C: Clock> Talk<'t, C> {
         ensures held { S.honest station.new → S.honest station.old }
         ensures leads { S.honest station.new → Leads (ways S.opens S.receives S.asking S.life) (S.state station.old) (S.state station.new) }
     {
-        self.send(link)?;
+        self.send(link, watcher)?;
         let is_closed = self.tick(station, link, room, watcher);
         self.go_on(station, link, room, watcher, is_closed)
     }
@@ -338,7 +309,7 @@ impl<'t, C: Clock> Talk<'t, C> {
         ensures leads { S.honest station.new → Leads (ways S.opens S.receives S.asking S.life) (S.state station.old) (S.state station.new) }
     {
         for _ in 0..u64::MAX {
-            self.send(link)?;
+            self.send(link, watcher)?;
             if !link.has_frame() {
                 return Ok(false);
             }
@@ -363,7 +334,8 @@ impl<'t, C: Clock> Talk<'t, C> {
         ensures leads { S.honest station.new → Leads (ways S.opens S.receives S.asking S.life) (S.state station.old) (S.state station.new) }
     {
         let timer = station.next_deadline();
-        if watcher.has_enough() || !self.read(link, timer)? {
+        watcher.waits(self.now, timer);
+        if watcher.has_enough() || !self.read(link, timer, watcher)? {
             return Ok(true);
         }
         self.now = moment(self.clock, self.now);
@@ -389,7 +361,7 @@ impl<'t, C: Clock> Talk<'t, C> {
         if self.begin(station, link, room, watcher)? {
             return Ok(());
         }
-        for _ in 0..TURNS {
+        for _ in 0..self.turns {
             if self.take_turn(station, link, room, watcher)? {
                 return Ok(());
             }

@@ -1,65 +1,28 @@
 //! A connection on which a station lives: what comes is heard, time passes, and changes are made when they are due.
 
 ghost use Rattle.std.specs.Prelude.{◌≡◌, ◌<◌, [], length, OnOk};
-ghost use Rattle.std.specs.IoError.{error_kind};
-ghost use Rattle.dnp_tcp.specs.Causes.{is_waited_out};
 
 use crate::clock::moment;
 use crate::course::Course;
 use crate::door::{Caller, Door};
-use crate::hearing::{ends_of, heard_with};
+use crate::hearing::{heard_with, is_of};
+use crate::leave::{Leave, PIECE, read_waiting, write_waiting};
 use crate::lines::{Asked, Visited};
 use crate::logged::note;
 use dnp_line::Port;
 use dnp_linkframe::Frame;
 use dnp_notices::{Ends, Strange, StrangeLine, news_of};
 use dnp_streams::{Heard, Link, Living, StationFault, Told};
+use dnp_terminal::Terminal;
 use std::io;
-use std::io::{ErrorKind, Read, Write};
-use std::net::{SocketAddr, TcpStream};
 use std::rt::Clock;
 use std::time::Duration;
 
-/// How many octets are read at once, at most: a call for each frame costs more than the frame.
-const PIECE: usize = 16_384;
-
 /// How long a write waits, in milliseconds, before it is looked whether the connection has to end.
-const WRITE_MS: u64 = 50;
+pub(crate) const WRITE_MS: u64 = 50;
 
 /// How long a master that has come waits at most for its place, in milliseconds, while octets come without a pause.
 const PLACE_MS: u64 = 1_000;
-
-/// Why a connection on which a station lives ends.
-#[derive(Drop)]
-pub(crate) enum Leave {
-    /// The master has closed it.
-    Master,
-    /// The station has closed it.
-    Station,
-    /// Nothing whole came for too long.
-    Idle,
-    /// The master at this address takes the place.
-    Taken(SocketAddr),
-    /// It could not be read.
-    Unread(io::Error),
-    /// It could not be written, or took nothing.
-    Unwritten(Option<io::Error>),
-    /// Out of memory for the frames that came.
-    Memory,
-}
-
-/// Sends what is written at once, and lets a write wait for no longer than it may.
-pub(crate) fn prepare(stream: &TcpStream) -> io::Result<()> {
-    stream.set_nodelay(true)?;
-    stream.set_write_timeout(Some(Duration::from_millis(WRITE_MS)))
-}
-
-/// Whether a read or a write has waited for as long as it may, or was stopped on its way, as by a signal.
-pub fn is_pause(error: &io::Error) -> bool
-    ensures { result ≡ is_waited_out (error_kind error.now) }
-{
-    matches!(error.kind(), ErrorKind::WouldBlock | ErrorKind::Interrupted)
-}
 
 /// Whether the connection goes on after a step that told this: it ends where the station has closed it. A step that was refused has
 /// changed nothing.
@@ -95,7 +58,7 @@ pub(crate) struct Visit<'v, R> {
     fragments: u64,
 }
 
-impl<'v, R: AllocGlobal + Eprint + Clock> Visit<'v, R> {
+impl<'v, R: AllocGlobal + Eprint + Terminal + Clock> Visit<'v, R> {
     /// A connection of this master that begins now. The station takes frames with these link addresses; the connection may stand so
     /// long, in milliseconds, in which nothing whole comes, and each request may be said in the log.
     pub(crate) fn new(
@@ -144,7 +107,7 @@ impl<'v, R: AllocGlobal + Eprint + Clock> Visit<'v, R> {
         let taken = self.taken;
         let before = self.heard;
         self.heard = heard_with(before, frames, taken);
-        if frames.iter().any(|frame| ends_of(frame) == taken) {
+        if frames.iter().any(|frame| is_of(frame, taken)) {
             self.whole = now;
         }
         if let Some(strange) = news_of(before.strange(), self.heard.strange())
@@ -172,27 +135,14 @@ impl<'v, R: AllocGlobal + Eprint + Clock> Visit<'v, R> {
         if now.saturating_sub(self.whole) >= self.idle_ms {
             return Err(Leave::Idle);
         }
+        if let Some(peer) = self.door.late(now) {
+            note(self.rt, peer, &Visited::Late);
+        }
         match self.door.look(now) {
             Some(knock) if is_still || now.saturating_sub(knock.at) >= PLACE_MS => {
                 Err(Leave::Taken(knock.peer))
             }
             _ => Ok(()),
-        }
-    }
-
-    /// Writes once of what waits. A write that has waited for as long as it may sends nothing.
-    fn write(&self, link: &mut Link) -> Result<(), Leave>
-        ensures { link.new.waiting ≡ link.old.waiting }
-    {
-        let mut stream = &self.caller.stream;
-        match stream.write(link.output()) {
-            Ok(0) => Err(Leave::Unwritten(None)),
-            Ok(count) => {
-                link.sent(count);
-                Ok(())
-            }
-            Err(error) if is_pause(&error) => Ok(()),
-            Err(error) => Err(Leave::Unwritten(Some(error))),
         }
     }
 
@@ -205,7 +155,7 @@ impl<'v, R: AllocGlobal + Eprint + Clock> Visit<'v, R> {
             if link.output().is_empty() {
                 return Ok(());
             }
-            self.write(link)?;
+            write_waiting(&self.caller.stream, link)?;
             if !link.output().is_empty() {
                 self.go_on(course, true)?;
             }
@@ -234,21 +184,12 @@ impl<'v, R: AllocGlobal + Eprint + Clock> Visit<'v, R> {
         if let Err(error) = self.wait_at_most(ms) {
             return Err(Leave::Unread(error));
         }
-        let mut stream = &self.caller.stream;
-        match stream.read(piece) {
-            Ok(0) => Err(Leave::Master),
-            Ok(count) => {
-                if link.feed(&piece[..count]).is_err() {
-                    return Err(Leave::Memory);
-                }
-                course.go_on(self.rt);
-                self.note_frames(link.waiting(), course.moment);
-                self.go_on(course, false)
-            }
-            Err(error) if is_pause(&error) => self.go_on(course, true),
-            Err(error) if error.kind() == ErrorKind::TimedOut => Ok(()),
-            Err(error) => Err(Leave::Unread(error)),
+        if !read_waiting(&self.caller.stream, link, piece)? {
+            return self.go_on(course, true);
         }
+        course.go_on(self.rt);
+        self.note_frames(link.waiting(), course.moment);
+        self.go_on(course, false)
     }
 
     /// Opens the station, and makes the changes that are due.

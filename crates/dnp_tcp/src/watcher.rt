@@ -31,8 +31,22 @@ pub(crate) trait Watcher {
     /// A control was not relayed.
     fn not_relayed(&mut self, _fault: BookFault) {}
 
+    /// These octets were sent.
+    fn sent(&mut self, _octets: &[u8]) {}
+
+    /// These octets were read.
+    fn read(&mut self, _octets: &[u8]) {}
+
+    /// The connection is read at this moment, in milliseconds; until that one a response is awaited, if one is.
+    fn waits(&mut self, _now: u64, _ends: Option<u64>) {}
+
     /// Whether nothing more is awaited.
     fn has_enough(&self) -> bool {
+        false
+    }
+
+    /// Whether what comes is heard on where nothing is left to do.
+    fn stays(&self) -> bool {
         false
     }
 }

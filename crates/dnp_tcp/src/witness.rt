@@ -9,6 +9,7 @@ use dnp_controls::BookFault;
 use dnp_master::{Outcome, Task};
 use dnp_notices::{Exchange, Happening, Refusal};
 use dnp_streams::StationFault;
+use dnp_terminal::Terminal;
 use std::rt::Clock;
 
 /// What looks on while a station asks another one.
@@ -32,7 +33,7 @@ pub(crate) struct Witness<'w, R> {
     pub is_late: bool,
 }
 
-impl<'w, R: Eprint + Clock> Witness<'w, R> {
+impl<'w, R: Eprint + Terminal + Clock> Witness<'w, R> {
     /// Nothing was seen yet.
     pub(crate) fn new(rt: &'w R, call: Call<'w>, account: &'w mut Account) -> Witness<'w, R> {
         Witness {
@@ -68,7 +69,7 @@ impl<'w, R: Eprint + Clock> Witness<'w, R> {
     }
 }
 
-impl<'w, R: Eprint + Clock> Watcher for Witness<'w, R> {
+impl<'w, R: Eprint + Terminal + Clock> Watcher for Witness<'w, R> {
     fn refused(&mut self, fault: StationFault) {
         match fault {
             StationFault::Message => {}
