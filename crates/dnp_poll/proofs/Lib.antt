@@ -1,3 +1,4 @@
 -- Lemmas.
 mod Objects
+mod Directing
 mod Selecting

@@ -1,19 +1,34 @@
 -- What asks, and what comes, make of the command that stands selected.
-use Rattle.std.proofs.Common.{◌≡◌, ℕ, List, ap, sym, ◌∙◌, inl, inr}
-use Rattle.std.specs.Prelude.{Option, Some}
+use Rattle.std.proofs.Common.{◌≡◌, ℕ, Bool, true, false, cond, List, refl, ap, sym, ◌∙◌, inl, inr}
+use Rattle.std.specs.Prelude.{Option, Some, Result, Ok, Err}
 use Rattle.dnp_master.specs.Calls as calls
 use Rattle.dnp_master.specs.Selecting.{OperatesSelected, SelectsBySuccess, StandsSelected}
 use Rattle.dnp_master.specs.State.{State}
+use Rattle.dnp_master.specs.declared.fault.AskFault.{AskFault}
+use Rattle.dnp_master.specs.declared.fault.AskFault.TheVariants.{BadTask}
 use Rattle.dnp_master.specs.declared.outcome.Outcome.{Outcome}
+use Rattle.dnp_master.specs.declared.task.Task.{Task}
+use Rattle.dnp_master.specs.declared.task.Task.TheVariants.{Operate}
 use Rattle.dnp_objects.specs.declared.command.Command.{Command}
-use Rattle.dnp_poll.specs.Polls.{PollSeen, HearsPoll, Heard, Unheard, Taken, Passed}
+use Rattle.dnp_poll.specs.Instead.{is_barred}
+use Rattle.dnp_poll.specs.Polls.{PollSeen, HearsPoll, Heard, Unheard, Taken, Passed, sent_as}
 use Rattle.dnp_poll.specs.Selecting.{OperatesOnce, StandsBySuccess}
+use Rattle.dnp_poll.specs.declared.instead.Instead.{Instead}
 use Rattle.dnp_poll.specs.declared.rows.ShownRow.{ShownRow}
 use Rattle.dnp_streams.specs.streams.Stations.{Answer}
 
+-- a task that is asked is not barred, and the master has asked it
+pub sent : (barred : Bool) (i : Instead) (task : Task) (r : Result (List ℕ) AskFault) (request : List ℕ)
+    → cond barred (Err BadTask) (sent_as i task r) ≡ Ok request → (barred ≡ false) × ((octets : List ℕ) × (r ≡ Ok octets))
+sent true i task r request e = absurd (cc)
+sent false i task (Ok octets) request e = (refl, (octets, refl))
+sent false i task (Err fault) request e = absurd (cc)
+
 pub operates_once : {S : Type 0} → OperatesSelected → OperatesOnce S
 operates_once {S} selected old new now command request asks =
-    (selected old.master command request asks.asked, ap (λ (p : PollSeen S). p.master.selected) asks.after)
+    let s = sent (is_barred old.instead old.is_spent (Operate command)) old.instead (Operate command)
+    (calls.ask_answer old.master (Operate command)) request asks.asked in
+    (selected old.master command s.1.0 s.1.1, ap (λ (p : PollSeen S). p.master.selected) asks.after)
 
 -- what an equal answer, and an equal master, stand for
 moved : {S : Type 0} → SelectsBySuccess → (shows : S → List ShownRow → S → Type 0) (old new : PollSeen S) (now : ℕ) (octets : List ℕ)

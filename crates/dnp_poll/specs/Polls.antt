@@ -1,6 +1,6 @@
 -- Definition: a master that shows the rows of each answer, as a stream sees it (IEEE Std 1815-2012, application layer: the master's side
 -- of a transaction, confirmation).
-use Rattle.std.specs.Prelude.{◌≡◌, ◌⊎◌, ℕ, Bool, true, false, not, ◌&&◌, if◌then◌else◌, List, [], ◌++◌, length, Option, Some, None, Ok, Err, option_to_list}
+use Rattle.std.specs.Prelude.{◌≡◌, ◌⊎◌, ℕ, Bool, true, false, not, ◌&&◌, ◌||◌, if◌then◌else◌, List, [], ◌++◌, length, Option, Some, None, Result, Ok, Err, option_to_list}
 use Rattle.dnp_appfragment.specs.Fragments.{Answered}
 use Rattle.dnp_appfragment.specs.Meaning.{response_at}
 use Rattle.dnp_appfragment.specs.declared.fault.AppFault.{AppFault}
@@ -10,11 +10,14 @@ use Rattle.dnp_decode.specs.FragmentLines.{IsFaultPlace}
 use Rattle.dnp_master.specs.Calls.{Taking, ask_answer, asking, follow_of, is_awaited}
 use Rattle.dnp_master.specs.State.{State, closed, is_idle, is_timed_out, next_deadline, opened}
 use Rattle.dnp_master.specs.declared.fault.AskFault.{AskFault}
+use Rattle.dnp_master.specs.declared.fault.AskFault.TheVariants.{BadTask}
 use Rattle.dnp_master.specs.declared.task.Task.{Task}
+use Rattle.dnp_poll.specs.Instead.{is_barred, is_direct, sent_for}
 use Rattle.dnp_poll.specs.Rows.{rows_in}
 use Rattle.dnp_poll.specs.TaskEnds.{end_of}
 use Rattle.dnp_poll.specs.declared.fault.PollFault.{PollFault}
 use Rattle.dnp_poll.specs.declared.fault.PollFault.TheVariants as stopped
+use Rattle.dnp_poll.specs.declared.instead.Instead.{Instead}
 use Rattle.dnp_poll.specs.declared.poller.Poller.{Poller}
 use Rattle.dnp_poll.specs.declared.rows.ShownRow.{ShownRow}
 use Rattle.dnp_poll.specs.declared.task_end.TaskEnd.{TaskEnd}
@@ -27,6 +30,10 @@ pub record PollSeen (S : Type 0) : Type 0 where
   pub master : State
   -- whether it confirms
   pub confirms : Bool
+  -- what it sends in place of the requests of its tasks
+  pub instead : Instead
+  -- whether it has sent a command by DIRECT_OPERATE
+  pub is_spent : Bool
   -- what shows the rows
   pub sink : S
   -- the task that was asked last
@@ -40,6 +47,8 @@ abbrev pub poll_seen : {S : Type 0} → Poller S → PollSeen S
 poll_seen p = record {
   master = p.master;
   confirms = p.confirms;
+  instead = p.instead;
+  is_spent = p.is_spent;
   sink = p.sink;
   asked = p.tasks.task;
   ends = p.tasks.ends.items;
@@ -147,15 +156,31 @@ poll_lives = record {
 
 -- ---- what it asks
 
+-- what is sent in place of a request
+abbrev pub sent_as : Instead → Task → Result (List ℕ) AskFault → Result (List ℕ) AskFault
+sent_as instead task (Ok request) = Ok (sent_for instead task request)
+sent_as instead task (Err fault) = Err fault
+
+-- the request, or the first cause to refuse: a task that is barred, and then what the master refuses
+abbrev pub poll_answer : {S : Type 0} → PollSeen S → Task → Result (List ℕ) AskFault
+poll_answer old task =
+    if is_barred old.instead old.is_spent task then Err BadTask
+    else sent_as old.instead task (ask_answer old.master task)
+
 -- A task is asked as the master asks it: so an OPERATE is asked after the select of the same command alone, that was answered SUCCESS, and
--- nothing stands selected after it. It is the task that was asked last then.
+-- nothing stands selected after it. What is sent in place of its request has the same sequence number. It is the task that was asked last
+-- then.
 pub record AsksPoll {S : Type 0} (old : PollSeen S) (now : ℕ) (task : Task) (request : List ℕ) (new : PollSeen S) : Type 0 where
-  pub asked : ask_answer old.master task ≡ Ok request
-  pub after : new ≡ record old { master = asking old.master now task; asked = Some task }
+  pub asked : poll_answer old task ≡ Ok request
+  pub after : new ≡ record old {
+    master = asking old.master now task;
+    is_spent = old.is_spent || is_direct old.instead task;
+    asked = Some task;
+  }
 
 -- it is refused
 abbrev pub RefusesPoll : {S : Type 0} → PollSeen S → Task → AskFault → Type 0
-RefusesPoll old task fault = ask_answer old.master task ≡ Err fault
+RefusesPoll old task fault = poll_answer old task ≡ Err fault
 
 -- it relays nothing, and sends nothing by itself
 abbrev pub RelaysPoll : {S : Type 0} → PollSeen S → ℕ → Relayed → PollSeen S → Type 0

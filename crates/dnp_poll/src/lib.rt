@@ -4,6 +4,7 @@
 #![tactic(auto)]
 
 mod fault;
+mod instead;
 pub mod laws;
 mod phrase;
 mod poller;
@@ -11,12 +12,20 @@ mod poller_station;
 mod rows;
 mod show;
 mod shown_json;
+mod shown_table;
 mod shown_text;
+mod table;
 mod task_end;
+mod waiting;
 
 pub use fault::PollFault;
+pub use instead::{Instead, Points};
 pub use poller::Poller;
 pub use rows::{Family, ShownRow};
 pub use show::{NotShown, Show};
-pub use shown_json::{EndJson, RowJson};
+pub use shown_json::{EndJson, MarkJson, RowJson, UnaskedJson};
+pub use shown_table::{CLEAR, Columns, Head, Left, TableRow};
+pub use shown_text::{At, EndLine, Mark, Unasked};
+pub use table::{Room, Table, TableLine};
 pub use task_end::TaskEnd;
+pub use waiting::{Patience, SILENCE_MS, Waiting};

@@ -98,9 +98,10 @@ pub(crate) fn family_name(family: Family) -> &'static str {
     }
 }
 
-/// What a task is called.
-pub(crate) fn task_name(task: &Task) -> &'static str {
+/// What a task is called, where commands go by DIRECT_OPERATE or not.
+pub(crate) fn task_name(task: &Task, is_direct: bool) -> &'static str {
     match task {
+        Task::Select(_) if is_direct => "direct-operate",
         Task::Poll(_) => "poll",
         Task::ClearRestart => "clear-restart",
         Task::Enable(_) => "enable",

@@ -12,6 +12,7 @@ ghost use Rattle.dnp_poll.specs.declared.fault.PollFault.TheVariants as stopped;
 ghost use Rattle.dnp_streams.specs.streams.Stations.{answer_of};
 
 use crate::fault::PollFault;
+use crate::instead::Instead;
 use crate::rows::rows_in;
 use crate::show::Show;
 use crate::task_end::{TaskEnd, TaskEnds};
@@ -32,6 +33,10 @@ pub struct Poller<S> {
     pub(crate) master: Master,
     /// Whether it confirms.
     pub(crate) confirms: bool,
+    /// What it sends in place of the requests of its tasks.
+    pub(crate) instead: Instead,
+    /// Whether it has sent a command by DIRECT_OPERATE.
+    pub(crate) is_spent: bool,
     /// What shows the rows.
     pub(crate) sink: S,
     /// The task that was asked last, and how tasks came out.
@@ -46,6 +51,8 @@ impl<S: Drop> Drop for Poller<S> {
         let Poller {
             master: _,
             confirms: _,
+            instead: _,
+            is_spent: _,
             sink: _,
             tasks: _,
             fault: _,
@@ -106,10 +113,18 @@ fn no_points(alloc: Global) -> PointPlan {
 impl<S: Show> Poller<S> {
     /// A master that has asked nothing, and is closed. It waits so long for a response, in milliseconds, and for each further
     /// fragment of it.
-    pub fn new(alloc: Global, confirms: bool, response_ms: u64, sink: S) -> Poller<S>
+    pub fn new(
+        alloc: Global,
+        confirms: bool,
+        response_ms: u64,
+        instead: Instead,
+        sink: S,
+    ) -> Poller<S>
         ensures closed { (poll_seen result).master.is_open ≡ false }
         ensures unselected { (poll_seen result).master.selected ≡ None }
         ensures confirms { (poll_seen result).confirms ≡ confirms }
+        ensures instead { (poll_seen result).instead ≡ instead }
+        ensures unspent { (poll_seen result).is_spent ≡ false }
         ensures waits { (poll_seen result).master.times.response_ms ≡ response_ms }
         ensures sink { (poll_seen result).sink ≡ sink }
         ensures asked { (poll_seen result).asked ≡ None }
@@ -126,6 +141,8 @@ impl<S: Show> Poller<S> {
         Poller {
             master: Master::new(no_points(alloc), times),
             confirms,
+            instead,
+            is_spent: false,
             sink,
             tasks: TaskEnds::new(alloc),
             fault: None,

@@ -59,7 +59,12 @@ impl<S: Show> Station for Poller<S> {
 
 impl<S: Show> Asker for Poller<S> {
     fn ask_into(&mut self, request: &mut Fragment, now: u64, task: Task) -> Result<(), AskFault> {
+        if self.instead.bars(self.is_spent, &task) {
+            return Err(AskFault::BadTask);
+        }
         self.master.ask_into(request, now, task)?;
+        self.instead.put(&task, request);
+        self.is_spent = self.is_spent || self.instead.operates(&task);
         self.tasks.task = Some(task);
         Ok(())
     }

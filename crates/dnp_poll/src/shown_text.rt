@@ -11,11 +11,35 @@ use dnp_orders::status_name;
 use std::fmt;
 use std::fmt::{Display, Formatter, Write};
 
-/// The time of a row, or `-` where it has none.
+/// The time at which a line was printed, in milliseconds since 1970-01-01 00:00 UTC, if it is to stand there.
 #[derive(Clone, Copy)]
-struct At(Option<u64>);
+pub struct At(pub Option<u64>);
+
+impl At {
+    /// This time, if times are to stand there.
+    pub fn of(times: bool, utc: u64) -> At {
+        At(if times { Some(utc) } else { None })
+    }
+}
 
 impl Display for At {
+    /// The time and a blank, or nothing.
+    fn fmt<W: Write>(&self, f: &mut Formatter<W>) -> fmt::Result {
+        match self.0 {
+            Some(time) => {
+                let moment = Moment(time);
+                write!(f, "{moment} ")
+            }
+            None => Ok(()),
+        }
+    }
+}
+
+/// The time of a row, or `-` where it has none.
+#[derive(Clone, Copy)]
+pub(crate) struct Dated(pub Option<u64>);
+
+impl Display for Dated {
     fn fmt<W: Write>(&self, f: &mut Formatter<W>) -> fmt::Result {
         match self.0 {
             Some(time) => {
@@ -39,7 +63,7 @@ impl Display for ShownRow {
             time,
             ..
         } = self.row;
-        let at = At(time);
+        let at = Dated(time);
         let what = if self.is_event { "event" } else { "static" };
         let unasked = if self.is_unsolicited {
             " unsolicited"
@@ -77,27 +101,62 @@ pub(crate) fn index_of(task: &Task) -> Option<u16> {
     }
 }
 
-impl Display for TaskEnd {
+/// How a task came out as a line, with the time at which it was printed. Commands go by DIRECT_OPERATE or not.
+#[derive(Clone, Copy)]
+pub struct EndLine(pub At, pub TaskEnd, pub bool);
+
+impl Display for EndLine {
     /// What a poll was answered, as `iin 80 00 restart`; the name of another task and its answer, as `select 5 SUCCESS`.
     fn fmt<W: Write>(&self, f: &mut Formatter<W>) -> fmt::Result {
-        let name = task_name(&self.task);
-        let indicated = Indicated(self.iin);
-        let Some(index) = index_of(&self.task) else {
-            return match self.task {
-                Task::Poll(_) => write!(f, "{indicated}"),
-                _ => write!(f, "{name} {indicated}"),
+        let (at, end) = (self.0, &self.1);
+        let name = task_name(&end.task, self.2);
+        let indicated = Indicated(end.iin);
+        let Some(index) = index_of(&end.task) else {
+            return match end.task {
+                Task::Poll(_) => write!(f, "{at}{indicated}"),
+                _ => write!(f, "{at}{name} {indicated}"),
             };
         };
-        match self.outcome {
+        write!(f, "{at}")?;
+        match end.outcome {
             Outcome::Control(status) => {
                 let status = status_name(status);
                 write!(f, "{name} {index} {status}")?;
             }
             Outcome::Done(_) | Outcome::Unlike => write!(f, "{name} {index} unanswered")?,
         }
-        if self.iin.two == 0 {
+        if end.iin.two == 0 {
             return Ok(());
         }
         write!(f, " {indicated}")
+    }
+}
+
+/// The indications of a response that nobody asked for.
+#[derive(Clone, Copy)]
+pub struct Unasked(pub Iin);
+
+impl Display for Unasked {
+    /// As `unsolicited iin 80 00 restart`.
+    fn fmt<W: Write>(&self, f: &mut Formatter<W>) -> fmt::Result {
+        let indicated = Indicated(self.0);
+        write!(f, "unsolicited {indicated}")
+    }
+}
+
+/// A round begins.
+#[derive(Clone, Copy)]
+pub struct Mark {
+    /// Its number, from 1.
+    pub round: u64,
+    /// When, in milliseconds since 1970-01-01 00:00 UTC.
+    pub time: u64,
+}
+
+impl Display for Mark {
+    /// As `round 2 2026-11-25T03:00:01.000Z`.
+    fn fmt<W: Write>(&self, f: &mut Formatter<W>) -> fmt::Result {
+        let (round, moment) = (self.round, Moment(self.time));
+        write!(f, "round {round} {moment}")
     }
 }
