@@ -9,6 +9,7 @@ use dnp_notices::{DropLine, Dropping, Drops};
 use dnp_objects::{Kind, LANES, Lane};
 use dnp_pointdb::{Block, Point, PointPlan, Points};
 use dnp_tcp::{Account, exit, say};
+use dnp_terminal::Terminal;
 use std::alloc::{AllocError, Global};
 use std::process::ExitCode;
 use std::rt::Clock;
@@ -51,7 +52,11 @@ impl Accounts {
     }
 
     /// Looks whether rows of the queue are dropped, and says where that has begun or ended.
-    pub(crate) fn look_at<Q: PairLanes, R: Eprint + Clock>(&mut self, rt: &R, queue: &mut Q) {
+    pub(crate) fn look_at<Q: PairLanes, R: Eprint + Terminal + Clock>(
+        &mut self,
+        rt: &R,
+        queue: &mut Q,
+    ) {
         let (first, second) = (drops_of(queue, 0), drops_of(queue, 1));
         self.first = followed(rt, 0, self.first, first);
         self.second = followed(rt, 1, self.second, second);
@@ -75,7 +80,12 @@ fn drops_of<Q: PairLanes>(queue: &mut Q, centre: u8) -> Drops
 }
 
 /// Says that rows for a centre have begun to be dropped, or that it has ended, and tells whether they are.
-fn followed<R: Eprint + Clock>(rt: &R, centre: u8, before: Dropping, drops: Drops) -> Dropping {
+fn followed<R: Eprint + Terminal + Clock>(
+    rt: &R,
+    centre: u8,
+    before: Dropping,
+    drops: Drops,
+) -> Dropping {
     if let Some(notice) = before.notice(drops) {
         say(rt, &DropLine { centre, notice });
     }
@@ -89,7 +99,7 @@ pub(crate) fn above(alloc: Global, plan: &Plan) -> Option<Account> {
 }
 
 /// Says on standard error that memory ran out, and gives the exit status of a fault.
-pub(crate) fn no_memory<R: Eprint + Clock>(rt: &R) -> ExitCode {
+pub(crate) fn no_memory<R: Eprint + Terminal + Clock>(rt: &R) -> ExitCode {
     say(rt, &Line::Failed(Cause::Memory));
     ExitCode::from(exit::FAULT)
 }

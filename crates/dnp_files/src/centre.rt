@@ -15,6 +15,7 @@ use dnp_eventbuf::JournalStore;
 use dnp_objects::Command;
 use dnp_store::{ControlBook, Journal};
 use dnp_tcp::{Names, exit, say};
+use dnp_terminal::Terminal;
 use sqlite::{Alter, Connection, File, FileStore};
 use std::net::{Net, TcpListener, TcpStream};
 use std::process::ExitCode;
@@ -62,7 +63,7 @@ pub fn run_centre(rt: &HostRuntime, words: &CentreWords<'_>, mut plan: Plan) -> 
 fn run_in<S: Alter + Drop, R>(rt: &R, words: &CentreWords<'_>, plan: &Plan) -> ExitCode
 where
     R: AllocGlobal + Print + Eprint + Files + Opens<Connection<S>>,
-    R: Clock + Net<Listener = TcpListener, Stream = TcpStream>,
+    R: Terminal + Clock + Net<Listener = TcpListener, Stream = TcpStream>,
     requires { KeepsLimits plan.now }
 {
     let making = Making::of(rt, &words.journal, &words.controls);
@@ -80,7 +81,7 @@ fn run_made<S: Alter + Drop, R>(
 ) -> ExitCode
 where
     R: AllocGlobal + Print + Eprint + Files + Opens<Connection<S>>,
-    R: Clock + Net<Listener = TcpListener, Stream = TcpStream>,
+    R: Terminal + Clock + Net<Listener = TcpListener, Stream = TcpStream>,
     requires { KeepsLimits plan.now }
 {
     let journal = match journal_there(rt, &words.journal) {
@@ -100,10 +101,10 @@ where
 }
 
 /// The journal in its file.
-fn journal_there<S: Alter + Drop, R: AllocGlobal + Eprint + Clock + Files + Opens<Connection<S>>>(
-    rt: &R,
-    place: &StoreFile<'_>,
-) -> Result<Journal<S>, ExitCode> {
+fn journal_there<
+    S: Alter + Drop,
+    R: AllocGlobal + Eprint + Terminal + Clock + Files + Opens<Connection<S>>,
+>(rt: &R, place: &StoreFile<'_>) -> Result<Journal<S>, ExitCode> {
     let conn = files::connection(rt, place)?;
     files::journal(rt, place, conn)
 }
@@ -119,7 +120,12 @@ fn carry_on<S: Alter + Drop, R>(
     making: &Making<'_>,
 ) -> Result<(ExitCode, Connection<S>, Connection<S>), ExitCode>
 where
-    R: AllocGlobal + Print + Eprint + Clock + Net<Listener = TcpListener, Stream = TcpStream>,
+    R: AllocGlobal
+        + Print
+        + Eprint
+        + Terminal
+        + Clock
+        + Net<Listener = TcpListener, Stream = TcpStream>,
     requires { KeepsLimits plan.now }
 {
     match run_over(rt, words, plan, journal, book, making) {
@@ -143,7 +149,12 @@ fn run_over<J: JournalStore + Drop, B: Book + Drop, R>(
     making: &Making<'_>,
 ) -> Result<(ExitCode, J, B), ExitCode>
 where
-    R: AllocGlobal + Print + Eprint + Clock + Net<Listener = TcpListener, Stream = TcpStream>,
+    R: AllocGlobal
+        + Print
+        + Eprint
+        + Terminal
+        + Clock
+        + Net<Listener = TcpListener, Stream = TcpStream>,
     requires { KeepsLimits plan.now }
 {
     match Centre::new(rt.alloc(), plan, journal, book) {
@@ -172,7 +183,12 @@ fn run_once<J: JournalStore, B: Book, R>(
     making: &Making<'_>,
 ) -> Result<(), ExitCode>
 where
-    R: AllocGlobal + Print + Eprint + Clock + Net<Listener = TcpListener, Stream = TcpStream>,
+    R: AllocGlobal
+        + Print
+        + Eprint
+        + Terminal
+        + Clock
+        + Net<Listener = TcpListener, Stream = TcpStream>,
 {
     look_at_journal(rt, &words.journal, centre.journal(), plan)?;
     look_at_book(rt, &words.controls, centre.book(), plan, true)?;

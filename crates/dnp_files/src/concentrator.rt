@@ -15,6 +15,7 @@ use dnp_controls::Book;
 use dnp_eventbuf::{CENTRES, PairLanes};
 use dnp_store::{ControlBook, Queue};
 use dnp_tcp::{Names, exit, say};
+use dnp_terminal::Terminal;
 use sqlite::{Alter, Connection, File, FileStore};
 use std::net::{Net, TcpListener, TcpStream};
 use std::process::ExitCode;
@@ -68,7 +69,7 @@ pub fn run_concentrator(rt: &HostRuntime, words: &ConcentratorWords<'_>, plan: &
 fn run_in<S: Alter + Drop, R>(rt: &R, words: &ConcentratorWords<'_>, plan: &Plan) -> ExitCode
 where
     R: AllocGlobal + Print + Eprint + Files + Opens<Connection<S>>,
-    R: Clock + Net<Listener = TcpListener, Stream = TcpStream>,
+    R: Terminal + Clock + Net<Listener = TcpListener, Stream = TcpStream>,
     requires { KeepsLimits plan.now }
 {
     let making = Making::of(rt, &words.queue, &words.controls);
@@ -86,7 +87,7 @@ fn run_made<S: Alter + Drop, R>(
 ) -> ExitCode
 where
     R: AllocGlobal + Print + Eprint + Files + Opens<Connection<S>>,
-    R: Clock + Net<Listener = TcpListener, Stream = TcpStream>,
+    R: Terminal + Clock + Net<Listener = TcpListener, Stream = TcpStream>,
     requires { KeepsLimits plan.now }
 {
     let queue = match queue_there(rt, words, plan) {
@@ -106,11 +107,10 @@ where
 }
 
 /// The queue in its file.
-fn queue_there<S: Alter + Drop, R: AllocGlobal + Eprint + Clock + Files + Opens<Connection<S>>>(
-    rt: &R,
-    words: &ConcentratorWords<'_>,
-    plan: &Plan,
-) -> Result<Queue<S>, ExitCode>
+fn queue_there<
+    S: Alter + Drop,
+    R: AllocGlobal + Eprint + Terminal + Clock + Files + Opens<Connection<S>>,
+>(rt: &R, words: &ConcentratorWords<'_>, plan: &Plan) -> Result<Queue<S>, ExitCode>
     requires { KeepsLimits plan.now }
 {
     let conn = files::connection(rt, &words.queue)?;
@@ -135,7 +135,12 @@ fn carry_on<S: Alter + Drop, R>(
     making: &Making<'_>,
 ) -> Result<(ExitCode, Connection<S>, Connection<S>), ExitCode>
 where
-    R: AllocGlobal + Print + Eprint + Clock + Net<Listener = TcpListener, Stream = TcpStream>,
+    R: AllocGlobal
+        + Print
+        + Eprint
+        + Terminal
+        + Clock
+        + Net<Listener = TcpListener, Stream = TcpStream>,
     requires { KeepsLimits plan.now }
 {
     match run_over(rt, words, plan, queue, book, making) {
@@ -159,7 +164,12 @@ fn run_over<Q: PairLanes + Drop, B: Book + Drop, R>(
     making: &Making<'_>,
 ) -> Result<(ExitCode, Q, B), ExitCode>
 where
-    R: AllocGlobal + Print + Eprint + Clock + Net<Listener = TcpListener, Stream = TcpStream>,
+    R: AllocGlobal
+        + Print
+        + Eprint
+        + Terminal
+        + Clock
+        + Net<Listener = TcpListener, Stream = TcpStream>,
     requires { KeepsLimits plan.now }
 {
     match Concentrator::new(rt.alloc(), plan, queue, book) {
@@ -188,7 +198,12 @@ fn run_rounds<Q: PairLanes, B: Book, R>(
     making: &Making<'_>,
 ) -> Result<(), ExitCode>
 where
-    R: AllocGlobal + Print + Eprint + Clock + Net<Listener = TcpListener, Stream = TcpStream>,
+    R: AllocGlobal
+        + Print
+        + Eprint
+        + Terminal
+        + Clock
+        + Net<Listener = TcpListener, Stream = TcpStream>,
 {
     for centre in 0..CENTRES {
         look_at_queue(rt, &words.queue, concentrator.queue(), centre, plan)?;

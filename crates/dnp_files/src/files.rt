@@ -2,17 +2,18 @@
 
 ghost use Rattle.std.specs.Prelude.{◌≤◌, All};
 
-use crate::lines::{Line, OfFile};
+use crate::lines::{Line, OfFile, Working};
 use dnp_eventbuf::MAX_CAPACITY;
 use dnp_objects::LANES;
 use dnp_store::{ControlBook, Journal, OpenFault, Queue};
 use dnp_tcp::{exit, say};
+use dnp_terminal::{Meter, Terminal};
 use sqlite::{Alter, Connection, Error, ErrorCode, FileStore};
 use std::fs::{File, OpenOptions};
-use std::io;
 use std::io::Read;
 use std::process::ExitCode;
 use std::rt::{Clock, Files, HostRuntime};
+use std::{fs, io};
 
 /// What opens databases by connections of this type, and closes them. What uses it is proved for rows that are kept in any way: so only
 /// the two functions that name files prove that what keeps rows there fits, and how its parts are let go.
@@ -47,7 +48,7 @@ pub struct StoreFile<'a> {
 
 impl<'a> StoreFile<'a> {
     /// Says something of the file on standard error.
-    pub(crate) fn say<R: Eprint + Clock>(&self, rt: &R, what: OfFile<'_>) {
+    pub(crate) fn say<R: Eprint + Terminal + Clock>(&self, rt: &R, what: OfFile<'_>) {
         say(rt, &Line::File(self.path, what));
     }
 }
@@ -57,12 +58,15 @@ const MAGIC: [u8; 16] = *b"SQLite format 3\0";
 
 /// Opens the database, and makes its file only where a store is to be made. Where it can't be had, why is said on standard
 /// error, and the exit status is told.
-pub(crate) fn connection<S: Alter, R: Eprint + Clock + Files + Opens<Connection<S>>>(
+pub(crate) fn connection<S: Alter, R: Eprint + Terminal + Clock + Files + Opens<Connection<S>>>(
     rt: &R,
     place: &StoreFile<'_>,
 ) -> Result<Connection<S>, ExitCode> {
     look_at_file(rt, place)?;
-    match rt.open_database(place.path) {
+    let meter = opening(rt, place);
+    let opened = rt.open_database(place.path);
+    meter.end();
+    match opened {
         Ok(conn) => Ok(conn),
         Err(error) => Err(no_database(rt, place, &error)),
     }
@@ -70,7 +74,10 @@ pub(crate) fn connection<S: Alter, R: Eprint + Clock + Files + Opens<Connection<
 
 /// Looks at the file before its database is opened, and makes it where a store is to be made: to open a database that is not there
 /// would make it, to open what is none would leave a log beside it, and neither would say why a file can't be had.
-fn look_at_file<R: Eprint + Clock + Files>(rt: &R, place: &StoreFile<'_>) -> Result<(), ExitCode> {
+fn look_at_file<R: Eprint + Terminal + Clock + Files>(
+    rt: &R,
+    place: &StoreFile<'_>,
+) -> Result<(), ExitCode> {
     match begins_well(rt, place) {
         Ok(true) => Ok(()),
         Ok(false) => {
@@ -98,7 +105,10 @@ fn begins_well<R: Files>(rt: &R, place: &StoreFile<'_>) -> io::Result<bool> {
 }
 
 /// Makes the file, empty. Where it can't be made, why is said on standard error, and the exit status is told.
-fn make_file<R: Eprint + Clock + Files>(rt: &R, place: &StoreFile<'_>) -> Result<(), ExitCode> {
+fn make_file<R: Eprint + Terminal + Clock + Files>(
+    rt: &R,
+    place: &StoreFile<'_>,
+) -> Result<(), ExitCode> {
     match File::create_new(rt, place.path) {
         Ok(_) => Ok(()),
         Err(cause) => {
@@ -110,7 +120,11 @@ fn make_file<R: Eprint + Clock + Files>(rt: &R, place: &StoreFile<'_>) -> Result
 
 /// Says on standard error why the file's database can't be had, and gives the exit status: that of a refused input where
 /// the file is none, or is spoilt.
-fn no_database<R: Eprint + Clock>(rt: &R, place: &StoreFile<'_>, error: &Error) -> ExitCode {
+fn no_database<R: Eprint + Terminal + Clock>(
+    rt: &R,
+    place: &StoreFile<'_>,
+    error: &Error,
+) -> ExitCode {
     match error {
         Error::SqliteFailure(ErrorCode::NotADatabase | ErrorCode::DatabaseCorrupt) => {
             place.say(rt, OfFile::NoDatabase(place.store, error));
@@ -128,7 +142,7 @@ fn no_database<R: Eprint + Clock>(rt: &R, place: &StoreFile<'_>, error: &Error) 
 }
 
 /// Says on standard error why a store does not begin in the database, and gives the exit status.
-fn no_store<S: Alter, R: Eprint + Clock>(
+fn no_store<S: Alter, R: Eprint + Terminal + Clock>(
     rt: &R,
     place: &StoreFile<'_>,
     fault: OpenFault,
@@ -170,23 +184,46 @@ fn other_in<S: Alter>(conn: &Connection<S>, store: &str) -> Option<&'static str>
 }
 
 /// Says on standard error that a store works, but promises nothing, where its tables are not the first of its database, or others refer to them.
-fn look_round<R: Eprint + Clock>(rt: &R, place: &StoreFile<'_>, owned: bool) {
+fn look_round<R: Eprint + Terminal + Clock>(rt: &R, place: &StoreFile<'_>, owned: bool) {
     if !owned {
         place.say(rt, OfFile::OthersToo);
     }
 }
 
 /// Says on standard error that a store failed, where it doesn't serve any more.
-pub(crate) fn look_after<R: Eprint + Clock>(rt: &R, place: &StoreFile<'_>, serves: bool) {
+pub(crate) fn look_after<R: Eprint + Terminal + Clock>(
+    rt: &R,
+    place: &StoreFile<'_>,
+    serves: bool,
+) {
     if !serves {
         place.say(rt, OfFile::Failed(place.store));
     }
 }
 
+/// The octets of a file from which on a terminal shows that it is opened.
+const LARGE: u64 = 4 * 1_024 * 1_024;
+
+/// A meter on which a terminal shows that a store's file is opened, if it is there and large.
+fn opening<'a, R: Eprint + Terminal + Clock + Files>(
+    rt: &'a R,
+    place: &StoreFile<'_>,
+) -> Meter<'a, R> {
+    let meter = Meter::new(rt);
+    if !place.new
+        && let Ok(found) = fs::metadata(rt, place.path)
+        && found.len() >= LARGE
+    {
+        meter.draw(&Working::Opening(place.path, found.len()));
+    }
+    meter
+}
+
 /// The queue in a database, opened, or brought to the form for two centres before, which is said, where it was of that for
 /// one; the second centre's lanes take so many rows then.
-fn migrated<S: Alter + Drop, R: AllocGlobal + Eprint + Clock>(
+fn migrated<S: Alter + Drop, R: AllocGlobal + Eprint + Terminal + Clock>(
     rt: &R,
+    meter: &Meter<'_, R>,
     place: &StoreFile<'_>,
     conn: Connection<S>,
     second: [u32; LANES],
@@ -195,7 +232,9 @@ fn migrated<S: Alter + Drop, R: AllocGlobal + Eprint + Clock>(
 {
     match Queue::open(rt.alloc(), conn) {
         Err((OpenFault::OldForm, conn)) => {
+            meter.draw(&Working::Migrating(place.path));
             let begun = Queue::migrate(rt.alloc(), conn, second);
+            meter.end();
             if begun.is_ok() {
                 place.say(rt, OfFile::Migrated);
             }
@@ -207,7 +246,7 @@ fn migrated<S: Alter + Drop, R: AllocGlobal + Eprint + Clock>(
 
 /// The queue in a database, made with lanes of these capacities for each of two centres, or opened, or brought to the form
 /// for two centres and opened, where that is asked for. Where there is none, that is said, and the exit status is told.
-pub(crate) fn queue<S: Alter + Drop, R: AllocGlobal + Eprint + Clock>(
+pub(crate) fn queue<S: Alter + Drop, R: AllocGlobal + Eprint + Terminal + Clock + Files>(
     rt: &R,
     place: &StoreFile<'_>,
     conn: Connection<S>,
@@ -218,13 +257,15 @@ pub(crate) fn queue<S: Alter + Drop, R: AllocGlobal + Eprint + Clock>(
     requires first { All (λ capacity. (1 ≤ capacity) × (capacity ≤ MAX_CAPACITY)) first }
     requires second { All (λ capacity. (1 ≤ capacity) × (capacity ≤ MAX_CAPACITY)) second }
 {
+    let meter = opening(rt, place);
     let begun = if place.new {
         Queue::create(rt.alloc(), conn, first, second)
     } else if migrates {
-        migrated(rt, place, conn, second)
+        migrated(rt, &meter, place, conn, second)
     } else {
         Queue::open(rt.alloc(), conn)
     };
+    meter.end();
     match begun {
         Ok(queue) => {
             look_round(rt, place, queue.owns_database());
@@ -235,16 +276,18 @@ pub(crate) fn queue<S: Alter + Drop, R: AllocGlobal + Eprint + Clock>(
 }
 
 /// The journal in a database, made or opened. Where there is none, that is said, and the exit status is told.
-pub(crate) fn journal<S: Alter + Drop, R: AllocGlobal + Eprint + Clock>(
+pub(crate) fn journal<S: Alter + Drop, R: AllocGlobal + Eprint + Terminal + Clock + Files>(
     rt: &R,
     place: &StoreFile<'_>,
     conn: Connection<S>,
 ) -> Result<Journal<S>, ExitCode> {
+    let meter = opening(rt, place);
     let begun = if place.new {
         Journal::create(conn)
     } else {
         Journal::open(rt.alloc(), conn)
     };
+    meter.end();
     match begun {
         Ok(journal) => {
             look_round(rt, place, journal.owns_database());
@@ -255,7 +298,7 @@ pub(crate) fn journal<S: Alter + Drop, R: AllocGlobal + Eprint + Clock>(
 }
 
 /// The book of controls in a database, made or opened. Where there is none, that is said, and the exit status is told.
-pub(crate) fn book<S: Alter + Drop, R: AllocGlobal + Eprint + Clock>(
+pub(crate) fn book<S: Alter + Drop, R: AllocGlobal + Eprint + Terminal + Clock>(
     rt: &R,
     place: &StoreFile<'_>,
     conn: Connection<S>,
@@ -277,14 +320,14 @@ pub(crate) fn book<S: Alter + Drop, R: AllocGlobal + Eprint + Clock>(
 /// The book of controls in its file, made or opened. Where there is none, that is said, and the exit status is told.
 pub(crate) fn book_there<
     S: Alter + Drop,
-    R: AllocGlobal + Eprint + Clock + Files + Opens<Connection<S>>,
+    R: AllocGlobal + Eprint + Terminal + Clock + Files + Opens<Connection<S>>,
 >(rt: &R, place: &StoreFile<'_>) -> Result<ControlBook<S>, ExitCode> {
     let conn = connection(rt, place)?;
     book(rt, place, conn)
 }
 
 /// Closes a database in good order, and tells whether it could; where it couldn't, that is said on standard error.
-fn close<S: Alter, R: Eprint + Clock + Opens<Connection<S>>>(
+fn close<S: Alter, R: Eprint + Terminal + Clock + Opens<Connection<S>>>(
     rt: &R,
     place: &StoreFile<'_>,
     conn: Connection<S>,
@@ -300,7 +343,7 @@ fn close<S: Alter, R: Eprint + Clock + Opens<Connection<S>>>(
 
 /// Closes the databases of two stores in good order, and gives this exit status; that of a fault where one couldn't be
 /// closed, which is said on standard error.
-pub(crate) fn close_both<S: Alter, R: Eprint + Clock + Opens<Connection<S>>>(
+pub(crate) fn close_both<S: Alter, R: Eprint + Terminal + Clock + Opens<Connection<S>>>(
     rt: &R,
     first: &StoreFile<'_>,
     one: Connection<S>,

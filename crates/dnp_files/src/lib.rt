@@ -10,14 +10,13 @@ mod gate;
 mod guest;
 pub mod lines;
 mod making;
-mod pending;
 mod planned;
 mod polls;
 mod rounds;
 mod seat;
 mod seats;
 mod sites;
-mod turn;
+mod tones;
 
 pub use centre::{CentreWords, run_centre};
 pub use concentrator::{ConcentratorWords, run_concentrator};

@@ -266,6 +266,31 @@ impl<'a> Display for OfCentre<'a> {
     }
 }
 
+/// A long work on the file at this path, as a terminal shows it.
+#[derive(Clone, Copy)]
+pub enum Working<'a> {
+    /// Its database, of so many octets, is read as a whole.
+    Opening(&'a str, u64),
+    /// Its queue is brought to the form for two centres.
+    Migrating(&'a str),
+    /// Its rows are looked at, and so many percents of them are.
+    Looking(&'a str, u8),
+}
+
+impl<'a> Display for Working<'a> {
+    fn fmt<W: Write>(&self, f: &mut Formatter<W>) -> fmt::Result {
+        match *self {
+            Working::Opening(path, octets) => write!(f, "dnp: {path}: reading {octets} octets .."),
+            Working::Migrating(path) => {
+                write!(f, "dnp: {path}: bringing it to the form for two centres ..")
+            }
+            Working::Looking(path, percent) => {
+                write!(f, "dnp: {path}: looking at its rows: {percent} %")
+            }
+        }
+    }
+}
+
 /// How many rows a poll brought.
 #[derive(Clone, Copy)]
 pub struct Rows(pub u64);

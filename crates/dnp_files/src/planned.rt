@@ -7,12 +7,13 @@ ghost use Rattle.dnp_concentrator.specs.Mapped.{command_above};
 ghost use Rattle.dnp_concentrator.specs.Plan.{map_of, spans_of};
 
 use crate::files::StoreFile;
-use crate::lines::OfFile;
+use crate::lines::{OfFile, Working};
 use dnp_concentrator::{Plan, SubPlan};
 use dnp_controls::{Book, Entry};
 use dnp_eventbuf::{CENTRES, JournalStore, MAX_CAPACITY, PairLanes};
 use dnp_objects::{Command, Kind, LANES, Lane, Row};
 use dnp_tcp::exit;
+use dnp_terminal::{Meter, Terminal};
 use std::process::ExitCode;
 use std::rt::Clock;
 
@@ -81,27 +82,37 @@ fn has_output_above(plan: &Plan, command: &Command) -> bool {
 }
 
 /// Says on standard error that a file can't be read, and gives the exit status of a fault.
-fn unread<R: Eprint + Clock>(rt: &R, place: &StoreFile<'_>) -> ExitCode {
+fn unread<R: Eprint + Terminal + Clock>(rt: &R, place: &StoreFile<'_>) -> ExitCode {
     place.say(rt, OfFile::NoRows);
     ExitCode::from(exit::FAULT)
 }
 
 /// Says on standard error which row is of no point of the plan, and gives the exit status of a refused input.
-fn no_point<R: Eprint + Clock>(rt: &R, place: &StoreFile<'_>, id: u64, row: &Row) -> ExitCode {
+fn no_point<R: Eprint + Terminal + Clock>(
+    rt: &R,
+    place: &StoreFile<'_>,
+    id: u64,
+    row: &Row,
+) -> ExitCode {
     place.say(rt, OfFile::NoPoint(id, row));
     ExitCode::from(exit::REFUSED)
 }
 
 /// Says on standard error which row is of no point of the plan that has events, and gives the exit status of a refused
 /// input.
-fn no_event<R: Eprint + Clock>(rt: &R, place: &StoreFile<'_>, id: u64, row: &Row) -> ExitCode {
+fn no_event<R: Eprint + Terminal + Clock>(
+    rt: &R,
+    place: &StoreFile<'_>,
+    id: u64,
+    row: &Row,
+) -> ExitCode {
     place.say(rt, OfFile::NoEvent(id, row));
     ExitCode::from(exit::REFUSED)
 }
 
 /// Looks whether each row of the queue for this centre is of a point of the plan that has events: the centre would confirm
 /// no other, and so nothing that stands behind it. Where one isn't, that is said, and the exit status is told.
-pub(crate) fn look_at_queue<Q: PairLanes, R: AllocGlobal + Eprint + Clock>(
+pub(crate) fn look_at_queue<Q: PairLanes, R: AllocGlobal + Eprint + Terminal + Clock>(
     rt: &R,
     place: &StoreFile<'_>,
     queue: &mut Q,
@@ -126,35 +137,66 @@ pub(crate) fn look_at_queue<Q: PairLanes, R: AllocGlobal + Eprint + Clock>(
     Ok(())
 }
 
+/// What keeps a journal from being taken.
+#[derive(Clone, Copy)]
+enum Amiss {
+    /// It can't be read.
+    Unread,
+    /// The row with this number is of no point of the plan.
+    NoPoint(u64, Row),
+}
+
+/// The first thing that keeps the journal from being taken, if one does: each row is looked at, in pages, and so many of them shown.
+fn first_amiss<J: JournalStore, R: AllocGlobal + Eprint + Terminal + Clock>(
+    rt: &R,
+    meter: &Meter<'_, R>,
+    path: &str,
+    journal: &mut J,
+    plan: &Plan,
+) -> Option<Amiss> {
+    let count = journal.count();
+    let mut from = 0;
+    let mut done: u64 = 0;
+    for _ in 0..u64::MAX {
+        let Ok(rows) = journal.rows(rt.alloc(), from, PAGE) else {
+            return Some(Amiss::Unread);
+        };
+        let last = rows.last()?;
+        from = last.id;
+        for numbered in rows.iter() {
+            if class_above(plan, &numbered.row).is_none() {
+                return Some(Amiss::NoPoint(numbered.id, numbered.row));
+            }
+        }
+        done = done.saturating_add(rows.len() as u64);
+        if let Some(percent) = meter.due(done, count) {
+            meter.draw(&Working::Looking(path, percent));
+        }
+    }
+    None
+}
+
 /// Looks whether each row of the journal is of a point of the plan, in pages. Where one isn't, that is said, and the exit
 /// status is told.
-pub(crate) fn look_at_journal<J: JournalStore, R: AllocGlobal + Eprint + Clock>(
+pub(crate) fn look_at_journal<J: JournalStore, R: AllocGlobal + Eprint + Terminal + Clock>(
     rt: &R,
     place: &StoreFile<'_>,
     journal: &mut J,
     plan: &Plan,
 ) -> Result<(), ExitCode> {
-    let mut from = 0;
-    for _ in 0..u64::MAX {
-        let Ok(rows) = journal.rows(rt.alloc(), from, PAGE) else {
-            return Err(unread(rt, place));
-        };
-        let Some(last) = rows.last() else {
-            return Ok(());
-        };
-        from = last.id;
-        for numbered in rows.iter() {
-            if class_above(plan, &numbered.row).is_none() {
-                return Err(no_point(rt, place, numbered.id, &numbered.row));
-            }
-        }
+    let meter = Meter::new(rt);
+    let amiss = first_amiss(rt, &meter, place.path, journal, plan);
+    meter.end();
+    match amiss {
+        None => Ok(()),
+        Some(Amiss::Unread) => Err(unread(rt, place)),
+        Some(Amiss::NoPoint(id, row)) => Err(no_point(rt, place, id, &row)),
     }
-    Ok(())
 }
 
 /// Looks whether each control of a book is for an output or a setpoint of the plan, in pages: of a substation by its own
 /// index, or `above` by the index there. Where one isn't, that is said, and the exit status is told.
-pub(crate) fn look_at_book<B: Book, R: AllocGlobal + Eprint + Clock>(
+pub(crate) fn look_at_book<B: Book, R: AllocGlobal + Eprint + Terminal + Clock>(
     rt: &R,
     place: &StoreFile<'_>,
     book: &mut B,
@@ -192,7 +234,11 @@ fn is_planned(plan: &Plan, entry: &Entry, above: bool) -> bool
 }
 
 /// Says on standard error which control is for no output of the plan, and gives the exit status of a refused input.
-fn no_output<R: Eprint + Clock>(rt: &R, place: &StoreFile<'_>, entry: &Entry) -> ExitCode {
+fn no_output<R: Eprint + Terminal + Clock>(
+    rt: &R,
+    place: &StoreFile<'_>,
+    entry: &Entry,
+) -> ExitCode {
     place.say(rt, OfFile::NoOutput(entry));
     ExitCode::from(exit::REFUSED)
 }

@@ -9,6 +9,7 @@ use dnp_eventbuf::JournalStore;
 use dnp_master::{Classes, Task};
 use dnp_objects::Command;
 use dnp_tcp::{Account, Call, Ended, Names, Peer, Thing, exit, moment, say, unprinted};
+use dnp_terminal::Terminal;
 use std::net::{Net, TcpListener, TcpStream};
 use std::process::ExitCode;
 use std::rt::Clock;
@@ -57,7 +58,12 @@ impl<'p> Polls<'p> {
         control: Option<&(u8, Command)>,
     ) -> Result<(), ExitCode>
     where
-        R: AllocGlobal + Print + Eprint + Clock + Net<Listener = TcpListener, Stream = TcpStream>,
+        R: AllocGlobal
+            + Print
+            + Eprint
+            + Terminal
+            + Clock
+            + Net<Listener = TcpListener, Stream = TcpStream>,
     {
         let Some(mut account) = above(rt.alloc(), self.plan) else {
             return Err(no_memory(rt));
@@ -98,7 +104,12 @@ impl<'p> Polls<'p> {
         count: u64,
     ) -> Result<(), ExitCode>
     where
-        R: AllocGlobal + Print + Eprint + Clock + Net<Listener = TcpListener, Stream = TcpStream>,
+        R: AllocGlobal
+            + Print
+            + Eprint
+            + Terminal
+            + Clock
+            + Net<Listener = TcpListener, Stream = TcpStream>,
     {
         let mut now = 0u64;
         let mut next = 0u64;
@@ -123,7 +134,12 @@ impl<'p> Polls<'p> {
         account: &mut Account,
     ) -> Result<Ended, ExitCode>
     where
-        R: AllocGlobal + Print + Eprint + Clock + Net<Listener = TcpListener, Stream = TcpStream>,
+        R: AllocGlobal
+            + Print
+            + Eprint
+            + Terminal
+            + Clock
+            + Net<Listener = TcpListener, Stream = TcpStream>,
     {
         let call = Call {
             peer: Peer::Concentrator,
@@ -148,7 +164,7 @@ impl<'p> Polls<'p> {
 
 /// Issues a control, and says on standard error by which number it stands in the book. Where it can't be issued, that is
 /// said, and the exit status is told.
-fn issue<J: JournalStore, B: Book, R: AllocGlobal + Eprint + Clock>(
+fn issue<J: JournalStore, B: Book, R: AllocGlobal + Eprint + Terminal + Clock>(
     rt: &R,
     centre: &mut Centre<J, B>,
     names: Names<'_>,

@@ -12,6 +12,7 @@ use dnp_eventbuf::PairLanes;
 use dnp_master::{Classes, Task};
 use dnp_streams::Below;
 use dnp_tcp::{Call, Ended, Names, Peer, exit, unprinted};
+use dnp_terminal::Terminal;
 use std::net::{Net, TcpListener, TcpStream};
 use std::process::ExitCode;
 use std::rt::Clock;
@@ -66,7 +67,12 @@ pub(crate) fn run<Q: PairLanes, B: Book, R>(
     making: &Making<'_>,
 ) -> Result<(), ExitCode>
 where
-    R: AllocGlobal + Print + Eprint + Clock + Net<Listener = TcpListener, Stream = TcpStream>,
+    R: AllocGlobal
+        + Print
+        + Eprint
+        + Terminal
+        + Clock
+        + Net<Listener = TcpListener, Stream = TcpStream>,
 {
     let Some(mut accounts) = Accounts::below(rt.alloc(), rounds.plan, concentrator.queue()) else {
         return Err(no_memory(rt));
@@ -103,7 +109,12 @@ fn by_centres<Q: PairLanes, B: Book, R>(
     making: &Making<'_>,
 ) -> Result<(), ExitCode>
 where
-    R: AllocGlobal + Print + Eprint + Clock + Net<Listener = TcpListener, Stream = TcpStream>,
+    R: AllocGlobal
+        + Print
+        + Eprint
+        + Terminal
+        + Clock
+        + Net<Listener = TcpListener, Stream = TcpStream>,
 {
     let first = Gate::open(rt, rounds.first)?;
     let second = match rounds.second {
@@ -142,7 +153,12 @@ fn by_clock<Q: PairLanes, B: Book, R>(
     pace: Pace,
 ) -> Result<(), ExitCode>
 where
-    R: AllocGlobal + Print + Eprint + Clock + Net<Listener = TcpListener, Stream = TcpStream>,
+    R: AllocGlobal
+        + Print
+        + Eprint
+        + Terminal
+        + Clock
+        + Net<Listener = TcpListener, Stream = TcpStream>,
 {
     for round in 0..pace.count {
         let next = seats.now(rt).saturating_add(pace.every_ms);
@@ -155,7 +171,11 @@ where
 }
 
 /// Prints how many rows a round brought; it is counted from 0. Where that can't be printed, the exit status is told.
-fn print_round<R: Print + Eprint + Clock>(rt: &R, round: u64, rows: u64) -> Result<(), ExitCode> {
+fn print_round<R: Print + Eprint + Terminal + Clock>(
+    rt: &R,
+    round: u64,
+    rows: u64,
+) -> Result<(), ExitCode> {
     let line = Round { round, rows };
     match println!(rt; "{line}") {
         Ok(()) => Ok(()),
@@ -178,7 +198,11 @@ impl<'p> Rounds<'p> {
         accounts: &mut Accounts,
     ) -> Result<u64, ExitCode>
     where
-        R: AllocGlobal + Eprint + Clock + Net<Listener = TcpListener, Stream = TcpStream>,
+        R: AllocGlobal
+            + Eprint
+            + Terminal
+            + Clock
+            + Net<Listener = TcpListener, Stream = TcpStream>,
     {
         let mut rows = 0u64;
         for substation in 0..self.count() {
@@ -196,7 +220,11 @@ impl<'p> Rounds<'p> {
         seats: &mut Seats,
     ) -> Result<u64, ExitCode>
     where
-        R: AllocGlobal + Eprint + Clock + Net<Listener = TcpListener, Stream = TcpStream>,
+        R: AllocGlobal
+            + Eprint
+            + Terminal
+            + Clock
+            + Net<Listener = TcpListener, Stream = TcpStream>,
     {
         let mut rows = 0u64;
         for substation in 0..self.count() {
@@ -216,7 +244,11 @@ impl<'p> Rounds<'p> {
         substation: u8,
     ) -> Result<u64, ExitCode>
     where
-        R: AllocGlobal + Eprint + Clock + Net<Listener = TcpListener, Stream = TcpStream>,
+        R: AllocGlobal
+            + Eprint
+            + Terminal
+            + Clock
+            + Net<Listener = TcpListener, Stream = TcpStream>,
     {
         let Some(target) = self.substations.target(substation) else {
             return Ok(0);

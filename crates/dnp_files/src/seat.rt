@@ -5,11 +5,12 @@ ghost use Rattle.std.specs.Prelude.{◌<◌};
 use crate::guest::{Guest, Turned, tell};
 use crate::lines::{Line, News};
 use crate::sites::Served;
-use crate::turn::{Span, prepare};
 use dnp_concentrator::Concentrator;
 use dnp_controls::Book;
 use dnp_eventbuf::{CENTRES, PairLanes};
-use dnp_tcp::{Caller, Door, Ending, exit, listen, no_port, say, say_listening};
+use dnp_streams::StepRoom;
+use dnp_tcp::{Caller, Door, Ending, Span, exit, listen, no_port, prepare, say, say_listening};
+use dnp_terminal::Terminal;
 use std::io;
 use std::net::{Net, TcpListener, TcpStream};
 use std::process::ExitCode;
@@ -17,6 +18,9 @@ use std::rt::Clock;
 
 /// How long it is waited after no connection could be had, in milliseconds.
 const AFTER_MS: u64 = 1_000;
+
+/// How long a write waits, in milliseconds, before what is left of it stands over to the next turn.
+const WRITE_MS: u64 = 1;
 
 /// The place of a centre.
 #[derive(Drop)]
@@ -38,7 +42,7 @@ impl Seat {
     /// can't be had, that is said, and the exit status is told.
     pub(crate) fn open<R>(rt: &R, served: Served, idle: u64) -> Result<Seat, ExitCode>
     where
-        R: Eprint + Clock + Net<Listener = TcpListener, Stream = TcpStream>,
+        R: Eprint + Terminal + Clock + Net<Listener = TcpListener, Stream = TcpStream>,
     {
         let address = served.place.address();
         match listen(rt, address) {
@@ -62,7 +66,7 @@ impl Seat {
     }
 
     /// The connection that has come by this moment, if one has. Why none can be had is said on standard error, once a second.
-    fn next_caller<R: Eprint + Clock>(&mut self, rt: &R, now: u64) -> Option<Caller> {
+    fn next_caller<R: Eprint + Terminal + Clock>(&mut self, rt: &R, now: u64) -> Option<Caller> {
         if now < self.after {
             return None;
         }
@@ -78,7 +82,7 @@ impl Seat {
     }
 
     /// Ends the connection, if there is one, hangs the station up, and says how it ended.
-    pub(crate) fn hang_up<Q: PairLanes, B: Book, R: Eprint + Clock>(
+    pub(crate) fn hang_up<Q: PairLanes, B: Book, R: Eprint + Terminal + Clock>(
         &mut self,
         rt: &R,
         concentrator: &mut Concentrator<Q, B>,
@@ -94,7 +98,7 @@ impl Seat {
     }
 
     /// Lets a connection that has come by this moment take the place.
-    fn look<Q: PairLanes, B: Book, R: AllocGlobal + Eprint + Clock>(
+    fn look<Q: PairLanes, B: Book, R: AllocGlobal + Eprint + Terminal + Clock>(
         &mut self,
         rt: &R,
         concentrator: &mut Concentrator<Q, B>,
@@ -109,7 +113,7 @@ impl Seat {
         let peer = caller.peer;
         self.hang_up(rt, concentrator, centre, Ending::Taken(peer));
         tell(rt, peer, centre, News::Connected);
-        let prepared = prepare(&caller.stream);
+        let prepared = prepare(&caller.stream, WRITE_MS);
         let mut guest = Guest::new(rt.alloc(), caller, self.served.taken, now);
         match prepared {
             Ok(()) => self.guest = Some(guest),
@@ -119,9 +123,10 @@ impl Seat {
 
     /// Serves the centre for a turn that begins at this moment, and tells whether a fragment came whole. Where a store or memory
     /// fails, the exit status is told.
-    pub(crate) fn serve<Q: PairLanes, B: Book, R: AllocGlobal + Eprint + Clock>(
+    pub(crate) fn serve<Q: PairLanes, B: Book, R: AllocGlobal + Eprint + Terminal + Clock>(
         &mut self,
         rt: &R,
+        room: &mut StepRoom,
         concentrator: &mut Concentrator<Q, B>,
         centre: u8,
         now: u64,
@@ -140,7 +145,7 @@ impl Seat {
             self.hang_up(rt, concentrator, centre, how);
         }
         let turned = match &mut self.guest {
-            Some(guest) => guest.serve(rt, concentrator, centre, span),
+            Some(guest) => guest.serve(rt, room, concentrator, centre, span),
             None => return Ok(false),
         };
         match turned {

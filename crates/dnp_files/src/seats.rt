@@ -2,11 +2,12 @@
 
 use crate::seat::Seat;
 use crate::sites::Served;
-use crate::turn::Span;
 use dnp_concentrator::Concentrator;
 use dnp_controls::Book;
 use dnp_eventbuf::PairLanes;
-use dnp_tcp::{Ending, moment};
+use dnp_streams::StepRoom;
+use dnp_tcp::{Ending, Span, moment};
+use dnp_terminal::Terminal;
 use std::net::{Net, TcpListener, TcpStream};
 use std::process::ExitCode;
 use std::rt::Clock;
@@ -36,6 +37,8 @@ pub(crate) struct Seats {
     second: Option<Seat>,
     /// The moment of the last turn, in milliseconds.
     now: u64,
+    /// Room for the steps of turns.
+    room: StepRoom,
 }
 
 impl Seats {
@@ -48,7 +51,11 @@ impl Seats {
         idle: u64,
     ) -> Result<Seats, ExitCode>
     where
-        R: Eprint + Clock + Net<Listener = TcpListener, Stream = TcpStream>,
+        R: AllocGlobal
+            + Eprint
+            + Terminal
+            + Clock
+            + Net<Listener = TcpListener, Stream = TcpStream>,
     {
         let first = Seat::open(rt, first, idle)?;
         let second = match second {
@@ -59,6 +66,7 @@ impl Seats {
             first,
             second,
             now: 0,
+            room: StepRoom::new(rt.alloc()),
         })
     }
 
@@ -79,7 +87,7 @@ impl Seats {
 
     /// A turn of each centre, in which a read waits for so long, in milliseconds; tells whether a fragment came whole. Where a
     /// store or memory fails, the exit status is told.
-    fn serve_each<Q: PairLanes, B: Book, R: AllocGlobal + Eprint + Clock>(
+    fn serve_each<Q: PairLanes, B: Book, R: AllocGlobal + Eprint + Terminal + Clock>(
         &mut self,
         rt: &R,
         concentrator: &mut Concentrator<Q, B>,
@@ -87,13 +95,15 @@ impl Seats {
     ) -> Result<bool, ExitCode> {
         let now = self.now(rt);
         let until = now.saturating_add(TURN_MS);
+        let span = Span { wait_ms, until };
         let mut came = self
             .first
-            .serve(rt, concentrator, 0, now, Span { wait_ms, until })?;
+            .serve(rt, &mut self.room, concentrator, 0, now, span)?;
         let now = self.now(rt);
         let until = now.saturating_add(TURN_MS);
+        let span = Span { wait_ms, until };
         if let Some(seat) = &mut self.second
-            && seat.serve(rt, concentrator, 1, now, Span { wait_ms, until })?
+            && seat.serve(rt, &mut self.room, concentrator, 1, now, span)?
         {
             came = true;
         }
@@ -101,7 +111,7 @@ impl Seats {
     }
 
     /// Serves the centres between two substations: each for a turn, and as long as fragments come, but no longer than a while.
-    pub(crate) fn serve_between<Q: PairLanes, B: Book, R: AllocGlobal + Eprint + Clock>(
+    pub(crate) fn serve_between<Q: PairLanes, B: Book, R: AllocGlobal + Eprint + Terminal + Clock>(
         &mut self,
         rt: &R,
         concentrator: &mut Concentrator<Q, B>,
@@ -118,7 +128,7 @@ impl Seats {
     }
 
     /// Serves the centres up to this moment, in milliseconds, each for a turn at least.
-    pub(crate) fn serve_until<Q: PairLanes, B: Book, R: AllocGlobal + Eprint + Clock>(
+    pub(crate) fn serve_until<Q: PairLanes, B: Book, R: AllocGlobal + Eprint + Terminal + Clock>(
         &mut self,
         rt: &R,
         concentrator: &mut Concentrator<Q, B>,
@@ -138,7 +148,7 @@ impl Seats {
     }
 
     /// Ends the connections of the centres, since all rounds are done.
-    pub(crate) fn close<Q: PairLanes, B: Book, R: Eprint + Clock>(
+    pub(crate) fn close<Q: PairLanes, B: Book, R: Eprint + Terminal + Clock>(
         &mut self,
         rt: &R,
         concentrator: &mut Concentrator<Q, B>,

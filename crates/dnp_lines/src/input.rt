@@ -99,3 +99,26 @@ pub enum Refused<'a> {
     /// A capture, by the name of its fault.
     Capture(&'a str),
 }
+
+/// What a file is.
+#[derive(Clone, Copy, Debug, PartialEq, Eq)]
+pub enum Meant {
+    /// A plan.
+    Plan,
+    /// The file of a network.
+    Network,
+    /// A table of points.
+    Points,
+    /// A script.
+    Script,
+    /// A capture.
+    Capture,
+    /// Octets of frames.
+    Octets,
+    /// Hexadecimal octets of frames.
+    Hexadecimal,
+}
+
+/// A file with this name that was given for another one, and what it is.
+#[derive(Clone, Copy)]
+pub struct Given<'a>(pub &'a str, pub Meant);

@@ -8,7 +8,9 @@ mod running;
 mod said;
 mod wrong;
 
-pub use input::{AtLine, AtOctet, Line, Misfit, NotToml, Of, Own, Refused, Starved, TextPlace};
-pub use running::{Begun, Found, LookedUp, SentCode, Version, Whose};
+pub use input::{
+    AtLine, AtOctet, Given, Line, Meant, Misfit, NotToml, Of, Own, Refused, Starved, TextPlace,
+};
+pub use running::{Begun, Doing, Found, LookedUp, SentCode, Version, Whose};
 pub use said::{NETWORK, WIRE, tip_of};
-pub use wrong::{Misuse, Untaken, Wanted, Wrong};
+pub use wrong::{Apart, Misuse, Untaken, Wanted, Wrong};

@@ -52,3 +52,12 @@ pub struct LookedUp<'a> {
     /// How long that took, in milliseconds.
     pub ms: u64,
 }
+
+/// A long work that is on its way, as a terminal shows it.
+#[derive(Clone, Copy)]
+pub enum Doing {
+    /// A script of so many octets is read and checked.
+    Checking(usize),
+    /// A script is run, and so many percents of it are done.
+    Running(u8),
+}

@@ -1,8 +1,10 @@
 //! The texts of the lines that the program says by itself, all of them.
 
-use crate::input::{AtLine, AtOctet, Line, Misfit, NotToml, Of, Own, Refused, Starved, TextPlace};
-use crate::running::{Begun, Found, LookedUp, SentCode, Version, Whose};
-use crate::wrong::{Misuse, Untaken, Wanted, Wrong};
+use crate::input::{
+    AtLine, AtOctet, Given, Line, Meant, Misfit, NotToml, Of, Own, Refused, Starved, TextPlace,
+};
+use crate::running::{Begun, Doing, Found, LookedUp, SentCode, Version, Whose};
+use crate::wrong::{Apart, Misuse, Untaken, Wanted, Wrong};
 use dnp_orders::CodeNames;
 use sqlite::{Error, ErrorCode};
 use std::fmt;
@@ -149,6 +151,17 @@ impl<'a> Display for Begun<'a> {
     }
 }
 
+impl Display for Doing {
+    fn fmt<W: Write>(&self, f: &mut Formatter<W>) -> fmt::Result {
+        match self {
+            Doing::Checking(octets) => {
+                write!(f, "dnp: checking the script of {octets} octets ..")
+            }
+            Doing::Running(percent) => write!(f, "dnp: running the script: {percent} %"),
+        }
+    }
+}
+
 impl Display for SentCode {
     fn fmt<W: Write>(&self, f: &mut Formatter<W>) -> fmt::Result {
         let code = self.0;
@@ -205,6 +218,9 @@ impl<'a> Display for Wanted<'a> {
             Wanted::Classes => f.write_str("not digits of 0 to 3, each once"),
             Wanted::Time => f.write_str("not 'now', nor a decimal number below 2^48"),
             Wanted::Interval => f.write_str("not a time as 500ms, 5s, 2m or 1h, a day at most"),
+            Wanted::Points => {
+                f.write_str("not a group, a variation and indices, as 30.1:0-9 or 1.2:7")
+            }
             Wanted::Owner => f.write_str("'centre' or 'concentrator' belongs there"),
             Wanted::Substation => f.write_str("the plan has no such substation"),
             Wanted::SubstationBelow(count) => {
@@ -221,6 +237,22 @@ impl<'a> Display for Wanted<'a> {
             Wanted::Order(told) => write!(f, "{told}"),
             Wanted::Certain(doubt) => write!(f, "{doubt} ('--raw' sends it all the same)"),
         }
+    }
+}
+
+impl Display for Apart {
+    fn fmt<W: Write>(&self, f: &mut Formatter<W>) -> fmt::Result {
+        f.write_str(match self {
+            Apart::Listening => {
+                "an outstation sends its events by itself while '--listen' waits, so leave out one of them"
+            }
+            Apart::Unconfirmed => {
+                "an outstation sends an event again until it is confirmed, so leave out one of them"
+            }
+            Apart::Untabled => {
+                "the table alone has a height, and with the other there is none, so leave out one of them"
+            }
+        })
     }
 }
 
@@ -245,6 +277,9 @@ impl<'a> Wrong<'a> {
         match *self {
             Wrong::Together(one, other) => {
                 write!(f, "'{one}' and '{other}' can't be used together")
+            }
+            Wrong::Apart(one, other, why) => {
+                write!(f, "'{one}' and '{other}' can't be used together: {why}")
             }
             Wrong::Needs(one, other) => write!(f, "'{one}' needs '{other}'"),
             Wrong::Stores => f.write_str(
@@ -314,6 +349,23 @@ impl<'a> Display for Untaken<'a> {
             "{}' found\n\n  tip: {}\n\nUsage: {}",
             self.0, self.1, self.2
         )
+    }
+}
+
+impl<'a> Display for Given<'a> {
+    fn fmt<W: Write>(&self, f: &mut Formatter<W>) -> fmt::Result {
+        let how = match self.1 {
+            Meant::Plan => "a plan, which '--plan <FILE>' names",
+            Meant::Network => "a network file, which '--network <FILE>' names",
+            Meant::Points => "a table of points, which 'points' of a network file names",
+            Meant::Script => "a script, which 'dnp sim' reads from standard input",
+            Meant::Capture => "a capture, which '--pcap <FILE>' names",
+            Meant::Octets => "octets of frames, which '--raw' reads from standard input",
+            Meant::Hexadecimal => {
+                "hexadecimal octets, which 'dnp decode' reads from standard input"
+            }
+        };
+        write!(f, "dnp: {}: tip: it looks like {how}", self.0)
     }
 }
 

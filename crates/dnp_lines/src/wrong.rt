@@ -19,6 +19,8 @@ pub enum Wanted<'a> {
     Time,
     /// A time between rounds.
     Interval,
+    /// Points of a group.
+    Points,
     /// The owner of a book.
     Owner,
     /// A substation of the plan.
@@ -48,6 +50,17 @@ pub enum Misuse {
     Plan,
 }
 
+/// Why two options can't be given together, with what to do.
+#[derive(Clone, Copy)]
+pub enum Apart {
+    /// What is listened to comes by itself, so that nothing is asked again.
+    Listening,
+    /// What isn't confirmed is sent again.
+    Unconfirmed,
+    /// A table has no lines with JSON or times.
+    Untabled,
+}
+
 /// What is wrong with a command line.
 #[derive(Clone, Copy)]
 pub enum Wrong<'a> {
@@ -67,6 +80,8 @@ pub enum Wrong<'a> {
     NoCentre(&'a str),
     /// These can't be given together.
     Together(&'a str, &'a str),
+    /// These can't be given together, for this reason.
+    Apart(&'a str, &'a str, Apart),
     /// The first needs the second.
     Needs(&'a str, &'a str),
     /// No store is named, or more than one.
