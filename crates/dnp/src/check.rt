@@ -17,6 +17,7 @@ use crate::plan_file::plan_given;
 use clap::{ArgMatches, Command};
 use dnp_concentrator::Plan;
 use dnp_tcp::{exit, unwritten};
+use dnp_terminal::{Screen, Terminal};
 use std::alloc::{AllocError, Global};
 use std::io;
 use std::io::Write;
@@ -71,8 +72,8 @@ const JSON: &str = "Print a JSON object";
 /// How the system is printed.
 #[derive(Clone, Copy)]
 enum Form {
-    /// A table for people.
-    Table,
+    /// A table for people, whose headings may be in bold there.
+    Table(Screen),
     /// Records of CSV.
     Csv,
     /// A JSON object.
@@ -91,22 +92,22 @@ pub(crate) fn command<'a>(alloc: Global) -> Result<Command<'a>, AllocError> {
 }
 
 /// How the words want the system printed.
-fn form_given(given: &ArgMatches<'_>) -> Form {
+fn form_given<R: Terminal>(rt: &R, given: &ArgMatches<'_>) -> Form {
     if given.get_flag("csv") {
         Form::Csv
     } else if given.get_flag("json") {
         Form::Json
     } else {
-        Form::Table
+        Form::Table(rt.output_screen())
     }
 }
 
 /// Judges the files that the given words name, prints the system, and tells the exit status.
-pub(crate) fn run<R: AllocGlobal + Print + Eprint + Files>(
+pub(crate) fn run<R: AllocGlobal + Print + Eprint + Terminal + Files>(
     rt: &R,
     given: &ArgMatches<'_>,
 ) -> anyhow::Result<ExitCode> {
-    let form = form_given(given);
+    let form = form_given(rt, given);
     let plan = match plan_given(rt, given.get_str("plan").unwrap_or("")) {
         Ok(plan) => plan,
         Err(status) => return Ok(status),
@@ -160,7 +161,7 @@ fn print_system<R: AllocGlobal + Print + Eprint>(
 ) -> anyhow::Result<ExitCode> {
     let mut printed = Vec::new(rt.alloc());
     match form {
-        Form::Table => write_table(&mut printed, rt.alloc(), system)?,
+        Form::Table(screen) => write_table(&mut printed, rt.alloc(), system, screen)?,
         Form::Csv => write_csv(&mut printed, system)?,
         Form::Json => write_json(&mut printed, system)?,
     }

@@ -3,13 +3,15 @@
 use crate::check_words::first_wrong;
 use crate::inputs::octets_of;
 use crate::options::{flag, subcommand, valued};
+use crate::tips::say_meant;
 use clap::{ArgMatches, Command};
 use dnp_captures::{
-    CaptureFault, Decoded, Item, What, decode_capture, items_of_text, octets_of_text, place_octets,
-    print_decoded, push_refused,
+    CaptureFault, Decoded, Form, Item, What, decode_capture, items_of_text, octets_of_text,
+    place_octets, print_decoded, push_refused,
 };
-use dnp_lines::{AtLine, AtOctet, Of, Own, Refused, Wrong};
+use dnp_lines::{AtLine, AtOctet, Meant, Of, Own, Refused, Wrong};
 use dnp_tcp::{Noted, exit, unwritten};
+use dnp_terminal::Terminal;
 use std::alloc::{AllocError, Global};
 use std::io::{BufWriter, Write};
 use std::process::ExitCode;
@@ -60,18 +62,18 @@ OUTPUT
     request seq 0 fir fin con READ
               A request: its sequence number, the bits that are set, and its function.
 
-    response seq 0 fir fin, iin 80 00
-              A response with its internal indications. An unsolicited response has 'uns'; --json
-              has its function.
+    response seq 0 fir fin, iin 80 00 DEVICE_RESTART
+              A response with its internal indications, and the name of each that is set. An
+              unsolicited response has 'uns'; --json has its function.
 
     30.1 5..6, 2.2 x1, 60.2 all
               Object headers: group 30 variation 1 with the indexes 5 to 6, one object, and all
               objects. Without --json a header with objects has no line; each object repeats it.
 
-    2.2 x1: 3 = 1 flags 01 at 2026-01-31T12:00:00.000Z
-              An object after its header: the index, the value, the flags without the state bit,
-              and the time in UTC. States of outputs (10.2) and setpoints (40.1, 40.2) have the
-              same form.
+    2.2 x1: 3 = 1 flags 01 ONLINE at 2026-01-31T12:00:00.000Z
+              An object after its header: the index, the value, the flags without the state bit and
+              the name of each that is set, and the time in UTC. States of outputs (10.2) and
+              setpoints (40.1, 40.2) have the same form.
 
     12.1 x1: 5 code 81 count 2 on 100 off 200 status 0
               A command to output 5: the code in hexadecimal, and the times in milliseconds.
@@ -158,12 +160,21 @@ pub(crate) fn command<'a>(alloc: Global) -> Result<Command<'a>, AllocError> {
     subcommand(alloc, NAME, ABOUT, AFTER, &choices)
 }
 
+/// How the given words want lines printed: text has colours where standard output is a terminal.
+fn form_given<R: Terminal>(rt: &R, given: &ArgMatches<'_>) -> Form {
+    if given.get_flag("json") {
+        Form::Json
+    } else {
+        Form::Text(rt.output_screen())
+    }
+}
+
 /// Decodes the input by the given words, and tells the exit status.
-pub(crate) fn run<R: AllocGlobal + Input + Print + Eprint + Files>(
+pub(crate) fn run<R: AllocGlobal + Input + Print + Eprint + Terminal + Files>(
     rt: &R,
     given: &ArgMatches<'_>,
 ) -> anyhow::Result<ExitCode> {
-    let json = given.get_flag("json");
+    let form = form_given(rt, given);
     let raw = given.get_flag("raw");
     match given.get_str("pcap") {
         Some(_) if raw => {
@@ -172,11 +183,11 @@ pub(crate) fn run<R: AllocGlobal + Input + Print + Eprint + Files>(
             Ok(ExitCode::from(exit::USAGE))
         }
         Some(path) => match octets_of(rt, path, fs::open(rt, path), MAX_INPUT) {
-            Ok(octets) => print_capture(rt, path, octets.as_slice(), json),
+            Ok(octets) => print_capture(rt, path, octets.as_slice(), form),
             Err(status) => Ok(status),
         },
         None => match octets_of(rt, "standard input", Ok(rt.reader()), MAX_INPUT) {
-            Ok(octets) => decode_octets(rt, octets.as_slice(), raw, json),
+            Ok(octets) => decode_octets(rt, octets.as_slice(), raw, form),
             Err(status) => Ok(status),
         },
     }
@@ -187,7 +198,7 @@ fn decode_octets<R: AllocGlobal + Print + Eprint>(
     rt: &R,
     given: &[u8],
     raw: bool,
-    json: bool,
+    form: Form,
 ) -> anyhow::Result<ExitCode> {
     let decoded = if raw {
         let items = place_octets(rt.alloc(), given)?;
@@ -197,9 +208,15 @@ fn decode_octets<R: AllocGlobal + Print + Eprint>(
         let octets = octets_of_text(rt.alloc(), given)?;
         with_refused(rt.alloc(), octets.as_slice(), items)?
     };
-    let status = print_all(rt, &decoded, json)?;
+    let status = print_all(rt, &decoded, form)?;
     if status == ExitCode::from(exit::REFUSED) {
         say_word(rt, given, decoded.items.as_slice(), raw)?;
+        let wanted = if raw {
+            Meant::Octets
+        } else {
+            Meant::Hexadecimal
+        };
+        say_meant(rt, "standard input", given, wanted);
     }
     Ok(status)
 }
@@ -246,10 +263,10 @@ fn print_capture<R: AllocGlobal + Print + Eprint>(
     rt: &R,
     path: &str,
     octets: &[u8],
-    json: bool,
+    form: Form,
 ) -> anyhow::Result<ExitCode> {
     match decode_capture(rt.alloc(), octets) {
-        Ok(decoded) => print_all(rt, &decoded, json),
+        Ok(decoded) => print_all(rt, &decoded, form),
         Err(CaptureFault::Memory) => {
             let line = Own(&CaptureFault::Memory);
             let _ = eprintln!(rt; "{line}");
@@ -262,6 +279,7 @@ fn print_capture<R: AllocGlobal + Print + Eprint>(
             }
             let line = Of(path, &fault);
             let _ = eprintln!(rt; "{line}");
+            say_meant(rt, path, octets, Meant::Capture);
             Ok(ExitCode::from(exit::REFUSED))
         }
     }
@@ -271,20 +289,20 @@ fn print_capture<R: AllocGlobal + Print + Eprint>(
 fn print_all<R: AllocGlobal + Print + Eprint>(
     rt: &R,
     decoded: &Decoded,
-    json: bool,
+    form: Form,
 ) -> anyhow::Result<ExitCode> {
     let mut out = BufWriter::new(rt.alloc(), Noted::new(io::writer(rt)))?;
-    print_into(rt, decoded, json, &mut out)
+    print_into(rt, decoded, form, &mut out)
 }
 
 /// Prints it into this buffer, and tells the exit status.
 fn print_into<R: AllocGlobal + Eprint, W: Write + Drop>(
     rt: &R,
     decoded: &Decoded,
-    json: bool,
+    form: Form,
     out: &mut BufWriter<Noted<W>>,
 ) -> anyhow::Result<ExitCode> {
-    let printed = print_decoded(rt.alloc(), decoded, json, &mut *out);
+    let printed = print_decoded(rt.alloc(), decoded, form, &mut *out);
     let flushed = out.flush();
     if let Some(cause) = out.get_ref().cause() {
         return Ok(unwritten(rt, cause));

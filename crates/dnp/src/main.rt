@@ -14,6 +14,7 @@ mod concentrate;
 mod decode;
 mod hosts;
 mod inputs;
+mod looking;
 mod looks;
 mod loopback;
 mod network_file;
@@ -49,6 +50,9 @@ const ABOUT: &str = "DNP3 (IEEE Std 1815-2012) from the command line.";
 /// What `dnp --help` says after the subcommands.
 const AFTER: &str = "\
 Each subcommand has a help text of its own, such as 'dnp answer --help'.
+
+At a terminal some lines have colours, and long work shows how far it is. If NO_COLOR is set, there
+are no colours.
 
 Exit status: 2 if the command line is wrong, and 3 if the program itself failed, as when it is out
 of memory. Standard error then has the reason; status 3 has none if the reader of the output has

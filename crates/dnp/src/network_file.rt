@@ -3,9 +3,10 @@
 ghost use Rattle.dnp_concentrator.specs.Plan.{KeepsLimits};
 
 use crate::inputs::octets_of;
+use crate::tips::say_meant;
 use crate::toml_faults::TomlFault;
 use dnp_concentrator::{IndexKind, Plan};
-use dnp_lines::{Line, NETWORK, NotToml, Of};
+use dnp_lines::{Line, Meant, NETWORK, NotToml, Of};
 use dnp_network::{
     Listed, Network, NetworkFault, PointCounts, PointKind, PointName, PointsReason, network_reason,
     points_in, read_network, records_of,
@@ -81,11 +82,12 @@ fn refused<R: AllocGlobal + Eprint>(
     {
         let line = NotToml(path, found.place(), &NETWORK, found.reason());
         let _ = eprintln!(rt; "{line}");
-        return Ok(ExitCode::from(exit::REFUSED));
+    } else {
+        let reason = network_reason(rt.alloc(), text, fault)?;
+        let line = Of(path, &reason);
+        let _ = eprintln!(rt; "{line}");
     }
-    let reason = network_reason(rt.alloc(), text, fault)?;
-    let line = Of(path, &reason);
-    let _ = eprintln!(rt; "{line}");
+    say_meant(rt, path, text.as_bytes(), Meant::Network);
     Ok(ExitCode::from(exit::REFUSED))
 }
 

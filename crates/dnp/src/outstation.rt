@@ -18,6 +18,7 @@ use dnp_daemons::{
 use dnp_lines::{Wanted, Wrong};
 use dnp_network::Network;
 use dnp_tcp::{Ends, Listening, Place, Replay, exit, live_on_connections};
+use dnp_terminal::Terminal;
 use std::alloc::{AllocError, Global};
 use std::net::{Net, SocketAddr, TcpListener, TcpStream};
 use std::process::ExitCode;
@@ -60,7 +61,7 @@ CONNECTIONS
   and all that is in memory is lost.
   A new connection takes over. The old one ends as soon as it sends nothing for 50 ms, and after a
   second at the latest. With --connections N the last connection is never taken over: a new client
-  waits, and is not served.
+  is hung up, and the log says so.
   A connection ends in these cases. The program then prints 'served N', and serves the next master.
   The status stays 0.
 
@@ -249,7 +250,7 @@ fn words_given<'a, R: Eprint>(rt: &R, given: &ArgMatches<'a>) -> Option<Words<'a
 /// Serves the outstation that the given words name, and tells the exit status.
 pub(crate) fn run<R>(rt: &R, given: &ArgMatches<'_>) -> anyhow::Result<ExitCode>
 where
-    R: AllocGlobal + Print + Eprint + Files + Clock,
+    R: AllocGlobal + Print + Eprint + Terminal + Files + Clock,
     R: Net<Listener = TcpListener, Stream = TcpStream>,
 {
     let Some(words) = words_given(rt, given) else {
@@ -269,7 +270,7 @@ fn run_plan<R>(
     octets: &[u8],
 ) -> anyhow::Result<ExitCode>
 where
-    R: AllocGlobal + Print + Eprint + Files + Clock,
+    R: AllocGlobal + Print + Eprint + Terminal + Files + Clock,
     R: Net<Listener = TcpListener, Stream = TcpStream>,
 {
     let Ok(text) = str::from_utf8(octets) else {
@@ -295,7 +296,7 @@ fn serve_in_network<S, R>(
 ) -> anyhow::Result<ExitCode>
 where
     S: Living,
-    R: AllocGlobal + Print + Eprint + Files + Clock,
+    R: AllocGlobal + Print + Eprint + Terminal + Files + Clock,
     R: Net<Listener = TcpListener, Stream = TcpStream>,
 {
     let plan = match read_plan(rt.alloc(), text) {
@@ -351,7 +352,7 @@ fn serve<S, R>(
 ) -> anyhow::Result<ExitCode>
 where
     S: Living,
-    R: AllocGlobal + Print + Eprint + Files + Clock,
+    R: AllocGlobal + Print + Eprint + Terminal + Files + Clock,
     R: Net<Listener = TcpListener, Stream = TcpStream>,
 {
     let replay = match words.replay {

@@ -4,10 +4,11 @@ ghost use Rattle.std.specs.Prelude.{IfOk};
 ghost use Rattle.dnp_concentrator.specs.Plan.{KeepsLimits};
 
 use crate::inputs::octets_of;
+use crate::tips::say_meant;
 use crate::toml_faults::TomlFault;
 use dnp_concentrator::Plan;
 use dnp_daemons::{PlanTextFault, plan_fault, read_plan};
-use dnp_lines::{NotToml, Of, Own, Refused};
+use dnp_lines::{Meant, NotToml, Of, Own, Refused};
 use dnp_tcp::{exit, unwritten};
 use std::process::ExitCode;
 use std::rt::Files;
@@ -59,6 +60,7 @@ pub(crate) fn refused<R: AllocGlobal + Print + Eprint>(
         return unwritten(rt, &cause);
     }
     explain(rt, path, octets, fault);
+    say_meant(rt, path, octets, Meant::Plan);
     ExitCode::from(exit::REFUSED)
 }
 

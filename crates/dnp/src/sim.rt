@@ -1,18 +1,20 @@
 //! `dnp sim`: a whole system of a plan, run by a script.
 
+use crate::looking::{Clearing, Looker, tell_checking};
 use crate::looks::{misuse, write_looks};
 use crate::options::{flag, plan, subcommand, valued};
 use crate::texts::{Texts, finish, limit, plain, stores_given, texts_given};
 use clap::{ArgMatches, Command};
-use dnp_daemons::{Stores, sim_text};
+use dnp_daemons::{Stores, sim_text_seen};
 use dnp_lines::Wrong;
 use dnp_tcp::{Noted, exit};
+use dnp_terminal::{Meter, Terminal};
 use dnp_trace::report_json;
 use std::alloc::{AllocError, Global};
 use std::io;
 use std::io::{BufWriter, Write};
 use std::process::ExitCode;
-use std::rt::Files;
+use std::rt::{Clock, Files};
 
 /// The subcommand's name.
 pub const NAME: &str = "sim";
@@ -191,7 +193,7 @@ pub(crate) fn command<'a>(alloc: Global) -> Result<Command<'a>, AllocError> {
 }
 
 /// Runs the script on standard input by the given words, and tells the exit status.
-pub(crate) fn run<R: AllocGlobal + Input + Print + Eprint + Files>(
+pub(crate) fn run<R: AllocGlobal + Input + Print + Eprint + Terminal + Clock + Files>(
     rt: &R,
     given: &ArgMatches<'_>,
 ) -> anyhow::Result<ExitCode> {
@@ -208,7 +210,7 @@ pub(crate) fn run<R: AllocGlobal + Input + Print + Eprint + Files>(
 }
 
 /// Runs the script of these texts by the given words, and tells the exit status.
-fn run_texts<R: AllocGlobal + Print + Eprint + Files>(
+fn run_texts<R: AllocGlobal + Print + Eprint + Terminal + Clock + Files>(
     rt: &R,
     texts: &Texts,
     given: &ArgMatches<'_>,
@@ -216,44 +218,54 @@ fn run_texts<R: AllocGlobal + Print + Eprint + Files>(
     if let Some(status) = write_looks(rt, texts, given)? {
         return Ok(status);
     }
+    let meter = Meter::new(rt);
+    tell_checking(&meter, texts.script.len());
     if given.get_flag("json") {
-        return run_json(rt, texts, stores_given(given));
+        return run_json(rt, texts, stores_given(given), &meter);
     }
-    let mut out = BufWriter::new(rt.alloc(), Noted::new(io::writer(rt)))?;
-    run_into(rt, texts, stores_given(given), &mut out)
+    let is_seen = rt.output_screen().is_terminal;
+    let writer = Clearing::new(&meter, is_seen, io::writer(rt));
+    let mut out = BufWriter::new(rt.alloc(), Noted::new(writer))?;
+    run_into(rt, texts, stores_given(given), &meter, &mut out)
 }
 
 /// Runs the script of these texts, prints into this buffer, and tells the exit status.
-fn run_into<R: AllocGlobal + Eprint, W: Write + Drop>(
+fn run_into<R: AllocGlobal + Eprint + Terminal + Clock, W: Write + Drop>(
     rt: &R,
     texts: &Texts,
     stores: Stores,
+    meter: &Meter<'_, R>,
     out: &mut BufWriter<Noted<W>>,
 ) -> anyhow::Result<ExitCode> {
-    let ended = sim_text(
+    let ended = sim_text_seen(
         rt.alloc(),
         texts.plan.as_str(),
         texts.script.as_str(),
         stores,
+        Looker::new(meter),
         &mut *out,
     );
+    meter.end();
     finish(rt, texts, None, out, ended)
 }
 
 /// Runs the script as without '--json', and prints what came of it as JSON, if it ran to its report.
-fn run_json<R: AllocGlobal + Print + Eprint>(
+fn run_json<R: AllocGlobal + Print + Eprint + Terminal + Clock>(
     rt: &R,
     texts: &Texts,
     stores: Stores,
+    meter: &Meter<'_, R>,
 ) -> anyhow::Result<ExitCode> {
     let mut printed = Vec::new(rt.alloc());
-    let ended = sim_text(
+    let ended = sim_text_seen(
         rt.alloc(),
         texts.plan.as_str(),
         texts.script.as_str(),
         stores,
+        Looker::new(meter),
         &mut printed,
     );
+    meter.end();
     let mut out = BufWriter::new(rt.alloc(), Noted::new(io::writer(rt)))?;
     if ended == Ok(exit::DONE) {
         let text = String::from_utf8_lossy(rt.alloc(), printed.as_slice())?;

@@ -20,16 +20,16 @@ pub use dnp_plantext::{
     PlanFault, PlanTextFault, PlannedOutstation, plan_fault, planned_outstation, read_plan,
 };
 pub use dnp_streams::{
-    Above, Answer, AnswerFault, Asked, Asker, Below, Change, Clocked, KeptAnswer, Limits, Lived,
-    Living, Log, MAX_ADDRESS, MAX_CHARACTERS, MAX_INPUT, ServeFault, Served, Session, Station,
-    StationFault, TextFault, Waiting, answer_line, ask_noted, ask_stream, laws, live_stream,
-    octet_of, read_address, read_text, serve_noted, serve_stream, text_fault,
+    Above, Answer, AnswerFault, Asked, Asker, Below, Change, KeptAnswer, Living, Log, MAX_ADDRESS,
+    MAX_CHARACTERS, MAX_INPUT, ServeFault, Served, Station, StationFault, TextFault, answer_line,
+    ask_noted, ask_stream, laws, octet_of, read_address, read_text, serve_noted, serve_stream,
+    text_fault,
 };
 pub use plain::{PlainWorld, plain_world};
 pub use report_text::{PrintFault, print_report};
-pub use run::{ScriptStop, Scripted, run_script};
+pub use run::{Nobody, Onlooker, ScriptStop, Scripted, run_script};
 pub use script::{
     IdleLines, IdleReason, LineFault, ScriptFault, ScriptLine, WhichCentre, idle_lines, number_in,
     read_script, script_fault,
 };
-pub use sim::{Stores, loop_text, sim_text};
+pub use sim::{Stores, loop_text, sim_text, sim_text_seen};

@@ -14,12 +14,14 @@ use std::io::Write;
 
 pub(crate) mod carried;
 mod line;
+pub(crate) mod onlooker;
 pub(crate) mod printing;
 pub(crate) mod reporting;
 mod scripted;
 pub(crate) mod text;
 mod world;
 
+pub use onlooker::{Nobody, Onlooker};
 pub use scripted::Scripted;
 
 /// Why a script, or the report after it, was not done to its end.

@@ -11,6 +11,7 @@ ghost use Rattle.dnp_daemons.specs.steps.Readings.{Says};
 use crate::plain::plain_world;
 use crate::run::ScriptStop;
 use crate::run::carried::Carried;
+use crate::run::onlooker::{Beside, Nobody, Onlooker};
 use crate::run::reporting::run_to_report;
 use crate::script::checking::ScriptText;
 use crate::sim::judging::{Judged, judge, print_refusal};
@@ -40,11 +41,11 @@ const DONE: u8 = 0;
 const REFUSED: u8 = 1;
 
 /// Runs a script on a new system of the plan, over lists, and prints the report at its end.
-fn simulate_plain<C: Carrier + Drop, W: Write>(
+fn simulate_plain<C: Carrier + Drop, O: Onlooker + Drop, W: Write>(
     alloc: Global,
     plan: &Plan,
     script: &ScriptText<'_>,
-    carrier: C,
+    beside: Beside<C, O>,
     out: &mut W,
 ) -> Result<(), ScriptStop>
     requires limits { KeepsLimits plan.now }
@@ -55,20 +56,24 @@ fn simulate_plain<C: Carrier + Drop, W: Write>(
 {
     match plain_world(alloc, plan) {
         Ok(world) => {
+            let Beside {
+                carrier,
+                mut onlooker,
+            } = beside;
             let mut carried = Carried { world, carrier };
-            run_to_report(alloc, &mut carried, script, out)
+            run_to_report(alloc, &mut carried, script, &mut onlooker, out)
         }
         Err(_) => Err(ScriptStop::Fault(Cause::Memory)),
     }
 }
 
 /// Runs a script on a new system of the plan, over such stores, and prints the report at its end.
-fn simulate<C: Carrier + Drop, W: Write>(
+fn simulate<C: Carrier + Drop, O: Onlooker + Drop, W: Write>(
     alloc: Global,
     plan: &Plan,
     script: &ScriptText<'_>,
     stores: Stores,
-    carrier: C,
+    beside: Beside<C, O>,
     out: &mut W,
 ) -> Result<(), ScriptStop>
     requires limits { KeepsLimits plan.now }
@@ -78,19 +83,19 @@ fn simulate<C: Carrier + Drop, W: Write>(
     ensures device { stores ≡ Stores.Plain → result ≢ Err (ScriptStop.Fault Cause.Device) }
 {
     match stores {
-        Stores::Sql => simulate_sql(alloc, plan, script, carrier, out),
-        Stores::Plain => simulate_plain(alloc, plan, script, carrier, out),
+        Stores::Sql => simulate_sql(alloc, plan, script, beside, out),
+        Stores::Plain => simulate_plain(alloc, plan, script, beside, out),
     }
 }
 
 /// Runs a script on a new system of a plan, whose units may be carried, and prints the report at its end.
-fn texts_by<C: Carrier + Drop, W: Write>(
+fn texts_by<C: Carrier + Drop, O: Onlooker + Drop, W: Write>(
     alloc: Global,
     plan: &str,
     script: &str,
     carried: bool,
     stores: Stores,
-    carrier: C,
+    beside: Beside<C, O>,
     out: &mut W,
 ) -> Result<u8, ScriptStop>
     ensures ends { IsSpokenFor stores result → TextsEnd (reading_by carried) plan.now script.now result (W.contents out.old) (W.contents out.new) }
@@ -108,7 +113,7 @@ fn texts_by<C: Carrier + Drop, W: Write>(
                 substations: plan.substations.as_slice().len(),
                 carried,
             };
-            match simulate(alloc, &plan, &script, stores, carrier, out) {
+            match simulate(alloc, &plan, &script, stores, beside, out) {
                 Ok(()) => Ok(DONE),
                 Err(stop) => Err(stop),
             }
@@ -144,7 +149,27 @@ pub fn sim_text<W: Write>(
     ensures named { result ≢ Err (ScriptStop.Fault Cause.Exhausted) }
     ensures device { stores ≡ Stores.Plain → result ≢ Err (ScriptStop.Fault Cause.Device) }
 {
-    texts_by(alloc, plan, script, false, stores, InMemory, out)
+    sim_text_seen(alloc, plan, script, stores, Nobody, out)
+}
+
+/// Runs a script as [`sim_text`] does, while somebody looks on.
+pub fn sim_text_seen<O: Onlooker + Drop, W: Write>(
+    alloc: Global,
+    plan: &str,
+    script: &str,
+    stores: Stores,
+    onlooker: O,
+    out: &mut W,
+) -> Result<u8, ScriptStop>
+    ensures ends { IsSpokenFor stores result → TextsEnd reading_of plan.now script.now result (W.contents out.old) (W.contents out.new) }
+    ensures named { result ≢ Err (ScriptStop.Fault Cause.Exhausted) }
+    ensures device { stores ≡ Stores.Plain → result ≢ Err (ScriptStop.Fault Cause.Device) }
+{
+    let beside = Beside {
+        carrier: InMemory,
+        onlooker,
+    };
+    texts_by(alloc, plan, script, false, stores, beside, out)
 }
 
 /// Runs a script as [`sim_text`] does, and carries each unit of the system's lines before it comes to its end.
@@ -163,5 +188,9 @@ pub fn loop_text<C: Carrier + Drop, W: Write>(
     ensures named { result ≢ Err (ScriptStop.Fault Cause.Exhausted) }
     ensures device { stores ≡ Stores.Plain → result ≢ Err (ScriptStop.Fault Cause.Device) }
 {
-    texts_by(alloc, plan, script, true, stores, carrier, out)
+    let beside = Beside {
+        carrier,
+        onlooker: Nobody,
+    };
+    texts_by(alloc, plan, script, true, stores, beside, out)
 }

@@ -2,6 +2,7 @@
 
 use crate::check::system::{PointRow, Station, System, Who, station_at, stations_of};
 use dnp_network::{Network, PlainText, PointKind, PointName, Words};
+use dnp_terminal::{Screen, Tone};
 use std::alloc::{AllocError, Global};
 use std::io;
 use std::io::Write;
@@ -38,14 +39,20 @@ fn write_station<W: Write>(out: &mut W, alloc: Global, station: &Station<'_>) ->
 }
 
 /// Writes where the stations are, and an empty line.
-fn write_stations<W: Write>(out: &mut W, alloc: Global, network: &Network) -> io::Result<()> {
+fn write_stations<W: Write>(
+    out: &mut W,
+    alloc: Global,
+    network: &Network,
+    screen: Screen,
+) -> io::Result<()> {
     if let Some(name) = &network.name {
         let name = PlainText(name.as_str());
         writeln!(out, "network {name}")?;
     }
+    let (opening, closing) = screen.escapes(Tone::Heading);
     writeln!(
         out,
-        "station        at                       listens at               address  peer  name"
+        "{opening}station        at                       listens at               address  peer  name{closing}"
     )?;
     for place in 0..stations_of(network) {
         if let Some(station) = station_at(network, place) {
@@ -109,13 +116,15 @@ pub(crate) fn write_table<W: Write>(
     out: &mut W,
     alloc: Global,
     system: &System<'_>,
+    screen: Screen,
 ) -> io::Result<()> {
     if let Some(network) = system.network {
-        write_stations(out, alloc, network)?;
+        write_stations(out, alloc, network, screen)?;
     }
+    let (opening, closing) = screen.escapes(Tone::Heading);
     writeln!(
         out,
-        "substation kind     index above class   deadband  name"
+        "{opening}substation kind     index above class   deadband  name{closing}"
     )?;
     for substation in 0..system.plan.substations.as_slice().len() {
         for kind in PointKind::ALL {

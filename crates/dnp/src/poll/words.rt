@@ -5,11 +5,12 @@ ghost use Rattle.std.specs.Prelude.{◌<◌, IfSome};
 use crate::numbers::number_given;
 use clap::ArgMatches;
 use dnp_daemons::number_in;
-use dnp_lines::{Wanted as Belongs, Wrong};
+use dnp_lines::{Apart, Wanted as Belongs, Wrong};
 use dnp_master::{Classes, Task};
 use dnp_objects::{Command, MAX_TIME};
 use dnp_orders::{ToldFault, code_doubt, read_command};
-use dnp_tcp::RoundSettings;
+use dnp_tcp::{Form, Instead, Listen, Points, RoundSettings};
+use dnp_terminal::{Screen, Terminal};
 use std::alloc::{AllocError, Global};
 use std::rt::Clock;
 
@@ -25,6 +26,15 @@ const MAX_TIMEOUT: u64 = 3_600_000;
 
 /// The highest TCP port.
 const MAX_PORT: u64 = 65_535;
+
+/// The lines of a table where none are given: those of most terminals.
+const HEIGHT: usize = 24;
+
+/// The fewest lines of a table that can be given.
+const MIN_HEIGHT: u64 = 10;
+
+/// The most lines of a table that can be given.
+const MAX_HEIGHT: u64 = 1_000;
 
 /// All classes.
 const ALL: Classes = Classes([true; 4]);
@@ -89,6 +99,24 @@ fn interval_in(text: &str) -> Option<u64> {
     }
 }
 
+/// The points that a text names, by their group, variation and indices, as `30.1:0-9` or `1.2:7`.
+fn points_in(text: &str) -> Option<Points> {
+    let (object, range) = text.split_once(':')?;
+    let (group, variation) = object.split_once('.')?;
+    let (first, last) = range.split_once('-').unwrap_or((range, range));
+    let points = Points {
+        group: u8::try_from(number_in(group)?).ok()?,
+        variation: u8::try_from(number_in(variation)?).ok()?,
+        first: u16::try_from(number_in(first)?).ok()?,
+        last: u16::try_from(number_in(last)?).ok()?,
+    };
+    if points.first <= points.last {
+        Some(points)
+    } else {
+        None
+    }
+}
+
 /// The time that a word names: this machine's, or so many milliseconds since 1970-01-01 00:00 UTC.
 fn time_in<C: Clock>(clock: &C, text: &str) -> Option<u64>
     ensures { IfSome result (λ time. time < MAX_TIME) }
@@ -118,6 +146,8 @@ fn is_yes<R: Eprint>(rt: &R, text: &str) -> Option<bool> {
 struct Wanted {
     /// The classes to read.
     classes: Option<Classes>,
+    /// The points that are read in their place.
+    points: Option<Points>,
     /// The time to set the clock to.
     time: Option<u64>,
     /// The command.
@@ -135,6 +165,24 @@ fn classes_given<R: Eprint>(rt: &R, given: &ArgMatches<'_>) -> Option<Option<Cla
         return None;
     }
     Some(classes)
+}
+
+/// The points that are read in place of classes, if the words give any. Where they are wrong, that is printed.
+fn points_given<R: Eprint>(rt: &R, given: &ArgMatches<'_>) -> Option<Option<Points>> {
+    let Some(text) = given.get_str("read") else {
+        return Some(None);
+    };
+    if given.get_str("classes").is_some() {
+        let wrong = Wrong::Together("--classes <DIGITS>", "--read <POINTS>");
+        let _ = eprintln!(rt; "{wrong}");
+        return None;
+    }
+    let points = points_in(text);
+    if points.is_none() {
+        say_wrong(rt, "read", "POINTS", text, Belongs::Points);
+        return None;
+    }
+    Some(points)
 }
 
 /// The time to set the clock to, if the words give one. Where it is wrong, that is printed.
@@ -180,13 +228,15 @@ fn command_given<R: Eprint>(rt: &R, given: &ArgMatches<'_>) -> Option<Option<Com
 fn wanted_given<R: Eprint + Clock>(rt: &R, given: &ArgMatches<'_>) -> Option<Wanted> {
     let command = command_given(rt, given)?;
     let mut classes = classes_given(rt, given)?;
+    let points = points_given(rt, given)?;
     let time = time_given(rt, given)?;
     let is_anything = classes.is_some() || time.is_some() || command.is_some();
-    if !is_anything && !given.get_flag("clear-restart") {
+    if points.is_some() || !is_anything && !given.get_flag("clear-restart") {
         classes = Some(ALL);
     }
     Some(Wanted {
         classes,
+        points,
         time,
         command,
     })
@@ -231,8 +281,96 @@ fn rounds_given<R: Eprint>(rt: &R, given: &ArgMatches<'_>) -> Option<(u64, u64)>
     }
 }
 
+/// The classes of events among these; all three, where there are none among them.
+fn event_classes(classes: Option<Classes>) -> Classes {
+    match classes {
+        Some(given) if given.has(1) || given.has(2) || given.has(3) => {
+            Classes([false, given.has(1), given.has(2), given.has(3)])
+        }
+        _ => Classes([false, true, true, true]),
+    }
+}
+
+/// Says why two options can't be given together.
+fn say_apart<R: Eprint>(rt: &R, one: &str, other: &str, why: Apart) {
+    let wrong = Wrong::Apart(one, other, why);
+    let _ = eprintln!(rt; "{wrong}");
+}
+
+/// The most lines of a table, where it is drawn. Where the word is wrong, that is printed.
+fn height_given<R: Eprint>(rt: &R, given: &ArgMatches<'_>) -> Option<usize> {
+    if given.get_str("height").is_none() {
+        return Some(HEIGHT);
+    }
+    if given.get_str("repeat").is_none() {
+        let wrong = Wrong::Needs("--height <N>", "--repeat <TIME>");
+        let _ = eprintln!(rt; "{wrong}");
+        return None;
+    }
+    for (name, option) in [("json", "--json"), ("times", "--times")] {
+        if given.get_flag(name) {
+            say_apart(rt, "--height <N>", option, Apart::Untabled);
+            return None;
+        }
+    }
+    usize::try_from(number_given(rt, given, "height", "N", MIN_HEIGHT, MAX_HEIGHT)?).ok()
+}
+
+/// How rows are shown on this screen. Where a word is wrong, that is printed.
+fn form_given<R: Eprint>(rt: &R, given: &ArgMatches<'_>, screen: Screen) -> Option<Form> {
+    let height = height_given(rt, given)?;
+    let has_lines = given.get_flag("json") || given.get_flag("times");
+    Some(if given.get_str("repeat").is_none() {
+        Form::Lines
+    } else if has_lines || !screen.is_terminal {
+        Form::Marked
+    } else {
+        Form::Table(height, screen)
+    })
+}
+
+/// For how long what comes unasked is listened to. Where that is wrong, it is printed.
+fn listen_ms<R: Eprint>(rt: &R, given: &ArgMatches<'_>) -> Option<u64> {
+    let Some(text) = given.get_str("for") else {
+        return Some(u64::MAX);
+    };
+    let ms = interval_in(text);
+    if ms.is_none() {
+        say_wrong(rt, "for", "TIME", text, Belongs::Interval);
+    }
+    ms
+}
+
+/// What is listened to, if anything is, where these classes are read. Where a word is wrong, that is printed.
+fn listen_given<R: Eprint>(
+    rt: &R,
+    given: &ArgMatches<'_>,
+    classes: Option<Classes>,
+) -> Option<Option<Listen>> {
+    if !given.get_flag("listen") {
+        if given.get_str("for").is_some() {
+            let wrong = Wrong::Needs("--for <TIME>", "--listen");
+            let _ = eprintln!(rt; "{wrong}");
+            return None;
+        }
+        return Some(None);
+    }
+    if given.get_str("repeat").is_some() {
+        say_apart(rt, "--listen", "--repeat <TIME>", Apart::Listening);
+        return None;
+    }
+    if given.get_str("confirm") == Some("no") {
+        say_apart(rt, "--listen", "--confirm no", Apart::Unconfirmed);
+        return None;
+    }
+    Some(Some(Listen {
+        classes: event_classes(classes),
+        ms: listen_ms(rt, given)?,
+    }))
+}
+
 /// What the words say, or none where one is wrong, which is printed.
-pub(crate) fn words_given<'a, R: Eprint + Clock>(
+pub(crate) fn words_given<'a, R: Eprint + Clock + Terminal>(
     rt: &R,
     given: &ArgMatches<'a>,
 ) -> Option<Words<'a>> {
@@ -241,13 +379,19 @@ pub(crate) fn words_given<'a, R: Eprint + Clock>(
 }
 
 /// What the words say beside what is wanted.
-fn all_given<'a, R: Eprint>(rt: &R, given: &ArgMatches<'a>, wanted: &Wanted) -> Option<Words<'a>> {
+fn all_given<'a, R: Eprint + Terminal>(
+    rt: &R,
+    given: &ArgMatches<'a>,
+    wanted: &Wanted,
+) -> Option<Words<'a>> {
     let place = place_given(rt, given)?;
     let own = number_given(rt, given, "own", "ADDRESS", 0, MAX_STATION)?;
     let peer = number_given(rt, given, "peer", "ADDRESS", 0, MAX_STATION)?;
     let timeout_ms = number_given(rt, given, "timeout", "MS", 1, MAX_TIMEOUT)?;
     let confirms = is_yes(rt, given.get_str("confirm").unwrap_or(""))?;
     let (repeat_ms, count) = rounds_given(rt, given)?;
+    let listen = listen_given(rt, given, wanted.classes)?;
+    let form = form_given(rt, given, rt.output_screen())?;
     let rounds = RoundSettings {
         place,
         own: u16::try_from(own).ok()?,
@@ -257,6 +401,14 @@ fn all_given<'a, R: Eprint>(rt: &R, given: &ArgMatches<'a>, wanted: &Wanted) -> 
         confirms,
         timeout_ms,
         json: given.get_flag("json"),
+        hex: given.get_flag("hex"),
+        times: given.get_flag("times") || listen.is_some(),
+        form,
+        instead: Instead {
+            points: wanted.points,
+            direct: given.get_flag("direct"),
+        },
+        listen,
     };
     Some(Words {
         rounds,
@@ -279,9 +431,14 @@ pub(crate) fn tasks_of(alloc: Global, words: &Words<'_>) -> Result<Vec<Task>, Al
     if let Some(classes) = words.classes {
         tasks.push(Task::Poll(classes))?;
     }
+    if let Some(listen) = words.rounds.listen {
+        tasks.push(Task::Enable(listen.classes))?;
+    }
     if let Some(command) = words.command {
         tasks.push(Task::Select(command))?;
-        tasks.push(Task::Operate(command))?;
+        if !words.rounds.instead.direct {
+            tasks.push(Task::Operate(command))?;
+        }
     }
     Ok(tasks)
 }

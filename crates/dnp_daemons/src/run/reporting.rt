@@ -7,6 +7,7 @@ ghost use Rattle.dnp_daemons.specs.steps.Readings.{Says};
 
 use crate::report_text::{PrintFault, print_report};
 use crate::run::ScriptStop;
+use crate::run::onlooker::Onlooker;
 use crate::run::scripted::Scripted;
 use crate::run::text::run_text;
 use crate::script::checking::ScriptText;
@@ -15,10 +16,11 @@ use std::alloc::Global;
 use std::io::Write;
 
 /// Runs a script from its text, and prints the report at its end.
-pub(crate) fn run_to_report<S: Scripted, W: Write>(
+pub(crate) fn run_to_report<S: Scripted, O: Onlooker, W: Write>(
     alloc: Global,
     system: &mut S,
     script: &ScriptText<'_>,
+    onlooker: &mut O,
     out: &mut W,
 ) -> Result<(), ScriptStop>
     requires fits { (lines : List ScriptLine) × Says script.now lines }
@@ -27,7 +29,7 @@ pub(crate) fn run_to_report<S: Scripted, W: Write>(
         → ReportEnds S.law (S.state system.old) lines result (S.state system.new) (W.contents out.old) (W.contents out.new) }
     ensures cause { TellsCause (S.is_stopped system.old) (S.is_stopped system.new) result }
 {
-    match run_text(alloc, system, script, out) {
+    match run_text(alloc, system, script, onlooker, out) {
         Ok(()) => {}
         Err(stop) => return Err(stop),
     }

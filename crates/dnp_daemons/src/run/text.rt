@@ -6,6 +6,7 @@ ghost use Rattle.dnp_daemons.specs.ScriptReports.{TellsCause};
 ghost use Rattle.dnp_daemons.specs.steps.Readings.{Says, TextEndsBy};
 
 use crate::run::line::{LineStop, run_line};
+use crate::run::onlooker::Onlooker;
 use crate::run::scripted::Scripted;
 use crate::run::{ScriptStop, print_stopped};
 use crate::script::checking::{ScriptText, read_line_by};
@@ -16,10 +17,11 @@ use std::io::Write;
 
 /// Runs a script as [`run_script`](crate::run_script) does, each line read from the text when its turn comes: no list of
 /// lines is kept. Where memory for the octets of a line is refused, it stops there, and prints nothing of that.
-pub(crate) fn run_text<S: Scripted, W: Write>(
+pub(crate) fn run_text<S: Scripted, O: Onlooker, W: Write>(
     alloc: Global,
     system: &mut S,
     script: &ScriptText<'_>,
+    onlooker: &mut O,
     out: &mut W,
 ) -> Result<(), ScriptStop>
     requires fits { (lines : List ScriptLine) × Says script.now lines }
@@ -31,6 +33,8 @@ pub(crate) fn run_text<S: Scripted, W: Write>(
     let mut done = 0;
     let mut rest = script.text;
     while !rest.is_empty() {
+        let all = script.text.len();
+        onlooker.sees(all.saturating_sub(rest.len()), all);
         let (line, more) = first_line(rest);
         let read = match read_line_by(alloc, line, script.substations, script.carried) {
             Ok(Some(read)) => read,

@@ -10,6 +10,7 @@ ghost use Rattle.dnp_daemons.specs.steps.SqlStores.{AreNew, AreWell, unmade_for}
 
 use crate::run::ScriptStop;
 use crate::run::carried::Carried;
+use crate::run::onlooker::{Beside, Onlooker};
 use crate::run::reporting::run_to_report;
 use crate::script::checking::ScriptText;
 use dnp_concentrator::Plan;
@@ -81,11 +82,11 @@ impl SqlStores {
 
 /// Runs a script on a new system of the plan, over SQL databases in memory, and prints the report at its end. Where a
 /// database has answered Device, that is the fault.
-pub(super) fn simulate_sql<C: Carrier + Drop, W: Write>(
+pub(super) fn simulate_sql<C: Carrier + Drop, O: Onlooker + Drop, W: Write>(
     alloc: Global,
     plan: &Plan,
     script: &ScriptText<'_>,
-    carrier: C,
+    beside: Beside<C, O>,
     out: &mut W,
 ) -> Result<(), ScriptStop>
     requires limits { KeepsLimits plan.now }
@@ -94,18 +95,18 @@ pub(super) fn simulate_sql<C: Carrier + Drop, W: Write>(
     ensures named { result ≢ Err (ScriptStop.Fault Exhausted) }
 {
     match SqlStores::new(alloc, plan.queue, plan.queue2) {
-        Ok(stores) => simulate_over(alloc, plan, script, stores, carrier, out),
+        Ok(stores) => simulate_over(alloc, plan, script, stores, beside, out),
         Err(fault) => Err(unmade(fault)),
     }
 }
 
 /// The same over stores that hold nothing.
-fn simulate_over<C: Carrier + Drop, W: Write>(
+fn simulate_over<C: Carrier + Drop, O: Onlooker + Drop, W: Write>(
     alloc: Global,
     plan: &Plan,
     script: &ScriptText<'_>,
     stores: SqlStores,
-    carrier: C,
+    beside: Beside<C, O>,
     out: &mut W,
 ) -> Result<(), ScriptStop>
     requires limits { KeepsLimits plan.now }
@@ -125,8 +126,12 @@ fn simulate_over<C: Carrier + Drop, W: Write>(
     let made = World::new(alloc, plan, queues, journals, controls, orders);
     match made {
         Ok(world) => {
+            let Beside {
+                carrier,
+                mut onlooker,
+            } = beside;
             let mut carried = Carried { world, carrier };
-            let result = run_to_report(alloc, &mut carried, script, out);
+            let result = run_to_report(alloc, &mut carried, script, &mut onlooker, out);
             let Carried { world, carrier: _ } = carried;
             let (queues, journals, controls, orders) = world.into_stores();
             let stores = SqlStores {
