@@ -35,13 +35,13 @@ ended() {
     wait "$served" || got=$?
     judge "$1" 0 "$2" "$got"
 }
-# tells NAME LINE..: the log begins with the line of the start, and has these but for that it listens, each with TIME for its time and
+# tells NAME LINE..: the log begins with the line of the start, and has these but for that it listens and that it ends, each with TIME for its time and
 # PEER for the address of a master
 tells() {
     local name=$1
     shift
     printf '%s\n' "TIME $started" "$@" >want
-    sed -E 's/^[0-9]{4}-[0-9]{2}-[0-9]{2}T[0-9]{2}:[0-9]{2}:[0-9]{2}\.[0-9]{3}Z /TIME /; / listening on /d; s/127\.0\.0\.1:[0-9]+/PEER/g' err >log
+    sed -E 's/^[0-9]{4}-[0-9]{2}-[0-9]{2}T[0-9]{2}:[0-9]{2}:[0-9]{2}\.[0-9]{3}Z /TIME /; / listening on /d; / and so the program ends: /d; s/127\.0\.0\.1:[0-9]+/PEER/g' err >log
     if cmp -s want log; then
         echo "ok $name"
         return

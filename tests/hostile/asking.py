@@ -21,6 +21,8 @@ DRIP, WAITS, MOST = 0.02, 300, 10
 COMMAND, ECHO = "block 1 3 1 0 0", bytes.fromhex("0C 01 28 01 00 01 00 03 01 00 00 00 00 00 00 00 00 00")
 LINE = re.compile(r"(binary|counter|analog|output|setpoint) \d+ -?\d+ [0-9A-F]{2} (-|\d+-\d\d-\d\dT\d\d:\d\d:\d\d\.\d{3}Z) (event|static)( unsolicited)?"
                   r"|iin [0-9A-F]{2} [0-9A-F]{2}( [a-z0-9-]+)*|(select|operate) 1 [A-Za-z0-9_ -]+")
+# (a round begins with its number and the time)
+ROUND = re.compile(r"(round \d+) \d{4}-\d\d-\d\dT\d\d:\d\d:\d\d\.\d{3}Z")
 # What it may say, a line each: what came in place of a frame that is awaited, what came in place of the response, and why it ended
 PLACE = r"dnp: 127\.0\.0\.1:\d+: "
 STRANGE = rf"{PLACE}(?:frames came from \d+ to \d+; this asks {serving.OUTSTATION} as {serving.MASTER}|octets came, and no frame)\n"
@@ -113,14 +115,15 @@ def poll(r, size, room, bounded):
     """Tries so many units on it."""
     outstation = Answering(r, BEFORE)
     status, lines, said = asked(outstation, room, "--classes", "1", "--repeat", "1ms", "--count", str(POLLS), "--timeout", str(PATIENCE * 1000))
-    wanted = [line for number in range(POLLS) for line in (f"analog 0 {number} 01 - event", "iin 00 00")]
+    wanted = [line for number in range(POLLS) for line in (f"round {number + 1}", f"analog 0 {number} 01 - event", "iin 00 00")]
+    lines = [ROUND.sub(r"\1", line) for line in lines]
     if (status, lines, said) != (DONE, wanted, "") or outstation.fault:
         raise Broken(f"status {status}, {said!r}, {outstation.fault}", sent=b"".join(outstation.sent), out="\n".join(lines).encode())
     for number in range((size - POLLS * BEFORE) // INSTEAD):
         outstation = Spoiling(r, INSTEAD)
         words = ("--operate", COMMAND) if number % 2 else ("--classes", "1230", "--repeat", "1ms", "--count", "2")
         status, lines, said = asked(outstation, room, *words, "--timeout", "100")
-        wrong = [line for line in lines if not LINE.fullmatch(line)]
+        wrong = [line for line in lines if not LINE.fullmatch(line) and not ROUND.fullmatch(line)]
         if status not in (DONE, REFUSED, FAULT) or wrong or not SAYS.fullmatch(said) or status == FAULT and not said:
             raise Broken(f"status {status}, {said!r}, {wrong}", sent=b"".join(outstation.sent), out="\n".join(lines).encode())
         if outstation.operates > 1 or outstation.operates and not outstation.echoed:

@@ -16,7 +16,9 @@ STRANGERS = [(10, 3), (3, 10), (65_519, 1), (0, 65_535), (1, 9)]
 OUTSTATION, MASTER = 10, 1
 HEADER = r"\d+\.\d+ (?:all|\d+\.\.\d+|x\d+)"
 MOMENT = r"[-+\d]+T[\d:.]+Z"
-OBJECT = (rf"-?\d+ = -?\d+ flags [\dA-F]{{2}}(?: at {MOMENT})?|\d+ = [01]|{MOMENT}|\d+ ms|"
+# the names of flags and of indications that are set
+SET = r"(?: [A-Z_\d]+| reserved)*"
+OBJECT = (rf"-?\d+ = -?\d+ flags [\dA-F]{{2}}{SET}(?: at {MOMENT})?|\d+ = [01]|{MOMENT}|\d+ ms|"
           r"\d+ code [\dA-F]{2} count \d+ on \d+ off \d+ status \d+|\d+ set -?\d+ status \d+")
 FAULT = "Short|FunctionUnknown|HeaderCut|QualifierUnknown|ObjectUnknown|RangeBackward|SizeUnknown|ObjectsCut|CommonTime"
 # what the profile lacks: functions, the names of headers, and objects
@@ -31,9 +33,11 @@ NAMES = ("CONFIRM|READ|WRITE|SELECT|OPERATE|DIRECT_OPERATE|DIRECT_OPERATE_NR|ENA
 BITS = r"seq \d+(?: fir)?(?: fin)?(?: con)?(?: uns)?"
 BELOW = re.compile(
     rf"  transport(?: FIR)?(?: FIN)? \d+|  transport refused: (?:Series|Size, \d+ octets)|  request {BITS} (?:{NAMES})|"
-    rf"  response {BITS}, iin [\dA-F]{{2}} [\dA-F]{{2}}|    {HEADER}(?:: (?:{OBJECT}))?|  fragment refused: (?:{FAULT}) at octet \d+|"
-    rf"  request {BITS} (?:{OTHERS}){BEYOND}|  response {BITS}, iin [\dA-F]{{2}} [\dA-F]{{2}}, AUTHENTICATE_RESP{BEYOND}|"
+    rf"  response {BITS}, iin [\dA-F]{{2}} [\dA-F]{{2}}{SET}|    {HEADER}(?:: (?:{OBJECT}))?|  fragment refused: (?:{FAULT}) at octet \d+|"
+    rf"  request {BITS} (?:{OTHERS}){BEYOND}|  response {BITS}, iin [\dA-F]{{2}} [\dA-F]{{2}}{SET}, AUTHENTICATE_RESP{BEYOND}|"
     rf"    {HEADER} {NAMED}{BEYOND}|    {HEADER}:{LACKED}{BEYOND}")
+LINKED = re.compile(r"\d+>\d+ [\dA-F]{2} (?:[A-Z_]+|unknown function) \d+ octets, words good|\d+>\d+ frame refused: (?:Length at octet 2|"
+                    r"BlockCheck \d+ at octet \d+)|\d+ octets skipped: (?:no frame begins there|HeaderCheck at octet 8)|frame refused: Cut at octet \d+")
 LAYERS = {"transport", "request", "response", "header", "row", "indication", "time", "delay", "command", "fragment", "object"}
 
 

@@ -196,7 +196,7 @@ def outstation(r, size, room, bounded):
             program.wait()
     lines = (room / "out").read_text(encoding="ascii").split("\n")
     told = [line for line in (room / "err").read_text(encoding="utf-8").split("\n") if not OTHERS.search(line)]
-    log = [f" as {OUTSTATION} for master {MASTER}"] + [" connected", ": the master closed the connection"] * (2 * CONNECTIONS) + [""]
+    log = [f" as {OUTSTATION} for master {MASTER}"] + [" connected", ": the master closed the connection"] * (2 * CONNECTIONS) + [" '--forever' serves more", ""]
     if (len(lines) != 2 * CONNECTIONS + 1 or any(not line.startswith("served ") for line in lines[:-1]) or not STARTED.fullmatch(told[0])
             or len(told) != 1 + len(log) or any(not line.endswith(end) for line, end in zip(told[1:], log))):
         raise Broken(f"it printed {lines}, and said {told}", **given)

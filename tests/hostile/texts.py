@@ -18,9 +18,6 @@ NAMED = r"a line feed|a carriage return|a tab|a space|'[!-~]'|the octet [\dA-F]{
 TEXT = re.compile(rf"dnp: standard input: (?:column \d+: (?:(?:{NAMED}), where (?:a hexadecimal digit|one space or the end) belongs|the line ends, where "
                   r"a hexadecimal digit belongs)|the line has more than 2,000 characters)\n")
 FRAMES = "Short", "Start", "HeaderCheck", "Length", "Size", "BlockCheck"
-LINKED = re.compile(r"\d+ (?:\d+>\d+ [\dA-F]{2} (?:[A-Z_]+|unknown function) \d+ octets, words good|\d+>\d+ frame refused: (?:Length at octet 2|"
-                    r"BlockCheck \d+ at octet \d+)|\d+ octets skipped: (?:no frame begins there|HeaderCheck at octet 8)|frame refused: Cut at octet \d+|"
-                    r"packet refused: the capture ends in it)")
 CAPTURE = re.compile(r"refused capture (?:Start|Link)\n")
 # a key of a plan, what is put there, and the number of the refusal
 WRONG = [("retries", "4", 3), ("retries", "-1", 3), ("confirm_ms", "0", 3), ("select_ms", "3600001", 3), ("response_ms", "1.5", 2),
@@ -332,6 +329,7 @@ def captures(r, size, room, bounded):
                 raise run.broken("a capture is refused otherwise")
             continue
         for line in run.out.split("\n")[:-1]:
-            if not LINKED.fullmatch(line) and not decoding.BELOW.fullmatch(line.partition(" ")[2]):
+            said = line.partition(" ")[2]
+            if said != "packet refused: the capture ends in it" and not decoding.LINKED.fullmatch(said) and not decoding.BELOW.fullmatch(said):
                 raise run.broken(f"a line has another form: {line!r}")
     return size

@@ -7,6 +7,7 @@ were confirmed. Prints a line 'ok CASE' or 'FAILED CASE' for each case.
 """
 import json
 import os
+import pty
 import select
 import socket
 import struct
@@ -49,6 +50,8 @@ class Outstation:
         self.listener = socket.create_server(("127.0.0.1", 0))
         self.place = f"127.0.0.1:{self.listener.getsockname()[1]}"
         self.serve, self.heard, self.kept, self.number, self.wrong = serve, [], b"", 0, None
+        # all octets that came, and all that went; those that wait to go in one piece, if they do
+        self.came, self.went, self.held = b"", b"", None
         self.ends = MASTER, OUTSTATION
         self.thread = threading.Thread(target=self.run, daemon=True)
         self.thread.start()
@@ -75,6 +78,7 @@ class Outstation:
             if not piece:
                 raise Ended
             self.kept += piece
+            self.came += piece
         octets, self.kept = self.kept[:count], self.kept[count:]
         return octets
 
@@ -105,6 +109,13 @@ class Outstation:
             header = struct.pack("<HBBHH", 0x6405, 5 + len(user), 0x44, *self.ends)
             blocks = [user[k : k + 16] for k in range(0, len(user), 16)]
             octets += b"".join(block + check(block) for block in [header, *blocks])
+        if self.held is None:
+            self.give(octets)
+        else:
+            self.held += octets
+
+    def give(self, octets):
+        self.went += octets
         self.stream.sendall(octets)
 
     def answer(self, sequence, *objects, one=0, two=0, first=True, last=True, bits=0):
@@ -220,8 +231,13 @@ def numbered_otherwise(station):
 
 
 def greets(station):
-    station.stream.sendall(b"SSH-2.0-OpenSSH_9.2p1 Debian-2\r\n")
+    station.give(b"SSH-2.0-OpenSSH_9.2p1 Debian-2\r\n")
     station.fragment()
+
+
+def half_an_answer(station):
+    """The first fragment of a response, and nothing more."""
+    station.answer(station.fragment()[0], EVENT, last=False)
 
 
 def noise(station):
@@ -298,6 +314,22 @@ def foreign_cases():
     good &= against("operates-once-where-nothing-comes", answers_each(0), 3, both[:1],
                     ["no response in 300 ms", "output 5 may have been operated"], *operate, *patience, functions=[3, 4])
 
+    # without a SELECT: what is sent has the octets of one, but for the function
+    direct = (*operate, "--direct")
+    good &= against("operates-directly", answers_each(0), 0, ["direct-operate 5 SUCCESS"], [], *direct, functions=[5])
+    good &= against("tells-a-refused-direct-operate", answers_each(7), 1, ["direct-operate 5 LOCAL"], [], *direct, functions=[5])
+    good &= against("tells-a-direct-operate-that-is-not-repeated", one_answer(other), 1, ["direct-operate 5 unanswered"], [], *direct, functions=[5])
+    good &= against("operates-directly-once-where-nothing-comes", answers_each(), 3, [],
+                    ["no response in 300 ms", "output 5 may have been operated"], *direct, *patience, functions=[5])
+    good &= against("tells-an-open-direct-operate-where-the-connection-ends", noise, 3, [],
+                    ["the connection ended before the answer", "output 5 may have been operated"], *direct,
+                    strange=["octets came, and no frame"])
+    station = Outstation(answers_each(0))
+    came = ended(poll(station.place, *direct, "--json"))
+    station.thread.join(5)
+    good &= case("sends-a-direct-operate", came[0] == 0 and station.heard == [b"\xc0\x05" + BLOCK] and json.loads(came[1][0])
+                 == {"task": "direct-operate", "index": 5, "status": 0, "name": "SUCCESS", "iin": ["00", "00"]}, came, station.heard)
+
     # silence, noise, an end, and a lost output
     good &= against("waits-no-longer-than-told", lambda station: None, 3, [], ["no response in 300 ms"], *patience, functions=[1])
     began = time.monotonic()
@@ -318,6 +350,311 @@ def foreign_cases():
         came = ended(poll(station.place, out=full))
     station.thread.join(5)
     good &= case("confirms-nothing-that-is-not-printed", came[0] == 3 and station.functions() == [1], came, station.functions())
+    return good
+
+
+def range_cases():
+    """Points that are read by their indices."""
+    good = True
+    for text, octets in {
+        "30.1:5-6": "1E 01 00 05 06",
+        "1.2:7": "01 02 00 07 07",
+        "30.0:0-255": "1E 00 00 00 FF",
+        "40.2:255-256": "28 02 01 FF 00 00 01",
+        "10.0:65535": "0A 00 01 FF FF FF FF",
+        "110.255:1-2": "6E FF 00 01 02",
+    }.items():
+        station = Outstation(one_answer(VALUES))
+        came = ended(poll(station.place, "--read", text))
+        station.thread.join(5)
+        good &= case(f"reads:{text}", came == (0, VALUE_LINES + ["iin 00 00"], []) and station.heard == [b"\xc0\x01" + bytes.fromhex(octets)],
+                     came, [it.hex(" ") for it in station.heard])
+    # each round and each listening begins with them
+    station = Outstation(answers_reads(2))
+    came = ended(poll(station.place, "--read", "30.1:5", "--repeat", "10ms", "--count", "2", "--clear-restart"))
+    station.thread.join(5)
+    good &= case("reads-points-in-rounds", came[0] == 0 and [it[1:3] for it in station.heard] == 2 * [b"\x02\x50", b"\x01\x1e"], came, station.heard)
+    good &= against("tells-a-group-that-is-unknown", one_answer(two=2), 1, ["iin 00 02 object-unknown"], [], "--read", "110.1:0", functions=[1])
+    for text in ("30.1", "30:1", ".1:0", "30.:0", "30.1:", "30.1:-1", "30.1:1-", "30.1:9-0", "256.1:0", "30.256:0", "30.1:65536", "30.1:0-9-9", "+30.1:0"):
+        came = ended(poll("127.0.0.1:9", "--read", text))
+        said = f"error: invalid value '{text}' for '--read <POINTS>': not a group, a variation and indices, as 30.1:0-9 or 1.2:7"
+        good &= case(f"refuses-to-read:{text}", came[0] == 2 and came[1] == [] and came[2][:1] == [said], came)
+    return good
+
+
+def answers_reads(rounds):
+    """So many rounds of two requests are answered."""
+    def serve(station):
+        for _ in range(2 * rounds):
+            station.answer(station.fragment()[0])
+    return serve
+
+
+def waiting_cases():
+    """What is said while a response is awaited."""
+    good = True
+    patience = ("--timeout", "1500")
+    waits = "waiting for station 10: the "
+    good &= against("tells-what-is-waited-for", lambda station: None, 3, [], ["no response in 1500 ms"], *patience, functions=[1],
+                    strange=[waits + "response to READ, sequence number 0, is awaited since 20", "Z, for ", " ms more"])
+    good &= against("tells-which-fragment-is-waited-for", half_an_answer, 3, EVENT_LINES, ["no response in 1500 ms"], *patience, functions=[1],
+                    strange=[waits + "next fragment of the response to READ, sequence number 1, is awaited since 20"])
+    good &= against("tells-which-command-is-waited-for", answers_each(0), 3, ["select 5 SUCCESS"], ["no response in 1500 ms"],
+                    "--operate", COMMAND, *patience, strange=[waits + "response to OPERATE, sequence number 1, is awaited"])
+    good &= against("tells-which-direct-command-is-waited-for", answers_each(), 3, [], ["output 5 may have been operated"],
+                    "--operate", COMMAND, "--direct", *patience, strange=[waits + "response to DIRECT_OPERATE, sequence number 0, is awaited"])
+    # (twelve reports in that time end no wait)
+    good &= against("tells-it-once-while-other-things-come", reports_on, 3, [], ["no response in 1300 ms"], "--timeout", "1300", functions=[1],
+                    strange=[waits + "response to READ"])
+
+    def late(station):
+        sequence = station.fragment()[0]
+        time.sleep(1.3)
+        station.answer(sequence)
+
+    station = Outstation(late)
+    came = ended(poll(station.place))
+    good &= case("tells-nothing-else-of-a-late-answer", came[:2] == (0, ["iin 00 00"]) and len(came[2]) == 1 and waits in came[2][0], came)
+    return good
+
+
+def hex_cases():
+    """The octets of both ways."""
+    good = True
+
+    def octets_of(lines, word):
+        """The octets of the lines with this word after the time, one frame or piece an item."""
+        found = [line.split(" ", 1)[1] for line in lines if line[:2] == "20"]
+        return [bytes.fromhex(line.removeprefix(word)) for line in found if line.startswith(word + " 0") or line.startswith(word + " 5")]
+
+    for name, serve, frames in (("prints-each-frame", one_answer(EVENT, VALUES, bits=CON), (2, 1)),
+                                ("prints-frames-that-come-in-one-piece", in_one_piece(9 * VALUES, 9 * VALUES, 9 * VALUES), (3, 6))):
+        station = Outstation(serve)
+        plain = ended(poll(station.place))
+        station = Outstation(serve)
+        came = ended(poll(station.place, "--hex"))
+        station.thread.join(5)
+        sent, received = (octets_of(came[2], word) for word in ("sent", "received"))
+        same = b"".join(sent) == station.came and b"".join(received) == station.went and (len(sent), len(received)) == frames
+        whole = all(it[:2] == b"\x05d" for it in sent + received)
+        good &= case(name, came[:2] == plain[:2] and same and whole and len(came[2]) == sum(frames), came, plain, station.wrong)
+
+    # what is no frame is printed as such, before a frame and alone
+    def noisy(station):
+        sequence = station.fragment()[0]
+        station.give(b"\x00\x05\x64\x05")
+        station.answer(sequence)
+
+    station = Outstation(noisy)
+    came = ended(poll(station.place, "--hex"))
+    station.thread.join(5)
+    good &= case("prints-what-is-no-frame", came[0] == 0 and octets_of(came[2], "received, in no frame:") == [b"\x00\x05\x64\x05"]
+                 and b"".join(octets_of(came[2], "received")) == station.went[4:], came)
+    station = Outstation(greets)
+    came = ended(poll(station.place, "--hex", "--timeout", "300"))
+    station.thread.join(5)
+    good &= case("prints-another-protocol", came[0] == 3 and octets_of(came[2], "received, in no frame:") == [station.went], came)
+    return good
+
+
+def in_one_piece(*contents):
+    """A response of so many fragments, each with a confirm."""
+    def serve(station):
+        sequence = station.fragment()[0] % 16
+        for number, objects in enumerate(contents):
+            first, last = number == 0, number == len(contents) - 1
+            station.held = b""
+            station.answer(sequence + number, objects, first=first, last=last, bits=0 if last else CON)
+            octets, station.held = station.held, None
+            station.give(octets)
+            if not last:
+                assert station.fragment() == bytes([0xC0 | (sequence + number) % 16, 0])
+    return serve
+
+
+def listen_cases():
+    """Unsolicited responses that are enabled and listened to."""
+    good = True
+    unasked = EVENT_LINES[0] + " unsolicited"
+    times = []
+
+    def listened(serve, *words):
+        """The status, the lines without their times, what was said, and the station."""
+        station = Outstation(serve)
+        came = ended(poll(station.place, "--listen", *words))
+        station.thread.join(5)
+        lines = [line.split(" ", 1) for line in came[1]]
+        times.append([line[0] for line in lines])
+        return came[0], [line[1] for line in lines], came[2], station
+
+    def reports(station):
+        """It answers what it is asked, and sends an unsolicited response in one piece with the answer to ENABLE, and one later."""
+        station.answer(station.fragment()[0], VALUES)
+        enable = station.fragment()
+        assert enable[1:] == bytes([20, 60, 2, 6, 60, 3, 6, 60, 4, 6]), enable.hex(" ")
+        station.held = b""
+        station.answer(enable[0])
+        station.answer(3, one=0x80, bits=UNS | CON)
+        octets, station.held = station.held, None
+        station.give(octets)
+        assert station.fragment() == bytes([0xC0 | UNS | 3, 0])
+        time.sleep(0.2)
+        station.answer(4, EVENT, bits=UNS | CON)
+        assert station.fragment() == bytes([0xC0 | UNS | 4, 0])
+        disable = station.fragment()
+        assert disable[1:] == bytes([21, 60, 2, 6, 60, 3, 6, 60, 4, 6]), disable.hex(" ")
+        station.answer(disable[0])
+
+    began = time.monotonic()
+    status, lines, says, station = listened(reports, "--for", "1s")
+    took = time.monotonic() - began
+    wanted = VALUE_LINES + ["iin 00 00", "enable iin 00 00", "unsolicited iin 80 00 restart", unasked, "unsolicited iin 00 00", "disable iin 00 00"]
+    good &= case("listens-for-a-time", (status, lines, says) == (0, wanted, []) and station.wrong is None and 1 <= took < 4,
+                 status, lines, says, station.wrong, took)
+    good &= case("prints-the-times", times and all(len(it) == 24 and it[-1] == "Z" for it in times[0]) and times[0] == sorted(times[0]), times)
+
+    def of_one_class(station):
+        for function in (1, 20, 21):
+            fragment = station.fragment()
+            assert fragment[1:] == bytes([function, 60, 3, 6]), fragment.hex(" ")
+            station.answer(fragment[0])
+
+    status, lines, says, station = listened(of_one_class, "--classes", "2", "--for", "100ms")
+    good &= case("listens-to-the-classes-that-are-named", status == 0 and station.wrong is None, status, lines, says, station.wrong)
+
+    def refuses(station):
+        station.answer(station.fragment()[0])
+        station.answer(station.fragment()[0], two=1)
+
+    status, lines, says, station = listened(refuses, "--for", "1s")
+    good &= case("listens-to-nothing-that-is-refused", (status, lines) == (1, ["iin 00 00", "enable iin 00 01 no-function"])
+                 and station.functions() == [1, 20], status, lines, says)
+
+    def leaves(station):
+        station.answer(station.fragment()[0])
+        station.answer(station.fragment()[0])
+        raise Ended
+
+    status, lines, says, station = listened(leaves)
+    good &= case("tells-that-the-outstation-left", status == 3 and len(says) == 1 and "ended the connection while this listened" in says[0],
+                 status, lines, says)
+
+    # until it is ended: each line is out at once, and nothing is disabled
+    def goes_on(station):
+        station.answer(station.fragment()[0])
+        station.answer(station.fragment()[0])
+        station.answer(5, EVENT, bits=UNS | CON)
+
+    station = Outstation(goes_on)
+    process = poll(station.place, "--listen", "--json")
+    lines = [json.loads(process.stdout.readline()) for _ in range(4)]
+    for _ in range(400):
+        if len(station.heard) == 3:
+            break
+        time.sleep(0.05)
+    process.terminate()
+    process.communicate(timeout=20)
+    station.thread.join(5)
+    good &= case("listens-until-it-is-ended", [it.get("task", it.get("kind")) for it in lines] == ["poll", "enable", "binary", "unsolicited"]
+                 and all(it["at"] > TIME - 10**12 for it in lines) and station.functions() == [1, 20, 0], lines, station.functions())
+
+    # and a command before that
+    def operates(station):
+        station.answer(station.fragment()[0])
+        for status in (0, 0):
+            fragment = station.fragment()
+            station.answer(fragment[0], fragment[2:-1], bytes([status]))
+        station.answer(6, EVENT, bits=UNS | CON)
+        station.fragment()
+        station.answer(station.fragment()[0])
+
+    status, lines, says, station = listened(operates, "--operate", COMMAND, "--for", "500ms")
+    good &= case("operates-and-listens", (status, lines) == (0, ["enable iin 00 00", "select 5 SUCCESS", "operate 5 SUCCESS", unasked,
+                                                                "unsolicited iin 00 00", "disable iin 00 00"]), status, lines, says, station.wrong)
+    return good
+
+
+def counts_up(station):
+    """Each READ is answered with an event of binary 0, ten binaries and twenty analogs, of which 0 and 15 change each time, and not 3."""
+    for number in range(1, 100):
+        fragment = station.fragment()
+        event = bytes([2, 2, 0x28, 1, 0, 0, 0, 0x81 if number % 2 else 1]) + struct.pack("<Q", TIME + 1000 * number)[:6]
+        binaries = bytes([1, 2, 0, 0, 9, 0x81 if number % 2 else 1]) + 9 * b"\x01"
+        analogs = bytes([30, 1, 0, 0, 19]) + b"".join(b"\x01" + struct.pack("<i", number if k == 15 else 100 * k) for k in range(20))
+        station.answer(fragment[0], event, binaries, analogs, one=0x80)
+
+
+def screens_of(place, *words, **environment):
+    """What a poll draws at a terminal: the lines of each screen, and all that it wrote."""
+    ours, its = pty.openpty()
+    process = subprocess.Popen([DNP, "poll", place, *words], stdin=subprocess.DEVNULL, stdout=its, stderr=subprocess.PIPE,
+                               env={**os.environ, "TERM": "xterm", **environment})
+    os.close(its)
+    written = b""
+    while True:
+        try:
+            piece = os.read(ours, 65536)
+        except OSError:
+            break
+        if not piece:
+            break
+        written += piece
+    os.close(ours)
+    process.communicate(timeout=20)
+    text = written.decode().replace("\r\n", "\n")
+    return [screen.splitlines() for screen in text.split("\x1b[H\x1b[J")], text
+
+
+def table_cases():
+    """Rounds as a table at a terminal, and as lines elsewhere."""
+    good = True
+    words = ("--classes", "10", "--repeat", "50ms", "--count", "3")
+
+    # at a pipe: each round begins with a line, and nothing is drawn
+    station = Outstation(counts_up)
+    status, lines, says = ended(poll(station.place, *words))
+    marks = [line for line in lines if line.startswith("round ")]
+    good &= case("marks-rounds", status == 0 and says == [] and [line.split()[1] for line in marks] == ["1", "2", "3"] and lines[0] == marks[0]
+                 and all(len(line.split()[2]) == 24 for line in marks) and len(lines) == 3 * 33 and not any("\x1b" in line for line in lines), lines)
+    station = Outstation(counts_up)
+    status, lines, says = ended(poll(station.place, *words, "--json"))
+    objects = [json.loads(line) for line in lines]
+    good &= case("marks-rounds-as-json", [it["round"] for it in objects if "round" in it] == [1, 2, 3] and all("at" not in it for it in objects), lines)
+    station = Outstation(counts_up)
+    status, lines, says = ended(poll(station.place, *words, "--times"))
+    good &= case("tells-the-time-of-each-line", all(line[:2] == "20" and line[23:25] == "Z " for line in lines if not line.startswith("round"))
+                 and sum(line.startswith("round") for line in lines) == 3, lines)
+
+    # at a terminal: one screen a fragment, with what changed marked
+    station = Outstation(counts_up)
+    screens, text = screens_of(station.place, *words, "--height", "60", NO_COLOR="1")
+    good &= case("draws-a-screen-each-round", len(screens) == 4 and screens[0] == [] and all(len(it) == 33 for it in screens[1:]), screens)
+    shown = screens[-1] if len(screens) == 4 else [""] * 33
+    good &= case("draws-each-point", shown[0].startswith("round 3 20") and shown[0].endswith("Z station 10")
+                 and shown[1] == "  kind     index       value flags time"
+                 and shown[2] == "* binary       0           1    01 2026-11-25T03:00:04.000Z"
+                 and shown[5] == "  binary       3           0    01 -" and shown[27] == "* analog      15           3    01 -"
+                 and shown[28] == "  analog      16        1600    01 -" and shown[32] == "iin 80 00 restart", shown)
+    marked = [[line for line in screen if line.startswith("*")] for screen in screens[1:]]
+    good &= case("marks-what-changed", [len(it) for it in marked] == [0, 2, 2], marked)
+    good &= case("has-no-colour-where-none-is-wanted", "\x1b[33m" not in text and text.count("\x1b") == 6, text.count("\x1b"))
+
+    # fewer lines: those that changed are among them
+    station = Outstation(counts_up)
+    screens, text = screens_of(station.place, *words, "--height", "12", NO_COLOR="")
+    shown = screens[-1]
+    good &= case("draws-what-there-is-room-for", len(shown) == 11 and shown[-2] == "  and 23 more: '--height' gives the table more lines"
+                 and any("analog      15" in line for line in shown), shown)
+    good &= case("colours-what-changed", text.count("\x1b[33m* ") == 4, text)
+
+    # lines at a terminal, where they are asked for
+    for option in ("--json", "--times"):
+        station = Outstation(counts_up)
+        screens, text = screens_of(station.place, *words, option)
+        good &= case(f"draws-nothing-with{option[1:]}", len(screens) == 1 and "\x1b" not in text, text[:200])
+    station = Outstation(counts_up)
+    screens, text = screens_of(station.place, *words, TERM="dumb")
+    good &= case("draws-nothing-on-a-dumb-terminal", "\x1b" not in text, text[:200])
     return good
 
 
@@ -387,12 +724,23 @@ def word_cases():
         "operate-and-repeat": ["--operate", COMMAND, "--repeat", "1s"],
         "no-command": ["--operate", "block 5 3"],
         "raw-without-a-command": ["--raw"],
+        "direct-without-a-command": ["--direct"],
+        "direct-and-repeat": ["--operate", COMMAND, "--direct", "--repeat", "1s"],
+        "points-and-classes": ["--read", "30.1:0", "--classes", "1"],
         "class-twice": ["--classes", "11"],
         "no-time": ["--repeat", "5"],
         "count-alone": ["--count", "2"],
         "another-word": ["--confirm", "maybe"],
         "timeout-of-0": ["--timeout", "0"],
         "time-of-49-bits": ["--time", str(2**48)],
+        "height-without-rounds": ["--height", "30"],
+        "height-of-json": ["--repeat", "1s", "--height", "30", "--json"],
+        "height-of-lines": ["--repeat", "1s", "--height", "30", "--times"],
+        "height-of-nine": ["--repeat", "1s", "--height", "9"],
+        "listening-in-rounds": ["--listen", "--repeat", "1s"],
+        "listening-without-confirms": ["--listen", "--confirm", "no"],
+        "time-of-no-listening": ["--for", "1s"],
+        "listening-for-no-time": ["--listen", "--for", "0s"],
     }.items():
         came = ended(poll(place, *words))
         good &= case(f"refuses-{name}", came[0] == 2 and came[1] == [], came)
@@ -428,7 +776,7 @@ def own_cases():
         Path(room, "day.txt").write_text(f"0 change binary 3 1 01 {TIME}\n", encoding="ascii")
         with socket.create_server(("127.0.0.1", 0)) as taken:
             port = taken.getsockname()[1]
-        words = ["--plan", "plan.toml", "--station", "0", "--port", str(port), "--replay", "day.txt", "--connections", "10"]
+        words = ["--plan", "plan.toml", "--station", "0", "--port", str(port), "--replay", "day.txt", "--connections", "14"]
         station = subprocess.Popen([DNP, "outstation", *words], cwd=room, stdin=subprocess.DEVNULL, stdout=subprocess.DEVNULL,
                                    stderr=subprocess.DEVNULL)
         try:
@@ -441,7 +789,7 @@ def own_cases():
             good &= case("reads-events", (status, lines, says) == (0, EVENT_LINES + ["iin 80 00 restart"], []), status, lines, says)
             status, lines, says = ended(poll(place, "--clear-restart", "--classes", "1230", "--repeat", "50ms", "--count", "3"))
             cleared = ["clear-restart iin 02 00 class-1-events"] + 2 * ["clear-restart iin 00 00"]
-            good &= case("keeps-events-that-are-not-confirmed", status == 0 and lines[0] == EVENT_LINES[0], status, lines, says)
+            good &= case("keeps-events-that-are-not-confirmed", status == 0 and lines[1] == EVENT_LINES[0], status, lines, says)
             good &= case("asks-again-on-one-connection", [line for line in lines if line.startswith("clear")] == cleared
                          and lines.count(EVENT_LINES[0]) == 1 and lines.count("iin 00 00") == 3, lines)
             static = "binary 3 1 01 - static"
@@ -455,6 +803,14 @@ def own_cases():
                 good &= case(f"operates:{text}", came == (0, ["select 3 SUCCESS", "operate 3 SUCCESS"], []), came)
             came = ended(poll(place, "--operate", "set16 0 -7"))
             good &= case("sets", came == (0, ["select 0 SUCCESS", "operate 0 SUCCESS"], []), came)
+            came = ended(poll(place, "--operate", "latch-on 4", "--direct"))
+            good &= case("operates-directly-here", came == (0, ["direct-operate 4 SUCCESS"], []), came)
+            came = ended(poll(place, "--operate", "latch-on 9", "--direct"))
+            good &= case("tells-what-is-not-there-directly", came == (1, ["direct-operate 9 NOT_SUPPORTED"], []), came)
+            came = ended(poll(place, "--read", "10.0:3-4"))
+            good &= case("reads-a-range", (came[0], came[2]) == (0, []) and came[1][:-1] == ["output 3 0 01 - static", "output 4 1 01 - static"], came)
+            came = ended(poll(place, "--read", "110.1:0"))
+            good &= case("tells-an-unknown-group", came[0] == 1 and "object-unknown" in came[1][0], came)
             came = ended(poll(place, "--peer", "11", "--timeout", "300"))
             good &= case("tells-a-wrong-address", came[0] == 3 and "no response in 300 ms" in came[2][0], came)
             # (as a station of another number answers: its frames are told)
@@ -467,5 +823,5 @@ def own_cases():
 
 
 if __name__ == "__main__":
-    results = [foreign_cases(), command_cases(), word_cases(), own_cases()]
+    results = [foreign_cases(), range_cases(), waiting_cases(), hex_cases(), listen_cases(), table_cases(), command_cases(), word_cases(), own_cases()]
     sys.exit(0 if all(results) else 1)

@@ -106,3 +106,18 @@ wrong a-point 3 '05.64'
 wrong a-letter-in-a-dump 13 '00000000: 05g4'
 wrong half-an-octet-of-a-dump 12 '00000000: 5'
 wrong characters-without-a-place 33 '0564 05c0 0100 0004 e921        .d.......!'
+
+# octets that are given as others than they are
+echo '05 64 05 C0 01 00 00 04 E9 21' >text
+expect refuses-hexadecimal-octets-for-a-capture 1 'refused capture Start' '' decode --pcap text
+says says-that-they-are-hexadecimal-octets "dnp: text: the file doesn't begin as a capture
+dnp: text: tip: it looks like hexadecimal octets, which 'dnp decode' reads from standard input"
+printf '\x05\x64\x05\xC0\x01\x00\x00\x04\xE9\x21' >octets
+got=0
+"$dnp" decode <octets >out 2>err || got=$?
+judge refuses-octets-for-hexadecimal-ones 1 '1 text refused: no hexadecimal digit in column 1' "$got"
+says says-that-they-are-octets "dnp: standard input: tip: it looks like octets of frames, which '--raw' reads from standard input"
+got=0
+"$dnp" decode <capture >out 2>err || got=$?
+tail -n 1 err >last && mv last err
+says says-that-it-is-a-capture "dnp: standard input: tip: it looks like a capture, which '--pcap <FILE>' names"

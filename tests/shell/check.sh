@@ -244,6 +244,23 @@ says says-why-a-plan-is-refused 'dnp: plan.toml: retries: 4, where a whole numbe
 expect takes-no-words 2 '' '' check
 expect takes-no-two-forms 2 '' '' check --plan plan.toml --csv --json
 
+# A file that is given for another one is named
+tip="tip: it looks like a"
+ln -s "$top/examples" given
+expect refuses-a-network-for-a-plan 1 'refused plan 2' '' check --plan given/network.toml
+says says-that-it-is-a-network "dnp: given/network.toml: confirm_ms is missing
+dnp: given/network.toml: $tip network file, which '--network <FILE>' names"
+expect refuses-a-plan-for-a-network 1 '' '' check --plan given/plan.toml --network given/plan.toml
+says says-that-it-is-a-plan "dnp: given/plan.toml: line 8: substation 0, at is missing, where a host and port belong, as 10.0.0.1:20000, [2001:db8::1]:20000 or name:20000
+dnp: given/plan.toml: $tip plan, which '--plan <FILE>' names"
+expect refuses-points-for-a-network 1 '' '' check --plan given/plan.toml --network given/points.csv
+says says-that-they-are-points "dnp: given/points.csv: line 1, column 11: the network is no TOML: key with no value, expected \`=\`
+dnp: given/points.csv: $tip table of points, which 'points' of a network file names"
+expect refuses-a-script-for-a-plan 1 'refused plan 1' '' sim --plan given/a_lost_confirm.script
+says says-that-it-is-a-script "dnp: given/a_lost_confirm.script: line 1, column 6: the plan is no TOML: key with no value, expected \`=\`
+dnp: given/a_lost_confirm.script: $tip script, which 'dnp sim' reads from standard input"
+rm given
+
 # The commands of docs/network.md
 awk -v room="$room" '
     /^```/ { inside = !inside; if (inside) { file = ""; first = 1 } else if (file) close(file); next }

@@ -34,32 +34,32 @@ event=$(frame 44 02 0A C0 E1 81 00 00 02 02 17 01 03 81 E8 03 00 00 00 00)
 decodes an-event 0 '1 10>2 44 UNCONFIRMED_USER_DATA 17 octets, words good
 1   transport FIR FIN 0
 1   response seq 1 fir fin con, iin 00 00
-1     2.2 x1: 3 = 1 flags 01 at 1970-01-01T00:00:01.000Z' "$event$lf"
+1     2.2 x1: 3 = 1 flags 01 ONLINE at 1970-01-01T00:00:01.000Z' "$event$lf"
 # 30.1 of the indexes 5 and 6: flags 01, -1; flags 81, 65,536
 decodes static-values 0 '1 10>2 44 UNCONFIRMED_USER_DATA 20 octets, words good
 1   transport FIR FIN 5
-1   response seq 2 fir fin, iin 80 04
-1     30.1 5..6: 5 = -1 flags 01
-1     30.1 5..6: 6 = 65536 flags 81' "$(frame 44 02 0A C5 C2 81 80 04 1E 01 00 05 06 01 FF FF FF FF 81 00 00 01 00)$lf"
+1   response seq 2 fir fin, iin 80 04 DEVICE_RESTART PARAMETER_ERROR
+1     30.1 5..6: 5 = -1 flags 01 ONLINE
+1     30.1 5..6: 6 = 65536 flags 81 ONLINE reserved' "$(frame 44 02 0A C5 C2 81 80 04 1E 01 00 05 06 01 FF FF FF FF 81 00 00 01 00)$lf"
 # 1.1, packed: of the indexes 0 to 2 the middle one is on
 decodes packed-bits 0 '1 10>2 44 UNCONFIRMED_USER_DATA 11 octets, words good
 1   transport FIR FIN 0
 1   response seq 0 fir fin, iin 00 00
-1     1.1 0..2: 0 = 0 flags 01
-1     1.1 0..2: 1 = 1 flags 01
-1     1.1 0..2: 2 = 0 flags 01' "$(frame 44 02 0A C0 C0 81 00 00 01 01 00 00 02 02)$lf"
+1     1.1 0..2: 0 = 0 flags 01 ONLINE
+1     1.1 0..2: 1 = 1 flags 01 ONLINE
+1     1.1 0..2: 2 = 0 flags 01 ONLINE' "$(frame 44 02 0A C0 C0 81 00 00 01 01 00 00 02 02)$lf"
 # 10.2, the states of the outputs 3 and 4: on and off, both ONLINE
 decodes states-of-outputs 0 '1 10>2 44 UNCONFIRMED_USER_DATA 12 octets, words good
 1   transport FIR FIN 0
-1   response seq 0 fir fin, iin 80 00
-1     10.2 3..4: 3 = 1 flags 01
-1     10.2 3..4: 4 = 0 flags 01' "$(frame 44 02 0A C0 C0 81 80 00 0A 02 00 03 04 81 01)$lf"
+1   response seq 0 fir fin, iin 80 00 DEVICE_RESTART
+1     10.2 3..4: 3 = 1 flags 01 ONLINE
+1     10.2 3..4: 4 = 0 flags 01 ONLINE' "$(frame 44 02 0A C0 C0 81 80 00 0A 02 00 03 04 81 01)$lf"
 # 40.1 and 40.2, the states of setpoints: -2 in 32 bits, 513 in 16
 decodes states-of-setpoints 0 '1 10>2 44 UNCONFIRMED_USER_DATA 23 octets, words good
 1   transport FIR FIN 0
-1   response seq 0 fir fin, iin 80 00
-1     40.1 0..0: 0 = -2 flags 01
-1     40.2 1..1: 1 = 513 flags 01' "$(frame 44 02 0A C0 C0 81 80 00 28 01 00 00 00 01 FE FF FF FF 28 02 00 01 01 01 01 02)$lf"
+1   response seq 0 fir fin, iin 80 00 DEVICE_RESTART
+1     40.1 0..0: 0 = -2 flags 01 ONLINE
+1     40.2 1..1: 1 = 513 flags 01 ONLINE' "$(frame 44 02 0A C0 C0 81 80 00 28 01 00 00 00 01 FE FF FF FF 28 02 00 01 01 01 01 02)$lf"
 # 80.1, the indication DEVICE_RESTART, 7, is cleared
 decodes an-indication 0 '1 2>10 C4 UNCONFIRMED_USER_DATA 9 octets, words good
 1   transport FIR FIN 0
@@ -76,7 +76,7 @@ decodes a-delay 0 '1 10>2 44 UNCONFIRMED_USER_DATA 11 octets, words good
 1     52.2 x1: 513 ms' "$(frame 44 02 0A C0 C0 81 00 00 34 02 07 01 01 02)$lf"
 decodes an-unsolicited-response 0 '1 10>2 44 UNCONFIRMED_USER_DATA 5 octets, words good
 1   transport FIR FIN 0
-1   response seq 0 fir fin con uns, iin 80 00' "$(frame 44 02 0A C0 F0 82 80 00)$lf"
+1   response seq 0 fir fin con uns, iin 80 00 DEVICE_RESTART' "$(frame 44 02 0A C0 F0 82 80 00)$lf"
 # times are in UTC: the day after 28 February of 2024, the last millisecond of 1999
 for time in '2024-02-29T00:00:00.000Z' '1999-12-31T23:59:59.999Z' '2100-03-01T12:34:56.789Z'; do
     millis=$(date -ud "$time" +%s%3N)
@@ -84,7 +84,7 @@ for time in '2024-02-29T00:00:00.000Z' '1999-12-31T23:59:59.999Z' '2100-03-01T12
     decodes "the-time-$time" 0 "1 10>2 44 UNCONFIRMED_USER_DATA 17 octets, words good
 1   transport FIR FIN 0
 1   response seq 1 fir fin, iin 00 00
-1     2.2 x1: 3 = 0 flags 01 at $time" "$(frame 44 02 0A C0 C1 81 00 00 02 02 17 01 03 01 $octets)$lf"
+1     2.2 x1: 3 = 0 flags 01 ONLINE at $time" "$(frame 44 02 0A C0 C1 81 00 00 02 02 17 01 03 01 $octets)$lf"
 done
 
 # Commands
@@ -147,9 +147,9 @@ decodes an-unknown-object 1 '1 2>10 C4 UNCONFIRMED_USER_DATA 9 octets, words goo
 decodes objects-that-are-cut 1 '1 10>2 44 UNCONFIRMED_USER_DATA 17 octets, words good
 1   transport FIR FIN 0
 1   response seq 0 fir fin, iin 00 00
-1     1.1 0..2: 0 = 0 flags 01
-1     1.1 0..2: 1 = 1 flags 01
-1     1.1 0..2: 2 = 0 flags 01
+1     1.1 0..2: 0 = 0 flags 01 ONLINE
+1     1.1 0..2: 1 = 1 flags 01 ONLINE
+1     1.1 0..2: 2 = 0 flags 01 ONLINE
 1   fragment refused: ObjectsCut at octet 10' "$(frame 44 02 0A C0 C0 81 00 00 01 01 00 00 02 02 1E 01 00 05 06 01)$lf"
 decodes an-unknown-function 1 '1 2>10 C4 UNCONFIRMED_USER_DATA 3 octets, words good
 1   transport FIR FIN 0

@@ -5,7 +5,8 @@
 . "$top/tests/outstation.bash"
 
 plan plan.toml
-# Who connects takes the place of the one that is served, and that one is hung up; with the last of the connections nobody is
+# Who connects takes the place of the one that is served, and that one is hung up; with the last of the connections nobody is, and
+# who comes then is hung up itself
 serve --connections 2
 talks serves-the-newest-master <<'LINES'
 > C0 17
@@ -23,10 +24,16 @@ other
 > C2 17
 < C2 81 80 00 34 02 07 01 00 00
 nothing
+other
+end
+other
 LINES
 ended counts-both-masters $'served 1\nserved 3'
 tells says-who-took-over 'TIME PEER connected' 'TIME PEER ended, served 1: taken over by PEER' 'TIME PEER connected' \
+    'TIME PEER came too late and is hung up: the program ends after the connection that it serves; '\''--forever'\'' serves more' \
     'TIME PEER ended, served 3: the master closed the connection'
+tail -n 1 err | sed -E "s/^$utc //" >out
+judge says-that-it-ends 0 "2 connections are over, and so the program ends: '--forever' serves more" 0
 # Also in the midst of a frame, and where the one that is served reads nothing
 serve --connections 2
 talks is-taken-over-within-a-frame <<'LINES'
@@ -67,6 +74,7 @@ gone 0.8 2.7
 LINES
 talks hangs-up-who-does-not-read <<<deaf
 wait "$served"
+sed -i '/ and so the program ends: /d' err
 # (two seconds after its last whole frame, and not twice that: not before two seconds after it connected, and by the line of the
 # last request, which is written once the answer before it is sent)
 { grep ' connected$' err | tail -n 1 && tail -n 2 err; } | cut -d ' ' -f 1 | xargs -I '{}' date -d '{}' +%s%3N | tr '\n' ' ' >times

@@ -106,6 +106,8 @@ def phrase_of(lines):
         said, name = said.rsplit(" ", 1)
     else:
         said, indications = said.split(", iin ")
+        # (the names of those that are set stand behind the octets, and the trace has the octets alone)
+        indications = indications[:5]
         name = "UNSOLICITED_RESPONSE" if "uns" in said.split(" ") else "RESPONSE"
         said += f" iin {indications}" * (indications != "00 00")
     headers, at = [], 2

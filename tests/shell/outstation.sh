@@ -245,13 +245,13 @@ request seq 0 fir fin READ
 60.1 all
 10>2 44 UNCONFIRMED_USER_DATA 18 octets, words good
 transport FIR FIN 0
-response seq 0 fir fin, iin 80 00
-10.2 0..5: 0 = 0 flags 01
-10.2 0..5: 1 = 0 flags 01
-10.2 0..5: 2 = 0 flags 01
-10.2 0..5: 3 = 0 flags 01
-10.2 0..5: 4 = 0 flags 01
-10.2 0..5: 5 = 0 flags 01
+response seq 0 fir fin, iin 80 00 DEVICE_RESTART
+10.2 0..5: 0 = 0 flags 01 ONLINE
+10.2 0..5: 1 = 0 flags 01 ONLINE
+10.2 0..5: 2 = 0 flags 01 ONLINE
+10.2 0..5: 3 = 0 flags 01 ONLINE
+10.2 0..5: 4 = 0 flags 01 ONLINE
+10.2 0..5: 5 = 0 flags 01 ONLINE
 2>10 C4 UNCONFIRMED_USER_DATA 9 octets, words good
 transport FIR FIN 1
 request seq 1 fir fin WRITE

@@ -29,6 +29,7 @@ DATA = {
     "dnp_decode/src/shown.rt": "decoded octets",
     "dnp_objects/src/words.rt": "rows and commands, as their contract has them",
     "dnp_poll/src/shown_json.rt": "rows that were asked for, as JSON",
+    "dnp_poll/src/shown_table.rt": "rows that were asked for, as a table",
     "dnp_poll/src/shown_text.rt": "rows that were asked for",
     "dnp_rows/src/command.rt": "rows of a store",
     "dnp_standard/src/groups.rt": "the standard's names",

@@ -25,7 +25,7 @@ asks a-cold-restart 0 '1   request seq 0 fir fin COLD_RESTART, beyond the profil
 asks a-file-that-is-opened 0 '1   request seq 3 fir fin con OPEN_FILE, beyond the profile
 1     70.3 x1 file control, file command, beyond the profile
 1     70.3 x1: octets 1A 00 05, beyond the profile' 'E3 19 46 03 5B 01 03 00 1A 00 05'
-answers an-authenticate-resp 0 '1   response seq 0 fir fin, iin 80 01, AUTHENTICATE_RESP, beyond the profile
+answers an-authenticate-resp 0 '1   response seq 0 fir fin, iin 80 01 DEVICE_RESTART NO_FUNC_CODE_SUPPORT, AUTHENTICATE_RESP, beyond the profile
 1     120.1 x1 authentication, challenge, beyond the profile
 1     120.1 x1: octets 01 02, beyond the profile' 'C0 83 80 01 78 01 5B 01 02 00 01 02'
 answers an-authenticate-resp-without-indications 1 '1   fragment refused: Short at octet 3' 'C0 83 80'
@@ -45,7 +45,7 @@ answers floats 0 "$said
 1     30.5 0..1 analog input, single-precision with flag, beyond the profile
 1     30.5 0..1: 0 octets 01 00 00 C0 3F, beyond the profile
 1     30.5 0..1: 1 octets 01 00 00 00 40, beyond the profile
-1     1.2 7..7: 7 = 1 flags 01" 'C0 81 00 00 1E 05 00 00 01 01 00 00 C0 3F 01 00 00 00 40 01 02 00 07 07 81'
+1     1.2 7..7: 7 = 1 flags 01 ONLINE" 'C0 81 00 00 1E 05 00 00 01 01 00 00 C0 3F 01 00 00 00 40 01 02 00 07 07 81'
 answers double-bits 0 "$said
 1     3.1 4..7 double-bit binary input, packed format, beyond the profile
 1     3.1 4..7: 4 = 0, beyond the profile
@@ -62,19 +62,19 @@ answers double-bits 0 "$said
 1     10.1 0..8: 6 = 0, beyond the profile
 1     10.1 0..8: 7 = 0, beyond the profile
 1     10.1 0..8: 8 = 1, beyond the profile
-1     30.2 0..0: 0 = 5 flags 01" 'C0 81 00 00 03 01 00 04 07 E4 0A 01 00 00 08 01 01 1E 02 00 00 00 01 05 00'
+1     30.2 0..0: 0 = 5 flags 01 ONLINE" 'C0 81 00 00 03 01 00 04 07 E4 0A 01 00 00 08 01 01 1E 02 00 00 00 01 05 00'
 answers strings 0 "$said
 1     111.4 x1 octet string event, as many octets as the variation, beyond the profile
 1     111.4 x1: 258 octets 61 62 63 64, beyond the profile
-1     22.1 x1: 3 = 9 flags 01" 'C0 81 00 00 6F 04 28 01 00 02 01 61 62 63 64 16 01 17 01 03 01 09 00 00 00'
+1     22.1 x1: 3 = 9 flags 01 ONLINE" 'C0 81 00 00 6F 04 28 01 00 02 01 61 62 63 64 16 01 17 01 03 01 09 00 00 00'
 # relative times after a common time that stands before what the profile lacks, and after one behind it
 answers relative-times 0 "$said
 1     51.1 x1: 1970-01-01T00:00:10.000Z
 1     4.3 x1 double-bit binary input event, with relative time, beyond the profile
 1     4.3 x1: 1 octets 41 01 00, beyond the profile
-1     2.3 x1: 3 = 1 flags 01 at 1970-01-01T00:00:11.000Z
+1     2.3 x1: 3 = 1 flags 01 ONLINE at 1970-01-01T00:00:11.000Z
 1     51.1 x1: 1970-01-01T00:00:20.000Z
-1     2.3 x1: 3 = 0 flags 01 at 1970-01-01T00:00:20.002Z" 'C0 81 00 00 33 01 07 01 10 27 00 00 00 00 04 03 17 01 01 41 01 00 02 03 17 01 03 81 E8 03 33 01 07 01 20 4E 00 00 00 00 02 03 17 01 03 01 02 00'
+1     2.3 x1: 3 = 0 flags 01 ONLINE at 1970-01-01T00:00:20.002Z" 'C0 81 00 00 33 01 07 01 10 27 00 00 00 00 04 03 17 01 01 41 01 00 02 03 17 01 03 81 E8 03 33 01 07 01 20 4E 00 00 00 00 02 03 17 01 03 01 02 00'
 asks indexes-that-are-read 0 '1   request seq 0 fir fin READ
 1     1.2 x2 binary input, with flags, beyond the profile
 1     1.2 x2: 3, beyond the profile

@@ -1,13 +1,16 @@
 //! The lines that stations on connections say, each once.
 
 use crate::said::first_unlike;
-use dnp_appfragment::AppFault;
+use dnp_appfragment::{AppFault, Function};
 use dnp_concentrator::Cause;
 use dnp_lines::WIRE;
-use dnp_notices::{Ends, Mismatch, Place, Refusal, Strange, StrangeLine};
+use dnp_notices::{Awaited, Ends, Mismatch, Place, Refusal, Strange, StrangeLine};
 use dnp_poll::PollFault;
 use dnp_streams::ServeFault;
-use dnp_tcp::lines::{Asked, End, Ending, Failure, Line, Open, Served, Stop, Visited};
+use dnp_tcp::lines::{
+    Asked, Connects, End, Ending, Failure, Line, Open, Passed, Served, Stop, Visited, Wait, Waits,
+    Way,
+};
 use std::io;
 use std::net::{IpAddr, Ipv4Addr, SocketAddr};
 use std::rt::HostRuntime;
@@ -65,6 +68,14 @@ fn each_line_of_a_station_is_said_so(rt: HostRuntime) -> Result<(), Fail> {
             Line::Broken(1, ServeFault::TurnsSpent, None),
             "centre 1: too many reads of the stream",
         ),
+        (
+            Line::Over(1),
+            "the connection is over, and so the program ends: '--forever' serves more",
+        ),
+        (
+            Line::Over(2),
+            "2 connections are over, and so the program ends: '--forever' serves more",
+        ),
     ];
     assert_eq!(rt; first_unlike(rt.alloc(), &lines)?, None);
     Ok(())
@@ -101,6 +112,10 @@ fn each_line_of_a_connection_is_said_so(rt: HostRuntime) -> Result<(), Fail> {
         (
             Visited::Strange(STRANGE),
             "frames came from 5 to 10; this takes those from 2 to 10",
+        ),
+        (
+            Visited::Late,
+            "came too late and is hung up: the program ends after the connection that it serves; '--forever' serves more",
         ),
     ];
     assert_eq!(rt; first_unlike(rt.alloc(), &visited)?, None);
@@ -222,6 +237,10 @@ fn each_failure_of_rounds_is_said_so(rt: HostRuntime) -> Result<(), Fail> {
             "dnp: here:20000: octets came, and no frame",
         ),
         (
+            stop(Stop::EndedUnasked),
+            "dnp: here:20000: the outstation ended the connection while this listened",
+        ),
+        (
             stop(Stop::Unlike(Mismatch::Sequence(5, 3))),
             "dnp: here:20000: a response with sequence number 5 came, where 3 is awaited",
         ),
@@ -240,5 +259,73 @@ fn each_failure_of_rounds_is_said_so(rt: HostRuntime) -> Result<(), Fail> {
         (Failure::Own(PollFault::Memory), "dnp: out of memory"),
     ];
     assert_eq!(rt; first_unlike(rt.alloc(), &stops)?, None);
+    Ok(())
+}
+
+/// The wait for this fragment of the response to a READ.
+fn wait(is_later: bool) -> Waits {
+    let awaited = Awaited { seq: 3, is_later };
+    let wait = Wait {
+        source: 10,
+        function: Function::Read,
+        awaited,
+        since: 1_795_575_601_000,
+        left_ms: 4_000,
+    };
+    Waits(wait)
+}
+
+#[test]
+fn each_wait_is_said_so(rt: HostRuntime) -> Result<(), Fail> {
+    let waits = [
+        (
+            wait(false),
+            "dnp: waiting for station 10: the response to READ, sequence number 3, is awaited since 2026-11-25T03:00:01.000Z, for 4000 ms more",
+        ),
+        (
+            wait(true),
+            "dnp: waiting for station 10: the next fragment of the response to READ, sequence number 3, is awaited since 2026-11-25T03:00:01.000Z, for 4000 ms more",
+        ),
+    ];
+    assert_eq!(rt; first_unlike(rt.alloc(), &waits)?, None);
+    let connects = [(
+        Connects("here:20000", at(20_000), 4_000),
+        "dnp: here:20000: waiting for a connection to 127.0.0.1:20000, for 4000 ms more",
+    )];
+    assert_eq!(rt; first_unlike(rt.alloc(), &connects)?, None);
+    Ok(())
+}
+
+/// These octets, which went this way.
+fn passed(way: Way, is_frame: bool) -> Passed<'static> {
+    Passed {
+        utc: 1_795_575_601_000,
+        way,
+        is_frame,
+        octets: &[0x05, 0x64, 0xFF],
+    }
+}
+
+#[test]
+fn octets_of_both_ways_are_said_so(rt: HostRuntime) -> Result<(), Fail> {
+    let octets = [
+        (
+            passed(Way::Sent, true),
+            "2026-11-25T03:00:01.000Z sent 05 64 FF",
+        ),
+        (
+            passed(Way::Received, true),
+            "2026-11-25T03:00:01.000Z received 05 64 FF",
+        ),
+        (
+            passed(Way::Sent, false),
+            "2026-11-25T03:00:01.000Z sent, in no frame: 05 64 FF",
+        ),
+        (
+            passed(Way::Received, false),
+            "2026-11-25T03:00:01.000Z received, in no frame: 05 64 FF",
+        ),
+    ];
+    assert_eq!(rt; first_unlike(rt.alloc(), &octets)?, None);
     Ok(())
 }

@@ -31,4 +31,6 @@ mod stations;
 #[cfg(test)]
 mod stores;
 #[cfg(test)]
+mod terminals;
+#[cfg(test)]
 mod words;

@@ -1,7 +1,7 @@
 //! What is said of a wrong command line, each text once.
 
 use crate::said::first_unlike;
-use dnp_lines::{Misuse, Untaken, Wanted, Wrong, tip_of};
+use dnp_lines::{Apart, Misuse, Untaken, Wanted, Wrong, tip_of};
 use dnp_orders::{ToldFault, code_doubt, read_command};
 use std::rt::HostRuntime;
 use std::test::Fail;
@@ -41,6 +41,10 @@ fn each_value_that_is_wrong_is_said_so(rt: HostRuntime) -> Result<(), Fail> {
         (
             value(Wanted::Interval),
             "error: invalid value 'x\\n' for '--name <N>': not a time as 500ms, 5s, 2m or 1h, a day at most\n\nFor more information, try '--help'.",
+        ),
+        (
+            value(Wanted::Points),
+            "error: invalid value 'x\\n' for '--name <N>': not a group, a variation and indices, as 30.1:0-9 or 1.2:7\n\nFor more information, try '--help'.",
         ),
         (
             value(Wanted::Owner),
@@ -130,6 +134,18 @@ fn each_other_wrong_command_line_is_said_so(rt: HostRuntime) -> Result<(), Fail>
         (
             Wrong::Together("--csv", "--json"),
             "error: '--csv' and '--json' can't be used together\n\nFor more information, try '--help'.",
+        ),
+        (
+            Wrong::Apart("--listen", "--repeat <TIME>", Apart::Listening),
+            "error: '--listen' and '--repeat <TIME>' can't be used together: an outstation sends its events by itself while '--listen' waits, so leave out one of them\n\nFor more information, try '--help'.",
+        ),
+        (
+            Wrong::Apart("--listen", "--confirm no", Apart::Unconfirmed),
+            "error: '--listen' and '--confirm no' can't be used together: an outstation sends an event again until it is confirmed, so leave out one of them\n\nFor more information, try '--help'.",
+        ),
+        (
+            Wrong::Apart("--height <N>", "--json", Apart::Untabled),
+            "error: '--height <N>' and '--json' can't be used together: the table alone has a height, and with the other there is none, so leave out one of them\n\nFor more information, try '--help'.",
         ),
         (
             Wrong::Needs("--count <N>", "--repeat <TIME>"),

@@ -1,13 +1,9 @@
-//! Readers and writers that give and take little, and fail, and a clock that runs while a reader waits.
+//! Readers and writers that give and take little, and fail.
 
 ghost use Rattle.std.specs.Prelude.{◌≡◌};
 
 use arrayvec::ArrayVec;
-use dnp_streams::Waiting;
-use std::cell::Cell;
 use std::io::{Error, ErrorKind, Read, Result, Write};
-use std::rt::Clock;
-use std::time::Duration;
 
 /// A reader of these octets, at most `most` at a call, that fails once they are given, or shows their end.
 #[derive(Drop)]
@@ -81,46 +77,6 @@ impl Write for Taking {
     }
 
     fn flush(&mut self) -> Result<()> {
-        Ok(())
-    }
-}
-
-/// A clock that shows this moment, in milliseconds.
-#[derive(Drop)]
-pub struct Shown<'c> {
-    /// The moment.
-    pub now: &'c Cell<u64>,
-}
-
-impl<'c> Clock for Shown<'c> {
-    fn monotonic(&self) -> Result<Duration> {
-        Ok(Duration::from_millis(self.now.get()))
-    }
-
-    fn since_1970(&self) -> Result<Duration> {
-        Ok(Duration::from_millis(self.now.get()))
-    }
-}
-
-/// A reader to which nothing comes: each read lasts as long as it may, and time passes.
-#[derive(Drop)]
-pub struct Silent<'c> {
-    /// The moment.
-    pub now: &'c Cell<u64>,
-    /// How long a read lasts, in milliseconds.
-    pub wait_ms: u64,
-}
-
-impl<'c> Read for Silent<'c> {
-    fn read(&mut self, _piece: &mut [u8]) -> Result<usize> {
-        self.now.set(self.now.get().saturating_add(self.wait_ms));
-        Err(Error::from(ErrorKind::TimedOut))
-    }
-}
-
-impl<'c> Waiting for Silent<'c> {
-    fn wait_at_most(&mut self, ms: u64) -> Result<()> {
-        self.wait_ms = ms;
         Ok(())
     }
 }

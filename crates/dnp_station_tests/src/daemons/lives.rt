@@ -1,73 +1,65 @@
-//! Stations that ask, and live on a stream on which no answer comes.
+//! Stations that ask, and live on a link on which no answer comes.
 
-use crate::daemons::ends::{Shown, Silent, Taking};
+ghost use Rattle.std.specs.Prelude.{◌≡◌, []};
+
 use crate::daemons::links::{POLL_1, centre};
 use dnp_concentrator::Concentrator;
 use dnp_controls::PlainBook;
 use dnp_eventbuf::PlainPair;
 use dnp_line::Port;
-use dnp_master::Fragment;
-use dnp_streams::{Asker, Below, Limits, Living, Log, Session, live_stream};
+use dnp_streams::{Asker, Below, Link, Living, StepRoom};
 use std::alloc::Global;
-use std::cell::Cell;
 use std::process::Abort;
 
-/// How long a read waits, in milliseconds, and with which read a connection is closed on which nothing answers a request of
-/// the moment 0: that after which its response timer, of 10,000 milliseconds, has ended, if it is among the first three.
+/// How long a wait lasts, in milliseconds, and after which wait a connection is closed on which nothing answers a request of
+/// the moment 0: that at whose end its response timer, of 10,000 milliseconds, has ended, if it is among the first three.
 const WAITS: [(u64, Option<u64>); 3] = [(3_333, None), (9_999, Some(2)), (10_000, Some(1))];
 
-/// With which read the station, which is opened and asked at the moment 0, closes a connection on which nothing comes, if it
-/// is among the first three.
-fn closes_with<S: Asker + Living>(alloc: Global, station: &mut S, wait_ms: u64) -> Option<u64> {
-    let _is_opened = station.opened(alloc, 0).is_ok();
-    let _is_asked = station.ask_into(&mut Fragment::new(), 0, POLL_1).is_ok();
-    let now = Cell::new(0);
-    let clock = Shown { now: &now };
-    let mut reader = Silent {
-        now: &now,
-        wait_ms: 0,
-    };
-    let mut writer = Taking::new(128);
-    let mut session = Session {
-        now: 0,
-        stands: true,
-        changes: &[],
-    };
-    let limits = Limits { turns: 3, wait_ms };
-    let mut log = Log::new();
-    let lived = live_stream(
-        alloc,
-        station,
-        &mut Port::new(1, 9, true),
-        &clock,
-        &mut session,
-        &mut reader,
-        &mut writer,
-        limits,
-        &mut log,
-    );
-    let has_closed = lived.result.is_ok() && lived.served.closed && writer.taken.is_empty();
-    has_closed.then_some(log.reads)
+/// Hands out all that waits to be sent on a link.
+#[tactic(auto, using(std::proofs::lemmas::List::drop_all))]
+fn send(link: &mut Link)
+    ensures { link.new.pending ≡ [] }
+{
+    let count = link.output().len();
+    link.sent(count);
+}
+
+/// After which wait the station, which is opened and asked at the moment 0, closes a connection on which nothing comes, if it
+/// is among the first three. A station with nothing under way is asked nothing.
+fn closes_after<S: Asker + Living>(alloc: Global, station: &mut S, wait_ms: u64) -> Option<u64> {
+    let mut room = StepRoom::new(alloc);
+    let mut link = Link::new(alloc, Port::new(1, 9, true));
+    let _is_opened = link.opened(&mut room, station, 0).is_ok();
+    send(&mut link);
+    let _is_asked = link.ask(&mut room, station, 0, POLL_1).is_ok();
+    for wait in 1..=3 {
+        send(&mut link);
+        let told = link.tick(&mut room, station, wait_ms.saturating_mul(wait));
+        if told.is_ok_and(|told| told.closed) {
+            return Some(wait);
+        }
+    }
+    None
 }
 
 /// A centre that asked, and gets no answer, closes once its response timer has ended.
 #[test]
-fn a_centre_lives_on_a_stream(rt: HostRuntime) {
+fn a_centre_lives_on_a_link(rt: HostRuntime) {
     let alloc = rt.alloc();
     let mut centre = centre(alloc).expect(&rt, "a centre");
-    for (wait_ms, read) in WAITS {
-        assert_eq!(rt; closes_with(alloc, &mut centre, wait_ms), read);
+    for (wait_ms, wait) in WAITS {
+        assert_eq!(rt; closes_after(alloc, &mut centre, wait_ms), wait);
     }
 }
 
-/// With which read a link of a concentrator's does.
-fn link_closes_with(
+/// After which wait a link of a concentrator's does.
+fn link_closes_after(
     alloc: Global,
     concentrator: &mut Concentrator<PlainPair, PlainBook>,
     link: u8,
     wait_ms: u64,
 ) -> Option<u64> {
-    closes_with(alloc, &mut Below::new(concentrator, link), wait_ms)
+    closes_after(alloc, &mut Below::new(concentrator, link), wait_ms)
 }
 
 /// A concentrator's link to a substation closes so too; one to a substation that the plan lacks does nothing.
@@ -75,13 +67,13 @@ pub(crate) fn link_lives(
     rt: &(impl Abort + AllocGlobal),
     concentrator: &mut Concentrator<PlainPair, PlainBook>,
 ) {
-    for (wait_ms, read) in WAITS {
+    for (wait_ms, wait) in WAITS {
         assert_eq!(rt;
-            link_closes_with(rt.alloc(), concentrator, 0, wait_ms),
-            read
+            link_closes_after(rt.alloc(), concentrator, 0, wait_ms),
+            wait
         );
         assert_eq!(rt;
-            link_closes_with(rt.alloc(), concentrator, 1, wait_ms),
+            link_closes_after(rt.alloc(), concentrator, 1, wait_ms),
             None
         );
     }
