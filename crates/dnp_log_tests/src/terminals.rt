@@ -52,20 +52,43 @@ fn only_a_terminal_that_takes_escapes_is_drawn_on(rt: HostRuntime) -> Result<(),
     Ok(())
 }
 
+/// The number of the first of these things, from 0, that has another tone, if one has.
+fn first_of_another_tone<T: Toned>(things: &[(T, Tone)]) -> Option<usize> {
+    for (number, (thing, tone)) in things.iter().enumerate() {
+        if thing.tone() != *tone {
+            return Some(number);
+        }
+    }
+    None
+}
+
 #[test]
 fn what_failed_is_red_and_what_is_well_again_green(rt: HostRuntime) -> Result<(), Fail> {
     let peer = Peer::Substation(3);
-    let back = line(peer, Notice::Link(LinkNotice::Back(9_999, 1)));
-    let refused = line(peer, Notice::Control(ControlNotice::Unknown(1)));
-    let full = line(peer, Notice::Indication(Iin::EVENT_BUFFER_OVERFLOW, true));
-    let again = line(peer, Notice::Indication(Iin::DEVICE_RESTART, true));
-    let no_more = line(peer, Notice::Indication(Iin::DEVICE_RESTART, false));
-    assert_eq!(rt; lost(Trouble::Silent).tone(), Tone::Fault);
-    assert_eq!(rt; back.tone(), Tone::Good);
-    assert_eq!(rt; refused.tone(), Tone::Fault);
-    assert_eq!(rt; full.tone(), Tone::Fault);
-    assert_eq!(rt; again.tone(), Tone::Warning);
-    assert_eq!(rt; no_more.tone(), Tone::Plain);
+    let lines = [
+        (lost(Trouble::Silent), Tone::Fault),
+        (
+            line(peer, Notice::Link(LinkNotice::Back(9_999, 1))),
+            Tone::Good,
+        ),
+        (
+            line(peer, Notice::Control(ControlNotice::Unknown(1))),
+            Tone::Fault,
+        ),
+        (
+            line(peer, Notice::Indication(Iin::EVENT_BUFFER_OVERFLOW, true)),
+            Tone::Fault,
+        ),
+        (
+            line(peer, Notice::Indication(Iin::DEVICE_RESTART, true)),
+            Tone::Warning,
+        ),
+        (
+            line(peer, Notice::Indication(Iin::DEVICE_RESTART, false)),
+            Tone::Plain,
+        ),
+    ];
+    assert_eq!(rt; first_of_another_tone(&lines), None);
     Ok(())
 }
 
