@@ -24,7 +24,7 @@ const LATCHES: [u8; 18] = [0x0C, 0x01, 0x28, 0x01, 0x00, 0xC8, 0x00, 0x03, 0x01,
 const LATCHES_NONE: [u8; 18] = [0x0C, 0x01, 0x28, 0x01, 0x00, 0xC9, 0x00, 0x03, 0x01, 0, 0, 0, 0, 0, 0, 0, 0, 0x00];
 
 /// A request's first octets, its objects, and the status that is answered.
-const STEPS: [([u8; 2], [u8; 18], u8); 5] = [
+const STEPS: &[([u8; 2], [u8; 18], u8)] = &[
     ([0xC0, 0x03], LATCHES, 0x00),
     ([0xC1, 0x04], LATCHES, 0x00),
     ([0xC1, 0x04], LATCHES, 0x00),
@@ -164,7 +164,7 @@ fn has_latched(alloc: Global, book: &mut PlainBook, is_latched: bool) -> bool {
 fn commands_are_put(rt: &impl Abort, alloc: Global, concentrator: &mut Middle) {
     let mut actions = Actions::none(alloc);
     assert!(rt; opens(concentrator, 0, &mut actions, alloc, 0));
-    for (head, objects, status) in &STEPS {
+    for (head, objects, status) in STEPS {
         assert!(rt;
             is_answered(
                 concentrator,
@@ -190,7 +190,7 @@ fn commands_are_put(rt: &impl Abort, alloc: Global, concentrator: &mut Middle) {
 type Turn = (u64, bool, [u8; 2], u8);
 
 /// What the first has selected is reserved for it until it operates it.
-const TURNS: [Turn; 6] = [
+const TURNS: &[Turn] = &[
     (1_000, false, [0xC0, 0x03], 0x00),
     (1_000, true, [0xC0, 0x03], 0x05),
     (1_000, true, [0xC1, 0x05], 0x05),
@@ -200,7 +200,7 @@ const TURNS: [Turn; 6] = [
 ];
 
 /// What the first has selected and doesn't operate is reserved for the select timer's 5,000 milliseconds, and no longer.
-const SELECT_ENDS: [Turn; 3] = [
+const SELECT_ENDS: &[Turn] = &[
     (1_000, false, [0xC0, 0x03], 0x00),
     (1_000, true, [0xC0, 0x03], 0x05),
     (6_001, true, [0xC1, 0x03], 0x00),
@@ -263,10 +263,10 @@ enum Trial {
 }
 
 /// Each trial, whether there are unsolicited responses, and whether the output 0 is latched by it.
-const TRIALS: [(Trial, bool, bool); 4] = [
+const TRIALS: &[(Trial, bool, bool)] = &[
     (Trial::Puts, false, true),
-    (Trial::Turns(&TURNS), false, true),
-    (Trial::Turns(&SELECT_ENDS), false, false),
+    (Trial::Turns(TURNS), false, true),
+    (Trial::Turns(SELECT_ENDS), false, false),
     (Trial::Reports, true, false),
 ];
 
@@ -294,7 +294,7 @@ fn tried(
 
 #[test]
 fn a_concentrator_towards_the_centres(rt: HostRuntime) {
-    for (trial, unsolicited, is_latched) in TRIALS {
+    for &(trial, unsolicited, is_latched) in TRIALS {
         let mut book = tried(&rt, trial, unsolicited, is_latched);
         assert!(rt; has_latched(rt.alloc(), &mut book, is_latched));
     }

@@ -230,7 +230,7 @@ const STEPS: [(u8, u64, Option<Status>); 4] = [
 ];
 
 /// Commands to outputs that the plan lacks, each with its substation.
-const NO_OUTPUTS: [(u8, Command); 3] = [(0, LATCH_NEXT), (0, SETPOINT), (1, LATCH)];
+const NO_OUTPUTS: &[(u8, Command)] = &[(0, LATCH_NEXT), (0, SETPOINT), (1, LATCH)];
 
 /// A control that is issued goes from the centre into the concentrator's book; one that the plan lacks an output for isn't
 /// issued.
@@ -240,7 +240,7 @@ fn goes_to_the_book(
     centre: &mut Top,
     concentrator: &mut Middle,
 ) -> Option<()> {
-    for (station, command) in &NO_OUTPUTS {
+    for (station, command) in NO_OUTPUTS {
         let refused = centre.issue(alloc, *station, command).err();
         assert!(rt;
             refused == Some(IssueFault::NoOutput),

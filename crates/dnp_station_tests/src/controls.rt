@@ -77,7 +77,7 @@ const SETS_AND_TRIPS: [u8; 30] = [
 
 /// What an outstation with six outputs and three setpoints does.
 #[rattlefmt::skip]
-pub(crate) const CONTROLS: [Case; 5] = [
+pub(crate) const CONTROLS: &[Case] = &[
     // What is selected is operated once, however often it is asked for; without its select, or once its time has
     // ended, not at all. Nine commands are too many. A direct one is performed at once, and one without an answer
     // has none when it comes again either.

@@ -10,7 +10,7 @@ use dnp_objects::Kind::{Analog, Binary};
 
 /// What an outstation does that has three events of a lane or more.
 #[rattlefmt::skip]
-pub(crate) const GROUPS: [Case; 7] = [
+pub(crate) const GROUPS: &[Case] = &[
     // The last 65,535 ms after the first: 51.1 and 2.3.
     (&[BINARY], Polled, &[
         OPENS,
@@ -125,7 +125,7 @@ const TWO_LEFT: [u8; 27] = [0x61, 0x81, 0x00, 0x00, 0x02, 0x02, 0x28, 0x02, 0x00
 /// What an outstation does that has so many octets left in a fragment as a group begins: an analog event takes 13, or
 /// 7 without a time, a binary one without a time 3, and each header of them 5.
 #[rattlefmt::skip]
-pub(crate) const ROOM: [Case; 6] = [
+pub(crate) const ROOM: &[Case] = &[
     // 19: the group goes into the next fragment.
     (&[BINARY, SECOND, ANALOG], Polled, &[
         OPENS,

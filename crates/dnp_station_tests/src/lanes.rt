@@ -99,7 +99,7 @@ fn does<L: Lanes>(lanes: &mut L, alloc: Global, step: Step<'_>) -> Result<bool, 
 
 /// What lanes do. Lane 0 takes two rows, lane 8 one, and the others four.
 #[rattlefmt::skip]
-const STEPS: [Step<'static>; 37] = [
+const STEPS: &[Step<'static>] = &[
     Counts(0, 0, 0, 0, false),
     // A lane of two rows takes three.
     Append(&[(0, 101)], &[]),

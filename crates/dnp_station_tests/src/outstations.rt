@@ -342,11 +342,11 @@ fn steps_over<L: Lanes + Drop>(
 fn outstations_step_by_step(rt: HostRuntime) -> Result<(), Fail> {
     let alloc = rt.alloc();
     let tables = [
-        ("polls", POLLS.as_slice()),
-        ("groups", GROUPS.as_slice()),
-        ("room", ROOM.as_slice()),
-        ("unsolicited", UNSOLICITED.as_slice()),
-        ("controls", CONTROLS.as_slice()),
+        ("polls", POLLS),
+        ("groups", GROUPS),
+        ("room", ROOM),
+        ("unsolicited", UNSOLICITED),
+        ("controls", CONTROLS),
     ];
     for (table, cases) in tables {
         for (case, (points, setup, steps)) in cases.iter().enumerate() {
@@ -361,10 +361,7 @@ fn outstations_step_by_step(rt: HostRuntime) -> Result<(), Fail> {
 #[test]
 fn outstations_over_other_lanes(rt: HostRuntime) -> Result<(), Fail> {
     let alloc = rt.alloc();
-    let tables = [
-        ("polls", POLLS.as_slice()),
-        ("unsolicited", UNSOLICITED.as_slice()),
-    ];
+    let tables = [("polls", POLLS), ("unsolicited", UNSOLICITED)];
     for (table, cases) in tables {
         for (case, (points, setup, steps)) in cases.iter().enumerate() {
             let rings = RingLanes::new(alloc, capacities_of(*setup))?;

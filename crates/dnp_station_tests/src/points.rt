@@ -12,7 +12,7 @@ use std::test::Fail;
 /// deadband of 10. In each kind the block of number 0 begins at index 10, and that of number 1, if
 /// there is one, at index 0.
 #[rattlefmt::skip]
-const STATION: [Alike; 5] = [
+const STATION: &[Alike] = &[
     Alike { kind: Kind::Binary, base: 10, count: 1, class: 1, deadband: 0 },
     Alike { kind: Kind::Binary, base: 0, count: 1, class: 0, deadband: 0 },
     Alike { kind: Kind::Counter, base: 10, count: 1, class: 2, deadband: 0 },
@@ -106,7 +106,7 @@ fn does(points: &mut PointDb, step: Step) -> bool {
 }
 
 /// What the points of `STATION` do.
-const STEPS: [Step; 44] = [
+const STEPS: &[Step] = &[
     // A point that is not there, and what its objects can't carry.
     Refused(NoPoint, Binary, 11, 2, 0x01),
     Refused(NoPoint, Counter, 0, 1, 0x01),
@@ -162,7 +162,7 @@ const STEPS: [Step; 44] = [
 
 #[test]
 fn a_station_step_by_step(rt: HostRuntime) -> Result<(), Fail> {
-    let mut points = PointDb::new(rt.alloc(), plan_of(rt.alloc(), &STATION)??)?;
+    let mut points = PointDb::new(rt.alloc(), plan_of(rt.alloc(), STATION)??)?;
     for (number, step) in STEPS.iter().enumerate() {
         assert!(rt; does(&mut points, *step), "step {number}");
     }

@@ -38,7 +38,7 @@ pub(crate) const ANALOG: Alike = Alike { kind: Kind::Analog, base: 0, count: 1, 
 
 /// What an outstation that is polled does.
 #[rattlefmt::skip]
-pub(crate) const POLLS: [Case; 7] = [
+pub(crate) const POLLS: &[Case] = &[
     // Nothing but the indications: the restart, and what is unknown, or is no point. No delay.
     (&[], Polled, &[
         OPENS,

@@ -26,7 +26,7 @@ const COUNTER_1: Alike = Alike { kind: Kind::Counter, base: 0, count: 1, class: 
 
 /// What an outstation that sends unsolicited responses does.
 #[rattlefmt::skip]
-pub(crate) const UNSOLICITED: [Case; 8] = [
+pub(crate) const UNSOLICITED: &[Case] = &[
     // After a restart the first thing on each connection is an empty response, until one was confirmed by
     // its number and as an unsolicited one. A READ waits for it.
     (&[], Unsolicited, &[

@@ -102,7 +102,7 @@ macro_rules! ranged {
 
 /// Fragments: the function, the control octet, the indications, the parts and the octets.
 #[rattlefmt::skip]
-const BUILT: [(Function, u8, Iin, &[Part], &[u8]); 33] = [
+const BUILT: &[(Function, u8, Iin, &[Part], &[u8])] = &[
     // Events: with a time, without one, joined, apart after a break, and of two objects.
     (Response, 0xE1, Iin::NONE, &[ON],
         &[0xE1, 0x81, 0, 0, 2, 2, 0x28, 1, 0, 3, 0, 0x81, 0xE8, 3, 0, 0, 0, 0]),
@@ -313,7 +313,7 @@ fn put_all(rt: &impl Abort, builder: &mut Builder, function: Function, parts: &[
 
 #[test]
 fn fragments(rt: HostRuntime) {
-    for (case, (function, control, iin, parts, octets)) in BUILT.into_iter().enumerate() {
+    for (case, &(function, control, iin, parts, octets)) in BUILT.iter().enumerate() {
         let mut builder = Builder::new(function, function.is_response());
         put_all(&rt, &mut builder, function, parts);
         let built = builder.finish(Control::read(control), iin);

@@ -55,7 +55,7 @@ fn check_words(rt: HostRuntime) {
 
 /// Units that are no frames, and the first fault of each.
 #[rattlefmt::skip]
-const BROKEN: [(&[u8], FrameFault); 7] = [
+const BROKEN: &[(&[u8], FrameFault)] = &[
     (&[0x05, 0x64, 0x14, 0xC4, 0x0A, 0x00, 0x01, 0x00, 0x8F], FrameFault::Short),
     (&[0x05, 0x65, 0x14, 0xC4, 0x0A, 0x00, 0x01, 0x00, 0x8F, 0xED], FrameFault::Start),
     (&[0x05, 0x64, 0x14, 0xC5, 0x0A, 0x00, 0x01, 0x00, 0x8F, 0xED], FrameFault::HeaderCheck),
@@ -128,7 +128,7 @@ fn units(rt: HostRuntime) {
 /// half a start, a false start, and a good header with too small a LENGTH; a damaged frame, whose
 /// user data hold a good frame that is dropped with it, and a good one.
 #[rattlefmt::skip]
-const STREAMS: [(&[u8], &[&[u8]]); 3] = [
+const STREAMS: &[(&[u8], &[&[u8]])] = &[
     (&CLASS_READ, &[&CLASS_READ]),
     (&[
         0x05, 0x64, 0x14, 0xC4, 0x0A, 0x00, 0x01, 0x00, 0x8F, 0xED,
@@ -184,7 +184,7 @@ fn are_of(frames: &[Frame], units: &[&[u8]]) -> bool {
 /// place.
 #[test]
 fn streams(rt: HostRuntime) {
-    for (stream, units) in STREAMS {
+    for &(stream, units) in STREAMS {
         for size in 1..=stream.len() {
             assert!(rt;
                 gives(rt.alloc(), stream, size, units),

@@ -130,7 +130,7 @@ fn came_of(came: &[u8], sent: &[u8]) -> bool
 /// What came, what was sent, and whether the one may come of the other, from what the relation
 /// means.
 #[rattlefmt::skip]
-const CAME: [(&[u8], &[u8], bool); 12] = [
+const CAME: &[(&[u8], &[u8], bool)] = &[
     (b"", b"", true),
     (b"", b"a", true),
     (b"a", b"", false),
@@ -147,7 +147,7 @@ const CAME: [(&[u8], &[u8], bool); 12] = [
 
 #[test]
 fn came_as_defined(rt: HostRuntime) {
-    for (case, (came, sent, holds)) in CAME.into_iter().enumerate() {
+    for (case, &(came, sent, holds)) in CAME.iter().enumerate() {
         assert!(rt; came_of(came, sent) == holds, "case {case}");
     }
 }

@@ -14,7 +14,7 @@ macro_rules! row {
 
 /// Rows and the octets of their objects, both ways.
 #[rattlefmt::skip]
-const ROWS: [(u8, u8, Row, &[u8]); 14] = [
+const ROWS: &[(u8, u8, Row, &[u8])] = &[
     (1, 2, row!(Binary, 0, 0x02, 0, None), &[0x02]),
     (2, 1, row!(Binary, 0, 0x01, 1, None), &[0x81]),
     (2, 2, row!(Binary, 3, 0x01, 1, Some(1_000)), &[0x81, 0xE8, 0x03, 0, 0, 0, 0]),
@@ -34,7 +34,7 @@ const ROWS: [(u8, u8, Row, &[u8]); 14] = [
 
 /// Octets of objects that are not read as rows.
 #[rattlefmt::skip]
-const NOT_READ: [(u8, u8, &[u8], ObjectFault); 6] = [
+const NOT_READ: &[(u8, u8, &[u8], ObjectFault)] = &[
     (2, 2, &[0x81, 0xE8, 0x03, 0, 0, 0], ObjectFault::Cut),
     (30, 2, &[], ObjectFault::Cut),
     (10, 2, &[0x81], ObjectFault::ObjectUnknown),
@@ -45,7 +45,7 @@ const NOT_READ: [(u8, u8, &[u8], ObjectFault); 6] = [
 
 /// Rows that are not written as objects.
 #[rattlefmt::skip]
-const NOT_WRITTEN: [(u8, u8, Row, ObjectFault); 13] = [
+const NOT_WRITTEN: &[(u8, u8, Row, ObjectFault)] = &[
     (20, 2, row!(Counter, 0, 0x01, 65_536, None), ObjectFault::ValueRange),
     (20, 1, row!(Counter, 0, 0x01, -1, None), ObjectFault::ValueRange),
     (20, 5, row!(Counter, 0, 0x01, 4_294_967_296, None), ObjectFault::ValueRange),
@@ -132,7 +132,7 @@ macro_rules! block {
 
 /// Commands and the octets of their objects with the status 8, both ways.
 #[rattlefmt::skip]
-const COMMANDS: [(u8, u8, Command, &[u8]); 5] = [
+const COMMANDS: &[(u8, u8, Command, &[u8])] = &[
     (12, 1, block!(5, 0x03, 1, 0x0403_0201, 4_294_967_295),
         &[0x03, 0x01, 0x01, 0x02, 0x03, 0x04, 0xFF, 0xFF, 0xFF, 0xFF, 0x08]),
     (41, 2, Command::Set16 { index: 5, value: -2 }, &[0xFE, 0xFF, 0x08]),

@@ -7,7 +7,7 @@ use std::process::Abort;
 
 /// What is no request, its fault, and the fault's number.
 #[rattlefmt::skip]
-const NO_REQUESTS: [(&[u8], AppFault, u8); 15] = [
+const NO_REQUESTS: &[(&[u8], AppFault, u8)] = &[
     (&[], AppFault::Short, 1),
     (&[0xC0], AppFault::Short, 1),
     (&[0xC0, 0x07], AppFault::FunctionUnknown, 2),
@@ -30,7 +30,7 @@ const NO_REQUESTS: [(&[u8], AppFault, u8); 15] = [
 
 /// What is no response, and its fault.
 #[rattlefmt::skip]
-const NO_RESPONSES: [(&[u8], AppFault); 13] = [
+const NO_RESPONSES: &[(&[u8], AppFault)] = &[
     (&[0xC0, 0x81, 0x80], AppFault::Short),
     (&[0xC0, 0x01, 0x80, 0x00], AppFault::FunctionUnknown),
     (&[0xC0, 0x01, 0x80], AppFault::Short),
@@ -210,7 +210,7 @@ type ResponseCase = (
 /// unsolicited one that is empty, and a delay. Then their functions, indications, the object and
 /// count of the header, and its rows.
 #[rattlefmt::skip]
-const RESPONSES: [ResponseCase; 6] = [
+const RESPONSES: &[ResponseCase] = &[
     (&[0xE1, 0x81, 0, 0, 0x02, 0x02, 0x28, 1, 0, 3, 0, 0x81, 0xE8, 0x03, 0, 0, 0, 0],
         Function::Response, Iin::NONE, Some((2, 2, 1)),
         &[row!(Binary, 3, 0x01, 1, Some(1_000))]),
@@ -281,7 +281,7 @@ type RelativeCase = (
 /// 51.2, which an empty header leaves as it was; and after the last of two times. Then their headers, with the common
 /// times that these have, and the rows.
 #[rattlefmt::skip]
-const RELATIVES: [RelativeCase; 4] = [
+const RELATIVES: &[RelativeCase] = &[
     (&[0xE1, 0x81, 0, 0, 0x33, 0x01, 0x07, 1, 0xE8, 0x03, 0, 0, 0, 0,
         0x02, 0x03, 0x28, 3, 0, 0, 0, 0x81, 0, 0, 0, 0, 0x01, 5, 0, 0, 0, 0x81, 0xFF, 0xFF],
         &[(51, 1, None), (2, 3, Some(1_000))],

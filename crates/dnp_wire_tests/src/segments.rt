@@ -5,7 +5,7 @@ use dnp_transport::{Assembler, Pushed, segment, segment_count};
 /// The header and the number of octets, the header's among them, of each segment of a fragment of
 /// this length, from number 0 on.
 #[rattlefmt::skip]
-const CUTS: [(usize, &[(u8, usize)]); 3] = [
+const CUTS: &[(usize, &[(u8, usize)])] = &[
     (249, &[(0xC0, 250)]),
     (250, &[(0x40, 250), (0x81, 2)]),
     (2048, &[
@@ -17,7 +17,7 @@ const CUTS: [(usize, &[(u8, usize)]); 3] = [
 #[test]
 fn cuts(rt: HostRuntime) {
     let octets = [0xA5; 2048];
-    for (size, segments) in CUTS {
+    for &(size, segments) in CUTS {
         let fragment = &octets[..size];
         assert!(rt; segment_count(fragment) == segments.len());
         for (k, (header, count)) in segments.iter().enumerate() {
@@ -35,7 +35,7 @@ const NONE: &[u8] = &[];
 
 /// Series of strings; what the push of each gives; and the fragment that is shown then.
 #[rattlefmt::skip]
-const SERIES: [&[(&[u8], Pushed, &[u8])]; 8] = [
+const SERIES: &[&[(&[u8], Pushed, &[u8])]] = &[
     &[
         (&[0x40, 7], Pushed::Nothing, NONE),
         (&[0x40, 8], Pushed::Nothing, NONE),
@@ -70,7 +70,7 @@ const SERIES: [&[(&[u8], Pushed, &[u8])]; 8] = [
 #[test]
 fn series(rt: HostRuntime) {
     let mut assembler = Assembler::default();
-    for strings in SERIES {
+    for &strings in SERIES {
         assembler.reset();
         for (octets, pushed, fragment) in strings {
             assert!(rt; assembler.push(octets) == *pushed, "{octets:?}");

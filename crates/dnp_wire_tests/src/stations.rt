@@ -6,7 +6,7 @@ use dnp_linkstation::LinkStation;
 
 /// CONTROL of a frame of the master's; whether its user data go up; and CONTROL of the reply.
 #[rattlefmt::skip]
-const STEPS: [(u8, bool, Option<u8>); 13] = [
+const STEPS: &[(u8, bool, Option<u8>)] = &[
     (0xD2, false, Some(0x01)),
     (0xF3, false, Some(0x01)),
     (0xC4, true, None),
@@ -33,7 +33,7 @@ fn replies(rt: HostRuntime) {
         source: 1024,
         user: ArrayVec::new(),
     };
-    for (step, (control, up, reply)) in STEPS.into_iter().enumerate() {
+    for (step, &(control, up, reply)) in STEPS.iter().enumerate() {
         frame.control = control;
         let mut copy = station.copy();
         let answer = station.receive(&frame);

@@ -31,7 +31,7 @@ const START: &[u8] = b"refused 2 Start\n";
 /// Texts, the addresses of the station and of its master, the lines that are written, and whether
 /// the texts are frames.
 #[rattlefmt::skip]
-const ANSWERS: [(&[u8], u16, u16, &[u8], bool); 16] = [
+const ANSWERS: &[(&[u8], u16, u16, &[u8], bool)] = &[
     (READ, 10, 1, ANSWER, true),
     (READ_IN_ANY_CASE, 10, 1, ANSWER, true),
     (READ, 11, 1, SILENT, true),
@@ -58,7 +58,7 @@ const ANSWERS: [(&[u8], u16, u16, &[u8], bool); 16] = [
 
 /// Texts that are no lines of octets.
 #[rattlefmt::skip]
-const NO_LINES: [&[u8]; 19] = [
+const NO_LINES: &[&[u8]] = &[
     b"05  64", b"05 64 ", b" 05 64", b"05\t64", b"05 64\t", b"5", b"05 6", b"05 641", b"0564",
     b"05 6g", b"05 64\r\n", b"05 64\n\n", b"05\n64", b"\n\n", b" ", b"05 64 \n", b"0x05", b"05,64",
     b"05 \xFF4",
@@ -66,7 +66,7 @@ const NO_LINES: [&[u8]; 19] = [
 
 /// The character after the 2,000 of "4a 4a .. 4a", how many characters of the text are taken, and
 /// the line that is written: with 2,000, and a line feed more, the text is a line of 667 octets.
-const LONGEST: [(u8, usize, &[u8]); 4] = [
+const LONGEST: &[(u8, usize, &[u8])] = &[
     (b' ', 2_000, START),
     (b'\n', 2_001, START),
     (b'4', 2_001, TEXT),
@@ -93,10 +93,10 @@ fn answers(
 
 #[test]
 fn lines(rt: HostRuntime) {
-    for (case, (text, own, peer, line, is_frame)) in ANSWERS.into_iter().enumerate() {
+    for (case, &(text, own, peer, line, is_frame)) in ANSWERS.iter().enumerate() {
         answers(&rt, case, text, own, peer, line, is_frame);
     }
-    for (case, text) in NO_LINES.into_iter().enumerate() {
+    for (case, &text) in NO_LINES.iter().enumerate() {
         answers(&rt, case, text, 10, 1, TEXT, false);
     }
     let mut text = [b' '; 2_003];
@@ -106,7 +106,7 @@ fn lines(rt: HostRuntime) {
             octet[1] = b'a';
         }
     }
-    for (character, length, line) in LONGEST {
+    for &(character, length, line) in LONGEST {
         text[2_000] = character;
         answers(&rt, length, &text[..length], 10, 1, line, false);
     }

@@ -66,7 +66,7 @@ const NONE: Result<Served, ServeFault> = Ok(Served {
 /// What comes, and whether the read after it fails, how many octets at a read, how many reads, how many octets are taken:
 /// what is answered, how many octets of which are written, and how many reads there were.
 #[rattlefmt::skip]
-const STREAMS: [Stream; 11] = [
+const STREAMS: &[Stream] = &[
     (&READ, false, 1, 28, 128, ONE, &RESPONSE, 17, 28),
     (&READ, false, 1, 27, 128, Err(ServeFault::TurnsSpent), &RESPONSE, 17, 27),
     (&READ, false, 1, 26, 128, Err(ServeFault::TurnsSpent), &RESPONSE, 0, 26),

@@ -13,7 +13,7 @@ use std::process::Abort;
 
 /// How long a wait lasts, in milliseconds, and after which wait a connection is closed on which nothing answers a request of
 /// the moment 0: that at whose end its response timer, of 10,000 milliseconds, has ended, if it is among the first three.
-const WAITS: [(u64, Option<u64>); 3] = [(3_333, None), (9_999, Some(2)), (10_000, Some(1))];
+const WAITS: &[(u64, Option<u64>)] = &[(3_333, None), (9_999, Some(2)), (10_000, Some(1))];
 
 /// Hands out all that waits to be sent on a link.
 #[tactic(auto, using(std::proofs::lemmas::List::drop_all))]
@@ -47,7 +47,7 @@ fn closes_after<S: Asker + Living>(alloc: Global, station: &mut S, wait_ms: u64)
 fn a_centre_lives_on_a_link(rt: HostRuntime) {
     let alloc = rt.alloc();
     let mut centre = centre(alloc).expect(&rt, "a centre");
-    for (wait_ms, wait) in WAITS {
+    for &(wait_ms, wait) in WAITS {
         assert_eq!(rt; closes_after(alloc, &mut centre, wait_ms), wait);
     }
 }
@@ -67,7 +67,7 @@ pub(crate) fn link_lives(
     rt: &(impl Abort + AllocGlobal),
     concentrator: &mut Concentrator<PlainPair, PlainBook>,
 ) {
-    for (wait_ms, wait) in WAITS {
+    for &(wait_ms, wait) in WAITS {
         assert_eq!(rt;
             link_closes_after(rt.alloc(), concentrator, 0, wait_ms),
             wait

@@ -80,7 +80,7 @@ fn a_plan_has_the_fields_of_its_text(rt: HostRuntime) -> Result<(), Fail> {
 type Change = (&'static str, &'static str);
 
 /// Two changes of [`SMALL`], and why the plan with them is refused.
-const REFUSED: [(Change, Change, PlanTextFault); 31] = [
+const REFUSED: &[(Change, Change, PlanTextFault)] = &[
     (("retries = 0", "retries ="), SAME, PlanTextFault::Syntax),
     (
         ("retries = 0", "retries = 99999999999999999999"),
@@ -186,7 +186,7 @@ const REFUSED: [(Change, Change, PlanTextFault); 31] = [
 
 #[test]
 fn plans_that_are_refused(rt: HostRuntime) -> Result<(), Fail> {
-    for (first, second, fault) in REFUSED {
+    for &(first, second, fault) in REFUSED {
         let found = fault_of(rt.alloc(), first, second)?;
         assert_eq!(rt; found, Some(fault));
     }

@@ -5,7 +5,7 @@ use dnp_daemons::{ScriptFault, read_plan, read_script};
 use std::test::Fail;
 
 /// A line, and what it says.
-const SAID: [(&str, &str); 37] = [
+const SAID: &[(&str, &str)] = &[
     ("open 0", "[One(Open(Below(0)))]"),
     ("open above\n", "[One(Open(Above(0)))]"),
     ("hangup 0 master", "[One(HangUp(Below(0), Master))]"),
@@ -93,7 +93,7 @@ const SAID: [(&str, &str); 37] = [
 #[test]
 fn each_line_says_its_event(rt: HostRuntime) -> Result<(), Fail> {
     let plan = read_plan(rt.alloc(), SMALL)?;
-    for (line, says) in SAID {
+    for &(line, says) in SAID {
         let script = read_script(rt.alloc(), line, &plan)?;
         let said = format!(in rt.alloc(); "{:?}", script.as_slice())?;
         assert_eq!(rt; said.as_str(), says, "{line}");
@@ -102,7 +102,7 @@ fn each_line_says_its_event(rt: HostRuntime) -> Result<(), Fail> {
 }
 
 /// Lines that don't fit.
-const UNFIT: [&str; 54] = [
+const UNFIT: &[&str] = &[
     "\n",
     "open",
     "open 1",
@@ -162,7 +162,7 @@ const UNFIT: [&str; 54] = [
 #[test]
 fn lines_that_do_not_fit(rt: HostRuntime) -> Result<(), Fail> {
     let plan = read_plan(rt.alloc(), SMALL)?;
-    for line in UNFIT {
+    for &line in UNFIT {
         let fault = read_script(rt.alloc(), line, &plan).err();
         assert_eq!(rt; fault, Some(ScriptFault::Line(1)), "{line}");
     }
