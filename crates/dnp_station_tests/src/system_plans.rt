@@ -20,14 +20,19 @@ pub(crate) const SMALL: Sketch = Sketch {
     base: [100, 0, 0, 200, 0],
 };
 
+/// So many points of class 1.
+fn alike(alloc: Global, count: usize) -> Result<Listed<u8>, AllocError> {
+    Ok(Listed::new(vec![in alloc; 1; count]?))
+}
+
 /// The plan of a substation.
 fn substation(alloc: Global, sketch: Sketch) -> Result<SubPlan, AllocError> {
     let [binary, counter, analog, outputs, setpoints] = sketch.counts;
     Ok(SubPlan {
         lanes: [100; 9],
-        binary: Listed::new(vec![in alloc; 1; binary]?),
-        counter: Listed::new(vec![in alloc; 1; counter]?),
-        analog: Listed::new(vec![in alloc; 1; analog]?),
+        binary: alike(alloc, binary)?,
+        counter: alike(alloc, counter)?,
+        analog: alike(alloc, analog)?,
         deadband: Listed::new(vec![in alloc; 0; analog]?),
         outputs: u16::try_from(outputs).unwrap_or(0),
         setpoints: u16::try_from(setpoints).unwrap_or(0),
