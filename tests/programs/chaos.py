@@ -211,6 +211,10 @@ class Chaos:
             line.fails = line.doomed = False
         self.chaos = False
 
+    def gone_of(self, number):
+        """The rows above of the events that a substation has let go. It may let more go meanwhile, so that its set is copied first."""
+        return {above(number, event) for event in self.heard[number].gone.copy()}
+
     def settle(self):
         """Waits until all is confirmed that the substations have, and each centre has polled three times without a row since: what
         was wrong. Who ends meanwhile is begun again."""
@@ -220,7 +224,7 @@ class Chaos:
                 if program.ended():
                     program.begin()
                     polls = None
-            come = all(self.last(number) <= {above(number, event) for event in heard.gone} for number, heard in enumerate(self.heard))
+            come = all(self.last(number) <= self.gone_of(number) for number in range(SUBSTATIONS))
             if come and polls is None:
                 polls = {number: len(centre.printed()) for number, centre in self.centres.items()}
             if polls and all(centre.printed()[polls[number] :][-3:] == ["rows 0"] * 3 for number, centre in self.centres.items()):
@@ -247,7 +251,7 @@ class Chaos:
 
     def gone(self):
         """What the substations let go: what was confirmed, and what their last lives made, of which all was confirmed."""
-        return set().union(*map(self.last, range(SUBSTATIONS)), *({above(number, event) for event in heard.gone} for number, heard in enumerate(self.heard)))
+        return set().union(*map(self.last, range(SUBSTATIONS)), *map(self.gone_of, range(SUBSTATIONS)))
 
     def count(self, room, operated):
         """What is wrong by the headline, with the events of each centre and how many controls were issued."""
