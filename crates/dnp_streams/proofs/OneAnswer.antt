@@ -20,23 +20,20 @@ pub record Laws : Type 0 where
   pub first : (unit : List ℕ) (fault other : FrameFault) → IsFirstFault unit fault → IsFirstFault unit other → fault ≡ other
   pub fragment : (pushed : List (List ℕ)) (f g : List ℕ) → IsWhole pushed f → IsWhole pushed g → f ≡ g
 
-same_octets : (text a b : List ℕ) (P : List ℕ → Type 0) → a ≡ b → P b → P a
-same_octets text a b P same h = subst P (sym same) h
-
 one_frame : Laws → (text : List ℕ) (frame other : Frame) → IsFrameLine text frame → IsFrameLine text other → frame ≡ other
 one_frame laws text frame other f g =
     let same : f.octets ≡ g.octets = one_line text f.octets g.octets f.line g.line in
-    laws.frame f.octets frame other f.spelled (same_octets text f.octets g.octets (λ (t : List ℕ). Spells t other) same g.spelled)
+    laws.frame f.octets frame other f.spelled (subst (λ (t : List ℕ). Spells t other) (sym same) g.spelled)
 
 no_fault_line : Laws → (text : List ℕ) (frame : Frame) (fault : FrameFault) → IsFrameLine text frame → IsFaultLine text fault → ⊥
 no_fault_line laws text frame fault f g =
     let same : f.octets ≡ g.octets = one_line text f.octets g.octets f.line g.line in
-    laws.no_fault f.octets frame f.spelled fault (same_octets text f.octets g.octets (λ (t : List ℕ). IsFirstFault t fault) same g.first).0
+    laws.no_fault f.octets frame f.spelled fault (subst (λ (t : List ℕ). IsFirstFault t fault) (sym same) g.first).0
 
 one_fault : Laws → (text : List ℕ) (fault other : FrameFault) → IsFaultLine text fault → IsFaultLine text other → fault ≡ other
 one_fault laws text fault other f g =
     let same : f.octets ≡ g.octets = one_line text f.octets g.octets f.line g.line in
-    laws.first f.octets fault other f.first (same_octets text f.octets g.octets (λ (t : List ℕ). IsFirstFault t other) same g.first)
+    laws.first f.octets fault other f.first (subst (λ (t : List ℕ). IsFirstFault t other) (sym same) g.first)
 
 one_heard : Laws → (own peer : ℕ) (frame : Frame) (f g : List ℕ) → HandsUp own peer frame f → HandsUp own peer frame g → f ≡ g
 one_heard laws own peer frame f g a b = laws.fragment (frame.user.items ∷ []) f g a.whole b.whole

@@ -67,8 +67,6 @@ three_on x y z rest all place low =
     (λ is. here.0 (third ∙ is), λ other. here.1 (λ is. other (sym third ∙ is)))
 
 pub row_in_place : (line : List ℕ) → AreInPlace line (length line) → length line % 3 ≡ 2 → IsRow line
-row_in_place [] all size = absurd (omega arith)
-row_in_place (x ∷ []) all size = absurd (omega arith)
 row_in_place (x ∷ y ∷ []) all size =
     let d = two_digits x y (first_digit (x ∷ y ∷ []) 2 0 all (omega arith) (λ is. omega arith)) (first_digit (x ∷ y ∷ []) 2 1 all (omega arith) (λ is. omega arith)) in
     record {
@@ -76,7 +74,6 @@ row_in_place (x ∷ y ∷ []) all size =
       bytes = All-push IsByte [] d.octet (All-nil IsByte) d.small;
       is = let high = d.high in let low = d.low in cc;
     }
-row_in_place (x ∷ y ∷ z ∷ []) all size = absurd (omega arith)
 row_in_place (x ∷ y ∷ z ∷ w ∷ rest) all size =
     let n = length (x ∷ y ∷ z ∷ w ∷ rest) in
     let d = two_digits x y (first_digit (x ∷ y ∷ z ∷ w ∷ rest) n 0 all (omega arith) (λ is. omega arith)) (first_digit (x ∷ y ∷ z ∷ w ∷ rest) n 1 all (omega arith) (λ is. omega arith)) in
@@ -88,6 +85,7 @@ row_in_place (x ∷ y ∷ z ∷ w ∷ rest) all size =
       bytes = All-cons IsByte d.octet tail.octets d.small tail.bytes;
       is = let high = d.high in let low = d.low in let others = tail.is in cc;
     }
+row_in_place line all size = absurd (omega arith)
 
 -- a text whose line is that of some octets
 line_is : (text line octets : List ℕ) → line ≡ without_line_feed text → length line ≤ MAX_CHARACTERS → str_to_ascii_uppercase line ≡ line_of octets

@@ -4,7 +4,6 @@ pub mod Putting
 pub mod Spelling
 pub mod Taken
 pub mod Unasked
-pub mod Dialogues
 pub mod Refused
 pub mod Told
 pub mod MastersOneWay

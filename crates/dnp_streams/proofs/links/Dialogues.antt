@@ -1,43 +1,66 @@
 -- A dialogue under way, step by step.
-use Rattle.std.proofs.Common.{◌≡◌, ◌⊎◌, inl, inr, ℕ, ◌+◌, ◌≤◌, ◌<◌, min, true, false, List, [], ◌∷◌, ◌++◌, length, Option, Result, Ok, Err, refl, sym, ap, ◌∙◌, subst, append_assoc, append-nil, length-append, arith}
+use Rattle.std.proofs.Common.{◌≡◌, ◌⊎◌, inl, inr, ℕ, ◌+◌, ◌≤◌, ◌<◌, Bool, true, false, List, [], ◌∷◌, ◌++◌, length, Option, Result, Ok, Err, refl, sym, ap, ◌∙◌, subst, append_assoc, append-nil, length-append, arith}
 use Rattle.std.specs.Prelude.{⊤, option_to_list}
 use Rattle.std.specs.Io.KnownBytes.{Appends, Consumes, IsAtEnd}
 use Rattle.std.proofs.KnownBytes.{Appends-nil, Appends-trans, Consumes-nil, Consumes-trans}
 use Rattle.arrayvec.specs.ArrayVec.{ArrayVec}
 use Rattle.dnp_controls.specs.declared.book.BookFault.{BookFault}
 use Rattle.dnp_concentrator.specs.Relayed.{with_request}
+use Rattle.dnp_concentrator.specs.declared.relayed.Relayed.{Relayed}
 use Rattle.dnp_concentrator.specs.declared.relayed.RelayedStep.{RelayedStep}
 use Rattle.dnp_concentrator.specs.declared.relayed.RelayedStep.TheVariants as step
 use Rattle.dnp_master.specs.declared.fault.AskFault.{AskFault}
 use Rattle.dnp_line.specs.Ports.{PortState}
 use Rattle.dnp_linkframe.specs.declared.frame.Frame.{Frame}
 use Rattle.dnp_linkframe.specs.Stream.{Gives}
+use Rattle.dnp_master.specs.declared.outcome.Outcome.{Outcome}
 use Rattle.dnp_master.specs.declared.task.Task.{Task}
 use Rattle.dnp_streams.specs.declared.stream.station.StationFault.{StationFault}
 use Rattle.dnp_streams.specs.declared.writing.NotWritten.{NotWritten}
 use Rattle.dnp_streams.specs.streams.Counts.{most}
 use Rattle.dnp_streams.specs.streams.Dialogues as old
-use Rattle.dnp_streams.specs.streams.Dialogues.{Begins, Goes, Dialogue, HearsAsking, Makes, MakesAll, Step, Beginning, Going, Hearing, answered, heard_in, refused, unbegun}
+use Rattle.dnp_streams.specs.streams.Dialogues.{Begins, Goes, Dialogue, HearsAsking, Makes, MakesAll, Step, Going, Hearing, answered, heard_in, is_nothing, refused, unbegun}
 use Rattle.std.proofs.lemmas.Bool.{false≢true}
 use Rattle.dnp_streams.specs.declared.stream.asked.Asked.{Asked}
 use Rattle.dnp_streams.specs.declared.stream.serve.ServeFault.{ServeFault}
 use Rattle.dnp_streams.specs.declared.stream.serve.ServeFault.TheVariants.{WriteFailed, Memory}
-use Rattle.dnp_streams.specs.streams.Stations.{Endpoint, endpoint}
+use Rattle.dnp_streams.specs.streams.Stations.{Answer, Endpoint, endpoint}
 use Rattle.dnp_streams.specs.streams.Talking.{Talk, Talks, TalkEnds}
 use Rattle.dnp_streams.specs.declared.stream.ask.Gone.{Gone}
 use Rattle.dnp_streams.specs.declared.stream.ask.Gone.TheVariants as gone
-use Rattle.dnp_streams.specs.streams.Spelled.{AreSpelled}
+use Rattle.dnp_streams.specs.streams.Spelled.{AreSpelled, port_after}
 use Rattle.dnp_streams.specs.declared.link.answering.Heard.{Heard}
 use Rattle.dnp_streams.specs.declared.link.answering.Told.{Told}
 use Rattle.dnp_streams.specs.declared.stream.agenda.Agenda.{Agenda}
-use Rattle.dnp_streams.specs.steps.Asking.{IsFresh, fault_by, IsTold, IsToldAsked, IsToldHeard, IsToldRelayed, Steps, Talking, dialogue_of}
-use Rattle.dnp_streams.specs.links.Deeds.{Asked as AskedDeed, Came, Joined, Part, Whole, Opened, Relaid, Reply, Ways, done_of, heard_of, relaid_of, told_of}
-use Rattle.dnp_streams.specs.links.Links.{Feeds, LinkState, new_link, Makes as MakesStep}
+use Rattle.dnp_streams.specs.steps.Asking.{IsAnswered, IsFresh, IsRefused, fault_by, IsTold, IsToldAsked, IsToldHeard, IsToldRelayed, Steps, Talking, dialogue_of}
+use Rattle.dnp_streams.specs.links.Deeds.{Asked as AskedDeed, Came, Deed, Joined, Part, Whole, Opened, Relaid, Reply, Ways, done_of, frames_of, heard_of, relaid_of, told_in, told_of}
+use Rattle.dnp_streams.specs.links.Links.{Does, Feeds, LinkState, new_link, Makes as MakesStep}
 use Rattle.dnp_streams.specs.steps.Serving.{WritesOut, left_with}
-use Rattle.dnp_streams.proofs.streams.Dialogues.{dialogue_is}
 use Rattle.dnp_streams.proofs.streams.Spelling.{spelled_joined, spelled_none}
 
 -- ---- steps
+
+-- a dialogue is as its parts are
+dialogue_is : {S : Type 0} {station station' : S} {port port' : PortState} {left left' : List Task} {rows rows' : ℕ} {outcomes outcomes' : List Outcome}
+    {faults faults' : ℕ} {begun begun' over over' : Bool}
+    → station ≡ station' → port ≡ port' → left ≡ left' → rows ≡ rows' → outcomes ≡ outcomes' → faults ≡ faults' → begun ≡ begun' → over ≡ over'
+    → ◌≡◌ {A = Dialogue S}
+    record { station = station; port = port; left = left; rows = rows; outcomes = outcomes; faults = faults; is_begun = begun; is_over = over }
+    record { station = station'; port = port'; left = left'; rows = rows'; outcomes = outcomes'; faults = faults'; is_begun = begun'; is_over = over' }
+dialogue_is a b c d e f g h = cc
+
+-- what the station answered was told, or that it refused
+answered_is : {S : Type 0} (s s' : S) (p port p' : PortState) (answer : Answer) (c c' : Agenda) → p' ≡ port_after port answer.send → IsAnswered c (told_in answer) c'
+    → dialogue_of s' p' c' ≡ answered (dialogue_of s p c) s' port answer
+answered_is s s' p port p' answer c c' moved t = dialogue_is refl moved (ap (λ l. l.now) t.left) t.rows t.outcomes t.faults t.begun t.over
+
+refused_is : {S : Type 0} (s s' : S) (p p' : PortState) (c c' : Agenda) → s' ≡ s → p' ≡ p → IsRefused c c' → dialogue_of s' p' c' ≡ refused (dialogue_of s p c)
+refused_is s s' p p' c c' same moved t = dialogue_is same moved (ap (λ l. l.now) t.left) t.rows t.outcomes t.faults t.begun t.over
+
+-- a step of the link is one of the dialogue
+step_of : {S : Type 0} {Made : Dialogue S → List Frame → Dialogue S → Type 0} {d d' : Dialogue S} {link link' : LinkState} (deed : Deed) (does : Does link deed link')
+    → Made d does.frames d' → Steps Made (frames_of deed) d link d' link'
+step_of deed does made = record { sent = does.frames; made = made; put = does.put; partial = does.partial; waiting = does.waiting }
 
 -- the station was opened
 pub begins_by : {S : Type 0} (w : Ways S) (honest : Type 0) (s s' : S) (link link' : LinkState) (now : ℕ) (reply : Reply) (result : Result Told StationFault) (c c' : Agenda)
@@ -46,28 +69,14 @@ pub begins_by : {S : Type 0} (w : Ways S) (honest : Type 0) (s s' : S) (link lin
 begins_by w honest s s' link link' now (Ok answer) result c c' is_honest is made told =
     let t = subst (λ (r : Result Told StationFault). IsTold (record c { is_begun = true }) r c') is told in
     let (are, moved) = made.does.carries in
-    record {
-      sent = made.does.frames;
-      made =
-          old.Opened answer s' (made.acts is_honest) are
-          (dialogue_is _ _ _ _ _ _ _ _ _ _ _ _ _ _ _ _ refl moved (ap (λ l. l.now) t.left) t.rows t.outcomes t.faults t.begun t.over);
-      put = made.does.put;
-      partial = made.does.partial;
-      waiting = made.does.waiting;
-    }
+    step_of (Opened now (Ok answer)) made.does
+    (old.Opened answer s' (made.acts is_honest) are (answered_is s s' link.port link.port link'.port answer (record c { is_begun = true }) c' moved t))
 begins_by w honest s s' link link' now (Err fault) result c c' is_honest is made told =
     let t = subst (λ (r : Result Told StationFault). IsTold (record c { is_begun = true }) r c') is told in
     let (are, moved) = made.does.carries in
     let (refuses, same) = made.acts is_honest in
-    record {
-      sent = made.does.frames;
-      made =
-          old.Unopened fault refuses are
-          (dialogue_is _ _ _ _ _ _ _ _ _ _ _ _ _ _ _ _ same moved (ap (λ l. l.now) t.left) t.rows t.outcomes t.faults t.begun t.over);
-      put = made.does.put;
-      partial = made.does.partial;
-      waiting = made.does.waiting;
-    }
+    step_of (Opened now (Err fault)) made.does
+    (old.Unopened fault refuses are (refused_is s s' link.port link'.port (record c { is_begun = true }) c' same moved t))
 
 -- a frame came
 pub hears_by : {S : Type 0} (w : Ways S) (honest : Type 0) (s s' : S) (link link' : LinkState) (now : ℕ) (frame : Frame) (joined : Joined) (result : Heard) (c c' : Agenda)
@@ -76,140 +85,64 @@ pub hears_by : {S : Type 0} (w : Ways S) (honest : Type 0) (s s' : S) (link link
 hears_by w honest s s' link link' now frame Part result c c' is_honest goes_on is made told =
     let t : c' ≡ c = subst (λ (r : Heard). IsToldHeard c r c') is told in
     let (taken, takes, part, are) = made.does.carries in
-    record {
-      sent = made.does.frames;
-      made = old.Unfinished taken link'.port takes part are (cc (t, made.acts is_honest));
-      put = made.does.put;
-      partial = made.does.partial;
-      waiting = made.does.waiting;
-    }
+    step_of (Came now frame Part) made.does (old.Unfinished taken link'.port takes part are (cc (t, made.acts is_honest)))
 hears_by w honest s s' link link' now frame (Whole fragment (Ok answer)) result c c' is_honest goes_on is made told =
     let t = subst (λ (r : Heard). IsToldHeard c r c') is told in
     let (taken, heard, sent, takes, whole, shown, (are, moved), both) = made.does.carries in
-    record {
-      sent = made.does.frames;
-      made =
-          old.Answered taken heard fragment takes whole shown answer s' (made.acts is_honest) (both ∙ ap (λ (fs : List Frame). option_to_list taken.reply ++ fs) are)
-          (dialogue_is _ _ _ _ _ _ _ _ _ _ _ _ _ _ _ _ refl moved (ap (λ l. l.now) t.left) t.rows t.outcomes t.faults t.begun t.over);
-      put = made.does.put;
-      partial = made.does.partial;
-      waiting = made.does.waiting;
-    }
+    step_of (Came now frame (Whole fragment (Ok answer))) made.does
+    (old.Answered taken heard fragment takes whole shown answer s' (made.acts is_honest) (both ∙ ap (λ (fs : List Frame). option_to_list taken.reply ++ fs) are)
+    (answered_is s s' link.port heard link'.port answer c c' moved t))
 hears_by w honest s s' link link' now frame (Whole fragment (Err fault)) result c c' is_honest goes_on is made told =
     let t = subst (λ (r : Heard). IsToldHeard c r c') is told in
     let (taken, heard, sent, takes, whole, shown, (are, moved), both) = made.does.carries in
     let (refuses, same) = made.acts is_honest in
-    record {
-      sent = made.does.frames;
-      made =
-          old.Unanswered taken heard fragment takes whole shown fault refuses
-          (both ∙ ap (λ (fs : List Frame). option_to_list taken.reply ++ fs) are ∙ append-nil (option_to_list taken.reply))
-          (dialogue_is _ _ _ _ _ _ _ _ _ _ _ _ _ _ _ _ same moved (ap (λ l. l.now) t.left) t.rows t.outcomes t.faults t.begun t.over);
-      put = made.does.put;
-      partial = made.does.partial;
-      waiting = made.does.waiting;
-    }
+    step_of (Came now frame (Whole fragment (Err fault))) made.does
+    (old.Unanswered taken heard fragment takes whole shown fault refuses
+    (both ∙ ap (λ (fs : List Frame). option_to_list taken.reply ++ fs) are ∙ append-nil (option_to_list taken.reply)) (refused_is s s' heard link'.port c c' same moved t))
 
--- the idle station asked a task, or refused it
+-- the idle station asked a task, or refused it; where that is one of those that were left, d is the agenda without it
 pub asks_by : {S : Type 0} (w : Ways S) (honest : Type 0) (s s' : S) (link link' : LinkState) (now : ℕ) (task : Task) (left : List Task) (reply : Result (List ℕ) AskFault)
     (result : Result ⊤ AskFault) (c d c' : Agenda)
-    → honest → c.left.now ≡ task ∷ left → d.left.now ≡ left → d.asked ≡ c.asked → d.is_begun ≡ c.is_begun → d.is_over ≡ c.is_over
+    → honest → c.left.now ≡ task ∷ left → ((x : S) (p : PortState) → dialogue_of x p d ≡ record (dialogue_of x p c) { left = left })
     → result ≡ done_of reply → MakesStep w honest link s (AskedDeed now task reply) link' s' → IsToldAsked d result c'
     → Steps (λ a sent b. Goes w.asking now a sent b) [] (dialogue_of s link.port c) link (dialogue_of s' link'.port c') link'
-asks_by w honest s s' link link' now task left (Ok request) result c d c' is_honest first rest asked begun over is made told =
+asks_by {S} w honest s s' link link' now task left (Ok request) result c d c' is_honest first rest is made told =
     let t : c' ≡ d = subst (λ (r : Result ⊤ AskFault). IsToldAsked d r c') is told in
     let (are, moved) = made.does.carries in
-    record {
-      sent = made.does.frames;
-      made =
-          old.Asked task left first request s' (made.acts is_honest) are
-          (dialogue_is _ _ _ _ _ _ _ _ _ _ _ _ _ _ _ _ refl moved (ap (λ (x : Agenda). x.left.now) t ∙ rest) (ap (λ (x : Agenda). x.asked.rows) t ∙ ap (λ a. a.rows) asked)
-          (ap (λ (x : Agenda). x.asked.outcomes.items) t ∙ ap (λ a. a.outcomes.items) asked) (ap (λ (x : Agenda). x.asked.faults) t ∙ ap (λ a. a.faults) asked)
-          (ap (λ (x : Agenda). x.is_begun) t ∙ begun) (ap (λ (x : Agenda). x.is_over) t ∙ over));
-      put = made.does.put;
-      partial = made.does.partial;
-      waiting = made.does.waiting;
-    }
-asks_by w honest s s' link link' now task left (Err fault) result c d c' is_honest first rest asked begun over is made told =
+    step_of (AskedDeed now task (Ok request)) made.does
+    (old.Asked task left first request s' (made.acts is_honest) are
+    (ap (λ (x : Agenda). dialogue_of s' link'.port x) t ∙ rest s' link'.port ∙ ap (λ (p : PortState). record (dialogue_of s' p c) { left = left }) moved))
+asks_by {S} w honest s s' link link' now task left (Err fault) result c d c' is_honest first rest is made told =
     let t = subst (λ (r : Result ⊤ AskFault). IsToldAsked d r c') is told in
     let (are, moved) = made.does.carries in
     let (refuses, same) = made.acts is_honest in
-    record {
-      sent = made.does.frames;
-      made =
-          old.Unasked task left first fault refuses are
-          (dialogue_is _ _ _ _ _ _ _ _ _ _ _ _ _ _ _ _ same moved (ap (λ l. l.now) t.left ∙ rest) (t.rows ∙ ap (λ a. a.rows) asked)
-          (t.outcomes ∙ ap (λ a. a.outcomes.items) asked) (t.faults ∙ ap (λ a. min (a.faults + 1) most) asked) (t.begun ∙ begun) (t.over ∙ over));
-      put = made.does.put;
-      partial = made.does.partial;
-      waiting = made.does.waiting;
-    }
+    step_of (AskedDeed now task (Err fault)) made.does
+    (old.Unasked task left first fault refuses are
+    (refused_is s s' link.port link'.port d c' same moved t ∙ ap (λ (x : Dialogue S). refused x) (rest s link.port)))
 
 -- it relayed, or refused to
+relays_to : {S : Type 0} (w : Ways S) (honest : Type 0) (s s' : S) (link link' : LinkState) (now : ℕ) (relayed : Relayed) (c c' : Agenda)
+    → honest → c.left.now ≡ [] → MakesStep w honest link s (Relaid now (Ok relayed)) link' s' → c' ≡ record c { is_over = is_nothing relayed }
+    → Steps (λ a sent b. Goes w.asking now a sent b) [] (dialogue_of s link.port c) link (dialogue_of s' link'.port c') link'
+relays_to w honest s s' link link' now relayed c c' is_honest none made t =
+    let (are, moved) = made.does.carries in
+    step_of (Relaid now (Ok relayed)) made.does
+    (old.Relays none relayed s' (made.acts is_honest) are
+    (ap (λ (x : Agenda). dialogue_of s' link'.port x) t ∙ ap (λ (p : PortState). dialogue_of s' p (record c { is_over = is_nothing relayed })) moved))
+
 pub relays_by : {S : Type 0} (w : Ways S) (honest : Type 0) (s s' : S) (link link' : LinkState) (now : ℕ) (result : Result RelayedStep BookFault) (request : ArrayVec ℕ)
     (c c' : Agenda) → honest → c.left.now ≡ [] → c.is_over ≡ false
     → MakesStep w honest link s (Relaid now (relaid_of result request)) link' s' → IsToldRelayed c result c'
     → Steps (λ a sent b. Goes w.asking now a sent b) [] (dialogue_of s link.port c) link (dialogue_of s' link'.port c') link'
 relays_by w honest s s' link link' now (Ok step.Nothing) request c c' is_honest none goes_on made t =
-    let (are, moved) = made.does.carries in
-    record {
-      sent = made.does.frames;
-      made =
-          old.Relays none (with_request step.Nothing request) s' (made.acts is_honest) are
-          (dialogue_is _ _ _ _ _ _ _ _ _ _ _ _ _ _ _ _ refl moved (ap (λ (x : Agenda). x.left.now) t) (ap (λ (x : Agenda). x.asked.rows) t)
-          (ap (λ (x : Agenda). x.asked.outcomes.items) t) (ap (λ (x : Agenda). x.asked.faults) t) (ap (λ (x : Agenda). x.is_begun) t) (ap (λ (x : Agenda). x.is_over) t));
-      put = made.does.put;
-      partial = made.does.partial;
-      waiting = made.does.waiting;
-    }
-relays_by w honest s s' link link' now (Ok (step.Selecting id)) request c c' is_honest none goes_on made t =
-    let (are, moved) = made.does.carries in
-    record {
-      sent = made.does.frames;
-      made =
-          old.Relays none (with_request (step.Selecting id) request) s' (made.acts is_honest) are
-          (dialogue_is _ _ _ _ _ _ _ _ _ _ _ _ _ _ _ _ refl moved (ap (λ (x : Agenda). x.left.now) t) (ap (λ (x : Agenda). x.asked.rows) t)
-          (ap (λ (x : Agenda). x.asked.outcomes.items) t) (ap (λ (x : Agenda). x.asked.faults) t) (ap (λ (x : Agenda). x.is_begun) t) (ap (λ (x : Agenda). x.is_over) t ∙ goes_on));
-      put = made.does.put;
-      partial = made.does.partial;
-      waiting = made.does.waiting;
-    }
-relays_by w honest s s' link link' now (Ok (step.Sent id)) request c c' is_honest none goes_on made t =
-    let (are, moved) = made.does.carries in
-    record {
-      sent = made.does.frames;
-      made =
-          old.Relays none (with_request (step.Sent id) request) s' (made.acts is_honest) are
-          (dialogue_is _ _ _ _ _ _ _ _ _ _ _ _ _ _ _ _ refl moved (ap (λ (x : Agenda). x.left.now) t) (ap (λ (x : Agenda). x.asked.rows) t)
-          (ap (λ (x : Agenda). x.asked.outcomes.items) t) (ap (λ (x : Agenda). x.asked.faults) t) (ap (λ (x : Agenda). x.is_begun) t) (ap (λ (x : Agenda). x.is_over) t ∙ goes_on));
-      put = made.does.put;
-      partial = made.does.partial;
-      waiting = made.does.waiting;
-    }
-relays_by w honest s s' link link' now (Ok (step.Finished id status)) request c c' is_honest none goes_on made t =
-    let (are, moved) = made.does.carries in
-    record {
-      sent = made.does.frames;
-      made =
-          old.Relays none (with_request (step.Finished id status) request) s' (made.acts is_honest) are
-          (dialogue_is _ _ _ _ _ _ _ _ _ _ _ _ _ _ _ _ refl moved (ap (λ (x : Agenda). x.left.now) t) (ap (λ (x : Agenda). x.asked.rows) t)
-          (ap (λ (x : Agenda). x.asked.outcomes.items) t) (ap (λ (x : Agenda). x.asked.faults) t) (ap (λ (x : Agenda). x.is_begun) t) (ap (λ (x : Agenda). x.is_over) t ∙ goes_on));
-      put = made.does.put;
-      partial = made.does.partial;
-      waiting = made.does.waiting;
-    }
+    relays_to w honest s s' link link' now (with_request step.Nothing request) c c' is_honest none made t
+relays_by w honest s s' link link' now (Ok step) request c c' is_honest none goes_on made t =
+    relays_to w honest s s' link link' now (with_request step request) c c' is_honest none made (t ∙ ap (λ (over : Bool). record c { is_over = over }) goes_on)
 relays_by w honest s s' link link' now (Err fault) request c c' is_honest none goes_on made t =
     let (are, moved) = made.does.carries in
     let (refuses, same) = made.acts is_honest in
-    record {
-      sent = made.does.frames;
-      made =
-          old.Unrelayed none fault refuses are
-          (dialogue_is _ _ _ _ _ _ _ _ _ _ _ _ _ _ _ _ same moved (ap (λ l. l.now) t.left) t.rows t.outcomes t.faults t.begun t.over);
-      put = made.does.put;
-      partial = made.does.partial;
-      waiting = made.does.waiting;
-    }
+    step_of (Relaid now (Err fault)) made.does
+    (old.Unrelayed none fault refuses are (refused_is s s' link.port link'.port (record c { is_over = true }) c' same moved t))
 
 -- ---- one step more
 
@@ -237,23 +170,22 @@ makes_more w now began d d' (s ∷ steps) step sent more (first, next, later, he
 
 heard_more : (steps : List Step) (step : Step) → heard_in (steps ++ step ∷ []) ≡ heard_in steps ++ heard_in (step ∷ [])
 heard_more [] step = refl
-heard_more (Beginning ∷ steps) step = heard_more steps step
-heard_more (Going ∷ steps) step = heard_more steps step
 heard_more (Hearing frame ∷ steps) step = ap (λ (fs : List Frame). frame ∷ fs) (heard_more steps step)
+heard_more (s ∷ steps) step = heard_more steps step
 
 -- ---- a dialogue under way
 
-pub talking_more : {S : Type 0} (w : Ways S) (now reads : ℕ) (began : Dialogue S) (left left' held held' : Option (List ℕ)) (d d' : Dialogue S) (link link' : LinkState)
-    (step : Step) → d.is_over ≡ false → Steps (λ a sent b. Makes w.opens w.receives w.asking now a step sent b) (heard_in (step ∷ [])) d link d' link'
-    → (t : Talking w now reads began left left' held held' d link)
+pub talking_more : {S : Type 0} {Made : Dialogue S → List Frame → Dialogue S → Type 0} (w : Ways S) (now reads : ℕ) (began : Dialogue S)
+    (left left' held held' : Option (List ℕ)) (d d' : Dialogue S) (link link' : LinkState) (step : Step) → d.is_over ≡ false
+    → (one : Steps Made (heard_in (step ∷ [])) d link d' link') → Makes w.opens w.receives w.asking now d step one.sent d' → (t : Talking w now reads began left left' held held' d link)
     → (t' : Talking w now reads began left left' held held' d' link') × (length t'.steps ≡ length t.steps + 1)
-talking_more w now reads began left left' held held' d d' link link' step goes_on one t = (
+talking_more w now reads began left left' held held' d d' link link' step goes_on one made t = (
   record {
     steps = t.steps ++ step ∷ [];
     sent = t.sent ++ one.sent;
     received = t.received;
     handed = t.handed;
-    makes = makes_more w now began d d' t.steps step t.sent one.sent t.makes goes_on one.made;
+    makes = makes_more w now began d d' t.steps step t.sent one.sent t.makes goes_on made;
     spelled =
         subst (λ (o : List ℕ). AreSpelled (t.sent ++ one.sent) o)
         (append_assoc t.handed link.pending one.put.octets ∙ ap (λ (o : List ℕ). t.handed ++ o) (sym one.put.whole))
@@ -324,23 +256,6 @@ talking_fed w now reads began left left' left'' held held' s c link link' octets
       written = t.written;
     }
 
--- nothing was done yet
-pub talking_first : {S : Type 0} (w : Ways S) (now : ℕ) (d : Dialogue S) (left held : Option (List ℕ)) (link : LinkState) → link ≡ new_link link.port
-    → Talking w now 0 d left left held held d link
-talking_first w now d left held link fresh =
-    subst (λ (l : LinkState). Talking w now 0 d left left held held d l) (sym fresh) record {
-      steps = [];
-      sent = [];
-      received = [];
-      handed = [];
-      makes = (refl, refl);
-      spelled = spelled_none;
-      gives = record { decisions = 0; after = (refl, refl); waits = λ ten. absurd (omega (arith, ten)) };
-      often = omega arith;
-      read = Consumes-nil left;
-      written = Appends-nil held;
-    }
-
 -- ---- turns
 
 pub none_left : (left : List Task) → length left ≡ 0 → left ≡ []
@@ -354,33 +269,10 @@ pub talking_goes : {S : Type 0} (w : Ways S) (now reads : ℕ) (began : Dialogue
     → (t : Talking w now reads began left left' from held (dialogue_of s link.port c) link)
     → (t' : Talking w now reads began left left' from held' (dialogue_of s' link''.port c') link'') × (length t'.steps ≡ length t.steps + 1)
 talking_goes w now reads began left left' from held held' s s' c c' link link' link'' result begun idle goes_on one written t =
-    let made : Steps (λ a sent b. Makes w.opens w.receives w.asking now a Going sent b) [] (dialogue_of s link.port c) link (dialogue_of s' link'.port c') link' =
-    record { sent = one.sent; made = (begun, idle, one.made); put = one.put; partial = one.partial; waiting = one.waiting } in
-    let (t', n) = talking_more w now reads began left left' from held (dialogue_of s link.port c) (dialogue_of s' link'.port c') link link' Going goes_on made t in
+    let (t', n) = talking_more w now reads began left left' from held (dialogue_of s link.port c) (dialogue_of s' link'.port c') link link' Going goes_on one
+    (begun, idle, one.made) t in
     let (t'', m) = talking_sent w now reads began left left' from held held' s' c' link' link'' result written t' in
     (t'', m ∙ n)
-
--- a frame was heard
-pub talking_hears : {S : Type 0} (w : Ways S) (now reads : ℕ) (began : Dialogue S) (left left' from held : Option (List ℕ)) (s s' : S) (c c' : Agenda)
-    (link link' : LinkState) (frame : Frame) → c.is_begun ≡ true → w.asking.is_idle s ≡ false → c.is_over ≡ false
-    → Steps (λ a sent b. HearsAsking w.receives now a frame sent b) (frame ∷ []) (dialogue_of s link.port c) link (dialogue_of s' link'.port c') link'
-    → Talking w now reads began left left' from held (dialogue_of s link.port c) link
-    → Talking w now reads began left left' from held (dialogue_of s' link'.port c') link'
-talking_hears w now reads began left left' from held s s' c c' link link' frame begun busy goes_on one t =
-    let made : Steps (λ a sent b. Makes w.opens w.receives w.asking now a (Hearing frame) sent b) (frame ∷ []) (dialogue_of s link.port c) link (dialogue_of s' link'.port c') link' =
-    record { sent = one.sent; made = (begun, busy, one.made); put = one.put; partial = one.partial; waiting = one.waiting } in
-    (talking_more w now reads began left left' from held (dialogue_of s link.port c) (dialogue_of s' link'.port c') link link' (Hearing frame) goes_on made t).0
-
--- the station was opened
-pub talking_begins : {S : Type 0} (w : Ways S) (now reads : ℕ) (began : Dialogue S) (left left' from held : Option (List ℕ)) (s s' : S) (c c' : Agenda)
-    (link link' : LinkState) → c.is_begun ≡ false → c.is_over ≡ false
-    → Steps (λ a sent b. Begins w.opens now a sent b) [] (dialogue_of s link.port c) link (dialogue_of s' link'.port c') link'
-    → Talking w now reads began left left' from held (dialogue_of s link.port c) link
-    → Talking w now reads began left left' from held (dialogue_of s' link'.port c') link'
-talking_begins w now reads began left left' from held s s' c c' link link' begun goes_on one t =
-    let made : Steps (λ a sent b. Makes w.opens w.receives w.asking now a Beginning sent b) [] (dialogue_of s link.port c) link (dialogue_of s' link'.port c') link' =
-    record { sent = one.sent; made = (begun, one.made); put = one.put; partial = one.partial; waiting = one.waiting } in
-    (talking_more w now reads began left left' from held (dialogue_of s link.port c) (dialogue_of s' link'.port c') link link' Beginning goes_on made t).0
 
 -- room was made for an outcome
 pub talking_room : {S : Type 0} (w : Ways S) (now reads : ℕ) (began : Dialogue S) (left left' from held : Option (List ℕ)) (s : S) (c c' : Agenda) (link : LinkState)
@@ -389,20 +281,26 @@ pub talking_room : {S : Type 0} (w : Ways S) (now reads : ℕ) (began : Dialogue
     → Talking w now reads began left left' from held (dialogue_of s link.port c) link → Talking w now reads began left left' from held (dialogue_of s link.port c') link
 talking_room {S} w now reads began left left' from held s c c' link a b e f g h t =
     subst (λ (d : Dialogue S). Talking w now reads began left left' from held d link)
-    (dialogue_is _ _ _ _ _ _ _ _ _ _ _ _ _ _ _ _ refl refl (sym (ap (λ l. l.now) a)) (sym b) (sym e) (sym f) (sym g) (sym h)) t
-
--- ---- how it ends
-
-pub is_unbegun : {S : Type 0} (s : S) (port : PortState) (c : Agenda) → IsFresh c → dialogue_of s port c ≡ unbegun (endpoint s port) c.left.now
-is_unbegun s port c fresh =
-    dialogue_is s s port port c.left.now c.left.now _ _ _ _ _ _ _ _ _ _ refl refl refl fresh.rows fresh.outcomes fresh.faults fresh.begun fresh.over
+    (dialogue_is refl refl (sym (ap (λ l. l.now) a)) (sym b) (sym e) (sym f) (sym g) (sym h)) t
 
 -- from the beginning
 pub talking_unbegun : {S : Type 0} (w : Ways S) (now : ℕ) (s : S) (c : Agenda) (left held : Option (List ℕ)) (link : LinkState) → IsFresh c → link ≡ new_link link.port
     → Talking w now 0 (unbegun (endpoint s link.port) c.left.now) left left held held (dialogue_of s link.port c) link
 talking_unbegun {S} w now s c left held link fresh new =
-    subst (λ (d : Dialogue S). Talking w now 0 d left left held held (dialogue_of s link.port c) link) (is_unbegun s link.port c fresh)
-    (talking_first w now (dialogue_of s link.port c) left held link new)
+    subst (λ (l : LinkState). Talking w now 0 (unbegun (endpoint s link.port) c.left.now) left left held held (dialogue_of s l.port c) l) (sym new) record {
+      steps = [];
+      sent = [];
+      received = [];
+      handed = [];
+      makes = (refl, dialogue_is refl refl refl fresh.rows fresh.outcomes fresh.faults fresh.begun fresh.over);
+      spelled = spelled_none;
+      gives = record { decisions = 0; after = (refl, refl); waits = λ ten. absurd (omega (arith, ten)) };
+      often = omega arith;
+      read = Consumes-nil left;
+      written = Appends-nil held;
+    }
+
+-- ---- how it ends
 
 -- what went through the stream
 abbrev pub talk_by : {S : Type 0} (w : Ways S) (now reads : ℕ) (began : Dialogue S) (left left' held held' : Option (List ℕ)) (d : Dialogue S) (link : LinkState)
@@ -437,15 +335,16 @@ talks_by w now reads turns old tasks left left' left'' held held' s c link refus
 
 -- it can't go on
 pub talks_gone : {S : Type 0} (w : Ways S) (now reads turns : ℕ) (old : Endpoint S) (tasks : List Task) (left left' held held' : Option (List ℕ)) (s : S) (c : Agenda)
-    (link : LinkState) (fault : Gone) → (fault ≡ gone.Memory → (c.is_over ≡ false) × (link.pending ≡ []))
+    (link : LinkState) (fault : Gone) (told : ServeFault) → told ≡ fault_by fault → (fault ≡ gone.Memory → (c.is_over ≡ false) × (link.pending ≡ []))
     → Talking w now reads (unbegun old tasks) left left' held held' (dialogue_of s link.port c) link
-    → Talks w.opens w.receives w.asking now turns old tasks left left' held held' (Err (fault_by fault)) (endpoint s link.port)
-talks_gone w now reads turns old tasks left left' held held' s c link gone.Unwritten wanting t =
-    talks_by w now reads turns old tasks left left' left' held held' s c link [] (Err WriteFailed) t (Consumes-nil left') refl
-talks_gone w now reads turns old tasks left left' held held' s c link gone.Memory wanting t =
-    let (goes_on, none) = wanting refl in
-    talks_by w now reads turns old tasks left left' left' held held' s c link [] (Err Memory) t (Consumes-nil left')
-    record { goes_on = goes_on; answered = none; short = inr refl }
+    → Talks w.opens w.receives w.asking now turns old tasks left left' held held' (Err told) (endpoint s link.port)
+talks_gone w now reads turns old tasks left left' held held' s c link gone.Unwritten told is wanting t =
+    subst (λ (f : ServeFault). Talks w.opens w.receives w.asking now turns old tasks left left' held held' (Err f) (endpoint s link.port)) (sym is)
+    (talks_by w now reads turns old tasks left left' left' held held' s c link [] (Err WriteFailed) t (Consumes-nil left') refl)
+talks_gone w now reads turns old tasks left left' held held' s c link gone.Memory told is wanting t =
+    subst (λ (f : ServeFault). Talks w.opens w.receives w.asking now turns old tasks left left' held held' (Err f) (endpoint s link.port)) (sym is)
+    (talks_by w now reads turns old tasks left left' left' held held' s c link [] (Err Memory) t (Consumes-nil left')
+    record { goes_on = (wanting refl).0; answered = (wanting refl).1; short = inr refl })
 
 -- all was over
 pub talks_over : {S : Type 0} (w : Ways S) (now reads turns : ℕ) (old : Endpoint S) (tasks : List Task) (left left' held held' : Option (List ℕ)) (s : S) (c : Agenda)
@@ -461,14 +360,6 @@ talks_over w now reads turns old tasks left left' held held' s c link none t ove
       answered = none;
       ended = λ goes_on. elim over [ inl is ↦ absurd (false≢true (sym goes_on ∙ is)) | inr many ↦ inr many ];
     }
-
-pub talks_gone_as : {S : Type 0} (w : Ways S) (now reads turns : ℕ) (old : Endpoint S) (tasks : List Task) (left left' held held' : Option (List ℕ)) (s : S) (c : Agenda)
-    (link : LinkState) (fault : Gone) (told : ServeFault) → told ≡ fault_by fault → (fault ≡ gone.Memory → (c.is_over ≡ false) × (link.pending ≡ []))
-    → Talking w now reads (unbegun old tasks) left left' held held' (dialogue_of s link.port c) link
-    → Talks w.opens w.receives w.asking now turns old tasks left left' held held' (Err told) (endpoint s link.port)
-talks_gone_as w now reads turns old tasks left left' held held' s c link fault told is wanting t =
-    subst (λ (f : ServeFault). Talks w.opens w.receives w.asking now turns old tasks left left' held held' (Err f) (endpoint s link.port)) (sym is)
-    (talks_gone w now reads turns old tasks left left' held held' s c link fault wanting t)
 
 -- the link is what it was
 pub talking_same : {S : Type 0} (w : Ways S) (now reads : ℕ) (began : Dialogue S) (left left' held held' : Option (List ℕ)) (s : S) (c : Agenda) (link link' : LinkState)

@@ -52,34 +52,24 @@ never_fall old new (step ∷ steps) (next, here, rest) =
 
 never_opens : (old new : Standing) (steps : List Step) → FollowsAll old steps new → (old.stage ≡ Unopened → ⊥) → NeverOpens steps
 never_opens old new [] same opened = tt
-never_opens old new (Waited now ∷ steps) (next, here, rest) opened = never_opens next new steps rest (was_opened old next (Waited now) here)
 never_opens old new (Made (Opened now reply) ∷ steps) (next, here, rest) opened = opened here.stage
-never_opens old new (Made (Came now frame joined) ∷ steps) (next, here, rest) opened = never_opens next new steps rest (was_opened old next (Made (Came now frame joined)) here)
-never_opens old new (Made (Ticked now reply) ∷ steps) (next, here, rest) opened = never_opens next new steps rest (was_opened old next (Made (Ticked now reply)) here)
-never_opens old new (Made (Changed now change reply) ∷ steps) (next, here, rest) opened = never_opens next new steps rest (was_opened old next (Made (Changed now change reply)) here)
-never_opens old new (Made (Asked now task reply) ∷ steps) (next, here, rest) opened = never_opens next new steps rest (was_opened old next (Made (Asked now task reply)) here)
-never_opens old new (Made (Relaid now reply) ∷ steps) (next, here, rest) opened = never_opens next new steps rest (was_opened old next (Made (Relaid now reply)) here)
+never_opens old new (step ∷ steps) (next, here, rest) opened = never_opens next new steps rest (was_opened old next step here)
 
 pub opens_first : (old new : Standing) (steps : List Step) → FollowsAll old steps new → old.stage ≡ Unopened → OpensFirst steps
 opens_first old new [] same unopened = tt
 opens_first old new (Waited now ∷ steps) (next, (later, idle, is), rest) unopened = cc (idle, unopened)
 opens_first old new (Made (Opened now reply) ∷ steps) (next, here, rest) unopened = never_opens next new steps rest (was_opened old next (Made (Opened now reply)) here)
-opens_first old new (Made (Came now frame joined) ∷ steps) (next, here, rest) unopened = cc (here.stage, unopened)
 opens_first old new (Made (Ticked now reply) ∷ steps) (next, here, rest) unopened = cc (here.1.stage, unopened)
 opens_first old new (Made (Changed now change reply) ∷ steps) (next, here, rest) unopened = cc (here.1.stage, unopened)
-opens_first old new (Made (Asked now task reply) ∷ steps) (next, here, rest) unopened = cc (here.stage, unopened)
-opens_first old new (Made (Relaid now reply) ∷ steps) (next, here, rest) unopened = cc (here.stage, unopened)
+opens_first old new (Made deed ∷ steps) (next, here, rest) unopened = cc (here.stage, unopened)
 
 -- where time is to pass it passes, if it isn't still owed at the end
 owed : (old new : Standing) (now : ℕ) (steps : List Step) → FollowsAll old steps new → old.stage ≡ Owing → old.now ≡ now → (new.stage ≡ Owing → ⊥) → PassesAt now steps
 owed old new now [] same owing at settled = absurd (settled (ap (λ (s : Standing). s.stage) same ∙ owing))
 owed old new now (Waited moment ∷ steps) (next, (later, idle, is), rest) owing at settled = cc (idle, owing)
-owed old new now (Made (Opened moment reply) ∷ steps) (next, here, rest) owing at settled = cc (here.stage, owing)
-owed old new now (Made (Came moment frame joined) ∷ steps) (next, here, rest) owing at settled = cc (here.stage, owing)
 owed old new now (Made (Ticked moment reply) ∷ steps) (next, (same, here), rest) owing at settled = same ∙ at
 owed old new now (Made (Changed moment change reply) ∷ steps) (next, here, rest) owing at settled = cc (here.1.stage, owing)
-owed old new now (Made (Asked moment task reply) ∷ steps) (next, here, rest) owing at settled = cc (here.stage, owing)
-owed old new now (Made (Relaid moment reply) ∷ steps) (next, here, rest) owing at settled = cc (here.stage, owing)
+owed old new now (Made deed ∷ steps) (next, here, rest) owing at settled = cc (here.stage, owing)
 
 pub each_passes : (old new : Standing) (steps : List Step) → FollowsAll old steps new → (new.stage ≡ Owing → ⊥) → EachPasses steps
 each_passes old new [] same settled = tt
@@ -87,26 +77,17 @@ each_passes old new (Waited now ∷ steps) (next, (later, idle, is), rest) settl
   owed next new now steps rest (ap (λ (s : Standing). s.stage) is) (ap (λ (s : Standing). s.now) is) settled,
   each_passes next new steps rest settled,
 )
-each_passes old new (Made (Opened now reply) ∷ steps) (next, here, rest) settled = each_passes next new steps rest settled
 each_passes old new (Made (Came now frame joined) ∷ steps) (next, here, rest) settled = (
   λ goes_on. owed next new now steps rest (ap (λ (s : Standing). s.stage) here.after ∙ ap (λ (c : Bool). unless_closed c Owing) goes_on)
       (ap (λ (s : Standing). s.now) here.after) settled,
   each_passes next new steps rest settled,
 )
-each_passes old new (Made (Ticked now reply) ∷ steps) (next, here, rest) settled = each_passes next new steps rest settled
-each_passes old new (Made (Changed now change reply) ∷ steps) (next, here, rest) settled = each_passes next new steps rest settled
-each_passes old new (Made (Asked now task reply) ∷ steps) (next, here, rest) settled = each_passes next new steps rest settled
-each_passes old new (Made (Relaid now reply) ∷ steps) (next, here, rest) settled = each_passes next new steps rest settled
+each_passes old new (step ∷ steps) (next, here, rest) settled = each_passes next new steps rest settled
 
 pub none_early : (old new : Standing) (steps : List Step) → FollowsAll old steps new → NoneEarly steps
 none_early old new [] same = tt
-none_early old new (Waited now ∷ steps) (next, here, rest) = none_early next new steps rest
-none_early old new (Made (Opened now reply) ∷ steps) (next, here, rest) = none_early next new steps rest
-none_early old new (Made (Came now frame joined) ∷ steps) (next, here, rest) = none_early next new steps rest
-none_early old new (Made (Ticked now reply) ∷ steps) (next, here, rest) = none_early next new steps rest
 none_early old new (Made (Changed now change reply) ∷ steps) (next, (due, here), rest) = (due, none_early next new steps rest)
-none_early old new (Made (Asked now task reply) ∷ steps) (next, here, rest) = none_early next new steps rest
-none_early old new (Made (Relaid now reply) ∷ steps) (next, here, rest) = none_early next new steps rest
+none_early old new (step ∷ steps) (next, here, rest) = none_early next new steps rest
 
 none_after : (old new : Standing) (steps : List Step) → FollowsAll old steps new → old.stage ≡ Closed → deeds_in steps ≡ []
 none_after old new [] same closed = refl

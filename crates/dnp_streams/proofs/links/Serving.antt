@@ -19,11 +19,11 @@ use Rattle.dnp_streams.specs.streams.Stations.{Endpoint, Opening, Receiving, end
 use Rattle.dnp_streams.specs.declared.link.answering.Heard.{Heard}
 use Rattle.dnp_streams.specs.declared.link.answering.Told.{Told}
 use Rattle.dnp_streams.specs.links.Counts.{AreComings, StopsLast, closed_in, closes, faults_in, faults_of, fragments_in, fragments_of, is_closing, is_refusal}
-use Rattle.dnp_streams.specs.links.Deeds.{Acts, ActsAll, CarriesAll, Deed, Hears, Joined, Joins, Part, Whole, Opened, Came, Ticked, Changed, Asked, Relaid, Replies, Reply, Sends, Ways, frames_in, sends, told_of, heard_of}
+use Rattle.dnp_streams.specs.links.Deeds.{ActsAll, CarriesAll, Deed, Hears, Joined, Joins, Part, Whole, Opened, Came, Replies, Reply, Sends, Ways, frames_in, sends, told_of, heard_of}
 use Rattle.dnp_streams.specs.links.Laws.{Stands}
-use Rattle.dnp_streams.specs.links.Links.{Does, Feeds, LinkState, Makes, after_sent, new_link}
+use Rattle.dnp_streams.specs.links.Links.{Feeds, LinkState, Makes, after_sent, new_link}
 use Rattle.dnp_streams.specs.steps.Serving.{Runs, Tells, TellsHeard, WritesOut, closed_told, faults_told, left_with}
-use Rattle.dnp_streams.proofs.links.Standing.{acts_more, stands_fed, stands_made, stands_new}
+use Rattle.dnp_streams.proofs.links.Standing.{acts_more, stands_fed, stands_made, stands_new, stands_written}
 
 -- ---- numbers, one step more
 
@@ -66,11 +66,7 @@ stops_more (d ∷ deeds) deed open_still = (
 comings_more : (now : ℕ) (deeds : List Deed) (frame : Frame) (joined : Joined) → AreComings now deeds → AreComings now (deeds ++ Came now frame joined ∷ [])
 comings_more now [] frame joined only = (refl, tt)
 comings_more now (Came moment f j ∷ deeds) frame joined only = (only.0, comings_more now deeds frame joined only.1)
-comings_more now (Opened moment r ∷ deeds) frame joined only = absurd only
-comings_more now (Ticked moment r ∷ deeds) frame joined only = absurd only
-comings_more now (Changed moment change r ∷ deeds) frame joined only = absurd only
-comings_more now (Asked moment task r ∷ deeds) frame joined only = absurd only
-comings_more now (Relaid moment r ∷ deeds) frame joined only = absurd only
+comings_more now (deed ∷ deeds) frame joined only = absurd only
 
 min_more : (a b m : ℕ) → min (min a m + b) m ≡ min (a + b) m
 min_more a b m = grind arith
@@ -115,17 +111,6 @@ runs_first w now s s' left held link link' reply result honest served served' fr
     }
 
 -- octets were handed out
-stands_written : (p : PortState) (deeds : List Deed) (received handed part rest : List ℕ) (link : LinkState) → link.pending ≡ part ++ rest
-    → Stands p deeds received handed link → Stands p deeds received (handed ++ part) (left_with link rest)
-stands_written p deeds received handed part rest link split s = record {
-  frames = s.frames;
-  carries = s.carries;
-  spelled =
-      subst (λ (t : List ℕ). AreSpelled s.frames t)
-      (ap (λ (t : List ℕ). handed ++ t) split ∙ sym (append_assoc handed part rest)) s.spelled;
-  gives = s.gives;
-}
-
 runs_written : {S : Type 0} (w : Ways S) (now reads : ℕ) (began : Endpoint S) (left left' held held' held'' : Option (List ℕ)) (s : S) (link : LinkState) (served : Served)
     (part rest : List ℕ) → link.pending ≡ part ++ rest → Appends held' held'' part → Runs w now reads began left left' held held' s link served
     → Runs w now reads began left left' held held'' s (left_with link rest) served
@@ -182,12 +167,11 @@ runs_fed w now reads began left left' left'' held held' s link link' served octe
 
 -- a frame came
 runs_came : {S : Type 0} (w : Ways S) (now reads : ℕ) (began : Endpoint S) (left left' held held' : Option (List ℕ)) (s s' : S) (link link' : LinkState) (served served' : Served)
-    (frame : Frame) (joined : Joined) (fragments faults : ℕ) (closing : Bool) → served.closed ≡ false
-    → Acts w s (Came now frame joined) s' → Does link (Came now frame joined) link'
-    → fragments ≡ fragments_of (Came now frame joined) → faults ≡ faults_of (Came now frame joined) → closing ≡ closes (Came now frame joined)
-    → served'.fragments ≡ min (served.fragments + fragments) most → served'.faults ≡ min (served.faults + faults) most → served'.closed ≡ (served.closed || closing)
+    (frame : Frame) (joined : Joined) (honest : Type 0) → served.closed ≡ false → honest → Makes w honest link s (Came now frame joined) link' s'
+    → served'.fragments ≡ min (served.fragments + fragments_of (Came now frame joined)) most → served'.faults ≡ min (served.faults + faults_of (Came now frame joined)) most
+    → served'.closed ≡ (served.closed || closes (Came now frame joined))
     → Runs w now reads began left left' held held' s link served → Runs w now reads began left left' held held' s' link' served'
-runs_came w now reads began left left' held held' s s' link link' served served' frame joined fragments faults closing open_still acts does n m b more wrong ends r =
+runs_came w now reads began left left' held held' s s' link link' served served' frame joined honest open_still is_honest made more wrong ends r =
     let deed : Deed = Came now frame joined in
     let all : List Deed = Opened now r.reply ∷ r.deeds in
     record {
@@ -197,40 +181,20 @@ runs_came w now reads began left left' held held' s s' link link' served served'
       handed = r.handed;
       only = comings_more now r.deeds frame joined r.only;
       stops = stops_more all deed (sym r.closed ∙ open_still);
-      acts = acts_more w began.station s s' all deed r.acts acts;
-      stands = stands_made began.port all r.received r.handed deed link link' does r.stands;
+      acts = acts_more w began.station s s' all deed r.acts (made.acts is_honest);
+      stands = stands_made began.port all r.received r.handed deed link link' made.does r.stands;
       fragments =
-          more ∙ ap (λ (k : ℕ). min (k + fragments) most) r.fragments ∙ min_more (fragments_in r.deeds) fragments most
-          ∙ ap (λ (k : ℕ). min k most) (ap (λ (k : ℕ). fragments_in r.deeds + k) n ∙ sym (fragments_more r.deeds deed));
+          more ∙ ap (λ (k : ℕ). min (k + fragments_of deed) most) r.fragments ∙ min_more (fragments_in r.deeds) (fragments_of deed) most
+          ∙ ap (λ (k : ℕ). min k most) (sym (fragments_more r.deeds deed));
       faults =
-          wrong ∙ ap (λ (k : ℕ). min (k + faults) most) r.faults ∙ min_more (faults_in all) faults most
-          ∙ ap (λ (k : ℕ). min k most) (ap (λ (k : ℕ). faults_in all + k) m ∙ sym (faults_more all deed));
-      closed =
-          ends ∙ ap (λ (k : Bool). k || closing) r.closed ∙ ap (λ (k : Bool). closed_in all || k) b ∙ sym (closed_more all deed);
+          wrong ∙ ap (λ (k : ℕ). min (k + faults_of deed) most) r.faults ∙ min_more (faults_in all) (faults_of deed) most
+          ∙ ap (λ (k : ℕ). min k most) (sym (faults_more all deed));
+      closed = ends ∙ ap (λ (k : Bool). k || closes deed) r.closed ∙ sym (closed_more all deed);
       silent = r.silent;
       often = r.often;
       read = r.read;
       written = r.written;
     }
-
--- no fragment was whole with it
-pub runs_part : {S : Type 0} (w : Ways S) (now reads : ℕ) (began : Endpoint S) (left left' held held' : Option (List ℕ)) (s s' : S) (link link' : LinkState) (served : Served)
-    (frame : Frame) (honest : Type 0) → served.closed ≡ false → honest → Makes w honest link s (Came now frame Part) link' s'
-    → Runs w now reads began left left' held held' s link served → Runs w now reads began left left' held held' s' link' served
-runs_part w now reads began left left' held held' s s' link link' served frame honest open_still is_honest made r =
-    let below : (n : ℕ) → n ≡ min n most → n ≡ min (n + 0) most = λ n e. e ∙ ap (λ (k : ℕ). min k most) (omega arith) in
-    runs_came w now reads began left left' held held' s s' link link' served served frame Part 0 0 false open_still (made.acts is_honest) made.does refl refl refl
-    (below served.fragments (subst (λ (k : ℕ). k ≡ min k most) (sym r.fragments) (grind arith)))
-    (below served.faults (subst (λ (k : ℕ). k ≡ min k most) (sym r.faults) (grind arith))) (sym (or_none served.closed)) r
-
--- or one was
-pub runs_whole : {S : Type 0} (w : Ways S) (now reads : ℕ) (began : Endpoint S) (left left' held held' : Option (List ℕ)) (s s' : S) (link link' : LinkState) (served served' : Served)
-    (frame : Frame) (fragment : List ℕ) (reply : Reply) (honest : Type 0) → served.closed ≡ false → honest → Makes w honest link s (Came now frame (Whole fragment reply)) link' s'
-    → Tells served 1 (told_of reply) served'
-    → Runs w now reads began left left' held held' s link served → Runs w now reads began left left' held held' s' link' served'
-runs_whole w now reads began left left' held held' s s' link link' served served' frame fragment reply honest open_still is_honest made tells r =
-    runs_came w now reads began left left' held held' s s' link link' served served' frame (Whole fragment reply) 1 (faults_told (told_of reply)) (closed_told (told_of reply))
-    open_still (made.acts is_honest) made.does refl (faults_are reply) (closed_of reply) tells.fragments tells.faults tells.closed r
 
 -- a frame came, and what it brought was told
 pub runs_heard : {S : Type 0} (w : Ways S) (now reads : ℕ) (began : Endpoint S) (left left' held held' : Option (List ℕ)) (s s' : S) (link link' : LinkState) (served served' : Served)
@@ -239,11 +203,15 @@ pub runs_heard : {S : Type 0} (w : Ways S) (now reads : ℕ) (began : Endpoint S
     → Runs w now reads began left left' held held' s link served → Runs w now reads began left left' held held' s' link' served'
 runs_heard w now reads began left left' held held' s s' link link' served served' frame Part result honest open_still is_honest is made tells r =
     let same : served' ≡ served = subst (λ (h : Heard). TellsHeard served h served') is tells in
-    subst (λ (v : Served). Runs w now reads began left left' held held' s' link' v) (sym same)
-    (runs_part w now reads began left left' held held' s s' link link' served frame honest open_still is_honest made r)
+    let below : (n : ℕ) → n ≡ min n most → n ≡ min (n + 0) most = λ n e. e ∙ ap (λ (k : ℕ). min k most) (omega arith) in
+    runs_came w now reads began left left' held held' s s' link link' served served' frame Part honest open_still is_honest made
+    (ap (λ (v : Served). v.fragments) same ∙ below served.fragments (subst (λ (k : ℕ). k ≡ min k most) (sym r.fragments) (grind arith)))
+    (ap (λ (v : Served). v.faults) same ∙ below served.faults (subst (λ (k : ℕ). k ≡ min k most) (sym r.faults) (grind arith)))
+    (ap (λ (v : Served). v.closed) same ∙ sym (or_none served.closed)) r
 runs_heard w now reads began left left' held held' s s' link link' served served' frame (Whole fragment reply) result honest open_still is_honest is made tells r =
-    runs_whole w now reads began left left' held held' s s' link link' served served' frame fragment reply honest open_still is_honest made
-    (subst (λ (h : Heard). TellsHeard served h served') is tells) r
+    let t = subst (λ (h : Heard). TellsHeard served h served') is tells in
+    runs_came w now reads began left left' held held' s s' link link' served served' frame (Whole fragment reply) honest open_still is_honest made t.fragments
+    (t.faults ∙ ap (λ (n : ℕ). min (served.faults + n) most) (faults_are reply)) (t.closed ∙ ap (λ (b : Bool). served.closed || b) (closed_of reply)) r
 
 -- ---- writing
 
@@ -317,11 +285,7 @@ hears_all {S} w now s s' p p' (Came moment frame joined ∷ deeds) sent only sto
       faults = ap (λ (n : ℕ). faults_of deed + n) rest.faults;
       closed = ap (λ (b : Bool). closes deed || b) rest.closed;
     }
-hears_all w now s s' p p' (Opened moment r ∷ deeds) sent only stops acts carries = absurd only
-hears_all w now s s' p p' (Ticked moment r ∷ deeds) sent only stops acts carries = absurd only
-hears_all w now s s' p p' (Changed moment change r ∷ deeds) sent only stops acts carries = absurd only
-hears_all w now s s' p p' (Asked moment task r ∷ deeds) sent only stops acts carries = absurd only
-hears_all w now s s' p p' (Relaid moment r ∷ deeds) sent only stops acts carries = absurd only
+hears_all w now s s' p p' (deed ∷ deeds) sent only stops acts carries = absurd only
 
 -- what went through it, as the stream law has it
 pub record IsTraffic (reads : ℕ) (refused : List ℕ) (link : LinkState) (served : Served) (t : Traffic) : Type 0 where
@@ -379,17 +343,6 @@ runs_serves w now reads turns began left left' left'' held held' s link served r
         };
       };
     }
-
--- ---- how it ends
-
--- the connection is open
-pub runs_closed : (reads : ℕ) (refused : List ℕ) (link : LinkState) (served : Served) (t : Traffic) → IsTraffic reads refused link served t → served.closed ≡ false
-    → t.output.closed ≡ false
-runs_closed reads refused link served t is open_still = sym is.counted.closed ∙ open_still
-
-pub runs_open : (reads : ℕ) (refused : List ℕ) (link : LinkState) (served : Served) (t : Traffic) → IsTraffic reads refused link served t → t.output.closed ≡ false
-    → served.closed ≡ false
-runs_open reads refused link served t is open_still = is.counted.closed ∙ open_still
 
 -- the link is what it was
 pub runs_same : {S : Type 0} (w : Ways S) (now reads : ℕ) (began : Endpoint S) (left left' held held' : Option (List ℕ)) (s : S) (link link' : LinkState) (served : Served)

@@ -6,7 +6,7 @@ use Rattle.dnp_linkframe.specs.Stream.{Gives}
 use Rattle.dnp_streams.specs.streams.Spelled.{AreSpelled}
 use Rattle.dnp_streams.specs.links.Deeds.{Deed, Ways, Acts, ActsAll, Carries, CarriesAll, frames_of, frames_in}
 use Rattle.dnp_streams.specs.links.Laws.{Stands, Event, Fed, Made, Handed, HappenAll, deeds_in, fed_in}
-use Rattle.dnp_streams.specs.links.Links.{LinkState, Feeds, Does, after_sent, new_link}
+use Rattle.dnp_streams.specs.links.Links.{LinkState, Feeds, Does, new_link}
 use Rattle.dnp_streams.proofs.streams.Spelling.{spelled_none, spelled_joined}
 
 -- ---- one step more
@@ -82,15 +82,14 @@ stands_made p deeds received handed deed old new does s = record {
       (subst (λ (t : List ℕ). Gives received (frames_in deeds ++ old.waiting) t) (sym does.partial) s.gives);
 }
 
-pub stands_sent : (p : PortState) (deeds : List Deed) (received handed : List ℕ) (count : ℕ) (old : LinkState) → Stands p deeds received handed old
-    → Stands p deeds received (handed ++ take count old.pending) (after_sent old count)
-stands_sent p deeds received handed count old s = record {
+pub stands_written : (p : PortState) (deeds : List Deed) (received handed part rest : List ℕ) (link : LinkState) → link.pending ≡ part ++ rest
+    → Stands p deeds received handed link → Stands p deeds received (handed ++ part) (record link { pending = rest })
+stands_written p deeds received handed part rest link split s = record {
   frames = s.frames;
   carries = s.carries;
   spelled =
       subst (λ (t : List ℕ). AreSpelled s.frames t)
-      (sym (append_assoc handed (take count old.pending) (drop count old.pending) ∙ ap (λ (t : List ℕ). handed ++ t) (take-append-drop count old.pending)))
-      s.spelled;
+      (ap (λ (t : List ℕ). handed ++ t) split ∙ sym (append_assoc handed part rest)) s.spelled;
   gives = s.gives;
 }
 
@@ -118,7 +117,8 @@ stands_after p deeds received handed old new (Made deed ∷ events) s (next, doe
 stands_after p deeds received handed old new (Handed count ∷ events) s (next, (few, same), all) =
     let part = take count old.pending in
     let now : Stands p deeds received (handed ++ part) next =
-    subst (λ (l : LinkState). Stands p deeds received (handed ++ part) l) (sym same) (stands_sent p deeds received handed count old s) in
+    subst (λ (l : LinkState). Stands p deeds received (handed ++ part) l) (sym same)
+    (stands_written p deeds received handed part (drop count old.pending) old (sym (take-append-drop count old.pending)) s) in
     let (more, stands) = stands_after p deeds received (handed ++ part) next new events now all in (
       part ++ more,
       subst (λ (t : List ℕ). Stands p (deeds ++ deeds_in events) (received ++ fed_in events) t new) (append_assoc handed part more) stands,

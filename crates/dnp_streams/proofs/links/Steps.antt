@@ -18,11 +18,12 @@ use Rattle.dnp_master.specs.declared.task.Task.{Task}
 use Rattle.dnp_streams.specs.declared.stream.change.Change.{Change}
 use Rattle.dnp_streams.specs.declared.stream.station.StationFault.{StationFault}
 use Rattle.dnp_streams.specs.streams.Spelled.{sent_frames, port_after}
-use Rattle.dnp_streams.specs.streams.Stations.{Receiving}
+use Rattle.dnp_streams.specs.streams.Stations.{Opening, Receiving}
 use Rattle.dnp_streams.specs.declared.link.answering.Heard.{Heard}
 use Rattle.dnp_streams.specs.declared.link.answering.Heard.TheVariants as heard
 use Rattle.dnp_streams.specs.declared.link.answering.Told.{Told}
-use Rattle.dnp_streams.specs.links.Deeds.{Joined, Part, Whole, Reply, Ways, Opened, Came, Ticked, Changed, Asked, Relaid, taking, sends, sends_asking, sends_relaying, told_of, heard_of, done_of, relaid_of}
+use Rattle.dnp_streams.specs.links.Deeds.{Acts, Carries, Deed, frames_of}
+use Rattle.dnp_streams.specs.links.Deeds.{Joined, Part, Whole, Reply, Ways, Opened, Came, Ticked, Changed, Asked, Relaid, taking, sends, sends_relaying, told_of, heard_of, done_of, relaid_of}
 use Rattle.dnp_linkframe.specs.Stream.{Gives}
 use Rattle.dnp_streams.specs.links.Links.{LinkState, Feeds, Makes, Calls, TakesIn, AsksFor, RelaysOn}
 use Rattle.dnp_streams.specs.links.Outputs.{ArePut, Puts}
@@ -34,13 +35,17 @@ use Rattle.dnp_streams.proofs.streams.Spelling.{put_more, put_none}
 pub puts_none : (port : PortState) (before : List ℕ) → Puts port [] before port before
 puts_none port before = record { put = put_none before; moved = refl }
 
+pub call_refused : {S : Type 0} (honest : Type 0) (opens : Opening S) (s s' : S) (now : ℕ) (fault : StationFault) (port : PortState) (before : List ℕ)
+    → (honest → opens.refuses s now fault) → (honest → s' ≡ s) → Calls honest opens s now (Err fault) s' port before port before
+call_refused honest opens s s' now fault port before refuses same =
+    record { reply = Err fault; is = refl; acts = λ is_honest. (refuses is_honest, same is_honest); puts = puts_none port before }
+
 -- a step of relaying without a request
 pub relays_nothing : (step : RelayedStep) (request : ArrayVec ℕ) (port : PortState) (before : List ℕ) → has_request step ≡ false
     → Puts port (sends_relaying (relaid_of (Ok step) request)) before port before
 relays_nothing step.Nothing request port before none = puts_none port before
 relays_nothing (step.Finished id status) request port before none = puts_none port before
-relays_nothing (step.Selecting id) request port before none = absurd (false≢true (sym none))
-relays_nothing (step.Sent id) request port before none = absurd (false≢true (sym none))
+relays_nothing step request port before none = absurd (false≢true (sym none))
 
 -- one with a request
 pub relays_request : (step : RelayedStep) (request : ArrayVec ℕ) (port : PortState) (before : List ℕ) (port' : PortState) (after : List ℕ) → has_request step ≡ true
@@ -48,8 +53,7 @@ pub relays_request : (step : RelayedStep) (request : ArrayVec ℕ) (port : PortS
     → Puts port (sends_relaying (relaid_of (Ok step) request)) before port' after
 relays_request (step.Selecting id) request port before port' after has put moved = record { put = put; moved = moved }
 relays_request (step.Sent id) request port before port' after has put moved = record { put = put; moved = moved }
-relays_request step.Nothing request port before port' after has put moved = absurd (false≢true has)
-relays_request (step.Finished id status) request port before port' after has put moved = absurd (false≢true has)
+relays_request step request port before port' after has put moved = absurd (false≢true has)
 
 -- ---- a frame
 
@@ -87,41 +91,33 @@ heard_whole honest receives s s' now frame p mid p' before between after taken r
 abbrev pub after_step : LinkState → PortState → List ℕ → LinkState
 after_step l port pending = record l { port = port; pending = pending }
 
+-- a step in which no frame comes, of the link inside or of the one that is the same
+made_of : {S : Type 0} (w : Ways S) (honest : Type 0) (s s' : S) (deed : Deed) (inside old : LinkState) (port : PortState) (frames : List Frame) (pending : List ℕ)
+    → inside ≡ old → frames_of deed ≡ [] → (honest → Acts w s deed s') → Carries inside.port deed frames port → ArePut inside.pending frames pending
+    → Makes w honest old s deed (after_step inside port pending) s'
+made_of w honest s s' deed inside old port frames pending same none acts carries put =
+    subst (λ (l : LinkState). Makes w honest l s deed (after_step inside port pending) s') same record {
+      acts = acts;
+      does = record { frames = frames; carries = carries; put = put; partial = refl; waiting = ap (λ (fs : List Frame). fs ++ inside.waiting) (sym none) };
+    }
+
 pub opened_makes : {S : Type 0} (w : Ways S) (honest : Type 0) (s s' : S) (now : ℕ) (result : Result Told StationFault) (inside old : LinkState) (port : PortState) (pending : List ℕ)
     → inside ≡ old → Calls honest w.opens s now result s' inside.port inside.pending port pending
     → (reply : Reply) × (result ≡ told_of reply) × Makes w honest old s (Opened now reply) (after_step inside port pending) s'
-opened_makes w honest s s' now result inside old port pending same call = (
-  call.reply,
-  call.is,
-  subst (λ (l : LinkState). Makes w honest l s (Opened now call.reply) (after_step inside port pending) s') same record {
-    acts = call.acts;
-    does = record { frames = sent_frames inside.port (sends call.reply); carries = (refl, call.puts.moved); put = call.puts.put; partial = refl; waiting = refl };
-  },
-)
+opened_makes w honest s s' now result inside old port pending same call =
+    (call.reply, call.is, made_of w honest s s' (Opened now call.reply) inside old port _ pending same refl call.acts (refl, call.puts.moved) call.puts.put)
 
 pub ticked_makes : {S : Type 0} (w : Ways S) (honest : Type 0) (s s' : S) (now : ℕ) (result : Result Told StationFault) (inside old : LinkState) (port : PortState) (pending : List ℕ)
     → inside ≡ old → Calls honest w.life.ticks s now result s' inside.port inside.pending port pending
     → (reply : Reply) × (result ≡ told_of reply) × Makes w honest old s (Ticked now reply) (after_step inside port pending) s'
-ticked_makes w honest s s' now result inside old port pending same call = (
-  call.reply,
-  call.is,
-  subst (λ (l : LinkState). Makes w honest l s (Ticked now call.reply) (after_step inside port pending) s') same record {
-    acts = call.acts;
-    does = record { frames = sent_frames inside.port (sends call.reply); carries = (refl, call.puts.moved); put = call.puts.put; partial = refl; waiting = refl };
-  },
-)
+ticked_makes w honest s s' now result inside old port pending same call =
+    (call.reply, call.is, made_of w honest s s' (Ticked now call.reply) inside old port _ pending same refl call.acts (refl, call.puts.moved) call.puts.put)
 
 pub changed_makes : {S : Type 0} (w : Ways S) (honest : Type 0) (s s' : S) (now : ℕ) (change : Change) (result : Result Told StationFault) (inside old : LinkState) (port : PortState) (pending : List ℕ)
     → inside ≡ old → Calls honest (w.life.changes change) s now result s' inside.port inside.pending port pending
     → (reply : Reply) × (result ≡ told_of reply) × Makes w honest old s (Changed now change reply) (after_step inside port pending) s'
-changed_makes w honest s s' now change result inside old port pending same call = (
-  call.reply,
-  call.is,
-  subst (λ (l : LinkState). Makes w honest l s (Changed now change call.reply) (after_step inside port pending) s') same record {
-    acts = call.acts;
-    does = record { frames = sent_frames inside.port (sends call.reply); carries = (refl, call.puts.moved); put = call.puts.put; partial = refl; waiting = refl };
-  },
-)
+changed_makes w honest s s' now change result inside old port pending same call =
+    (call.reply, call.is, made_of w honest s s' (Changed now change call.reply) inside old port _ pending same refl call.acts (refl, call.puts.moved) call.puts.put)
 
 pub heard_makes : {S : Type 0} (w : Ways S) (honest : Type 0) (s s' : S) (now : ℕ) (frame : Frame) (result : Heard) (inside old : LinkState) (port : PortState)
     (rest : List Frame) (pending : List ℕ) → inside ≡ old → inside.waiting ≡ frame ∷ rest
@@ -141,41 +137,16 @@ heard_makes w honest s s' now frame result inside old port rest pending same fir
 pub asked_makes : {S : Type 0} (w : Ways S) (honest : Type 0) (s s' : S) (now : ℕ) (task : Task) (result : Result ⊤ AskFault) (inside old : LinkState) (port : PortState) (pending : List ℕ)
     → inside ≡ old → AsksFor honest w.asking s now task result s' inside.port inside.pending port pending
     → (reply : Result (List ℕ) AskFault) × (result ≡ done_of reply) × Makes w honest old s (Asked now task reply) (after_step inside port pending) s'
-asked_makes w honest s s' now task result inside old port pending same call = (
-  call.reply,
-  call.is,
-  subst (λ (l : LinkState). Makes w honest l s (Asked now task call.reply) (after_step inside port pending) s') same record {
-    acts = call.acts;
-    does = record { frames = sent_frames inside.port (sends_asking call.reply); carries = (refl, call.puts.moved); put = call.puts.put; partial = refl; waiting = refl };
-  },
-)
+asked_makes w honest s s' now task result inside old port pending same call =
+    (call.reply, call.is, made_of w honest s s' (Asked now task call.reply) inside old port _ pending same refl call.acts (refl, call.puts.moved) call.puts.put)
 
 pub relaid_makes : {S : Type 0} (w : Ways S) (honest : Type 0) (s s' : S) (now : ℕ) (result : Result RelayedStep BookFault) (inside old : LinkState) (port : PortState) (pending : List ℕ)
     → inside ≡ old → RelaysOn honest w.asking s now result s' inside.port inside.pending port pending
     → (request : ArrayVec ℕ) × Makes w honest old s (Relaid now (relaid_of result request)) (after_step inside port pending) s'
-relaid_makes w honest s s' now result inside old port pending same call = (
-  call.request,
-  subst (λ (l : LinkState). Makes w honest l s (Relaid now (relaid_of result call.request)) (after_step inside port pending) s') same record {
-    acts = call.acts;
-    does = record { frames = sent_frames inside.port (sends_relaying (relaid_of result call.request)); carries = (refl, call.puts.moved); put = call.puts.put; partial = refl; waiting = refl };
-  },
-)
+relaid_makes w honest s s' now result inside old port pending same call =
+    (call.request, made_of w honest s s' (Relaid now (relaid_of result call.request)) inside old port _ pending same refl call.acts (refl, call.puts.moved) call.puts.put)
 
 -- ---- octets that came
-
-pub fed_feeds : (inside old : LinkState) (frames all given : List Frame) (next : ℕ) (partial octets : List ℕ) → inside ≡ old
-    → inside.waiting ≡ drop next frames → next ≤ length frames → all ≡ frames ++ given
-    → ((stream : List ℕ) (before : List Frame) → Gives stream before inside.partial → Gives (stream ++ octets) (before ++ given) partial)
-    → Feeds old octets (record inside { partial = partial; waiting = drop next all })
-fed_feeds inside old frames all given next partial octets same waits low are gives =
-    subst (λ (l : LinkState). Feeds l octets (record inside { partial = partial; waiting = drop next all })) same record {
-      frames = given;
-      partial = partial;
-      after =
-          ap (λ (fs : List Frame). record inside { partial = partial; waiting = fs })
-          (ap (λ (fs : List Frame). drop next fs) are ∙ drop-append-le next frames given low ∙ ap (λ (fs : List Frame). fs ++ given) (sym waits));
-      gives = gives;
-    }
 
 pub fed_if : (result : Result ⊤ AllocError) (inside old : LinkState) (frames all : List Frame) (next : ℕ) (partial octets : List ℕ) → inside ≡ old
     → inside.waiting ≡ drop next frames → next ≤ length frames
@@ -183,5 +154,12 @@ pub fed_if : (result : Result ⊤ AllocError) (inside old : LinkState) (frames a
     → OnOk result ((stream : List ℕ) (before given : List Frame) → Gives stream before inside.partial → all ≡ frames ++ given → Gives (stream ++ octets) (before ++ given) partial)
     → OnOk result (Feeds old octets (record inside { partial = partial; waiting = drop next all }))
 fed_if (Ok done) inside old frames all next partial octets same waits low (given, are, gives) carried =
-    fed_feeds inside old frames all given next partial octets same waits low are (λ stream before held. carried stream before given held are)
+    subst (λ (l : LinkState). Feeds l octets (record inside { partial = partial; waiting = drop next all })) same record {
+      frames = given;
+      partial = partial;
+      after =
+          ap (λ (fs : List Frame). record inside { partial = partial; waiting = fs })
+          (ap (λ (fs : List Frame). drop next fs) are ∙ drop-append-le next frames given low ∙ ap (λ (fs : List Frame). fs ++ given) (sym waits));
+      gives = λ stream before held. carried stream before given held are;
+    }
 fed_if (Err error) inside old frames all next partial octets same waits low none carried = tt

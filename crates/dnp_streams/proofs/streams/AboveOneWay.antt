@@ -1,11 +1,10 @@
 -- The steps of a concentrator's outstation towards a centre come out in one way.
-use Rattle.std.proofs.Common.{◌≡◌, ℕ, List, refl, sym, ap, ◌∙◌}
+use Rattle.std.proofs.Common.{sym, ap, ◌∙◌}
 use Rattle.dnp_concentrator.specs.BookOutputs.{all_added}
 use Rattle.dnp_outstation.specs.Calls.{connection_after, opened_of, performed_in}
 use Rattle.dnp_outstation.specs.State.{State}
-use Rattle.dnp_streams.specs.streams.Concentrators.{AboveSeen, above_opens, above_receives, panel_at}
+use Rattle.dnp_streams.specs.streams.Concentrators.{above_opens, above_receives, panel_at}
 use Rattle.dnp_streams.specs.streams.OneWay.{OpensOneWay, ReceivesOneWay}
-use Rattle.dnp_streams.specs.streams.Stations.{Answer}
 use Rattle.dnp_streams.proofs.streams.OutstationsOneWay.{same_step}
 
 pub above_opens_one_way : OpensOneWay above_opens

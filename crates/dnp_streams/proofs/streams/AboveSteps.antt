@@ -1,5 +1,5 @@
 -- What a stream sees of a step of a concentrator's outstation towards a centre.
-use Rattle.std.proofs.Common.{◌≡◌, ℕ, List, [], ◌∷◌, Option, refl, ap, ◌∙◌}
+use Rattle.std.proofs.Common.{◌≡◌, ℕ, List, [], ◌∷◌, Option, refl, ap}
 use Rattle.dnp_concentrator.specs.BookOutputs.{Performs, all_added, book_in, map_in}
 use Rattle.dnp_concentrator.specs.declared.book_outputs.BookOutputs.{BookOutputs}
 use Rattle.dnp_concentrator.specs.declared.span.Spans.{Spans}
@@ -14,10 +14,7 @@ above whole indices controls reserved = record { whole = whole; indices = indice
 -- the outstation is seen as its parts are
 pub above_is : (whole : State) (indices indices' : List Spans) (controls controls' : Ledger) (reserved reserved' : ℕ → Option Command)
     → indices' ≡ indices → controls' ≡ controls → reserved' ≡ reserved → above whole indices' controls' reserved' ≡ above whole indices controls reserved
-above_is whole indices indices' controls controls' reserved reserved' indices_are controls_are reserved_is =
-    ap (λ (s : List Spans). above whole s controls' reserved') indices_are
-    ∙ ap (λ (l : Ledger). above whole indices l reserved') controls_are
-    ∙ ap (λ (r : ℕ → Option Command). above whole indices controls r) reserved_is
+above_is whole indices indices' controls controls' reserved reserved' a b c = cc
 
 -- outputs that performed commands have added them to the book, and kept their index map
 pub performed_above : {B : Type 0} (contents : B → Ledger) (old new : BookOutputs B) (commands : List Command) → (commands ≡ [] → new ≡ old)

@@ -1,5 +1,5 @@
 -- What becomes of a change of an outstation's reading, as its station says it.
-use Rattle.std.proofs.Common.{◌≡◌, ℕ, Result, Ok, Err, refl, sym, ap, ◌∙◌}
+use Rattle.std.proofs.Common.{◌≡◌, Result, Ok, Err, refl, sym, ap, ◌∙◌}
 use Rattle.std.specs.Prelude.{◌↔◌, IsErr, IfErr, IfOk}
 use Rattle.dnp_outstation.specs.Station.{change_fault_of, IsStoreFault}
 use Rattle.dnp_outstation.specs.declared.fault.Fault.{Fault}
@@ -7,7 +7,7 @@ use Rattle.dnp_outstation.specs.declared.fault.Fault.TheVariants as outstation
 use Rattle.dnp_pointdb.specs.declared.fault.ChangeFault.{ChangeFault}
 use Rattle.dnp_pointdb.specs.declared.fault.ChangeFault.TheVariants as change
 use Rattle.dnp_streams.specs.declared.stream.station.StationFault.{StationFault}
-use Rattle.dnp_streams.specs.declared.stream.station.StationFault.TheVariants.{Message, Cause}
+use Rattle.dnp_streams.specs.declared.stream.station.StationFault.TheVariants.{Message}
 use Rattle.dnp_streams.specs.streams.Lives.{told_of}
 
 -- the call came to an end, so the points took the reading
@@ -18,16 +18,13 @@ taken_by_points P (Err e) a Q refused step = absurd (let is = refused.0 in cc)
 
 told_by_points : (e : ChangeFault) → told_of (change_fault_of e) ≡ Message
 told_by_points change.NoPoint = refl
-told_by_points change.ValueRange = refl
-told_by_points change.TimeRange = refl
+told_by_points _ = refl
 
 told_by_stores : (fault : Fault) → IsStoreFault fault → told_of fault ≡ Message → ⊥
 told_by_stores outstation.NoPoint store is = store
 told_by_stores outstation.ValueRange store is = store
 told_by_stores outstation.TimeRange store is = store
-told_by_stores outstation.Exhausted store is = absurd (cc)
-told_by_stores outstation.Memory store is = absurd (cc)
-told_by_stores outstation.Device store is = absurd (cc)
+told_by_stores _ store is = absurd (cc)
 
 same_fault : {A : Type 0} (e f : Fault) → ◌≡◌ {A = Result A Fault} (Err e) (Err f) → e ≡ f
 same_fault e f is = cc

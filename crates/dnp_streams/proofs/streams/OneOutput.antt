@@ -76,10 +76,7 @@ hears_alike : {S : Type 0} (receives : Receiving S) (now : ℕ) (old new other :
     → Hears receives now old frame output new → Hears receives now old frame output' other → NoFault output → NoFault output' → Alike output output' new other
 hears_alike receives now old new other frame output output' laws one history (Refused taken fragment takes whole shown why refused is same) second none none' =
     absurd (fault output _ none is refl)
-hears_alike receives now old new other frame output output' laws one history (Unfinished taken takes partial is same)
-    (Refused taken' fragment' takes' whole' shown' why refused is' same') none none' =
-    absurd (fault output' _ none' is' refl)
-hears_alike receives now old new other frame output output' laws one history (Answered taken heard fragment takes whole shown a step is moved)
+hears_alike receives now old new other frame output output' laws one history first
     (Refused taken' fragment' takes' whole' shown' why refused is' same') none none' =
     absurd (fault output' _ none' is' refl)
 hears_alike receives now old new other frame output output' laws one history (Unfinished taken takes partial is same)

@@ -27,11 +27,9 @@ abbrev pub AreTwo : List (Option (ArrayVec ℕ)) → Option (ArrayVec ℕ) → O
 AreTwo send first second = sent_of send ≡ sent_of (first ∷ []) ++ sent_of (second ∷ [])
 
 pub are_two : (send : List (Option (ArrayVec ℕ))) (d e : Option (ArrayVec ℕ)) → length send ≡ 2 → AreTwo send (get_or send 0 d) (get_or send 1 e)
-are_two [] d e two = absurd (omega (arith, two))
-are_two (a ∷ []) d e two = absurd (omega (arith, two))
 are_two (None ∷ b ∷ []) d e two = refl
 are_two (Some f ∷ b ∷ []) d e two = refl
-are_two (a ∷ b ∷ c ∷ others) d e two = absurd (omega (arith, two))
+are_two _ d e two = absurd (omega (arith, two))
 
 -- the fragments of both places are put
 pub both_put : (p mid : PortState) (send : List (Option (ArrayVec ℕ))) (first second : Option (ArrayVec ℕ)) (old between new : List ℕ)
@@ -62,12 +60,10 @@ HaveOctets send = All (λ octets. 0 < length octets) (sent_of send)
 -- so has that of each place
 pub both_have : (send : List (Option (ArrayVec ℕ))) (d e : Option (ArrayVec ℕ)) → length send ≡ 2 → HaveOctets send
     → HaveOctets (get_or send 0 d ∷ []) × HaveOctets (get_or send 1 e ∷ [])
-both_have [] d e two some = absurd (omega (arith, two))
-both_have (a ∷ []) d e two some = absurd (omega (arith, two))
 both_have (None ∷ b ∷ []) d e two some = (All-nil (λ (octets : List ℕ). 0 < length octets), some)
 both_have (Some f ∷ b ∷ []) d e two some =
     let head : 0 < length f.items = All-head (λ (octets : List ℕ). 0 < length octets) f.items (sent_of (b ∷ [])) some in (
       All-push (λ (octets : List ℕ). 0 < length octets) [] f.items (All-nil (λ (octets : List ℕ). 0 < length octets)) head,
       All-tail (λ (octets : List ℕ). 0 < length octets) f.items (sent_of (b ∷ [])) some,
     )
-both_have (a ∷ b ∷ c ∷ others) d e two some = absurd (omega (arith, two))
+both_have _ d e two some = absurd (omega (arith, two))

@@ -13,7 +13,7 @@ use Rattle.dnp_master.specs.Rows.{is_from_plan}
 use Rattle.dnp_master.specs.Sinks.{IsSinkFault}
 use Rattle.dnp_master.specs.State.{State}
 use Rattle.dnp_master.specs.declared.fault.MasterFault.{MasterFault}
-use Rattle.dnp_master.specs.declared.fault.MasterFault.TheVariants.{Malformed, Stranger, Exhausted, Memory, Device}
+use Rattle.dnp_master.specs.declared.fault.MasterFault.TheVariants.{Malformed, Stranger, Exhausted}
 use Rattle.dnp_master.specs.declared.request.OpenRequest.{OpenRequest}
 use Rattle.dnp_objects.specs.declared.store.StoreFault.{StoreFault}
 use Rattle.dnp_objects.specs.declared.store.StoreFault.TheVariants as lanes
@@ -74,16 +74,11 @@ unread s now octets = by_open s.is_open
 no_message : (fault : MasterFault) → IsSinkFault fault → fault_told fault ≢ Message
 no_message Malformed sink is = sink
 no_message Stranger sink is = sink
-no_message Exhausted sink is = absurd (cc)
-no_message Memory sink is = absurd (cc)
-no_message Device sink is = absurd (cc)
+no_message _ sink is = absurd (cc)
 
 no_number : (fault : MasterFault) → fault_told fault ≡ Cause cause.Exhausted → fault ≡ Exhausted
-no_number Malformed is = absurd (cc)
-no_number Stranger is = absurd (cc)
 no_number Exhausted is = refl
-no_number Memory is = absurd (cc)
-no_number Device is = absurd (cc)
+no_number _ is = absurd (cc)
 
 by_found : (found : Result Taking MasterFault) (exhausts : Taking → Bool) (fault : MasterFault) (told : StationFault)
     → IfErr found IsMessage → told ≡ fault_told fault
@@ -113,25 +108,16 @@ refused_rows s now octets exhausts fault told = by_found (receive_of s now octet
 
 pub no_message_above : (told : StationFault) (e : outstation.Fault) → told ≡ cause_told e → told ≢ Message
 no_message_above told store.NoPoint is same = absurd (cc)
-no_message_above told store.ValueRange is same = absurd (cc)
-no_message_above told store.TimeRange is same = absurd (cc)
-no_message_above told store.Exhausted is same = absurd (cc)
-no_message_above told store.Memory is same = absurd (cc)
-no_message_above told store.Device is same = absurd (cc)
+no_message_above told _ is same = absurd (cc)
 
 pub no_number_above : (told : StationFault) (e : outstation.Fault) → told ≡ cause_told e → e ≢ store.Exhausted → told ≢ Cause cause.Exhausted
-no_number_above told store.NoPoint is none same = absurd (cc)
-no_number_above told store.ValueRange is none same = absurd (cc)
-no_number_above told store.TimeRange is none same = absurd (cc)
 no_number_above told store.Exhausted is none same = none refl
-no_number_above told store.Memory is none same = absurd (cc)
-no_number_above told store.Device is none same = absurd (cc)
+no_number_above told _ is none same = absurd (cc)
 
 -- a store's fault is passed on
 pub passed_on : (e : StoreFault) (f : outstation.Fault) → f ≡ fault_of e → e ≢ lanes.Exhausted → f ≢ store.Exhausted
 passed_on lanes.Exhausted f is none same = none refl
-passed_on lanes.Memory f is none same = absurd (cc)
-passed_on lanes.Device f is none same = absurd (cc)
+passed_on _ f is none same = absurd (cc)
 
 -- the outstation towards a centre refuses time that passes
 pub refused_tick : (seen : ℕ → Seen) (now centre centre' : ℕ) (told : StationFault) (f : outstation.Fault) (e : StoreFault) → centre ≡ centre'
@@ -149,7 +135,6 @@ refused_tick seen now centre centre' told f e same ready rows is from named =
 
 pub refused_relay : {A P : Type 0} (asks : Bool) (result : Result A book.BookFault) → (asks ≡ false → P × IsOk result)
     → IfErr result (λ e. e ≢ book_fault.Exhausted) → IfErr result (λ e. (asks ≡ true) × (e ≢ book_fault.Exhausted))
-refused_relay true (Ok a) spared named = tt
+refused_relay asks (Ok a) spared named = tt
 refused_relay true (Err e) spared named = (refl, named)
-refused_relay false (Ok a) spared named = tt
 refused_relay false (Err e) spared named = let ok = (spared refl).1 in absurd (cc)

@@ -44,24 +44,15 @@ below at links core other indices plan queue more book = record {
 }
 
 -- a link of a concentrator is seen as its parts are
-pub seen : (at : ℕ) (links links' : List Relaying) (core core' other other' : Core) (indices indices' : List Spans) (plan plan' : points.Plan)
-    (queue queue' more more' : EventBuffer) (book book' : Ledger)
+pub seen : (at : ℕ) {links links' : List Relaying} {core core' other other' : Core} {indices indices' : List Spans} {plan plan' : points.Plan}
+    {queue queue' more more' : EventBuffer} {book book' : Ledger}
     → links ≡ links' → core ≡ core' → other ≡ other' → indices ≡ indices' → plan ≡ plan' → queue ≡ queue' → more ≡ more' → book ≡ book'
     → below at links core other indices plan queue more book ≡ below at links' core' other' indices' plan' queue' more' book'
-seen at links links' core core' other other' indices indices' plan plan' queue queue' more more' book book' links_are core_is other_is indices_are plan_is
-    queue_is more_is book_is =
-    ap (λ (ls : List Relaying). below at ls core other indices plan queue more book) links_are
-    ∙ ap (λ (k : Core). below at links' k other indices plan queue more book) core_is
-    ∙ ap (λ (k : Core). below at links' core' k indices plan queue more book) other_is
-    ∙ ap (λ (s : List Spans). below at links' core' other' s plan queue more book) indices_are
-    ∙ ap (λ (p : points.Plan). below at links' core' other' indices' p queue more book) plan_is
-    ∙ ap (λ (q : EventBuffer). below at links' core' other' indices' plan' q more book) queue_is
-    ∙ ap (λ (q : EventBuffer). below at links' core' other' indices' plan' queue' q book) more_is
-    ∙ ap (λ (b : Ledger). below at links' core' other' indices' plan' queue' more' b) book_is
+seen at a b c d e f g h = cc
 
 -- a step of relaying below, whose request stands in this fragment, is seen as its parts are
-pub relayed_below : (result : Result RelayedStep BookFault) (request : ArrayVec ℕ) (now at : ℕ) (links links' : List Relaying) (core core' other other' : Core)
-    (indices indices' : List Spans) (plan plan' : points.Plan) (queue queue' more more' : EventBuffer) (book book' : Ledger)
+pub relayed_below : (result : Result RelayedStep BookFault) (request : ArrayVec ℕ) (now at : ℕ) (links links' : List Relaying) (book book' : Ledger)
+    {core core' other other' : Core} {indices indices' : List Spans} {plan plan' : points.Plan} {queue queue' more more' : EventBuffer}
     → at < length links
     → IfOk result (λ relayed. Tells (link_in links at).master.seq (step_of (link_in links at) book.entries at) (with_request relayed request))
     → OnOk result (links' ≡ slice_set links at (relaying_after (link_in links at) now (step_of (link_in links at) book.entries at)))
@@ -70,11 +61,6 @@ pub relayed_below : (result : Result RelayedStep BookFault) (request : ArrayVec 
     → queue' ≡ queue → more' ≡ more
     → IfOk result (λ relayed. RelaysBelow (below at links core other indices plan queue more book)
     now (with_request relayed request) (below at links' core' other' indices' plan' queue' more' book'))
-relayed_below (Ok relayed) request now at links links' core core' other other' indices indices' plan plan' queue queue' more more' book book' there
-    told set moved spent core_is other_is indices_are plans queues mores =
-    Stepped there told
-    (seen at links' _ core' core other' other indices' indices plan' plan queue' queue more' more book' _ set core_is other_is indices_are plans queues mores
-    moved) spent
-relayed_below (Err fault) request now at links links' core core' other other' indices indices' plan plan' queue queue' more more' book book' there
-    told set moved spent core_is other_is indices_are plans queues mores =
-    told
+relayed_below (Ok relayed) request now at links links' book book' there told set moved spent core_is other_is indices_are plans queues mores =
+    Stepped there told (seen at set core_is other_is indices_are plans queues mores moved) spent
+relayed_below (Err fault) request now at links links' book book' there told set moved spent core_is other_is indices_are plans queues mores = told

@@ -85,9 +85,7 @@ IsToldAsked old (Err fault) new = IsRefused old new
 -- a step of relaying: all is over where there was nothing to relay, or it was refused
 abbrev pub IsToldRelayed : Agenda → Result RelayedStep BookFault → Agenda → Type 0
 IsToldRelayed old (Ok relayed.Nothing) new = new ≡ record old { is_over = true }
-IsToldRelayed old (Ok (relayed.Selecting id)) new = new ≡ old
-IsToldRelayed old (Ok (relayed.Sent id)) new = new ≡ old
-IsToldRelayed old (Ok (relayed.Finished id status)) new = new ≡ old
+IsToldRelayed old (Ok step) new = new ≡ old
 IsToldRelayed old (Err fault) new = IsRefused (record old { is_over = true }) new
 
 -- One step was made, which hears these frames; what it sent was put after what waits to be sent.

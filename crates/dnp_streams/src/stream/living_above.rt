@@ -4,24 +4,18 @@ use crate::stream::above::Above;
 use crate::stream::change::Change;
 use crate::stream::kept::KeptAnswer;
 use crate::stream::living::Living;
-use crate::stream::outstation::{answer_with, cause_of};
+use crate::stream::outstation::cause_of;
 use crate::stream::station::{Answer, StationFault};
 use dnp_controls::Book;
 use dnp_eventbuf::PairLanes;
-use dnp_outstation::{Actions, Fault};
+use dnp_outstation::Fault;
 use std::alloc::Global;
 
 impl<'a, Q: PairLanes, B: Book> Living for Above<'a, Q, B> {
     fn tick(&mut self, alloc: Global, now: u64) -> Result<Answer, StationFault> {
-        let mut actions = Actions::none(alloc);
-        let centre = self.centre();
-        match self
-            .concentrator
-            .tick_above(centre, &mut actions, alloc, now)
-        {
-            Ok(()) => Ok(answer_with(actions)),
-            Err(fault) => Err(cause_of(Fault::from(fault))),
-        }
+        let mut answer = KeptAnswer::new(alloc);
+        self.tick_into(&mut answer, alloc, now)?;
+        Ok(answer.into_answer())
     }
 
     fn tick_into(

@@ -51,10 +51,9 @@ impl<L: Lanes, O: Outputs> Living for Outstation<L, O> {
     }
 
     fn change(&mut self, alloc: Global, now: u64, change: &Change) -> Result<Answer, StationFault> {
-        match self.change(alloc, now, change.kind, change.index, change.reading) {
-            Ok(actions) => Ok(answer_with(actions)),
-            Err(fault) => Err(change_fault(fault)),
-        }
+        let mut answer = KeptAnswer::new(alloc);
+        Living::change_into(&mut *self, &mut answer, alloc, now, change)?;
+        Ok(answer.into_answer())
     }
 
     fn change_into(

@@ -1,7 +1,7 @@
-use Rattle.std.proofs.Common.{Ok, Err, refl, ap}
+use Rattle.std.proofs.Common.{Ok, ap}
 use Rattle.dnp_streams.specs.streams.Stations.{answer_in}
 use Rattle.dnp_streams.specs.declared.link.answering.Told.{Told}
-use Rattle.dnp_streams.proofs.links.Steps.{puts_none}
+use Rattle.dnp_streams.proofs.links.Steps.{call_refused}
 use Rattle.dnp_streams.proofs.link.answering.answer_to.Goals as goal
 
 pub returns-in-Ok-clause-answered : goal.returns-in-Ok-clause-answered
@@ -20,10 +20,5 @@ pub returns-in-Err-clause-answered : goal.returns-in-Err-clause-answered
 returns-in-Err-clause-answered g c = (
   c.fragment.result.now,
   c.fragment.ensures.shown,
-  record {
-    reply = Err c.in-Err.fault;
-    is = refl;
-    acts = λ honest. (c.in-Err.ensures.refused honest, c.in-Err.ensures.unchanged honest);
-    puts = puts_none c.args.port.now c.args.out.now.items;
-  },
+  call_refused _ _ _ _ _ _ _ _ c.in-Err.ensures.refused c.in-Err.ensures.unchanged,
 )

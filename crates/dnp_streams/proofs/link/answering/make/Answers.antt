@@ -1,7 +1,7 @@
-use Rattle.std.proofs.Common.{Ok, Err, refl, ap}
+use Rattle.std.proofs.Common.{Ok, ap}
 use Rattle.dnp_streams.specs.streams.Stations.{answer_in}
 use Rattle.dnp_streams.specs.declared.link.answering.Told.{Told}
-use Rattle.dnp_streams.proofs.links.Steps.{puts_none}
+use Rattle.dnp_streams.proofs.links.Steps.{call_refused}
 use Rattle.dnp_streams.proofs.link.answering.make.Goals as goal
 
 pub returns-in-Ok-clause-changed : goal.returns-in-Ok-clause-changed
@@ -13,9 +13,4 @@ returns-in-Ok-clause-changed g c = record {
 }
 
 pub returns-in-Err-clause-changed : goal.returns-in-Err-clause-changed
-returns-in-Err-clause-changed g c = record {
-  reply = Err c.in-Err.fault;
-  is = refl;
-  acts = λ honest. (c.in-Err.ensures.refused honest, c.in-Err.ensures.unchanged honest);
-  puts = puts_none c.args.port.now c.args.out.now.items;
-}
+returns-in-Err-clause-changed g c = call_refused _ _ _ _ _ _ _ _ c.in-Err.ensures.refused c.in-Err.ensures.unchanged

@@ -1,8 +1,8 @@
-use Rattle.std.proofs.Common.{ℕ, Ok, Err, refl, ap}
+use Rattle.std.proofs.Common.{ℕ, Ok, ap}
 use Rattle.dnp_streams.specs.links.Deeds.{told_in}
 use Rattle.dnp_streams.specs.streams.Stations.{answer_of}
 use Rattle.dnp_streams.specs.declared.link.answering.Told.{Told}
-use Rattle.dnp_streams.proofs.links.Steps.{puts_none}
+use Rattle.dnp_streams.proofs.links.Steps.{call_refused}
 use Rattle.dnp_streams.proofs.link.answering.open.Goals as goal
 
 pub returns-in-Ok-clause-opened : goal.returns-in-Ok-clause-opened
@@ -16,9 +16,4 @@ returns-in-Ok-clause-opened g c =
     }
 
 pub returns-in-Err-clause-opened : goal.returns-in-Err-clause-opened
-returns-in-Err-clause-opened g c = record {
-  reply = Err c.in-Err.fault;
-  is = refl;
-  acts = λ honest. (c.in-Err.ensures.refused honest, c.in-Err.ensures.unchanged honest);
-  puts = puts_none c.args.port.now c.args.out.now.items;
-}
+returns-in-Err-clause-opened g c = call_refused _ _ _ _ _ _ _ _ c.in-Err.ensures.refused c.in-Err.ensures.unchanged

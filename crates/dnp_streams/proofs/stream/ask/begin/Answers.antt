@@ -1,29 +1,27 @@
 use Rattle.std.proofs.Common.{true, refl, ap, ◌∙◌}
 use Rattle.dnp_streams.specs.declared.stream.agenda.Agenda.{Agenda}
 use Rattle.dnp_streams.specs.declared.stream.log.Log.{Log}
-use Rattle.dnp_streams.specs.links.Deeds.{ways}
-use Rattle.dnp_streams.proofs.links.Dialogues.{talking_begins, talking_room}
+use Rattle.dnp_streams.specs.streams.Dialogues.{Beginning}
+use Rattle.dnp_streams.proofs.links.Dialogues.{talking_more, talking_room}
 use Rattle.dnp_streams.proofs.stream.ask.begin.Goals as goal
 
 pub returns-in-Ok-go_on-clause-talks : goal.returns-in-Ok-go_on-clause-talks
 returns-in-Ok-go_on-clause-talks g c = λ honest reads began left left' from t.
-    let S = g.S.Station in
-    let w = ways S.opens S.receives S.asking S.life in
     let room = c.make_room.ensures in
     let roomed : Agenda = record c.args.dialogue.now.agenda { asked = c.make_room.new.self } in
+    let opened = c.open.ensures.opened (c.go_on.ensures.held honest) in
     c.in-Ok-go_on.ensures.talks honest reads began left left' from
-    (talking_begins w _ _ _ _ _ _ _ _ _ roomed c.open.new.self.agenda _ _ c.requires.begun c.requires.goes_on (c.open.ensures.opened (c.go_on.ensures.held honest))
-    (talking_room w _ _ _ _ _ _ _ _ c.args.dialogue.now.agenda roomed _ refl room.rows room.outcomes room.faults refl refl t))
+    (talking_more _ _ _ _ _ _ _ _ _ _ _ _ Beginning c.requires.goes_on opened (c.requires.begun, opened.made)
+    (talking_room _ _ _ _ _ _ _ _ _ c.args.dialogue.now.agenda roomed _ refl room.rows room.outcomes room.faults refl refl t)).0
 
 pub returns-in-Err-go_on-clause-talks : goal.returns-in-Err-go_on-clause-talks
 returns-in-Err-go_on-clause-talks g c = λ honest reads began left left' from t.
-    let S = g.S.Station in
-    let w = ways S.opens S.receives S.asking S.life in
     let room = c.make_room.ensures in
     let roomed : Agenda = record c.args.dialogue.now.agenda { asked = c.make_room.new.self } in
+    let opened = c.open.ensures.opened (c.go_on.ensures.held honest) in
     c.in-Err-go_on.ensures.talks honest reads began left left' from
-    (talking_begins w _ _ _ _ _ _ _ _ _ roomed c.open.new.self.agenda _ _ c.requires.begun c.requires.goes_on (c.open.ensures.opened (c.go_on.ensures.held honest))
-    (talking_room w _ _ _ _ _ _ _ _ c.args.dialogue.now.agenda roomed _ refl room.rows room.outcomes room.faults refl refl t))
+    (talking_more _ _ _ _ _ _ _ _ _ _ _ _ Beginning c.requires.goes_on opened (c.requires.begun, opened.made)
+    (talking_room _ _ _ _ _ _ _ _ _ c.args.dialogue.now.agenda roomed _ refl room.rows room.outcomes room.faults refl refl t)).0
 
 pub returns-in-Ok-go_on-clause-waiting : goal.returns-in-Ok-go_on-clause-waiting
 returns-in-Ok-go_on-clause-waiting g c = c.in-Ok-go_on.ensures.waiting ∙ c.open.ensures.waiting

@@ -1,8 +1,6 @@
 use Rattle.std.proofs.Common.{ℕ, refl, ap, subst}
-use Rattle.dnp_concentrator.specs.BookOutputs.{book_in, map_in}
 use Rattle.dnp_concentrator.specs.Concentrator.{above_of, core_of, outputs_of, panel_above}
 use Rattle.dnp_concentrator.specs.Reserving.{reserved_by}
-use Rattle.dnp_eventbuf.specs.Sides.{other_than}
 use Rattle.dnp_outstation.specs.Calls.{performed_in}
 use Rattle.dnp_outstation.specs.State.{Core}
 use Rattle.dnp_outstation.specs.Station.{actions_of}

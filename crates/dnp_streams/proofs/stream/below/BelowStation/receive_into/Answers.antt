@@ -1,10 +1,9 @@
 use Rattle.std.proofs.Common.{rules, ◌<◌, length, ap, arith}
 use Rattle.std.proofs.lemmas.Result.{MatchResult-at_ok}
-use Rattle.dnp_concentrator.specs.Concentrator.{links_of, taking_at}
+use Rattle.dnp_concentrator.specs.Concentrator.{links_of, taking_at, link_at, queue_of, queued_at}
 use Rattle.dnp_concentrator.specs.BookOutputs.{book_in, map_in}
 use Rattle.dnp_streams.specs.streams.Concentrators.BelowReceives.{Taken}
 use Rattle.dnp_streams.proofs.streams.Taken.{taken, answered, seen}
-use Rattle.dnp_concentrator.specs.Concentrator.{link_at, queue_of, queued_at}
 use Rattle.dnp_eventbuf.specs.Sides.{either_exhausts}
 use Rattle.dnp_streams.proofs.streams.Refused.{refused_rows}
 use Rattle.dnp_streams.proofs.streams.Told.{tells_device, was_device, was_memory}
@@ -22,7 +21,7 @@ returns-in-Ok-clause-answered g c honest =
     let queues = MatchResult-at_ok _ _ found.0 found.1 (told.queued honest.0) in
     let by = MatchResult-at_ok _ _ found.0 found.1 told.actions in
     Taken there found.0 found.1 (answered _ _ found.0 _ c.take.ensures.answer by)
-    (seen at _ _ _ _ _ _ _ _ _ _ _ _ _ _ _ _ links (cores 0 (omega arith)) (cores 1 (omega arith)) (ap (λ outputs. map_in outputs) told.outputs) told.plan
+    (seen at links (cores 0 (omega arith)) (cores 1 (omega arith)) (ap (λ outputs. map_in outputs) told.outputs) told.plan
     (queues 0 (omega arith)) (queues 1 (omega arith)) (ap (λ outputs. g.B.Book.contents (book_in outputs)) told.outputs))
 
 pub returns-clause-refused : goal.returns-clause-refused

@@ -1,9 +1,7 @@
-use Rattle.dnp_streams.specs.links.Deeds.{ways}
 use Rattle.dnp_streams.proofs.links.Dialogues.{hears_by}
 use Rattle.dnp_streams.proofs.stream.dialogue.Dialogue.hear.Goals as goal
 
 pub returns-clause-heard : goal.returns-clause-heard
 returns-clause-heard g c honest =
-    let S = g.S.Station in
     let heard = c.hear-heard.ensures.heard in
-    (heard.0, hears_by (ways S.opens S.receives S.asking S.life) _ _ _ _ _ _ heard.0 heard.1 _ _ _ honest c.requires.goes_on heard.2 heard.3 c.tell_heard.ensures)
+    (heard.0, hears_by _ _ _ _ _ _ _ heard.0 heard.1 _ _ _ honest c.requires.goes_on heard.2 heard.3 c.tell_heard.ensures)
