@@ -155,6 +155,14 @@ impl<Q, B> Concentrator<Q, B> {
         self.outputs.book()
     }
 
+    /// The points that this centre reads, as they stand.
+    pub fn points_above(&self, centre: u8) -> &PointDb
+        requires { centre < CENTRES }
+        ensures { result.now ≡ (core_of centre self.now).points }
+    {
+        self.cores.at(centre).seen_points()
+    }
+
     /// Whether the outstation towards this centre is open, awaits no confirm and holds no READ.
     pub fn quiet_above(&self, centre: u8) -> bool
         requires { centre < CENTRES }
