@@ -1,0 +1,11 @@
+use Rattle.std.proofs.Common.{◌≡◌, true, refl, ◌∙◌}
+use Rattle.dnp_streams.specs.links.Deeds.{ways}
+use Rattle.dnp_nodes.proofs.Led.{led}
+use Rattle.dnp_nodes.proofs.callee.Callee.connected.Goals as goal
+
+pub returns-clause-led : goal.returns-clause-led
+returns-clause-led g c honest =
+    let S = g.S.Station in
+    let w = ways S.opens S.receives S.asking S.life in
+    led w _ _ _ _ true _ _ _ refl (c.open_on-over.ensures.up ∙ c.begin.ensures.up) c.finish.ensures.up
+    (c.open_on-over.ensures.leads (c.finish.ensures.held honest)) (c.finish.ensures.hung_up honest)

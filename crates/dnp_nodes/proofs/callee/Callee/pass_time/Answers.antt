@@ -1,0 +1,9 @@
+use Rattle.dnp_streams.specs.links.Deeds.{ways}
+use Rattle.dnp_nodes.proofs.Leads.{leads_made}
+use Rattle.dnp_nodes.proofs.callee.Callee.pass_time.Goals as goal
+
+pub returns-clause-leads : goal.returns-clause-leads
+returns-clause-leads g c honest =
+    let S = g.S.Station in
+    let w = ways S.opens S.receives S.asking S.life in
+    leads_made w _ _ _ _ _ _ c.tick-told.ensures.ticked.2 honest

@@ -1,0 +1,27 @@
+//! What the links of a node share.
+
+use crate::report::Reports;
+use dnp_streams::StepRoom;
+use std::alloc::Global;
+
+/// What the links of a node share. It is lent to each call of a link.
+#[derive(Drop)]
+pub struct Shared {
+    /// What memory is asked of.
+    pub(crate) alloc: Global,
+    /// Room for the steps of links.
+    pub(crate) room: StepRoom,
+    /// What is told.
+    pub reports: Reports,
+}
+
+impl Shared {
+    /// Nothing was told. Memory is asked of `alloc`.
+    pub fn new(alloc: Global) -> Shared {
+        Shared {
+            alloc,
+            room: StepRoom::new(alloc),
+            reports: Reports::new(alloc),
+        }
+    }
+}
