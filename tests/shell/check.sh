@@ -171,12 +171,54 @@ refuses its-own-master "line 4: substation 0, master: 7, which is the station's 
 refuses the-address-of-the-usual-master "line 3: substation 0, master: 2, which is the station's own address, where another one belongs" "$sub" "$one" 'address = 2' "$sub" "$two"
 refuses its-own-centre "line 2: concentrator, centre: 9, which is the station's own address, where another one belongs" '[concentrator]' 'centre = 9' "$sub" "$one" "$sub" "$two"
 refuses its-own-second-centre "line 3: concentrator, centre2: 9, which is the station's own address, where another one belongs" '[concentrator]' 'listen2 = "a:1"' 'centre2 = 9' "$sub" "$one" "$sub" "$two"
-refuses an-unknown-key "line 1: unknown key 'nmae', where name, points, concentrator and substation are known" 'nmae = "Net"' "$sub" "$one" "$sub" "$two"
-refuses an-unknown-table "line 5: unknown key 'centre', where name, points, concentrator and substation are known" "$sub" "$one" "$sub" "$two" '[centre]'
+polling='poll, events, unsolicited, time, events_ms, integrity_ms, keepalive_ms, response_ms and poll_ms'
+refuses an-unknown-key "line 1: unknown key 'nmae', where name, points, defaults, centre, concentrator and substation are known" 'nmae = "Net"' "$sub" "$one" "$sub" "$two"
+refuses an-unknown-table "line 5: unknown key 'center', where name, points, defaults, centre, concentrator and substation are known" "$sub" "$one" "$sub" "$two" '[center]'
 refuses an-unknown-key-of-the-concentrator "line 2: concentrator, unknown key 'port', where listen, listen2, at, at2, address, centre and centre2 are known" '[concentrator]' 'port = 1' "$sub" "$one" "$sub" "$two"
-refuses an-unknown-key-of-a-substation "line 5: substation 1, unknown key 'host', where at, name, listen, address and master are known" "$sub" "$one" "$sub" "$two" 'host = 1'
+refuses an-unknown-key-of-a-substation "line 5: substation 1, unknown key 'host', where at, name, listen, address, master, $polling are known" "$sub" "$one" "$sub" "$two" 'host = 1'
+refuses an-unknown-key-of-all-substations "line 2: defaults, unknown key 'at', where $polling are known" '[defaults]' 'at = "a:1"' "$sub" "$one" "$sub" "$two"
+refuses an-unknown-key-of-the-centres "line 2: centre, unknown key 'centre', where $polling are known" '[centre]' 'centre = 1' "$sub" "$one" "$sub" "$two"
 refuses a-second-centre-that-is-not-served 'line 2: concentrator, at2: of a second centre, where listen2 is missing, at which it is served' '[concentrator]' 'at2 = "a:1"' "$sub" "$one" "$sub" "$two"
 refuses the-address-of-a-second-centre-that-is-not-served 'line 2: concentrator, centre2: of a second centre, where listen2 is missing, at which it is served' '[concentrator]' 'centre2 = 3' "$sub" "$one" "$sub" "$two"
+# (the plan's response_ms is 10000)
+ms='where a whole number of milliseconds from'
+refuses a-list-for-defaults 'line 1: defaults: a list, where a table [defaults] belongs' 'defaults = []' "$sub" "$one" "$sub" "$two"
+refuses a-number-for-the-centres 'line 1: centre: a whole number, where a table [centre] belongs' 'centre = 1' "$sub" "$one" "$sub" "$two"
+while IFS='|' read -r name key value reason; do
+    refuses "$name" "line 5: substation 1, $key: $reason" "$sub" "$one" "$sub" "$two" "$key = $value"
+    refuses "$name-of-all" "line 2: defaults, $key: $reason" '[defaults]' "$key = $value" "$sub" "$one" "$sub" "$two"
+    refuses "$name-of-the-centres" "line 2: centre, $key: $reason" '[centre]' "$key = $value" "$sub" "$one" "$sub" "$two"
+done <<CASES
+class-4|poll|"1234"|'1234', where the digits of classes from 0 to 3 belong, each once, as "1230"
+a-class-twice|poll|"1213"|'1213', where the digits of classes from 0 to 3 belong, each once, as "1230"
+no-class-to-poll|poll|""|'', where the digits of classes from 0 to 3 belong, each once, as "1230"
+a-number-for-classes|poll|1230|a whole number, where the digits of classes from 0 to 3 belong, each once, as "1230"
+events-of-class-0|events|"0"|'0', where the digits of classes from 1 to 3 belong, each once, as "123"
+no-class-of-events|events|""|'', where the digits of classes from 1 to 3 belong, each once, as "123"
+unsolicited-class-0|unsolicited|"01"|'01', where the digits of classes from 1 to 3 belong, each once, or none, as ""
+a-word-for-the-time|time|"often"|'often', where "on-need", "never" or a whole number of milliseconds from 1000 to 86400000 belongs
+a-time-below-a-second|time|999|999, where "on-need", "never" or a whole number of milliseconds from 1000 to 86400000 belongs
+a-truth-for-the-time|time|true|true or false, where "on-need", "never" or a whole number of milliseconds from 1000 to 86400000 belongs
+a-period-of-99|events_ms|99|99, where "never" or a whole number of milliseconds from 100 to 86400000 belongs
+a-negative-period|events_ms|-1|-1, where "never" or a whole number of milliseconds from 100 to 86400000 belongs
+a-period-over-a-day|integrity_ms|86400001|86400001, where "never" or a whole number of milliseconds from 100 to 86400000 belongs
+a-word-for-a-period|integrity_ms|"on-need"|'on-need', where "never" or a whole number of milliseconds from 100 to 86400000 belongs
+a-silence-over-an-hour|keepalive_ms|3600001|3600001, $ms 1000 to 3600000 belongs
+a-word-for-a-silence|keepalive_ms|"never"|a string, $ms 1000 to 3600000 belongs
+a-response-over-the-plans|response_ms|10001|10001, $ms 1 to 10000, the plan's response_ms, belongs
+a-response-of-0|response_ms|0|0, $ms 1 to 10000, the plan's response_ms, belongs
+a-word-for-a-response|response_ms|"never"|a string, $ms 1 to the plan's response_ms belongs
+a-whole-response-below-a-fragment|poll_ms|9999|9999, $ms 10000, its response_ms, to 36000000 belongs
+a-whole-response-over-10-hours|poll_ms|36000001|36000001, $ms 10000, its response_ms, to 36000000 belongs
+CASES
+refuses a-whole-response-of-all-below-a-fragment "line 6: substation 0, poll_ms: 2000 from [defaults], where 3000 or more belongs, its response_ms" \
+    '[defaults]' 'response_ms = 1000' 'poll_ms = 2000' "$sub" "$one" 'response_ms = 3000' "$sub" "$two"
+refuses a-whole-response-below-that-of-all "line 5: substation 0, poll_ms: 999, $ms 1000, its response_ms, to 36000000 belongs" \
+    '[defaults]' 'response_ms = 1000' "$sub" "$one" 'poll_ms = 999' "$sub" "$two"
+network '[defaults]' 'response_ms = 1' 'unsolicited = "321"' '[centre]' 'poll = "0"' 'events = "3"' 'poll_ms = 10000' 'time = "never"' "$sub" "$one" \
+    'poll = "3021"' 'unsolicited = ""' 'time = 86400000' 'events_ms = 100' 'integrity_ms = "never"' 'keepalive_ms = 1000' 'response_ms = 10000' \
+    'poll_ms = 36000000' "$sub" "$two" 'poll_ms = 1'
+"$dnp" check --plan plan.toml --network n.toml >out 2>err && [ ! -s err ] && echo ok all-keys-of-polling || echo FAILED all-keys-of-polling
 own='where a host and port of its own belong'
 refuses a-host-and-port-twice "line 4: substation 1, at: '10.0.0.1:20000', which substation 0 has too, $own" "$sub" "$one" "$sub" "$one"
 refuses a-host-by-name-twice "line 4: substation 1, at: 'SUB.example:1', which substation 0 has too, $own" "$sub" 'at = "sub.EXAMPLE:1"' "$sub" 'at = "SUB.example:1"'

@@ -106,7 +106,8 @@ pub(crate) fn network_given<R: AllocGlobal + Eprint + Files>(
     let Ok(text) = str::from_utf8(octets.as_slice()) else {
         return Ok(Err(not_text(rt, path)));
     };
-    match read_network(rt.alloc(), text, plan.substations.as_slice().len()) {
+    let count = plan.substations.as_slice().len();
+    match read_network(rt.alloc(), text, count, plan.times.response_ms) {
         Ok(network) => Ok(Ok(network)),
         Err(fault) => Ok(Err(refused(rt, path, text, fault)?)),
     }

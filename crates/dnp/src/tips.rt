@@ -48,7 +48,7 @@ const CAPTURES: [[u8; 4]; 5] = [
 /// What lines begin with that stand in one kind of text alone, and what that is.
 const SIGNS: [(&str, Meant); 4] = [
     ("confirm_ms", Meant::Plan),
-    ("response_ms", Meant::Plan),
+    ("select_ms", Meant::Plan),
     ("[concentrator]", Meant::Network),
     ("substation,kind,index,", Meant::Points),
 ];

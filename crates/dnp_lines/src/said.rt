@@ -212,6 +212,13 @@ impl<'a> Display for Wanted<'a> {
             Wanted::Number(least, most) => {
                 write!(f, "not a decimal number from {least} to {most}")
             }
+            Wanted::Decimal(places) => write!(
+                f,
+                "not a decimal number in its range with at most {places} digits behind the point"
+            ),
+            Wanted::Faults => f.write_str(
+                "not kinds as cut, half, freeze, refuse, kill, clock, delay, stop and full, each maybe with '=' and a rate from 0 to 1000",
+            ),
             Wanted::LinkAddress => f.write_str("not a decimal number from 0 to 65519"),
             Wanted::IpAddress => f.write_str("not an IP address"),
             Wanted::YesOrNo => f.write_str("not 'yes' or 'no'"),
@@ -298,6 +305,9 @@ impl<'a> Wrong<'a> {
                 f.write_str("'--trace', '--chart' and '--capture' can't name one file")
             }
             Wrong::Misuse(Misuse::Plan) => f.write_str("the plan's file can't be written over"),
+            Wrong::Misuse(Misuse::Disks) => f.write_str(
+                "'--faults' can't have stop or full with '--plain', since lists are on no disk",
+            ),
             _ => f.write_str("a word of the command line is not UTF-8 text"),
         }
     }

@@ -7,6 +7,10 @@ use dnp_orders::{CodeDoubt, ToldFault};
 pub enum Wanted<'a> {
     /// A decimal number from this one to that one.
     Number(u64, u64),
+    /// A decimal number with at most so many digits behind its point.
+    Decimal(u32),
+    /// Kinds of faults and how often they come.
+    Faults,
     /// A link address.
     LinkAddress,
     /// An IP address.
@@ -48,6 +52,8 @@ pub enum Misuse {
     OneFile,
     /// One of them is the plan.
     Plan,
+    /// Disks would fail, though the stores are lists.
+    Disks,
 }
 
 /// Why two options can't be given together, with what to do.

@@ -15,7 +15,9 @@ use Rattle.dnp_network.specs.declared.points.PointsFault.TheVariants as faults
 use Rattle.dnp_network.specs.declared.points.RowStands.{RowStands}
 use Rattle.dnp_network.specs.Points.{points_from}
 use Rattle.dnp_network.specs.Points as points
-use Rattle.dnp_network.specs.Networks.{members_count, keys_are, items_count, grown, sites_from}
+use Rattle.dnp_network.specs.declared.polling.Below.{Below}
+use Rattle.dnp_network.specs.Keys.{members_count, keys_are}
+use Rattle.dnp_network.specs.Networks.{items_count, grown, sites_from}
 
 -- ---- keys and items, counted
 
@@ -35,23 +37,23 @@ items_counted (v ∷ vs) = ap suc (items_counted vs)
 -- ---- substations
 
 -- one more stands behind those before it
-pub site_more : (vs : List Value) (n : ℕ) (v : Value) (before all : List Site) (whole : Result (List Site) NetworkPlace) → n < length vs →
-    Ok all ≡ grown n before (view (get_or vs n v)) → whole ≡ sites_from n before (items_view (drop n vs)) →
-    whole ≡ sites_from (n + 1) all (items_view (drop (n + 1) vs))
-site_more vs n v before all whole within is so_far =
-    so_far ∙ ap (λ (items : Items). sites_from n before items) (items_view-drop vs n v within) ∙ rw (← is, add-one) refl
+pub site_more : (below : Below) (vs : List Value) (n : ℕ) (v : Value) (before all : List Site) (whole : Result (List Site) NetworkPlace) → n < length vs →
+    Ok all ≡ grown below n before (view (get_or vs n v)) → whole ≡ sites_from below n before (items_view (drop n vs)) →
+    whole ≡ sites_from below (n + 1) all (items_view (drop (n + 1) vs))
+site_more below vs n v before all whole within is so_far =
+    so_far ∙ ap (λ (items : Items). sites_from below n before items) (items_view-drop vs n v within) ∙ rw (← is, add-one) refl
 
 -- one is wrong, and so are all
-pub site_wrong : (vs : List Value) (n : ℕ) (v : Value) (before : List Site) (place : NetworkPlace) (whole : Result (List Site) NetworkPlace) → n < length vs →
-    Err place ≡ grown n before (view (get_or vs n v)) → whole ≡ sites_from n before (items_view (drop n vs)) → Err place ≡ whole
-site_wrong vs n v before place whole within is so_far =
-    sym (so_far ∙ ap (λ (items : Items). sites_from n before items) (items_view-drop vs n v within) ∙ rw (← is) refl)
+pub site_wrong : (below : Below) (vs : List Value) (n : ℕ) (v : Value) (before : List Site) (place : NetworkPlace) (whole : Result (List Site) NetworkPlace) → n < length vs →
+    Err place ≡ grown below n before (view (get_or vs n v)) → whole ≡ sites_from below n before (items_view (drop n vs)) → Err place ≡ whole
+site_wrong below vs n v before place whole within is so_far =
+    sym (so_far ∙ ap (λ (items : Items). sites_from below n before items) (items_view-drop vs n v within) ∙ rw (← is) refl)
 
 -- no one is left
-pub sites_all : (vs : List Value) (n : ℕ) (before : List Site) (whole : Result (List Site) NetworkPlace) → length vs ≤ n →
-    whole ≡ sites_from n before (items_view (drop n vs)) → Ok before ≡ whole
-sites_all vs n before whole over so_far =
-    sym (so_far ∙ ap (λ (l : List Value). sites_from n before (items_view l)) (drop_of_length-le vs over))
+pub sites_all : (below : Below) (vs : List Value) (n : ℕ) (before : List Site) (whole : Result (List Site) NetworkPlace) → length vs ≤ n →
+    whole ≡ sites_from below n before (items_view (drop n vs)) → Ok before ≡ whole
+sites_all below vs n before whole over so_far =
+    sym (so_far ∙ ap (λ (l : List Value). sites_from below n before (items_view l)) (drop_of_length-le vs over))
 
 -- ---- records of points
 

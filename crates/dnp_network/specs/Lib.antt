@@ -1,5 +1,7 @@
 -- Definitions, by which contracts promise.
 pub mod Endpoints
+pub mod Keys
 pub mod Links
 pub mod Networks
 pub mod Points
+pub mod Polling

@@ -3,6 +3,7 @@
 ghost use Rattle.std.specs.Prelude.{◌≡◌, IfOk};
 ghost use Rattle.std.specs.Option.{unwrap_or};
 ghost use Rattle.toml.specs.View.{view};
+ghost use Rattle.dnp_network.specs.Keys.{endpoint_under};
 ghost use Rattle.dnp_network.specs.Networks as spec;
 
 use crate::endpoint::{Endpoint, Host};
@@ -96,7 +97,7 @@ fn here(
     table: &Value,
     key: NetworkKey,
 ) -> Result<Taken<Option<Endpoint>>, AllocError>
-    ensures { IfOk result (λ endpoint. endpoint ≡ spec.endpoint_under spec.concentrator_part key (view table.now)) }
+    ensures { IfOk result (λ endpoint. endpoint ≡ endpoint_under spec.concentrator_part key (view table.now)) }
 {
     endpoint_at(alloc, table, Part::Concentrator, key)
 }

@@ -2,7 +2,7 @@
 
 ghost use Rattle.std.specs.Prelude.{◌≡◌, IfOk};
 ghost use Rattle.toml.specs.View.{view};
-ghost use Rattle.dnp_network.specs.Networks as spec;
+ghost use Rattle.dnp_network.specs.Keys as spec;
 
 use crate::endpoint::{Endpoint, endpoint_in};
 use crate::place::{MAX_ADDRESS, NetworkKey, NetworkPlace, Part, Stands, place};
@@ -14,7 +14,7 @@ use toml::Value;
 pub(crate) type Taken<T> = Result<T, NetworkPlace>;
 
 /// Whether a table has this key.
-#[tactic(auto, unfolding(crate::specs::Networks::is_there))]
+#[tactic(auto, unfolding(crate::specs::Keys::is_there))]
 pub(crate) fn is_there(table: &Value, key: NetworkKey) -> bool
     ensures { result ≡ spec.is_there key (view table.now) }
 {
@@ -29,7 +29,7 @@ fn known_count(table: &Value, keys: &[NetworkKey]) -> usize
 }
 
 /// Whether a table has so many keys.
-#[tactic(auto, unfolding(crate::specs::Networks::has_keys))]
+#[tactic(auto, unfolding(crate::specs::Keys::has_keys))]
 fn has_so_many_keys(table: &Value, count: usize) -> bool
     ensures { result ≡ spec.has_keys count (view table.now) }
 {
@@ -40,7 +40,7 @@ fn has_so_many_keys(table: &Value, count: usize) -> bool
 }
 
 /// Where another key stands in a part than those that it has.
-#[tactic(auto, unfolding(crate::specs::Networks::unknown_fault))]
+#[tactic(auto, unfolding(crate::specs::Keys::unknown_fault))]
 pub(crate) fn unknown_fault(table: &Value, part: Part) -> Option<NetworkPlace>
     ensures { result ≡ spec.unknown_fault part (view table.now) }
 {
@@ -52,7 +52,7 @@ pub(crate) fn unknown_fault(table: &Value, part: Part) -> Option<NetworkPlace>
 }
 
 /// The words under a key, if it is there.
-#[tactic(auto, unfolding(crate::specs::Networks::words_under))]
+#[tactic(auto, unfolding(crate::specs::Keys::words_under))]
 pub(crate) fn words_at(
     alloc: Global,
     table: &Value,
@@ -84,7 +84,7 @@ fn address_within(number: i64) -> Option<u16>
 }
 
 /// The link address under a key, or the usual one where it is missing.
-#[tactic(auto, unfolding(crate::specs::Networks::address_under))]
+#[tactic(auto, unfolding(crate::specs::Keys::address_under))]
 pub(crate) fn address_at(table: &Value, part: Part, key: NetworkKey, usual: u16) -> Taken<u16>
     ensures { result ≡ spec.address_under part key usual (view table.now) }
 {
@@ -101,7 +101,7 @@ pub(crate) fn address_at(table: &Value, part: Part, key: NetworkKey, usual: u16)
 }
 
 /// Where a station's own link address stands for another's.
-#[tactic(auto, unfolding(crate::specs::Networks::own_fault))]
+#[tactic(auto, unfolding(crate::specs::Keys::own_fault))]
 pub(crate) fn own_fault(part: Part, key: NetworkKey, own: u16, other: u16) -> Option<NetworkPlace>
     ensures { result ≡ spec.own_fault part key own other }
 {
@@ -113,7 +113,7 @@ pub(crate) fn own_fault(part: Part, key: NetworkKey, own: u16, other: u16) -> Op
 }
 
 /// The host and port under a key, if it is there.
-#[tactic(auto, unfolding(crate::specs::Networks::endpoint_under))]
+#[tactic(auto, unfolding(crate::specs::Keys::endpoint_under))]
 pub(crate) fn endpoint_at(
     alloc: Global,
     table: &Value,
@@ -135,7 +135,7 @@ pub(crate) fn endpoint_at(
 }
 
 /// The host and port under a key that has to be there.
-#[tactic(auto, unfolding(crate::specs::Networks::endpoint_needed))]
+#[tactic(auto, unfolding(crate::specs::Keys::endpoint_needed))]
 pub(crate) fn needed_endpoint(
     alloc: Global,
     table: &Value,

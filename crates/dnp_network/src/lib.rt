@@ -14,6 +14,8 @@ mod network;
 mod place;
 mod points;
 mod points_reason;
+mod polling;
+mod polling_values;
 mod said;
 mod shown;
 mod sites;
@@ -25,11 +27,13 @@ pub use kind::{PointCounts, PointKind, count_of};
 pub use links::{CentreOf, LinkEnds, address_of};
 pub use listed::Listed;
 pub use network::{Head, Network, NetworkFault, Site, read_network};
-pub use place::{MAX_SITES, NetworkKey, NetworkPlace, Part, Stands};
+pub use place::{MAX_SITES, MsRange, NetworkKey, NetworkPlace, Part, Stands};
 pub use points::{
     PointId, PointName, PointsFault, RowStands, name_of_point, points_in, records_of,
 };
 pub use points_reason::PointsReason;
+pub use polling::Polling;
+pub use polling_values::{ClassSet, NEVER_MS};
 pub use said::{NetworkReason, network_reason};
 pub use shown::{CsvText, JsonText, PlainText};
 pub use words::Words;

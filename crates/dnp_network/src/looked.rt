@@ -12,6 +12,8 @@ const MOST: usize = 4 * 1_024 * 1_024;
 fn part_of(table: &Value, part: Part) -> Option<&Value> {
     match part {
         Part::Whole => Some(table),
+        Part::Defaults => table.get("defaults"),
+        Part::Centre => table.get("centre"),
         Part::Concentrator => table.get("concentrator"),
         Part::Substation(number) => table.get("substation")?.get(number),
     }
@@ -41,8 +43,8 @@ fn unknown_key(alloc: Global, table: &Value, part: Part) -> Result<String, Alloc
     Ok(String::new(alloc))
 }
 
-/// The key under which the value of a place stands: where the concentrator is found is where it listens, unless it is given,
-/// and a usual address is at fault for the one that is given.
+/// The key under which the value of a place stands: where the concentrator is found is where it listens, unless it is given, a
+/// usual address is at fault for the one that is given, and the time for a whole response for that for a fragment of it.
 fn key_in(table: &Value, place: &NetworkPlace) -> NetworkKey {
     let is_given = match part_of(table, place.part) {
         Some(part) => part.get(place.key.name()).is_some(),
@@ -54,6 +56,7 @@ fn key_in(table: &Value, place: &NetworkPlace) -> NetworkKey {
         NetworkKey::Master | NetworkKey::Centre | NetworkKey::Centre2 if !is_given => {
             NetworkKey::Address
         }
+        NetworkKey::PollMs if !is_given => NetworkKey::ResponseMs,
         key => key,
     }
 }
@@ -83,7 +86,11 @@ pub(crate) fn shown_at(
     let table = Value::Table(table);
     match place.stands {
         Stands::Unknown => unknown_key(alloc, &table, place.part),
-        Stands::NoEndpoint(_) | Stands::Twice(_) | Stands::As(_) => text_at(alloc, &table, &place),
+        Stands::NoEndpoint(_)
+        | Stands::Twice(_)
+        | Stands::As(_)
+        | Stands::NoClasses
+        | Stands::NoWord => text_at(alloc, &table, &place),
         _ => Ok(String::new(alloc)),
     }
 }

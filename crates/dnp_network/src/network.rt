@@ -10,6 +10,7 @@ use crate::head::head_at;
 use crate::keys::{Taken, unknown_fault, words_at};
 use crate::listed::Listed;
 use crate::place::{NetworkKey, NetworkPlace, Part};
+use crate::polling::{Polling, tables_at};
 use crate::sites::sites_at;
 use crate::twice::head_twice;
 use crate::words::Words;
@@ -29,6 +30,8 @@ pub struct Site {
     pub address: u16,
     /// The link address of its master.
     pub master: u16,
+    /// How it is polled.
+    pub polling: Polling,
 }
 
 /// Where the concentrator is.
@@ -59,6 +62,8 @@ pub struct Network {
     pub points: Option<Words>,
     /// The concentrator.
     pub concentrator: Head,
+    /// How the concentrator is polled by each centre.
+    pub centre_polling: Polling,
     /// The substations, each at the place of its number.
     pub substations: Listed<Site>,
 }
@@ -126,11 +131,16 @@ impl Head {
     }
 }
 
-/// The network that a table says, for a plan of so many substations.
+/// The network that a table says, for a plan of so many substations and so many milliseconds for a fragment of a response.
 #[tactic(auto, unfolding(crate::specs::Networks::network_of))]
-fn network_at(alloc: Global, table: &Value, count: usize) -> Result<Taken<Network>, AllocError>
+fn network_at(
+    alloc: Global,
+    table: &Value,
+    count: usize,
+    response_ms: u64,
+) -> Result<Taken<Network>, AllocError>
     requires { count ≤ MAX_SITES }
-    ensures { IfOk result (λ network. network ≡ spec.network_of count (view table.now)) }
+    ensures { IfOk result (λ network. network ≡ spec.network_of count response_ms (view table.now)) }
 {
     let name = match words_at(alloc, table, Part::Whole, NetworkKey::Name)? {
         Ok(name) => name,
@@ -144,7 +154,11 @@ fn network_at(alloc: Global, table: &Value, count: usize) -> Result<Taken<Networ
         Ok(head) => head,
         Err(place) => return Ok(Err(place)),
     };
-    let substations = match sites_at(alloc, table, count)? {
+    let tables = match tables_at(table, response_ms) {
+        Ok(tables) => tables,
+        Err(place) => return Ok(Err(place)),
+    };
+    let substations = match sites_at(alloc, table, count, &tables.below)? {
         Ok(sites) => sites,
         Err(place) => return Ok(Err(place)),
     };
@@ -158,30 +172,38 @@ fn network_at(alloc: Global, table: &Value, count: usize) -> Result<Taken<Networ
             name,
             points,
             concentrator,
+            centre_polling: tables.centre,
             substations,
         })),
     }
 }
 
-/// Reads from TOML where the stations of a plan of so many substations are. Each substation of the plan has its `at`; each
-/// other key has a value that it stands for where it is missing.
+/// Reads from TOML where the stations of a plan of so many substations are, and how they are polled. By the plan a fragment of a
+/// response may take so many milliseconds. Each substation of the plan has its `at`; each other key has a value that it stands for
+/// where it is missing.
 ///
 /// # Errors
 ///
 /// The text is no TOML; or the first place at which it is wrong, in the order of the keys of the whole network, those of the
-/// concentrator, and those of each substation, keys that no network has, and then what stands twice.
+/// concentrator, those of polling for all substations and for the centres, and those of each substation, keys that no network has,
+/// and then what stands twice.
 #[tactic(auto, unfolding(crate::specs::Networks::network_said))]
-pub fn read_network(alloc: Global, text: &str, count: usize) -> Result<Network, NetworkFault>
+pub fn read_network(
+    alloc: Global,
+    text: &str,
+    count: usize,
+    response_ms: u64,
+) -> Result<Network, NetworkFault>
     requires { count ≤ MAX_SITES }
-    ensures read { IfOk result (λ network. spec.network_said count text.now ≡ Option.Some (Result.Ok network)) }
-    ensures refused { IfErr result (spec.IsRefusedFor count text.now) }
+    ensures read { IfOk result (λ network. spec.network_said count response_ms text.now ≡ Option.Some (Result.Ok network)) }
+    ensures refused { IfErr result (spec.IsRefusedFor count response_ms text.now) }
 {
     let table = match toml::table_from_str(alloc, text) {
         Ok(table) => Value::Table(table),
         Err(fault) if fault.is_memory() => return Err(NetworkFault::Memory),
         Err(_) => return Err(NetworkFault::Syntax),
     };
-    match network_at(alloc, &table, count)? {
+    match network_at(alloc, &table, count, response_ms)? {
         Ok(network) => Ok(network),
         Err(place) => Err(NetworkFault::Wrong(place)),
     }

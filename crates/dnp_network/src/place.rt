@@ -1,7 +1,7 @@
 //! A place of a network's text, and what stands there.
 
 ghost use Rattle.std.specs.Prelude.{◌≡◌};
-ghost use Rattle.dnp_network.specs.Networks as spec;
+ghost use Rattle.dnp_network.specs.Keys as spec;
 ghost use Rattle.toml.specs.View.{view};
 
 use crate::endpoint::EndpointFault;
@@ -19,15 +19,32 @@ pub const MAX_SITES: usize = 65_000;
 pub enum Part {
     /// That of the whole network.
     Whole,
+    /// `defaults`: how the link to each substation is polled.
+    Defaults,
+    /// `centre`: how the links to the concentrator are polled.
+    Centre,
     /// `concentrator`
     Concentrator,
     /// The `substation` with this number, from 0.
     Substation(usize),
 }
 
+/// The keys that tell how a link is polled.
+const POLLING_KEYS: &[NetworkKey] = &[
+    NetworkKey::Poll,
+    NetworkKey::Events,
+    NetworkKey::Unsolicited,
+    NetworkKey::Time,
+    NetworkKey::EventsMs,
+    NetworkKey::IntegrityMs,
+    NetworkKey::KeepaliveMs,
+    NetworkKey::ResponseMs,
+    NetworkKey::PollMs,
+];
+
 impl Part {
     ghost use Rattle.std.specs.Prelude.{◌≡◌};
-    ghost use Rattle.dnp_network.specs.Networks.{keys_of};
+    ghost use Rattle.dnp_network.specs.Keys.{keys_of};
 
     /// The keys that the table has.
     pub(crate) fn keys(self) -> &'static [NetworkKey]
@@ -37,9 +54,12 @@ impl Part {
             Part::Whole => &[
                 NetworkKey::Name,
                 NetworkKey::Points,
+                NetworkKey::Defaults,
+                NetworkKey::Centre,
                 NetworkKey::Concentrator,
                 NetworkKey::Substation,
             ],
+            Part::Defaults | Part::Centre => POLLING_KEYS,
             Part::Concentrator => &[
                 NetworkKey::Listen,
                 NetworkKey::Listen2,
@@ -55,6 +75,15 @@ impl Part {
                 NetworkKey::Listen,
                 NetworkKey::Address,
                 NetworkKey::Master,
+                NetworkKey::Poll,
+                NetworkKey::Events,
+                NetworkKey::Unsolicited,
+                NetworkKey::Time,
+                NetworkKey::EventsMs,
+                NetworkKey::IntegrityMs,
+                NetworkKey::KeepaliveMs,
+                NetworkKey::ResponseMs,
+                NetworkKey::PollMs,
             ],
         }
     }
@@ -67,6 +96,8 @@ pub enum NetworkKey {
     Name,
     /// `points`
     Points,
+    /// `defaults`
+    Defaults,
     /// `concentrator`
     Concentrator,
     /// `substation`
@@ -87,6 +118,24 @@ pub enum NetworkKey {
     Centre,
     /// `centre2`
     Centre2,
+    /// `poll`
+    Poll,
+    /// `events`
+    Events,
+    /// `unsolicited`
+    Unsolicited,
+    /// `time`
+    Time,
+    /// `events_ms`
+    EventsMs,
+    /// `integrity_ms`
+    IntegrityMs,
+    /// `keepalive_ms`
+    KeepaliveMs,
+    /// `response_ms`
+    ResponseMs,
+    /// `poll_ms`
+    PollMs,
     /// A key that no network has there.
     Unknown,
 }
@@ -99,6 +148,7 @@ impl NetworkKey {
         match self {
             NetworkKey::Name => "name",
             NetworkKey::Points => "points",
+            NetworkKey::Defaults => "defaults",
             NetworkKey::Concentrator => "concentrator",
             NetworkKey::Substation => "substation",
             NetworkKey::At => "at",
@@ -109,9 +159,27 @@ impl NetworkKey {
             NetworkKey::Master => "master",
             NetworkKey::Centre => "centre",
             NetworkKey::Centre2 => "centre2",
+            NetworkKey::Poll => "poll",
+            NetworkKey::Events => "events",
+            NetworkKey::Unsolicited => "unsolicited",
+            NetworkKey::Time => "time",
+            NetworkKey::EventsMs => "events_ms",
+            NetworkKey::IntegrityMs => "integrity_ms",
+            NetworkKey::KeepaliveMs => "keepalive_ms",
+            NetworkKey::ResponseMs => "response_ms",
+            NetworkKey::PollMs => "poll_ms",
             NetworkKey::Unknown => "",
         }
     }
+}
+
+/// From how many milliseconds to how many a number may be.
+#[derive(Clone, Copy, Debug, PartialEq, Eq)]
+pub struct MsRange {
+    /// The least.
+    pub least: u64,
+    /// The most.
+    pub most: u64,
 }
 
 /// What stands at a place, or what is wrong with it.
@@ -151,6 +219,14 @@ pub enum Stands {
     As(NetworkKey),
     /// Something of a second centre, where the text has none.
     Alone,
+    /// A string that says no classes.
+    NoClasses,
+    /// A string that is none of the words that may stand there.
+    NoWord,
+    /// This number of milliseconds, which is out of this range.
+    OutOf(i64, MsRange),
+    /// So many milliseconds for a whole response, by the table for all, where a fragment of it may take so many.
+    Short(u64, u64),
 }
 
 impl Stands {

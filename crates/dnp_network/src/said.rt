@@ -4,9 +4,11 @@ use crate::endpoint::EndpointFault;
 use crate::kind::{PointCounts, count_of};
 use crate::looked::{line_of, shown_at};
 use crate::network::NetworkFault;
-use crate::place::{MAX_ADDRESS, NetworkKey, NetworkPlace, Part, Stands};
+use crate::place::{MAX_ADDRESS, MsRange, NetworkKey, NetworkPlace, Part, Stands};
 use crate::points::{MAX_DIGITS, PointId, PointsFault, RowStands};
 use crate::points_reason::PointsReason;
+use crate::polling::MAX_POLL_MS;
+use crate::polling_values::{keepalive_range, period_range, time_range};
 use std::alloc::{AllocError, Global};
 use std::fmt;
 use std::fmt::{Display, Formatter, Write};
@@ -33,25 +35,68 @@ impl Display for Quoted<'_> {
     }
 }
 
-/// What belongs under a key.
+impl Display for MsRange {
+    fn fmt<W: Write>(&self, f: &mut Formatter<W>) -> fmt::Result {
+        write!(
+            f,
+            "a whole number of milliseconds from {} to {} belongs",
+            self.least, self.most
+        )
+    }
+}
+
+/// Writes what belongs under a key of polling.
+fn write_polling<W: Write>(f: &mut Formatter<W>, key: NetworkKey) -> fmt::Result {
+    match key {
+        NetworkKey::Poll => {
+            f.write_str("the digits of classes from 0 to 3 belong, each once, as \"1230\"")
+        }
+        NetworkKey::Events => {
+            f.write_str("the digits of classes from 1 to 3 belong, each once, as \"123\"")
+        }
+        NetworkKey::Unsolicited => {
+            f.write_str("the digits of classes from 1 to 3 belong, each once, or none, as \"\"")
+        }
+        NetworkKey::Time => write!(f, "\"on-need\", \"never\" or {}", time_range()),
+        NetworkKey::EventsMs | NetworkKey::IntegrityMs => {
+            write!(f, "\"never\" or {}", period_range())
+        }
+        NetworkKey::KeepaliveMs => write!(f, "{}", keepalive_range()),
+        NetworkKey::ResponseMs => f.write_str(
+            "a whole number of milliseconds from 1 to the plan's response_ms belongs",
+        ),
+        _ => write!(
+            f,
+            "a whole number of milliseconds from response_ms to {MAX_POLL_MS} belongs"
+        ),
+    }
+}
+
+/// What belongs under a key of a table.
 #[derive(Clone, Copy)]
-struct Belongs(NetworkKey);
+struct Belongs(Part, NetworkKey);
 
 impl Display for Belongs {
     fn fmt<W: Write>(&self, f: &mut Formatter<W>) -> fmt::Result {
-        match self.0 {
+        match self.1 {
             NetworkKey::Name => f.write_str("a string with a character or more belongs"),
             NetworkKey::Points => f.write_str("the path of a file belongs, as \"points.csv\""),
             NetworkKey::Concentrator => f.write_str("a table [concentrator] belongs"),
+            NetworkKey::Defaults => f.write_str("a table [defaults] belongs"),
+            NetworkKey::Centre if matches!(self.0, Part::Whole) => {
+                f.write_str("a table [centre] belongs")
+            }
             NetworkKey::Substation => {
                 f.write_str("a table [[substation]] for each substation of the plan belongs")
             }
             NetworkKey::Address | NetworkKey::Master | NetworkKey::Centre | NetworkKey::Centre2 => {
                 write!(f, "a link address from 0 to {MAX_ADDRESS} belongs")
             }
-            _ => f.write_str(
-                "a host and port belong, as 10.0.0.1:20000, [2001:db8::1]:20000 or name:20000",
-            ),
+            NetworkKey::At | NetworkKey::At2 | NetworkKey::Listen | NetworkKey::Listen2 =>
+                f.write_str(
+                    "a host and port belong, as 10.0.0.1:20000, [2001:db8::1]:20000 or name:20000",
+                ),
+            key => write_polling(f, key),
         }
     }
 }
@@ -106,6 +151,8 @@ impl Display for KeysOf {
 fn write_part<W: Write>(f: &mut Formatter<W>, part: Part) -> fmt::Result {
     match part {
         Part::Whole => Ok(()),
+        Part::Defaults => f.write_str("defaults, "),
+        Part::Centre => f.write_str("centre, "),
         Part::Concentrator => f.write_str("concentrator, "),
         Part::Substation(number) => write!(f, "substation {number}, "),
     }
@@ -134,6 +181,28 @@ fn write_repeated<W: Write>(f: &mut Formatter<W>, place: &NetworkPlace, text: &s
     }
 }
 
+/// Writes which number of milliseconds stands under a key, and which belongs there.
+fn write_ms<W: Write>(
+    f: &mut Formatter<W>,
+    place: &NetworkPlace,
+    number: i64,
+    range: MsRange,
+) -> fmt::Result {
+    let name = place.key.name();
+    let (least, most) = (range.least, range.most);
+    match place.key {
+        NetworkKey::ResponseMs => write!(
+            f,
+            "{name}: {number}, where a whole number of milliseconds from {least} to {most}, the plan's response_ms, belongs"
+        ),
+        NetworkKey::PollMs => write!(
+            f,
+            "{name}: {number}, where a whole number of milliseconds from {least}, its response_ms, to {most} belongs"
+        ),
+        key => write!(f, "{name}: {number}, where {}", Belongs(place.part, key)),
+    }
+}
+
 /// Writes the key of a place, what stands there, and what belongs there.
 fn write_place<W: Write>(f: &mut Formatter<W>, place: &NetworkPlace, text: &str) -> fmt::Result {
     if let (Part::Substation(number), NetworkKey::Substation) = (place.part, place.key) {
@@ -142,7 +211,7 @@ fn write_place<W: Write>(f: &mut Formatter<W>, place: &NetworkPlace, text: &str)
     }
     write_part(f, place.part)?;
     let name = place.key.name();
-    let wanted = Belongs(place.key);
+    let wanted = Belongs(place.part, place.key);
     match place.stands {
         Stands::Unknown => write!(
             f,
@@ -172,6 +241,14 @@ fn write_place<W: Write>(f: &mut Formatter<W>, place: &NetworkPlace, text: &str)
         Stands::Alone => write!(
             f,
             "{name}: of a second centre, where listen2 is missing, at which it is served"
+        ),
+        Stands::NoClasses | Stands::NoWord => {
+            write!(f, "{name}: {}, where {wanted}", Quoted(text))
+        }
+        Stands::OutOf(number, range) => write_ms(f, place, number, range),
+        Stands::Short(poll_ms, response_ms) => write!(
+            f,
+            "{name}: {poll_ms} from [defaults], where {response_ms} or more belongs, its response_ms"
         ),
         stands => write!(f, "{name}: {}, where {wanted}", type_of(stands)),
     }

@@ -3,6 +3,7 @@
 ghost use Rattle.std.specs.Prelude.{◌≡◌, ◌<◌, ◌≤◌, length, IfOk};
 ghost use Rattle.toml.specs.View.{array_view, view};
 ghost use Rattle.dnp_network.specs.declared.place.TheConstants.{MAX_SITES};
+ghost use Rattle.dnp_network.specs.Keys.{finished};
 ghost use Rattle.dnp_network.specs.Networks as spec;
 
 use crate::keys::{
@@ -11,6 +12,7 @@ use crate::keys::{
 use crate::listed::Listed;
 use crate::network::Site;
 use crate::place::{NetworkKey, NetworkPlace, Part, Stands, place};
+use crate::polling::{Below, polling_at};
 use crate::twice::site_twice;
 use std::alloc::{AllocError, Global};
 use toml::Value;
@@ -26,9 +28,14 @@ fn site_fault(table: &Value, number: usize, address: u16, master: u16) -> Option
 
 /// The substation with this number that a table says.
 #[tactic(auto, unfolding(crate::specs::Networks::site_in))]
-fn site_in(alloc: Global, table: &Value, number: usize) -> Result<Taken<Site>, AllocError>
+fn site_in(
+    alloc: Global,
+    table: &Value,
+    number: usize,
+    below: &Below,
+) -> Result<Taken<Site>, AllocError>
     requires { number < MAX_SITES }
-    ensures { IfOk result (λ site. site ≡ spec.site_in number (view table.now)) }
+    ensures { IfOk result (λ site. site ≡ spec.site_in below.now number (view table.now)) }
 {
     let part = Part::Substation(number);
     let at = match needed_endpoint(alloc, table, part, NetworkKey::At)? {
@@ -52,6 +59,10 @@ fn site_in(alloc: Global, table: &Value, number: usize) -> Result<Taken<Site>, A
         Ok(master) => master,
         Err(place) => return Ok(Err(place)),
     };
+    let polling = match polling_at(table, part, below) {
+        Ok(polling) => polling,
+        Err(place) => return Ok(Err(place)),
+    };
     if let Some(place) = site_fault(table, number, address, master) {
         return Ok(Err(place));
     }
@@ -61,13 +72,19 @@ fn site_in(alloc: Global, table: &Value, number: usize) -> Result<Taken<Site>, A
         listen,
         address,
         master,
+        polling,
     }))
 }
 
 /// The substation with this number that an item of the list says.
-fn site_of(alloc: Global, item: &Value, number: usize) -> Result<Taken<Site>, AllocError>
+fn site_of(
+    alloc: Global,
+    item: &Value,
+    number: usize,
+    below: &Below,
+) -> Result<Taken<Site>, AllocError>
     requires { number < MAX_SITES }
-    ensures { IfOk result (λ site. site ≡ spec.site_of number (view item.now)) }
+    ensures { IfOk result (λ site. site ≡ spec.site_of below.now number (view item.now)) }
 {
     if !item.is_table() {
         return Ok(Err(place(
@@ -76,7 +93,7 @@ fn site_of(alloc: Global, item: &Value, number: usize) -> Result<Taken<Site>, Al
             Stands::of(item),
         )));
     }
-    site_in(alloc, item, number)
+    site_in(alloc, item, number, below)
 }
 
 /// Puts the substation with this number that an item of the list says behind those before it; or tells what is wrong with it.
@@ -85,11 +102,12 @@ fn grow(
     all: &mut Vec<Site>,
     item: &Value,
     number: usize,
+    below: &Below,
 ) -> Result<Option<NetworkPlace>, AllocError>
     requires { number < MAX_SITES }
-    ensures { IfOk result (λ wrong. spec.finished wrong all.new.items ≡ spec.grown number all.old.items (view item.now)) }
+    ensures { IfOk result (λ wrong. finished wrong all.new.items ≡ spec.grown below.now number all.old.items (view item.now)) }
 {
-    let site = match site_of(alloc, item, number)? {
+    let site = match site_of(alloc, item, number, below)? {
         Ok(site) => site,
         Err(place) => return Ok(Some(place)),
     };
@@ -104,13 +122,17 @@ fn grow(
 
 /// The substations that a list says.
 #[tactic(auto, using(crate::proofs::Lists::site_more, crate::proofs::Lists::site_wrong, crate::proofs::Lists::sites_all))]
-fn sites_from(alloc: Global, items: &Array) -> Result<Taken<Listed<Site>>, AllocError>
+fn sites_from(
+    alloc: Global,
+    items: &Array,
+    below: &Below,
+) -> Result<Taken<Listed<Site>>, AllocError>
     requires { length items.now.items ≤ MAX_SITES }
-    ensures { IfOk result (λ sites. sites ≡ spec.sites_said (array_view items.now)) }
+    ensures { IfOk result (λ sites. sites ≡ spec.sites_said below.now (array_view items.now)) }
 {
     let mut all = Vec::new(alloc);
     for (number, item) in items.iter().enumerate() {
-        if let Some(place) = grow(alloc, &mut all, item, number)? {
+        if let Some(place) = grow(alloc, &mut all, item, number, below)? {
             return Ok(Err(place));
         }
     }
@@ -119,9 +141,14 @@ fn sites_from(alloc: Global, items: &Array) -> Result<Taken<Listed<Site>>, Alloc
 
 /// The substations that a list says, as many as the plan has.
 #[tactic(auto, using(crate::proofs::Lists::items_counted))]
-fn sites_of(alloc: Global, items: &Array, count: usize) -> Result<Taken<Listed<Site>>, AllocError>
+fn sites_of(
+    alloc: Global,
+    items: &Array,
+    count: usize,
+    below: &Below,
+) -> Result<Taken<Listed<Site>>, AllocError>
     requires { count ≤ MAX_SITES }
-    ensures { IfOk result (λ sites. sites ≡ spec.sites_of count (array_view items.now)) }
+    ensures { IfOk result (λ sites. sites ≡ spec.sites_of below.now count (array_view items.now)) }
 {
     if items.len() != count {
         return Ok(Err(place(
@@ -130,7 +157,7 @@ fn sites_of(alloc: Global, items: &Array, count: usize) -> Result<Taken<Listed<S
             Stands::Count(items.len(), count),
         )));
     }
-    sites_from(alloc, items)
+    sites_from(alloc, items, below)
 }
 
 /// The substations that the text of a network says for a plan of so many.
@@ -139,15 +166,16 @@ pub(crate) fn sites_at(
     alloc: Global,
     table: &Value,
     count: usize,
+    below: &Below,
 ) -> Result<Taken<Listed<Site>>, AllocError>
     requires { count ≤ MAX_SITES }
-    ensures { IfOk result (λ sites. sites ≡ spec.sites_under count (view table.now)) }
+    ensures { IfOk result (λ sites. sites ≡ spec.sites_under below.now count (view table.now)) }
 {
     let Some(value) = table.get("substation") else {
         return Ok(Err(place(Part::Whole, NetworkKey::Substation, Stands::Missing)));
     };
     match value.as_array() {
-        Some(items) => sites_of(alloc, items, count),
+        Some(items) => sites_of(alloc, items, count, below),
         None => Ok(Err(place(Part::Whole, NetworkKey::Substation, Stands::of(value)))),
     }
 }

@@ -1,4 +1,4 @@
-use Rattle.dnp_network.specs.Networks.{has_keys}
+use Rattle.dnp_network.specs.Keys.{has_keys}
 use Rattle.dnp_network.proofs.Lists.{keys_counted}
 use Rattle.dnp_network.proofs.keys.has_so_many_keys.Goals as goal
 
