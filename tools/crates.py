@@ -1,4 +1,4 @@
-"""The crates of this repository and of its bench, as crates.txt and bench/crates/crates list them."""
+"""The crates of this repository, of its bench and of its tests, as crates.txt, bench/crates/crates and tests/crates/crates list them."""
 import os
 import re
 import shutil
@@ -8,6 +8,7 @@ TOP = Path(__file__).resolve().parents[1]
 CRATES = TOP / "crates"
 # Sources stand here as texts, as src/lib.rt.txt.
 BENCH = TOP / "bench/crates"
+TESTS = TOP / "tests/crates"
 COSTS = TOP / "tools/costs"
 # Where copies of crates are made: on the disk of their libraries, which are linked and not copied, and where no source is
 # looked for.
@@ -22,7 +23,7 @@ def listing(path):
 
 
 def lines():
-    return {**listing(TOP / "crates.txt"), **listing(BENCH / "crates")}
+    return {**listing(TOP / "crates.txt"), **listing(BENCH / "crates"), **listing(TESTS / "crates")}
 
 
 def uses():
@@ -81,7 +82,7 @@ def check_words(crate, folders, emptied=None):
     """The checker's own call for a crate over libraries that `rt ci` left in FOLDER/NAME/out/rlib. They have no stamp
     there, so that `rt check` would build them all again. Where `emptied` is given, it makes the source of a crate that has
     no library in any of the folders."""
-    source = BENCH / crate if (BENCH / crate).is_dir() else CRATES / crate
+    source = texts_of(crate) or CRATES / crate
     root = "src/main.rt" if any(source.glob("src/main.rt*")) else "src/lib.rt"
     words = [f"{KIT}/bin/rattle", "check", "--crate-name", crate, root, *as_libraries(crate, folders, emptied)]
     if " staticlib:" in lines()[crate]:
@@ -89,25 +90,36 @@ def check_words(crate, folders, emptied=None):
     return [*words, "--antt-project", f"{KIT}/rattle/logic/antt-project.json", "--logic-built", f"{KIT}/logic_built"]
 
 
-def copy_of_bench(crate, folder):
-    """Makes a crate of the bench's texts."""
-    shutil.copytree(BENCH / crate, folder)
+def texts_of(crate):
+    """The folder of a crate whose sources stand as texts, or None."""
+    return next((it / crate for it in (BENCH, TESTS) if (it / crate).is_dir()), None)
+
+
+def copy_of_texts(crate, folder):
+    """Makes a crate of its texts."""
+    shutil.copytree(texts_of(crate), folder)
     for path in [it for it in folder.rglob("*.txt") if it.is_file()]:
         path.rename(path.with_suffix(""))
 
 
-def room_of(crate, stands_on, room):
-    """A copy of a crate and of those below it, with their libraries, in which `rt` holds none of this folder's."""
-    shutil.rmtree(room, ignore_errors=True)
-    room.mkdir(parents=True)
+def fill(room, crates, parts, copy):
+    """Makes a repository of these crates: copies of these parts of each, in which `rt` holds none of this folder's."""
+    (room / "crates").mkdir(parents=True)
     shutil.copy(TOP / "HANDLES", room)
-    crates, listed = [*below(crate, stands_on), crate], lines()
+    listed = lines()
     (room / "crates.txt").write_text("".join(f"{listed[it]}\n" for it in crates), encoding="utf-8")
     for it in crates:
-        if (BENCH / it).is_dir():
-            copy_of_bench(it, room / "crates" / it)
-        # (not what else stands in out/: a lock there is one for all who hold the file)
-        for part in ("src", "specs", "proofs", "out/rlib"):
+        if texts_of(it):
+            copy_of_texts(it, room / "crates" / it)
+            continue
+        for part in parts:
             if (CRATES / it / part).is_dir():
-                shutil.copytree(CRATES / it / part, room / "crates" / it / part, copy_function=os.link)
+                shutil.copytree(CRATES / it / part, room / "crates" / it / part, copy_function=copy)
+
+
+def room_of(crate, stands_on, room):
+    """A copy of a crate and of those below it, with their libraries."""
+    shutil.rmtree(room, ignore_errors=True)
+    # (not what else stands in out/: a lock there is one for all who hold the file)
+    fill(room, [*below(crate, stands_on), crate], ("src", "specs", "proofs", "out/rlib"), os.link)
     return room / "crates" / crate

@@ -137,14 +137,12 @@ RUNS = {
     "rt plant": Scratch(f"printf %s '{WEAK}' >>src/lib.rt && rt plant --only weak --jobs 1", rf"^no-ensures .* weak\(\)\n{LINES}plants crate=tally .* no-ensures=1 ", "plant"),
     "rt try": Elsewhere("tests/quick", 'rt try -- time "$TMPDIR/queue.db"'),
     "rt try --test": Scratch(f"printf %s '{TEST}' >>src/lib.rt && rt try --test", "^test result: ok. 1 passed; 0 failed"),
-    "rt test": Scratch("rt test --jobs 1", rf"^logic=proved tests=1 {LINES}test result: ok. 1 passed; 0 failed", "test"),
     # One crate
     "tools/one": Copy(f"tools/one {ONE}", "^ok action::Action::named$"),
     # (./test --quick proves nothing)
     "tools/one CRATE FUNCTION..": Copy(f"tools/one {BOTH}", "^ok laws::words_and_codes_are_one_to_one$", scale.scaled("real", "stand-in")),
     f"tools/one {BOTH}": Copy(f"tools/one {BOTH}", "^ok action::Action::named\nok laws::words_and_codes_are_one_to_one$"),
     "tools/one --libraries": Copy(f"tools/one --libraries crates {ONE}", "^ok action::Action::named$"),
-    "tools/one --test dnp_wire_tests frames::check_words": Copy("tools/one --test dnp_wire_tests frames::check_words", "^ok frames::check_words$"),
     "tools/one --room ROOM --times CRATE FUNCTION..": Copy(f"tools/one --room times --times {ONE}", "^ok action::Action::named$"),
     "tools/one --room ROOM --goals CRATE FUNCTION..": Copy(f"tools/one --room goals --goals {ONE}", "^ok action::Action::named$"),
     "tools/texts --help-from PROGRAM": Copy(f"tools/texts --help-from {scale.DNP} && tools/texts --check", "^ok share-dnp.1$"),
@@ -155,6 +153,10 @@ RUNS = {
     "tools/release": Elsewhere("tests/shell/release.sh", '"$copy/tools/release" "$1"'),
     # Tests
     "tests/packages": Elsewhere("test", "\n    tests/packages </dev/null\n"),
+    "tests/crates/run": Elsewhere("tests/quick", "tests/crates) tests/crates/run ;;"),
+    "tests/crates/run NAME": Elsewhere("tests/shell/crates.sh", '"$copy/tests/crates/run" "$@"'),
+    "tests/crates/run dnp_station_tests": Elsewhere("tests/shell/crates.sh", '"ok dnp_station_tests:points" dnp_station_tests\n'),
+    "tests/crates/run --fmt NAME": Elsewhere("tests/shell/crates.sh", " --fmt dnp_station_tests\n"),
     "tests/shell/decode.sh": Elsewhere("tests/quick", '*) bash "$1" ;;'),
     "bash tests/shell/sim.sh": Elsewhere("tests/quick", '*) bash "$1" ;;'),
     "tests/quick tests/shell/sim.sh tests/profile": Elsewhere("tests/shell/gate.sh", "tests/quick tests/shell/one.sh tests/profile"),
@@ -266,7 +268,8 @@ def copy(text, tree, linked=True):
         shutil.copytree(TOP / folder, tree / folder)
     (tree / "tests/programs").mkdir()
     (tree / MUTANT).parent.mkdir(parents=True)
-    shutil.copytree(TOP / "bench/crates", tree / "bench/crates")
+    for folder in ("bench/crates", "tests/crates"):
+        shutil.copytree(TOP / folder, tree / folder)
     (tree / "bench/sockets").mkdir()
     for file in ("crates.txt", "HANDLES", "bench/crate", "bench/sockets/run", "tests/refused/run", "tests/refused/source.py", "tests/programs/poll.py"):
         shutil.copy(TOP / file, tree / file)

@@ -12,7 +12,7 @@ cd "$room" || exit 1
 
 # tree NAME: a copy of what the scripts need, with two crates.
 tree() {
-    mkdir -p "$1"/{rt,share,docs,examples/{network,services},bench/crates,tests/programs} "$1"/crates/{dnp,dnp_low}/src
+    mkdir -p "$1"/{rt,share,docs,examples/{network,services},bench/crates,tests/{crates,programs}} "$1"/crates/{dnp,dnp_low}/src
     cp "$top"/{dnp,build} "$1"
     cp -r "$top/tools" "$1/tools"
     cp -r "$top/crates/dnp/help" "$1/crates/dnp/help"
@@ -20,7 +20,7 @@ tree() {
     cp "$top"/share/* "$1/share"
     printf 'dnp_low: std\ndnp: dnp_low\n' >"$1/crates.txt"
     echo "pub(crate) const VERSION: &str = \"7.8.9\";" >"$1/crates/dnp/src/main.rt"
-    touch "$1"/{HANDLES,README.md,CHANGELOG.md,SECURITY.md,bench/crates/crates,docs/tour.md,examples/a.script,crates/dnp_low/src/lib.rt}
+    touch "$1"/{HANDLES,README.md,CHANGELOG.md,SECURITY.md,bench/crates/crates,tests/crates/crates,docs/tour.md,examples/a.script,crates/dnp_low/src/lib.rt}
     touch "$1"/{examples/services/a.service,examples/network/a.sh,examples/network/plan.toml,tests/programs/substation.py}
     find "$1" -exec touch -d '2026-01-01' {} +
 }

@@ -3,7 +3,7 @@
 
 A text is a string with a word in a call that writes (`write!`, `write_str`, `eprintln!` and the like), one of `#[error(..)]`, and any
 string of three words and more, except those of help. The texts of a crate stand in one file of it, and each part of them, between two values, stands in a
-text of the tests too, which print it: `dnp_log_tests`, and `dnp_station_tests` for scripts and systems. So nothing is said that no test compares.
+text of the tests in tests/crates too, which print it: `dnp_log_tests`, and `dnp_station_tests` for scripts and systems. So nothing is said that no test compares.
 """
 import functools
 import re
@@ -11,11 +11,12 @@ import sys
 import time
 from pathlib import Path
 
-CRATES = Path(__file__).resolve().parents[2] / "crates"
-# Where each text is printed and compared.
-TESTS = ("dnp_log_tests/", "dnp_station_tests/src/daemons/said.rt")
+TOP = Path(__file__).resolve().parents[2]
+CRATES = TOP / "crates"
+# Where each text is printed and compared, below tests/crates.
+TESTS = ("dnp_log_tests/src/**/*.rt.txt", "dnp_station_tests/src/daemons/said.rt.txt")
 # Crates that are no part of the program.
-APART = {"dnp_wire_tests", "dnp_station_tests", "dnp_log_tests", "dnp_store_files", "dnp_memory", "dnp_example"}
+APART = {"dnp_store_files", "dnp_memory", "dnp_example"}
 # Crates without a file of lines of their own, and why.
 NONE = {"dnp": "its lines are those of dnp_lines"}
 # Files, or folders, whose texts are what the program was asked for, and no lines.
@@ -109,9 +110,15 @@ def texts_of(path, source):
     return [text for at, text in strings if is_sentence(text) or count(text) and any(a < at < b for a, b in calls)]
 
 
+@functools.cache
+def told():
+    """The strings of the tests that print texts."""
+    paths = sorted(path for pattern in TESTS for path in (TOP / "tests/crates").glob(pattern))
+    return "\n".join(text for path in paths for _, text in strings_of(path.read_text(encoding="utf-8"))[0])
+
+
 def faults(sources):
     """What is wrong with these sources, by the name of the case: a list of reasons, empty where nothing is."""
-    told = "\n".join(text for path, source in sources.items() if path.startswith(TESTS) for _, text in strings_of(source)[0])
     wrong, used, files = {"every-exception-is-one": []}, set(), {}
     for path, source in sources.items():
         crate = path.split("/")[0]
@@ -129,7 +136,7 @@ def faults(sources):
         printed = wrong[f"{crate}-prints-each-line-once-in-a-test"] = []
         for path in found:
             parts = {part for _, text in strings_of(sources[path])[0] for part in VALUE.split(text) if len(part) >= LEAST}
-            printed += [f"no test has \"{part}\" of {path}" for part in sorted(parts) if part not in told]
+            printed += [f"no test has \"{part}\" of {path}" for part in sorted(parts) if part not in told()]
     long = [path for path, source in sources.items() if any(" " in text and len(WORD.findall(text)) >= 3 for _, text in strings_of(source)[0])]
     used |= {listed(path, WORDS) for path in long}
     wrong["every-exception-is-one"] += [f"{entry} ({why}) has no texts" for entry, why in {**DATA, **WORDS}.items() if entry not in used]
