@@ -1,3 +1,4 @@
-pub mod Leads
-pub mod Led
+pub mod Masters
+pub mod Outstations
 pub mod Phases
+pub mod Runs

@@ -2,5 +2,5 @@
 pub mod Budgets
 pub mod Callees
 pub mod Callers
-pub mod Leading
 pub mod Requests
+pub mod Runs

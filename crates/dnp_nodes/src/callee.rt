@@ -1,12 +1,13 @@
 //! An outstation's side of one link, over connections that come and go.
 
-ghost use Rattle.std.specs.Prelude.{◌≡◌, true, false, not, min, None, if◌then◌else◌, Some, IfSome};
-ghost use Rattle.dnp_streams.specs.links.Deeds.{ways};
-ghost use Rattle.dnp_streams.specs.links.Links.{HasRoom};
+ghost use Rattle.std.specs.Prelude.{◌≡◌, ◌⊎◌, true, false, length, min, ◌∷◌, [], None, if◌then◌else◌, Err, IfSome};
+ghost use Rattle.dnp_streams.specs.links.Deeds.{Opened, Reply, told_of, ways};
+ghost use Rattle.dnp_streams.specs.links.Laws.{Fed, Handed, Made};
+ghost use Rattle.dnp_streams.specs.links.Links.{HasRoom, new_link};
 ghost use Rattle.dnp_nodes.specs.Budgets.{or_last};
-ghost use Rattle.dnp_nodes.specs.Callees.{Rests, is_up, link_of, loses, output_of, over_budget, taken_by, want_of, whole_by};
-ghost use Rattle.dnp_nodes.specs.Leading.{LeadsOn};
-ghost use Rattle.dnp_nodes.specs.declared.slot.Want.TheVariants.{Close};
+ghost use Rattle.dnp_nodes.specs.Callees.{Calls, Changes, IsCut, Rests, changed_in, has_operated, is_up, link_of, made_of, output_of, over_budget, plan_of, port_of, taken_by, want_of, whole_by, with_operated, with_want};
+ghost use Rattle.dnp_nodes.specs.declared.callee.ChangeFault.TheVariants.{NoRoom};
+ghost use Rattle.dnp_nodes.specs.declared.slot.Closing.TheVariants.{Memory};
 
 mod moves;
 mod steps;
@@ -72,6 +73,8 @@ impl Callee {
     pub fn new(alloc: Global, plan: CalleePlan) -> Callee
         ensures unconnected { is_up result ≡ false }
         ensures want { want_of result ≡ None }
+        ensures plan { plan_of result ≡ plan }
+        ensures operated { has_operated result ≡ false }
     {
         let ends = plan.ends;
         Callee {
@@ -96,17 +99,15 @@ impl Callee {
     /// Gives what it wants of its place, once.
     pub fn take_want(&mut self) -> Option<Want>
         ensures want { result ≡ want_of self.old }
-        ensures once { want_of self.new ≡ None }
-        ensures up { is_up self.new ≡ is_up self.old }
+        ensures once { self.new ≡ with_want self.old None }
     {
-        let want = self.want;
-        self.want = None;
-        want
+        self.want.take()
     }
 
     /// Says whether a fragment came that operates an output, since that was asked last.
     pub fn take_operated(&mut self) -> bool
-        ensures { is_up self.new ≡ is_up self.old }
+        ensures operated { result ≡ has_operated self.old }
+        ensures once { self.new ≡ with_operated self.old false }
     {
         let operated = self.operated;
         self.operated = false;
@@ -145,8 +146,9 @@ impl Callee {
         ensures rests { is_up self.new ≡ true → Rests self.new }
         ensures kept { S.kept station.new ≡ S.kept station.old }
         ensures held { S.honest station.new → S.honest station.old }
-        ensures led { S.honest station.new → LeadsOn (ways S.opens S.receives S.asking S.life) S.hung_up_of
-            (not (is_up self.new)) (S.state station.old) (S.state station.new) }
+        ensures opened { (reply : Reply) × (Calls (ways S.opens S.receives S.asking S.life) S.hung_up_of (S.honest station.new) now
+            (Made (Opened now reply) ∷ []) (new_link (port_of self.old)) None self.old (S.state station.old) self.new (S.state station.new)) }
+        ensures plan { plan_of self.new ≡ plan_of self.old }
     {
         self.begin(shared, now);
         let over = self.open_on(shared, station, now);
@@ -164,8 +166,12 @@ impl Callee {
         ensures rests { is_up self.new ≡ true → Rests self.new }
         ensures kept { S.kept station.new ≡ S.kept station.old }
         ensures held { S.honest station.new → S.honest station.old }
-        ensures led { S.honest station.new → LeadsOn (ways S.opens S.receives S.asking S.life) S.hung_up_of
-            (loses self.old self.new) (S.state station.old) (S.state station.new) }
+        ensures fed { is_up self.old ≡ true
+            → (IsCut S.hung_up_of (S.honest station.new) Memory self.old (S.state station.old) self.new (S.state station.new))
+            ⊎ Calls (ways S.opens S.receives S.asking S.life) S.hung_up_of (S.honest station.new) now
+            (Fed octets.now ∷ []) (link_of self.old) (want_of self.old) self.old (S.state station.old) self.new (S.state station.new) }
+        ensures plan { plan_of self.new ≡ plan_of self.old }
+        ensures unconnected { is_up self.old ≡ false → (self.new ≡ self.old) × (S.state station.new ≡ S.state station.old) }
     {
         if !self.is_up {
             return;
@@ -179,8 +185,10 @@ impl Callee {
         ensures rests { is_up self.new ≡ true → Rests self.new }
         ensures kept { S.kept station.new ≡ S.kept station.old }
         ensures held { S.honest station.new → S.honest station.old }
-        ensures led { S.honest station.new → LeadsOn (ways S.opens S.receives S.asking S.life) S.hung_up_of
-            (loses self.old self.new) (S.state station.old) (S.state station.new) }
+        ensures handed { is_up self.old ≡ true → Calls (ways S.opens S.receives S.asking S.life) S.hung_up_of (S.honest station.new) now
+            (Handed (min count (length (link_of self.old).pending)) ∷ []) (link_of self.old) (want_of self.old) self.old (S.state station.old) self.new (S.state station.new) }
+        ensures plan { plan_of self.new ≡ plan_of self.old }
+        ensures unconnected { is_up self.old ≡ false → (self.new ≡ self.old) × (S.state station.new ≡ S.state station.old) }
     {
         if !self.is_up {
             return;
@@ -190,7 +198,7 @@ impl Callee {
         self.finish(shared, station, now, over);
     }
 
-    /// Its connection ended.
+    /// Its connection ended. Nothing is wanted of the place any more.
     pub fn closed<S: Station>(
         &mut self,
         shared: &mut Shared,
@@ -199,11 +207,15 @@ impl Callee {
         cause: Closing,
     )
         ensures unconnected { is_up self.new ≡ false }
+        ensures want { want_of self.new ≡ None }
+        ensures operated { has_operated self.new ≡ has_operated self.old }
+        ensures plan { plan_of self.new ≡ plan_of self.old }
         ensures kept { S.kept station.new ≡ S.kept station.old }
         ensures held { S.honest station.new → S.honest station.old }
         ensures hung_up { S.honest station.new → S.state station.new
             ≡ (if is_up self.old then S.hung_up_of (S.state station.old) else S.state station.old) }
     {
+        self.want = None;
         if self.is_up {
             station.hung_up();
             self.lose(shared, now, cause);
@@ -212,12 +224,15 @@ impl Callee {
 
     /// Time has passed, or the station has something new.
     pub fn tick<S: Living>(&mut self, shared: &mut Shared, station: &mut S, now: u64)
-        ensures over { is_up self.old ≡ true → IfSome (over_budget self.old now) (λ cause. want_of self.new ≡ Some (Close cause)) }
         ensures rests { is_up self.new ≡ true → Rests self.new }
         ensures kept { S.kept station.new ≡ S.kept station.old }
         ensures held { S.honest station.new → S.honest station.old }
-        ensures led { S.honest station.new → LeadsOn (ways S.opens S.receives S.asking S.life) S.hung_up_of
-            (loses self.old self.new) (S.state station.old) (S.state station.new) }
+        ensures over { is_up self.old ≡ true → IfSome (over_budget self.old now) (λ cause.
+            IsCut S.hung_up_of (S.honest station.new) cause self.old (S.state station.old) self.new (S.state station.new)) }
+        ensures in_time { is_up self.old ≡ true → over_budget self.old now ≡ None → Calls (ways S.opens S.receives S.asking S.life) S.hung_up_of (S.honest station.new) now
+            [] (link_of self.old) (want_of self.old) self.old (S.state station.old) self.new (S.state station.new) }
+        ensures plan { plan_of self.new ≡ plan_of self.old }
+        ensures unconnected { is_up self.old ≡ false → (self.new ≡ self.old) × (S.state station.new ≡ S.state station.old) }
     {
         if !self.is_up {
             return;
@@ -239,8 +254,11 @@ impl Callee {
     ) -> Result<(), ChangeFault>
         ensures kept { S.kept station.new ≡ S.kept station.old }
         ensures held { S.honest station.new → S.honest station.old }
-        ensures led { S.honest station.new → LeadsOn (ways S.opens S.receives S.asking S.life) S.hung_up_of
-            (loses self.old self.new) (S.state station.old) (S.state station.new) }
+        ensures full { (HasRoom (link_of self.old) → ⊥) → (result ≡ Err NoRoom) × (self.new ≡ self.old) × (S.state station.new ≡ S.state station.old) }
+        ensures changed { HasRoom (link_of self.old) → (reply : Reply) × (result ≡ changed_in (made_of (told_of reply)))
+            × (Changes (ways S.opens S.receives S.asking S.life) S.hung_up_of (S.honest station.new) now change.now reply
+            self.old (S.state station.old) self.new (S.state station.new)) }
+        ensures plan { plan_of self.new ≡ plan_of self.old }
     {
         if !self.link.has_room() {
             return Err(ChangeFault::NoRoom);

@@ -1,14 +1,14 @@
 //! A master's side of one link, over connections that come and go.
 
-ghost use Rattle.std.specs.Prelude.{◌≡◌, true, false, not, min, None, is_some, if◌then◌else◌, Some, IfSome};
+ghost use Rattle.std.specs.Prelude.{◌≡◌, ◌⊎◌, true, false, length, min, ◌∷◌, [], None, if◌then◌else◌, Some, IfSome};
 ghost use Rattle.dnp_schedule.specs.Deciding.{next_deadline};
 ghost use Rattle.dnp_schedule.specs.Moving.{may_have_control, unconnected};
-ghost use Rattle.dnp_streams.specs.links.Deeds.{ways};
-ghost use Rattle.dnp_streams.specs.links.Links.{HasRoom};
+ghost use Rattle.dnp_streams.specs.links.Deeds.{Opened, Reply, Ticked, ways};
+ghost use Rattle.dnp_streams.specs.links.Laws.{Fed, Handed, Made};
+ghost use Rattle.dnp_streams.specs.links.Links.{HasRoom, new_link};
 ghost use Rattle.dnp_nodes.specs.Budgets.{or_last};
-ghost use Rattle.dnp_nodes.specs.Callers.{Rests, closed, ends_by, is_up, link_of, loses, output_of, over_budget, pace_of, schedule_of, taken_by, waited, want_of};
-ghost use Rattle.dnp_nodes.specs.Leading.{LeadsOn};
-ghost use Rattle.dnp_nodes.specs.declared.slot.Want.TheVariants.{Close};
+ghost use Rattle.dnp_nodes.specs.Callers.{Calls, IsCut, IsKept, IsWaiting, Rests, basis, basis_of, closed, ends_by, has_stored, is_up, link_of, output_of, over_budget, pace_of, port_of, schedule_of, taken_by, want_of, with_clock, with_schedule, with_stored, with_want};
+ghost use Rattle.dnp_nodes.specs.declared.slot.Closing.TheVariants.{Memory};
 
 mod moves;
 mod steps;
@@ -68,6 +68,8 @@ impl Caller {
     pub fn new(alloc: Global, plan: CallerPlan, at: u64, clock: u64) -> Caller
         ensures schedule { schedule_of result ≡ unconnected at }
         ensures want { want_of result ≡ None }
+        ensures basis { basis_of result ≡ basis plan clock }
+        ensures stored { has_stored result ≡ false }
     {
         let ends = plan.ends;
         Caller {
@@ -92,7 +94,7 @@ impl Caller {
 
     /// The wall clock was set: at the moment 0 it would have shown this, in milliseconds since 1970 UTC.
     pub fn set_clock(&mut self, clock: u64)
-        ensures { schedule_of self.new ≡ schedule_of self.old }
+        ensures { self.new ≡ with_clock self.old clock }
     {
         self.clock = clock;
     }
@@ -100,17 +102,15 @@ impl Caller {
     /// Gives what it wants of its place, once.
     pub fn take_want(&mut self) -> Option<Want>
         ensures want { result ≡ want_of self.old }
-        ensures once { want_of self.new ≡ None }
-        ensures schedule { schedule_of self.new ≡ schedule_of self.old }
+        ensures once { self.new ≡ with_want self.old None }
     {
-        let want = self.want;
-        self.want = None;
-        want
+        self.want.take()
     }
 
     /// Says whether event rows were stored since that was asked last.
     pub fn take_stored(&mut self) -> bool
-        ensures { schedule_of self.new ≡ schedule_of self.old }
+        ensures stored { result ≡ has_stored self.old }
+        ensures once { self.new ≡ with_stored self.old false }
     {
         let stored = self.stored;
         self.stored = false;
@@ -150,7 +150,7 @@ impl Caller {
 
     /// A control may wait in the station's book. It is asked for by the next call that finds the link free.
     pub fn look_for_control(&mut self)
-        ensures { schedule_of self.new ≡ may_have_control (schedule_of self.old) }
+        ensures { self.new ≡ with_schedule self.old (may_have_control (schedule_of self.old)) }
     {
         self.schedule = self.schedule.may_have_control();
     }
@@ -160,8 +160,9 @@ impl Caller {
         ensures rests { is_up self.new ≡ true → Rests self.new now }
         ensures kept { S.kept station.new ≡ S.kept station.old }
         ensures held { S.honest station.new → S.honest station.old }
-        ensures led { S.honest station.new → LeadsOn (ways S.opens S.receives S.asking S.life) S.hung_up_of
-            (not (is_up self.new)) (S.state station.old) (S.state station.new) }
+        ensures opened { (reply : Reply) × (Calls (ways S.opens S.receives S.asking S.life) S.hung_up_of (S.honest station.new) now
+            (Made (Opened now reply) ∷ []) (new_link (port_of self.old)) None self.old (S.state station.old) self.new (S.state station.new)) }
+        ensures basis { basis_of self.new ≡ basis_of self.old }
     {
         self.begin(shared, now);
         let over = self.open_on(shared, station, now);
@@ -179,8 +180,12 @@ impl Caller {
         ensures rests { is_up self.new ≡ true → Rests self.new now }
         ensures kept { S.kept station.new ≡ S.kept station.old }
         ensures held { S.honest station.new → S.honest station.old }
-        ensures led { S.honest station.new → LeadsOn (ways S.opens S.receives S.asking S.life) S.hung_up_of
-            (loses self.old self.new) (S.state station.old) (S.state station.new) }
+        ensures fed { is_up self.old ≡ true
+            → (IsCut S.hung_up_of (S.honest station.new) Memory self.old (S.state station.old) self.new (S.state station.new))
+            ⊎ Calls (ways S.opens S.receives S.asking S.life) S.hung_up_of (S.honest station.new) now
+            (Fed octets.now ∷ []) (link_of self.old) (want_of self.old) self.old (S.state station.old) self.new (S.state station.new) }
+        ensures basis { basis_of self.new ≡ basis_of self.old }
+        ensures unconnected { is_up self.old ≡ false → (self.new ≡ self.old) × (S.state station.new ≡ S.state station.old) }
     {
         if !self.schedule.is_connected() {
             return;
@@ -200,8 +205,10 @@ impl Caller {
         ensures rests { is_up self.new ≡ true → Rests self.new now }
         ensures kept { S.kept station.new ≡ S.kept station.old }
         ensures held { S.honest station.new → S.honest station.old }
-        ensures led { S.honest station.new → LeadsOn (ways S.opens S.receives S.asking S.life) S.hung_up_of
-            (loses self.old self.new) (S.state station.old) (S.state station.new) }
+        ensures handed { is_up self.old ≡ true → Calls (ways S.opens S.receives S.asking S.life) S.hung_up_of (S.honest station.new) now
+            (Handed (min count (length (link_of self.old).pending)) ∷ []) (link_of self.old) (want_of self.old) self.old (S.state station.old) self.new (S.state station.new) }
+        ensures basis { basis_of self.new ≡ basis_of self.old }
+        ensures unconnected { is_up self.old ≡ false → (self.new ≡ self.old) × (S.state station.new ≡ S.state station.old) }
     {
         if !self.schedule.is_connected() {
             return;
@@ -211,7 +218,7 @@ impl Caller {
         self.finish(shared, station, now, over);
     }
 
-    /// Its connection ended, or did not come about.
+    /// Its connection ended, or did not come about. Nothing is wanted of the place any more.
     pub fn closed<S: Station>(
         &mut self,
         shared: &mut Shared,
@@ -220,11 +227,15 @@ impl Caller {
         cause: Closing,
     )
         ensures schedule { schedule_of self.new ≡ closed (schedule_of self.old) now (pace_of self.old) }
+        ensures want { want_of self.new ≡ None }
+        ensures stored { has_stored self.new ≡ has_stored self.old }
+        ensures basis { basis_of self.new ≡ basis_of self.old }
         ensures kept { S.kept station.new ≡ S.kept station.old }
         ensures held { S.honest station.new → S.honest station.old }
         ensures hung_up { S.honest station.new → S.state station.new
             ≡ (if is_up self.old then S.hung_up_of (S.state station.old) else S.state station.old) }
     {
+        self.want = None;
         match self.schedule.phase {
             Phase::Resting(_) => {}
             Phase::Connecting(_) => self.give_up(shared, now, cause),
@@ -237,13 +248,18 @@ impl Caller {
 
     /// Time has passed, or a control may wait.
     pub fn tick<S: Asker + Living>(&mut self, shared: &mut Shared, station: &mut S, now: u64)
-        ensures waited { is_up self.old ≡ false → schedule_of self.new ≡ waited (schedule_of self.old) now (pace_of self.old) (is_some (want_of self.old)) }
-        ensures over { is_up self.old ≡ true → IfSome (over_budget self.old now) (λ cause. want_of self.new ≡ Some (Close cause)) }
+        ensures waited { is_up self.old ≡ false → IsWaiting self.old now self.new × (S.state station.new ≡ S.state station.old) }
         ensures rests { is_up self.new ≡ true → Rests self.new now }
         ensures kept { S.kept station.new ≡ S.kept station.old }
         ensures held { S.honest station.new → S.honest station.old }
-        ensures led { S.honest station.new → LeadsOn (ways S.opens S.receives S.asking S.life) S.hung_up_of
-            (loses self.old self.new) (S.state station.old) (S.state station.new) }
+        ensures over { is_up self.old ≡ true → IfSome (over_budget self.old now) (λ cause.
+            IsCut S.hung_up_of (S.honest station.new) cause self.old (S.state station.old) self.new (S.state station.new)) }
+        ensures passes { is_up self.old ≡ true → over_budget self.old now ≡ None → HasRoom (link_of self.old) → (reply : Reply)
+            × (Calls (ways S.opens S.receives S.asking S.life) S.hung_up_of (S.honest station.new) now
+            (Made (Ticked now reply) ∷ []) (link_of self.old) (want_of self.old) self.old (S.state station.old) self.new (S.state station.new)) }
+        ensures full { is_up self.old ≡ true → over_budget self.old now ≡ None → (HasRoom (link_of self.old) → ⊥)
+            → IsKept self.old self.new × (S.honest station.new → S.state station.new ≡ S.state station.old) }
+        ensures basis { basis_of self.new ≡ basis_of self.old }
     {
         if !self.schedule.is_connected() {
             self.wait(shared, now);

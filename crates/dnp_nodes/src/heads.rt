@@ -1,6 +1,7 @@
 //! What is looked at in a fragment, beside what its station makes of it.
 
-ghost use Rattle.std.specs.Prelude.{◌≤◌, IfSome};
+ghost use Rattle.std.specs.Prelude.{◌≡◌, ◌≤◌, IfSome};
+ghost use Rattle.dnp_nodes.specs.Callees as callees;
 
 use dnp_appfragment::Iin;
 
@@ -44,9 +45,11 @@ pub(crate) fn head_of(fragment: &[u8]) -> Option<Head>
 }
 
 /// Whether a fragment asks for an output to be operated.
-pub(crate) fn operates(fragment: &[u8]) -> bool {
-    match fragment.get(1) {
-        Some(function) => FIRST_OPERATING <= *function && *function <= LAST_OPERATING,
-        None => false,
+pub(crate) fn operates(fragment: &[u8]) -> bool
+    ensures { result ≡ callees.operates fragment.now }
+{
+    match fragment {
+        [_, function, ..] => FIRST_OPERATING <= *function && *function <= LAST_OPERATING,
+        _ => false,
     }
 }

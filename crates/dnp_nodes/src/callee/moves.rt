@@ -1,8 +1,7 @@
 //! What a callee makes of what happens, without its station.
 
-ghost use Rattle.std.specs.Prelude.{◌≡◌, true, false};
-ghost use Rattle.dnp_line.specs.Ports.{new_port};
-ghost use Rattle.dnp_streams.specs.links.Links.{new_link};
+ghost use Rattle.std.specs.Prelude.{◌≡◌, true, false, length, min, None};
+ghost use Rattle.dnp_streams.specs.links.Links.{after_sent, new_link};
 ghost use Rattle.dnp_nodes.specs.Callees as spec;
 
 use crate::budgets::{has_come, stuck_at, waits_from};
@@ -15,6 +14,17 @@ use dnp_concentrator::Cause;
 use dnp_line::Port;
 use dnp_streams::{Link, StationFault, Told};
 use std::alloc::Global;
+
+/// Why a connection has to end after a step that was made, if it has to.
+pub(super) fn closing_of(told: &Told) -> Option<Closing>
+    ensures { result ≡ spec.closing_of told.now }
+{
+    if told.closed {
+        Some(Closing::Station)
+    } else {
+        None
+    }
+}
 
 impl Callee {
     /// The moment by which the octets that wait have to be taken, if some wait.
@@ -46,8 +56,7 @@ impl Callee {
 
     /// The link of a connection that begins.
     fn new_link(&mut self, alloc: Global)
-        ensures link { self.new.link ≡ new_link (new_port self.old.plan.ends.own self.old.plan.ends.peer false) }
-        ensures up { self.new.is_up ≡ self.old.is_up }
+        ensures { self.new ≡ record self.old { link = new_link (spec.port_of self.old); waits = None } }
     {
         let ends = self.plan.ends;
         self.link = Link::new(alloc, Port::new(ends.own, ends.peer, false));
@@ -56,8 +65,13 @@ impl Callee {
 
     /// A connection was made: nothing of the one before is left.
     pub(super) fn begin(&mut self, shared: &mut Shared, now: u64)
-        ensures up { self.new.is_up ≡ true }
-        ensures link { self.new.link ≡ new_link (new_port self.old.plan.ends.own self.old.plan.ends.peer false) }
+        ensures { self.new ≡ record self.old {
+          link = new_link (spec.port_of self.old);
+          is_up = true;
+          want = None;
+          waits = None;
+          whole_at = now;
+        } }
     {
         let absent = now.saturating_sub(self.since);
         let connected = Report::Connected(self.plan.slot, absent, 0);
@@ -70,19 +84,21 @@ impl Callee {
 
     /// The first octets of those that wait were taken.
     pub(super) fn drop_sent(&mut self, count: usize)
-        ensures { self.new.is_up ≡ self.old.is_up }
+        ensures { self.new ≡ record self.old {
+          link = after_sent self.old.link (min count (length self.old.link.pending));
+          waits = self.new.waits;
+        } }
     {
         let count = count.min(self.link.output().len());
+        self.link.sent(count);
         if 0 < count {
-            self.link.sent(count);
             self.waits = None;
         }
     }
 
     /// Notes since when octets wait, if any do.
     pub(super) fn note_waiting(&mut self, now: u64)
-        ensures up { self.new.is_up ≡ self.old.is_up }
-        ensures link { self.new.link ≡ self.old.link }
+        ensures { self.new ≡ record self.old { waits = self.new.waits } }
     {
         let is_empty = self.link.output().is_empty();
         self.waits = waits_from(self.waits, is_empty, now);
@@ -90,8 +106,12 @@ impl Callee {
 
     /// The connection was lost.
     pub(super) fn lose(&mut self, shared: &mut Shared, now: u64, cause: Closing)
-        ensures up { self.new.is_up ≡ false }
-        ensures link { self.new.link ≡ new_link (new_port self.old.plan.ends.own self.old.plan.ends.peer false) }
+        ensures { self.new ≡ record self.old {
+          link = new_link (spec.port_of self.old);
+          is_up = false;
+          waits = None;
+          since = now;
+        } }
     {
         shared.reports.tell(Report::Lost(self.plan.slot, cause));
         self.new_link(shared.alloc);

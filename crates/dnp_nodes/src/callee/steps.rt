@@ -1,18 +1,30 @@
 //! Steps of a callee's link and its station.
 
-ghost use Rattle.std.specs.Prelude.{◌≡◌, ◌<◌, false, not, length, is_some, if◌then◌else◌, ◌&&◌, None, Some, IfSome, IsTrue};
-ghost use Rattle.dnp_streams.specs.links.Deeds.{ways};
+ghost use Rattle.std.specs.Prelude.{◌≡◌, ◌<◌, ◌⊎◌, false, not, length, is_some, if◌then◌else◌, ◌&&◌, ◌||◌, ℕ, List, ◌∷◌, [], None, Some, IfSome, IsTrue};
+ghost use Rattle.dnp_line.specs.Ports.{IsShown};
+ghost use Rattle.dnp_streams.specs.links.Deeds.{Changed, Opened, Reply, Ticked, told_of, ways};
+ghost use Rattle.dnp_streams.specs.links.Laws.{Event, Fed, Made};
 ghost use Rattle.dnp_streams.specs.links.Links.{HasRoom};
 ghost use Rattle.dnp_nodes.specs.Callees as spec;
-ghost use Rattle.dnp_nodes.specs.Leading.{Leads};
-ghost use Rattle.dnp_nodes.specs.declared.slot.Want.TheVariants.{Close};
+ghost use Rattle.dnp_nodes.specs.Callees.{Goes, Hears, Passes};
+ghost use Rattle.dnp_nodes.specs.Runs.{Runs, wanted};
+ghost use Rattle.dnp_nodes.specs.declared.slot.Closing.TheVariants.{Memory};
 
 use crate::callee::Callee;
+use crate::callee::moves::closing_of;
 use crate::heads::operates;
 use crate::shared::Shared;
 use crate::slot::{Closing, Want};
 use crate::turn::Turn;
+use dnp_streams::laws::a_link_shows_what_it_took;
 use dnp_streams::{Change, Heard, Living, Station, StationFault};
+
+/// Whether one of them holds.
+fn either(one: bool, other: bool) -> bool
+    ensures { result ≡ (one || other) }
+{
+    one || other
+}
 
 impl Callee {
     /// Opens the station.
@@ -20,8 +32,9 @@ impl Callee {
         requires { HasRoom self.old.link }
         ensures kept { S.kept station.new ≡ S.kept station.old }
         ensures held { S.honest station.new → S.honest station.old }
-        ensures leads { S.honest station.new → Leads (ways S.opens S.receives S.asking S.life) (S.state station.old) (S.state station.new) }
-        ensures up { self.new.is_up ≡ self.old.is_up }
+        ensures runs { (reply : Reply) × Runs (ways S.opens S.receives S.asking S.life) (S.honest station.new)
+            self.old.link (S.state station.old) (Made (Opened now reply) ∷ []) self.new.link (S.state station.new) }
+        ensures same { self.new ≡ record self.old { link = self.new.link } }
     {
         let told = self.link.opened(&mut shared.room, station, now);
         self.take_told(&mut shared.reports, told)
@@ -32,12 +45,25 @@ impl Callee {
         requires { HasRoom self.old.link }
         ensures kept { S.kept station.new ≡ S.kept station.old }
         ensures held { S.honest station.new → S.honest station.old }
-        ensures leads { S.honest station.new → Leads (ways S.opens S.receives S.asking S.life) (S.state station.old) (S.state station.new) }
+        ensures runs { (reply : Reply) × Runs (ways S.opens S.receives S.asking S.life) (S.honest station.new)
+            self.old.link (S.state station.old) (Made (Ticked now reply) ∷ []) self.new.link (S.state station.new) }
+        ensures same { self.new ≡ record self.old { link = self.new.link } }
         ensures waiting { self.new.link.waiting ≡ self.old.link.waiting }
-        ensures up { self.new.is_up ≡ self.old.is_up }
     {
         let told = self.link.tick(&mut shared.room, station, now);
         self.take_told(&mut shared.reports, told)
+    }
+
+    /// Notes that a fragment came whole, and whether it operates an output.
+    fn note_whole(&mut self, now: u64)
+        ensures { (fragment : List ℕ) × IsShown self.old.link.port fragment × (self.new ≡ record self.old {
+          whole_at = now;
+          operated = spec.operates fragment || self.old.operated;
+        }) }
+    {
+        let operates = operates(self.link.fragment());
+        self.whole_at = now;
+        self.operated = either(operates, self.operated);
     }
 
     /// Hears the next frame.
@@ -46,16 +72,22 @@ impl Callee {
         requires frame { 0 < length self.old.link.waiting }
         ensures kept { S.kept station.new ≡ S.kept station.old }
         ensures held { S.honest station.new → S.honest station.old }
-        ensures leads { S.honest station.new → Leads (ways S.opens S.receives S.asking S.life) (S.state station.old) (S.state station.new) }
+        ensures hears { Hears (ways S.opens S.receives S.asking S.life) (S.honest station.new) now
+            self.old.link self.old (S.state station.old) self.new.link (S.state station.new) self.new }
+        ensures plan { self.new.plan ≡ self.old.plan }
+        ensures want { self.new.want ≡ self.old.want }
         ensures up { self.new.is_up ≡ self.old.is_up }
     {
         let heard = self.link.hear(&mut shared.room, station, now);
-        let Heard::Whole(told) = heard else {
-            return Turn::Made;
-        };
-        self.whole_at = now;
-        self.operated = self.operated || operates(self.link.fragment());
-        self.take_told(&mut shared.reports, told)
+        self.link.port().has_a_history();
+        a_link_shows_what_it_took();
+        match heard {
+            Heard::Part => Turn::Made,
+            Heard::Whole(told) => {
+                self.note_whole(now);
+                self.take_told(&mut shared.reports, told)
+            }
+        }
     }
 
     /// Whether nothing is left to be heard: there is no room for what a step sends, or no frame waits.
@@ -80,7 +112,10 @@ impl Callee {
     ) -> Option<Closing>
         ensures kept { S.kept station.new ≡ S.kept station.old }
         ensures held { S.honest station.new → S.honest station.old }
-        ensures leads { S.honest station.new → Leads (ways S.opens S.receives S.asking S.life) (S.state station.old) (S.state station.new) }
+        ensures hears { Hears (ways S.opens S.receives S.asking S.life) (S.honest station.new) now
+            self.old.link self.old (S.state station.old) self.new.link (S.state station.new) self.new }
+        ensures plan { self.new.plan ≡ self.old.plan }
+        ensures want { self.new.want ≡ self.old.want }
         ensures rests { result ≡ None → spec.Rests self.new }
         ensures up { self.new.is_up ≡ self.old.is_up }
     {
@@ -105,9 +140,10 @@ impl Callee {
     ) -> Option<Closing>
         ensures kept { S.kept station.new ≡ S.kept station.old }
         ensures held { S.honest station.new → S.honest station.old }
-        ensures leads { S.honest station.new → Leads (ways S.opens S.receives S.asking S.life) (S.state station.old) (S.state station.new) }
+        ensures passes { (time : List Event) × Passes now result self.new.link time × Runs (ways S.opens S.receives S.asking S.life) (S.honest station.new)
+            self.old.link (S.state station.old) time self.new.link (S.state station.new) }
+        ensures same { self.new ≡ record self.old { link = self.new.link } }
         ensures rests { result ≡ None → spec.Rests self.old → spec.Rests self.new }
-        ensures up { self.new.is_up ≡ self.old.is_up }
     {
         if !self.link.has_room() {
             return None;
@@ -127,7 +163,10 @@ impl Callee {
     ) -> Option<Closing>
         ensures kept { S.kept station.new ≡ S.kept station.old }
         ensures held { S.honest station.new → S.honest station.old }
-        ensures leads { S.honest station.new → Leads (ways S.opens S.receives S.asking S.life) (S.state station.old) (S.state station.new) }
+        ensures goes { Goes (ways S.opens S.receives S.asking S.life) (S.honest station.new) now result []
+            self.old.link self.old (S.state station.old) self.new.link (S.state station.new) self.new }
+        ensures plan { self.new.plan ≡ self.old.plan }
+        ensures want { self.new.want ≡ self.old.want }
         ensures rests { result ≡ None → spec.Rests self.new }
         ensures up { self.new.is_up ≡ self.old.is_up }
     {
@@ -147,7 +186,10 @@ impl Callee {
         requires { HasRoom self.old.link }
         ensures kept { S.kept station.new ≡ S.kept station.old }
         ensures held { S.honest station.new → S.honest station.old }
-        ensures leads { S.honest station.new → Leads (ways S.opens S.receives S.asking S.life) (S.state station.old) (S.state station.new) }
+        ensures goes { (reply : Reply) × (Goes (ways S.opens S.receives S.asking S.life) (S.honest station.new) now result (Made (Opened now reply) ∷ [])
+            self.old.link self.old (S.state station.old) self.new.link (S.state station.new) self.new) }
+        ensures plan { self.new.plan ≡ self.old.plan }
+        ensures want { self.new.want ≡ self.old.want }
         ensures rests { result ≡ None → spec.Rests self.new }
         ensures up { self.new.is_up ≡ self.old.is_up }
     {
@@ -167,14 +209,18 @@ impl Callee {
     ) -> Option<Closing>
         ensures kept { S.kept station.new ≡ S.kept station.old }
         ensures held { S.honest station.new → S.honest station.old }
-        ensures leads { S.honest station.new → Leads (ways S.opens S.receives S.asking S.life) (S.state station.old) (S.state station.new) }
+        ensures fed { ((result ≡ Some Memory) × (self.new ≡ self.old) × (S.state station.new ≡ S.state station.old))
+            ⊎ Goes (ways S.opens S.receives S.asking S.life) (S.honest station.new) now result (Fed octets.now ∷ [])
+            self.old.link self.old (S.state station.old) self.new.link (S.state station.new) self.new }
+        ensures plan { self.new.plan ≡ self.old.plan }
+        ensures want { self.new.want ≡ self.old.want }
         ensures rests { result ≡ None → spec.Rests self.new }
         ensures up { self.new.is_up ≡ self.old.is_up }
     {
-        if self.link.feed(octets).is_err() {
-            return Some(Closing::Memory);
+        match self.link.feed(octets) {
+            Ok(()) => self.go_on(shared, station, now),
+            Err(_) => Some(Closing::Memory),
         }
-        self.go_on(shared, station, now)
     }
 
     /// Looks whether anything took too long, and goes on. Why the connection has to end, if it has to.
@@ -184,10 +230,14 @@ impl Callee {
         station: &mut S,
         now: u64,
     ) -> Option<Closing>
-        ensures over { IfSome (spec.over_budget self.old now) (λ cause. result ≡ Some cause) }
+        ensures over { IfSome (spec.over_budget self.old now) (λ cause. (result ≡ Some cause) × (self.new ≡ self.old)
+            × (S.state station.new ≡ S.state station.old)) }
         ensures kept { S.kept station.new ≡ S.kept station.old }
         ensures held { S.honest station.new → S.honest station.old }
-        ensures leads { S.honest station.new → Leads (ways S.opens S.receives S.asking S.life) (S.state station.old) (S.state station.new) }
+        ensures in_time { spec.over_budget self.old now ≡ None → Goes (ways S.opens S.receives S.asking S.life) (S.honest station.new) now result []
+            self.old.link self.old (S.state station.old) self.new.link (S.state station.new) self.new }
+        ensures plan { self.new.plan ≡ self.old.plan }
+        ensures want { self.new.want ≡ self.old.want }
         ensures rests { result ≡ None → spec.Rests self.new }
         ensures up { self.new.is_up ≡ self.old.is_up }
     {
@@ -208,18 +258,13 @@ impl Callee {
         requires { HasRoom self.old.link }
         ensures kept { S.kept station.new ≡ S.kept station.old }
         ensures held { S.honest station.new → S.honest station.old }
-        ensures leads { S.honest station.new → Leads (ways S.opens S.receives S.asking S.life) (S.state station.old) (S.state station.new) }
-        ensures up { self.new.is_up ≡ self.old.is_up }
+        ensures made { (reply : Reply) × (result ≡ spec.made_of (told_of reply)) × Runs (ways S.opens S.receives S.asking S.life) (S.honest station.new)
+            self.old.link (S.state station.old) (Made (Changed now change.now reply) ∷ []) self.new.link (S.state station.new) }
+        ensures same { self.new ≡ record self.old { link = self.new.link } }
     {
         let told = self.link.change(&mut shared.room, station, now, change);
         match told {
-            Ok(told) => {
-                if told.closed {
-                    Ok(Some(Closing::Station))
-                } else {
-                    Ok(None)
-                }
-            }
+            Ok(told) => Ok(closing_of(&told)),
             Err(fault) => Err(fault),
         }
     }
@@ -232,13 +277,15 @@ impl Callee {
         now: u64,
         over: Option<Closing>,
     )
-        ensures want { IfSome over (λ cause. self.new.want ≡ Some (Close cause)) }
+        ensures want { self.new.want ≡ wanted over self.old.want }
         ensures kept { S.kept station.new ≡ S.kept station.old }
         ensures held { S.honest station.new → S.honest station.old }
         ensures hung_up { S.honest station.new → S.state station.new
             ≡ (if is_some over then S.hung_up_of (S.state station.old) else S.state station.old) }
         ensures link { over ≡ None → self.new.link ≡ self.old.link }
         ensures up { self.new.is_up ≡ (self.old.is_up && not (is_some over)) }
+        ensures plan { self.new.plan ≡ self.old.plan }
+        ensures operated { self.new.operated ≡ self.old.operated }
     {
         match over {
             Some(cause) => {
@@ -258,10 +305,15 @@ impl Callee {
         now: u64,
         over: Option<Closing>,
     )
+        ensures want { self.new.want ≡ wanted (spec.over_if self.old.is_up over) self.old.want }
         ensures kept { S.kept station.new ≡ S.kept station.old }
         ensures held { S.honest station.new → S.honest station.old }
         ensures hung_up { S.honest station.new → S.state station.new
-            ≡ (if self.old.is_up && not (self.new.is_up) then S.hung_up_of (S.state station.old) else S.state station.old) }
+            ≡ (if is_some (spec.over_if self.old.is_up over) then S.hung_up_of (S.state station.old) else S.state station.old) }
+        ensures link { spec.over_if self.old.is_up over ≡ None → self.new.link ≡ self.old.link }
+        ensures up { self.new.is_up ≡ (self.old.is_up && not (is_some (spec.over_if self.old.is_up over))) }
+        ensures plan { self.new.plan ≡ self.old.plan }
+        ensures operated { self.new.operated ≡ self.old.operated }
     {
         if self.is_up {
             self.finish(shared, station, now, over);

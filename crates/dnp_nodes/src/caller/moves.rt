@@ -1,11 +1,12 @@
 //! What a caller makes of what happens, without its station.
 
-ghost use Rattle.std.specs.Prelude.{◌≡◌, ◌≤◌, true, false, is_some, IfSome};
+ghost use Rattle.std.specs.Prelude.{◌≡◌, ◌≤◌, ◌||◌, true, false, length, min, nat_lt, None, Some, is_some, IfSome};
 ghost use Rattle.dnp_line.specs.Ports.{new_port};
 ghost use Rattle.dnp_schedule.specs.Deciding.{is_connected};
 ghost use Rattle.dnp_schedule.specs.Moving as moving;
-ghost use Rattle.dnp_streams.specs.links.Links.{new_link};
+ghost use Rattle.dnp_streams.specs.links.Links.{after_sent, new_link};
 ghost use Rattle.dnp_nodes.specs.Callers as spec;
+ghost use Rattle.dnp_nodes.specs.declared.slot.Want.TheVariants.{Connect};
 
 use crate::budgets::{has_come, stuck_at, waits_from};
 use crate::caller::Caller;
@@ -71,6 +72,9 @@ impl Caller {
     pub(super) fn begin(&mut self, shared: &mut Shared, now: u64)
         ensures schedule { self.new.schedule ≡ moving.connected self.old.schedule now self.old.plan.pace }
         ensures link { self.new.link ≡ new_link (new_port self.old.plan.ends.own self.old.plan.ends.peer true) }
+        ensures want { self.new.want ≡ None }
+        ensures basis { spec.basis_of self.new ≡ spec.basis_of self.old }
+        ensures stored { self.new.stored ≡ self.old.stored }
     {
         let ends = self.plan.ends;
         let absent = now.saturating_sub(self.since);
@@ -84,19 +88,21 @@ impl Caller {
 
     /// The first octets of those that wait were taken.
     pub(super) fn drop_sent(&mut self, count: usize)
-        ensures { self.new.schedule ≡ self.old.schedule }
+        ensures { self.new ≡ record self.old {
+          link = after_sent self.old.link (min count (length self.old.link.pending));
+          waits = self.new.waits;
+        } }
     {
         let count = count.min(self.link.output().len());
+        self.link.sent(count);
         if 0 < count {
-            self.link.sent(count);
             self.waits = None;
         }
     }
 
     /// Notes since when octets wait, if any do.
     pub(super) fn note_waiting(&mut self, now: u64)
-        ensures schedule { self.new.schedule ≡ self.old.schedule }
-        ensures link { self.new.link ≡ self.old.link }
+        ensures { self.new ≡ record self.old { waits = self.new.waits } }
     {
         let is_empty = self.link.output().is_empty();
         self.waits = waits_from(self.waits, is_empty, now);
@@ -107,6 +113,9 @@ impl Caller {
         requires { is_connected self.old.schedule.phase ≡ false }
         ensures phase { is_connected self.new.schedule.phase ≡ false }
         ensures schedule { self.new.schedule ≡ spec.waited self.old.schedule now self.old.plan.pace (is_some self.old.want) }
+        ensures want { self.new.want ≡ spec.want_waited self.old.schedule now self.old.want }
+        ensures basis { spec.basis_of self.new ≡ spec.basis_of self.old }
+        ensures stored { self.new.stored ≡ self.old.stored }
     {
         match self.schedule.phase {
             Phase::Resting(until) => {
@@ -126,7 +135,11 @@ impl Caller {
 
     /// A connection is to be made.
     fn connect(&mut self, now: u64)
-        ensures schedule { self.new.schedule ≡ moving.connecting self.old.schedule now self.old.plan.pace }
+        ensures { self.new ≡ record self.old {
+          schedule = moving.connecting self.old.schedule now self.old.plan.pace;
+          tries = self.new.tries;
+          want = Some Connect;
+        } }
     {
         self.schedule = self.schedule.connecting(now, &self.plan.pace);
         self.tries = self.tries.saturating_add(1);
@@ -135,7 +148,7 @@ impl Caller {
 
     /// The connection did not come about.
     pub(super) fn give_up(&mut self, shared: &mut Shared, now: u64, cause: Closing)
-        ensures { self.new.schedule ≡ moving.lost self.old.schedule now self.old.plan.pace }
+        ensures { self.new ≡ record self.old { schedule = moving.lost self.old.schedule now self.old.plan.pace } }
     {
         shared.reports.tell(Report::Lost(self.plan.slot, cause));
         self.schedule = self.schedule.lost(now, &self.plan.pace);
@@ -143,7 +156,12 @@ impl Caller {
 
     /// The connection was lost.
     pub(super) fn lose(&mut self, shared: &mut Shared, now: u64, cause: Closing)
-        ensures { self.new.schedule ≡ moving.lost self.old.schedule now self.old.plan.pace }
+        ensures { self.new ≡ record self.old {
+          schedule = moving.lost self.old.schedule now self.old.plan.pace;
+          waits = None;
+          since = now;
+          tries = 0;
+        } }
     {
         self.give_up(shared, now, cause);
         self.waits = None;
@@ -160,7 +178,9 @@ impl Caller {
         head: Option<Head>,
     ) -> Turn
         requires { IfSome head (λ head. head.number ≤ 15) }
-        ensures { is_connected self.new.schedule.phase ≡ is_connected self.old.schedule.phase }
+        ensures phase { is_connected self.new.schedule.phase ≡ is_connected self.old.schedule.phase }
+        ensures same { self.new ≡ record self.old { schedule = self.new.schedule; stored = self.new.stored } }
+        ensures stored { self.new.stored ≡ (spec.told_stores (told) || self.old.stored) }
     {
         let slot = self.plan.slot;
         match told {
@@ -186,7 +206,8 @@ impl Caller {
         head: Option<Head>,
     ) -> Turn
         requires { IfSome head (λ head. head.number ≤ 15) }
-        ensures { is_connected self.new.schedule.phase ≡ is_connected self.old.schedule.phase }
+        ensures phase { is_connected self.new.schedule.phase ≡ is_connected self.old.schedule.phase }
+        ensures same { self.new ≡ record self.old { schedule = self.new.schedule; stored = nat_lt 0 told.now.rows || self.old.stored } }
     {
         self.take_rows(reports, told.rows);
         self.take_head(reports, now, told, head);
@@ -199,8 +220,7 @@ impl Caller {
 
     /// Takes how many event rows were stored.
     fn take_rows(&mut self, reports: &mut Reports, rows: usize)
-        ensures schedule { self.new.schedule ≡ self.old.schedule }
-        ensures plan { self.new.plan ≡ self.old.plan }
+        ensures { self.new ≡ record self.old { stored = nat_lt 0 rows || self.old.stored } }
     {
         if 0 < rows {
             self.stored = true;
@@ -211,7 +231,8 @@ impl Caller {
     /// Takes the head of the response that the station took, if it took one.
     fn take_head(&mut self, reports: &mut Reports, now: u64, told: &Told, head: Option<Head>)
         requires { IfSome head (λ head. head.number ≤ 15) }
-        ensures { is_connected self.new.schedule.phase ≡ is_connected self.old.schedule.phase }
+        ensures phase { is_connected self.new.schedule.phase ≡ is_connected self.old.schedule.phase }
+        ensures same { self.new ≡ record self.old { schedule = self.new.schedule } }
     {
         match head {
             Some(head) => self.take_response(reports, now, told, head),
@@ -222,8 +243,9 @@ impl Caller {
     /// Takes the head of a response that the station took.
     fn take_response(&mut self, reports: &mut Reports, now: u64, told: &Told, head: Head)
         requires { head.number ≤ 15 }
-        ensures schedule { self.new.schedule
-            ≡ spec.after_response self.old.schedule now self.old.plan.pace head told.now.rows (is_some told.now.outcome) }
+        ensures { self.new ≡ record self.old {
+          schedule = spec.after_response self.old.schedule now self.old.plan.pace head told.now.rows (is_some told.now.outcome);
+        } }
     {
         let before = self.schedule;
         let heard = before.heard(now, &self.plan.pace, head.iin, told.rows);
@@ -255,7 +277,7 @@ impl Caller {
         task: TaskKind,
         is_asked: bool,
     ) -> Turn
-        ensures { self.new.schedule ≡ spec.after_asking self.old.schedule now self.old.plan.pace task is_asked }
+        ensures { self.new ≡ record self.old { schedule = spec.after_asking self.old.schedule now self.old.plan.pace task is_asked } }
     {
         if !is_asked {
             return Turn::Over(Closing::Unasked);
@@ -272,7 +294,8 @@ impl Caller {
         now: u64,
         relayed: Result<RelayedStep, BookFault>,
     ) -> Turn
-        ensures { is_connected self.new.schedule.phase ≡ is_connected self.old.schedule.phase }
+        ensures phase { is_connected self.new.schedule.phase ≡ is_connected self.old.schedule.phase }
+        ensures same { self.new ≡ record self.old { schedule = self.new.schedule } }
     {
         match relayed {
             Ok(step) => {
@@ -285,7 +308,7 @@ impl Caller {
 
     /// Takes what a step of relaying did that was not refused.
     fn take_step(&mut self, reports: &mut Reports, now: u64, step: &RelayedStep)
-        ensures { self.new.schedule ≡ spec.after_relaying self.old.schedule now self.old.plan.pace step.now }
+        ensures { self.new ≡ record self.old { schedule = spec.after_relaying self.old.schedule now self.old.plan.pace step.now } }
     {
         let slot = self.plan.slot;
         match step {

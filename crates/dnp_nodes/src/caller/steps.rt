@@ -1,12 +1,14 @@
 //! Steps of a caller's link and its station.
 
-ghost use Rattle.std.specs.Prelude.{◌≡◌, ◌<◌, false, not, length, is_some, if◌then◌else◌, ◌&&◌, None, Some, IfSome, IsTrue};
+ghost use Rattle.std.specs.Prelude.{◌≡◌, ◌<◌, ◌⊎◌, false, not, length, is_some, if◌then◌else◌, ◌&&◌, ◌∷◌, [], None, Some, IfSome, IsTrue};
 ghost use Rattle.dnp_schedule.specs.Deciding.{is_connected};
-ghost use Rattle.dnp_streams.specs.links.Deeds.{ways};
+ghost use Rattle.dnp_streams.specs.links.Deeds.{Opened, Reply, Ticked, ways};
+ghost use Rattle.dnp_streams.specs.links.Laws.{Fed, Made};
 ghost use Rattle.dnp_streams.specs.links.Links.{HasRoom};
 ghost use Rattle.dnp_nodes.specs.Callers as spec;
-ghost use Rattle.dnp_nodes.specs.Leading.{Leads};
-ghost use Rattle.dnp_nodes.specs.declared.slot.Want.TheVariants.{Close};
+ghost use Rattle.dnp_nodes.specs.Callers.{Goes};
+ghost use Rattle.dnp_nodes.specs.Runs.{wanted};
+ghost use Rattle.dnp_nodes.specs.declared.slot.Closing.TheVariants.{Memory};
 
 use crate::caller::Caller;
 use crate::heads::head_of;
@@ -23,7 +25,10 @@ impl Caller {
         requires { HasRoom self.old.link }
         ensures kept { S.kept station.new ≡ S.kept station.old }
         ensures held { S.honest station.new → S.honest station.old }
-        ensures leads { S.honest station.new → Leads (ways S.opens S.receives S.asking S.life) (S.state station.old) (S.state station.new) }
+        ensures goes { (reply : Reply) × (Goes (ways S.opens S.receives S.asking S.life) (S.honest station.new) now (Made (Opened now reply) ∷ [])
+            self.old.link self.old (S.state station.old) self.new.link (S.state station.new) self.new) }
+        ensures basis { spec.basis_of self.new ≡ spec.basis_of self.old }
+        ensures want { self.new.want ≡ self.old.want }
         ensures phase { is_connected self.new.schedule.phase ≡ is_connected self.old.schedule.phase }
     {
         let told = self.link.opened(&mut shared.room, station, now);
@@ -35,7 +40,10 @@ impl Caller {
         requires { HasRoom self.old.link }
         ensures kept { S.kept station.new ≡ S.kept station.old }
         ensures held { S.honest station.new → S.honest station.old }
-        ensures leads { S.honest station.new → Leads (ways S.opens S.receives S.asking S.life) (S.state station.old) (S.state station.new) }
+        ensures goes { (reply : Reply) × (Goes (ways S.opens S.receives S.asking S.life) (S.honest station.new) now (Made (Ticked now reply) ∷ [])
+            self.old.link self.old (S.state station.old) self.new.link (S.state station.new) self.new) }
+        ensures basis { spec.basis_of self.new ≡ spec.basis_of self.old }
+        ensures want { self.new.want ≡ self.old.want }
         ensures phase { is_connected self.new.schedule.phase ≡ is_connected self.old.schedule.phase }
     {
         let told = self.link.tick(&mut shared.room, station, now);
@@ -48,15 +56,20 @@ impl Caller {
         requires frame { 0 < length self.old.link.waiting }
         ensures kept { S.kept station.new ≡ S.kept station.old }
         ensures held { S.honest station.new → S.honest station.old }
-        ensures leads { S.honest station.new → Leads (ways S.opens S.receives S.asking S.life) (S.state station.old) (S.state station.new) }
+        ensures goes { Goes (ways S.opens S.receives S.asking S.life) (S.honest station.new) now []
+            self.old.link self.old (S.state station.old) self.new.link (S.state station.new) self.new }
+        ensures basis { spec.basis_of self.new ≡ spec.basis_of self.old }
+        ensures want { self.new.want ≡ self.old.want }
         ensures phase { is_connected self.new.schedule.phase ≡ is_connected self.old.schedule.phase }
     {
         let heard = self.link.hear(&mut shared.room, station, now);
-        let Heard::Whole(told) = heard else {
-            return Turn::Made;
-        };
-        let head = head_of(self.link.fragment());
-        self.take_told(&mut shared.reports, now, told, head)
+        match heard {
+            Heard::Part => Turn::Made,
+            Heard::Whole(told) => {
+                let head = head_of(self.link.fragment());
+                self.take_told(&mut shared.reports, now, told, head)
+            }
+        }
     }
 
     /// Asks what is due, or relays a control.
@@ -70,7 +83,10 @@ impl Caller {
         requires { HasRoom self.old.link }
         ensures kept { S.kept station.new ≡ S.kept station.old }
         ensures held { S.honest station.new → S.honest station.old }
-        ensures leads { S.honest station.new → Leads (ways S.opens S.receives S.asking S.life) (S.state station.old) (S.state station.new) }
+        ensures goes { Goes (ways S.opens S.receives S.asking S.life) (S.honest station.new) now []
+            self.old.link self.old (S.state station.old) self.new.link (S.state station.new) self.new }
+        ensures basis { spec.basis_of self.new ≡ spec.basis_of self.old }
+        ensures want { self.new.want ≡ self.old.want }
         ensures phase { is_connected self.new.schedule.phase ≡ is_connected self.old.schedule.phase }
     {
         let utc = self.clock.saturating_add(now);
@@ -106,7 +122,10 @@ impl Caller {
         requires { HasRoom self.old.link }
         ensures kept { S.kept station.new ≡ S.kept station.old }
         ensures held { S.honest station.new → S.honest station.old }
-        ensures leads { S.honest station.new → Leads (ways S.opens S.receives S.asking S.life) (S.state station.old) (S.state station.new) }
+        ensures goes { Goes (ways S.opens S.receives S.asking S.life) (S.honest station.new) now []
+            self.old.link self.old (S.state station.old) self.new.link (S.state station.new) self.new }
+        ensures basis { spec.basis_of self.new ≡ spec.basis_of self.old }
+        ensures want { self.new.want ≡ self.old.want }
         ensures phase { is_connected self.new.schedule.phase ≡ is_connected self.old.schedule.phase }
     {
         if self.link.has_frame() {
@@ -128,7 +147,10 @@ impl Caller {
     ) -> Option<Closing>
         ensures kept { S.kept station.new ≡ S.kept station.old }
         ensures held { S.honest station.new → S.honest station.old }
-        ensures leads { S.honest station.new → Leads (ways S.opens S.receives S.asking S.life) (S.state station.old) (S.state station.new) }
+        ensures goes { Goes (ways S.opens S.receives S.asking S.life) (S.honest station.new) now []
+            self.old.link self.old (S.state station.old) self.new.link (S.state station.new) self.new }
+        ensures basis { spec.basis_of self.new ≡ spec.basis_of self.old }
+        ensures want { self.new.want ≡ self.old.want }
         ensures rests { result ≡ None → spec.Rests self.new now }
         ensures phase { is_connected self.new.schedule.phase ≡ is_connected self.old.schedule.phase }
     {
@@ -154,7 +176,10 @@ impl Caller {
         requires { HasRoom self.old.link }
         ensures kept { S.kept station.new ≡ S.kept station.old }
         ensures held { S.honest station.new → S.honest station.old }
-        ensures leads { S.honest station.new → Leads (ways S.opens S.receives S.asking S.life) (S.state station.old) (S.state station.new) }
+        ensures goes { (reply : Reply) × (Goes (ways S.opens S.receives S.asking S.life) (S.honest station.new) now (Made (Opened now reply) ∷ [])
+            self.old.link self.old (S.state station.old) self.new.link (S.state station.new) self.new) }
+        ensures basis { spec.basis_of self.new ≡ spec.basis_of self.old }
+        ensures want { self.new.want ≡ self.old.want }
         ensures rests { result ≡ None → spec.Rests self.new now }
         ensures phase { is_connected self.new.schedule.phase ≡ is_connected self.old.schedule.phase }
     {
@@ -174,14 +199,18 @@ impl Caller {
     ) -> Option<Closing>
         ensures kept { S.kept station.new ≡ S.kept station.old }
         ensures held { S.honest station.new → S.honest station.old }
-        ensures leads { S.honest station.new → Leads (ways S.opens S.receives S.asking S.life) (S.state station.old) (S.state station.new) }
+        ensures fed { ((result ≡ Some Memory) × (self.new ≡ self.old) × (S.state station.new ≡ S.state station.old))
+            ⊎ Goes (ways S.opens S.receives S.asking S.life) (S.honest station.new) now (Fed octets.now ∷ [])
+            self.old.link self.old (S.state station.old) self.new.link (S.state station.new) self.new }
+        ensures basis { spec.basis_of self.new ≡ spec.basis_of self.old }
+        ensures want { self.new.want ≡ self.old.want }
         ensures rests { result ≡ None → spec.Rests self.new now }
         ensures phase { is_connected self.new.schedule.phase ≡ is_connected self.old.schedule.phase }
     {
-        if self.link.feed(octets).is_err() {
-            return Some(Closing::Memory);
+        match self.link.feed(octets) {
+            Ok(()) => self.go_on(shared, station, now),
+            Err(_) => Some(Closing::Memory),
         }
-        self.go_on(shared, station, now)
     }
 
     /// Looks whether anything took too long, lets time pass at the station, and goes on. Why the connection has to end, if it has to.
@@ -191,10 +220,17 @@ impl Caller {
         station: &mut S,
         now: u64,
     ) -> Option<Closing>
-        ensures over { IfSome (spec.over_budget self.old now) (λ cause. result ≡ Some cause) }
+        ensures over { IfSome (spec.over_budget self.old now) (λ cause. (result ≡ Some cause) × (self.new ≡ self.old)
+            × (S.state station.new ≡ S.state station.old)) }
+        ensures idles { spec.over_budget self.old now ≡ None → (HasRoom self.old.link → ⊥) → (result ≡ None) × (self.new ≡ self.old)
+            × (S.state station.new ≡ S.state station.old) }
         ensures kept { S.kept station.new ≡ S.kept station.old }
         ensures held { S.honest station.new → S.honest station.old }
-        ensures leads { S.honest station.new → Leads (ways S.opens S.receives S.asking S.life) (S.state station.old) (S.state station.new) }
+        ensures passes { spec.over_budget self.old now ≡ None → HasRoom self.old.link → (reply : Reply)
+            × (Goes (ways S.opens S.receives S.asking S.life) (S.honest station.new) now (Made (Ticked now reply) ∷ [])
+            self.old.link self.old (S.state station.old) self.new.link (S.state station.new) self.new) }
+        ensures basis { spec.basis_of self.new ≡ spec.basis_of self.old }
+        ensures want { self.new.want ≡ self.old.want }
         ensures rests { result ≡ None → spec.Rests self.new now }
         ensures phase { is_connected self.new.schedule.phase ≡ is_connected self.old.schedule.phase }
     {
@@ -218,7 +254,9 @@ impl Caller {
         now: u64,
         over: Option<Closing>,
     )
-        ensures want { IfSome over (λ cause. self.new.want ≡ Some (Close cause)) }
+        ensures want { self.new.want ≡ wanted over self.old.want }
+        ensures basis { spec.basis_of self.new ≡ spec.basis_of self.old }
+        ensures stored { self.new.stored ≡ self.old.stored }
         ensures kept { S.kept station.new ≡ S.kept station.old }
         ensures held { S.honest station.new → S.honest station.old }
         ensures hung_up { S.honest station.new → S.state station.new

@@ -1,9 +1,10 @@
 use Rattle.dnp_streams.specs.links.Deeds.{ways}
-use Rattle.dnp_nodes.proofs.Leads.{leads_made}
+use Rattle.dnp_nodes.proofs.Runs.{runs_made}
 use Rattle.dnp_nodes.proofs.callee.Callee.open.Goals as goal
 
-pub returns-clause-leads : goal.returns-clause-leads
-returns-clause-leads g c honest =
+pub returns-clause-runs : goal.returns-clause-runs
+returns-clause-runs g c =
     let S = g.S.Station in
     let w = ways S.opens S.receives S.asking S.life in
-    leads_made w _ _ _ _ _ _ c.opened-told.ensures.opened.2 honest
+    let (reply, is, makes) = c.opened-told.ensures.opened in
+    (reply, runs_made w _ _ _ _ _ _ makes)

@@ -1,9 +1,21 @@
+use Rattle.std.proofs.Common.{refl, ap, sym, ◌∙◌}
+use Rattle.std.specs.Prelude.{◌||◌}
 use Rattle.dnp_streams.specs.links.Deeds.{ways}
-use Rattle.dnp_nodes.proofs.Leads.{leads_made}
+use Rattle.dnp_nodes.proofs.Masters.{goes_made}
+use Rattle.dnp_nodes.specs.Callers.{heard_stores, link_of}
 use Rattle.dnp_nodes.proofs.caller.Caller.hear.Goals as goal
 
-pub returns-clause-leads : goal.returns-clause-leads
-returns-clause-leads g c honest =
+pub returns-in-Part-clause-goes : goal.returns-in-Part-clause-goes
+returns-in-Part-clause-goes g c =
     let S = g.S.Station in
     let w = ways S.opens S.receives S.asking S.life in
-    leads_made w _ _ _ _ _ _ c.hear-heard.ensures.heard.3 honest
+    let (frame, joined, is, makes) = c.hear-heard.ensures.heard in
+    goes_made w _ _ _ _ _ _ _ _ _ refl makes refl (ap (λ heard. heard_stores heard || c.args.self.now.stored) (sym c.in-Part.is ∙ is))
+
+pub returns-in-Whole-clause-goes : goal.returns-in-Whole-clause-goes
+returns-in-Whole-clause-goes g c =
+    let S = g.S.Station in
+    let w = ways S.opens S.receives S.asking S.life in
+    let (frame, joined, is, makes) = c.hear-heard.ensures.heard in
+    goes_made w _ _ _ _ _ _ _ _ _ refl makes (ap link_of c.take_told.ensures.same)
+    (c.take_told.ensures.stored ∙ ap (λ heard. heard_stores heard || c.args.self.now.stored) (sym c.in-Whole.is ∙ is))

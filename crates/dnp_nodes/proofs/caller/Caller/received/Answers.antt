@@ -1,19 +1,14 @@
-use Rattle.std.proofs.Common.{◌≡◌, ap, sym, refl, ◌∙◌}
-use Rattle.dnp_schedule.specs.Deciding.{is_connected}
-use Rattle.dnp_schedule.specs.declared.schedule.Schedule.{Schedule}
+use Rattle.std.proofs.Common.{⊎_elim, inl, inr, ◌∙◌}
 use Rattle.dnp_streams.specs.links.Deeds.{ways}
-use Rattle.dnp_nodes.proofs.Led.{led, unled}
+use Rattle.dnp_nodes.proofs.Masters.{called, cut}
 use Rattle.dnp_nodes.proofs.caller.Caller.received.Goals as goal
 
-pub returns-then-not-is_connected-clause-led : goal.returns-then-not-is_connected-clause-led
-returns-then-not-is_connected-clause-led g c honest =
+pub returns-clause-fed : goal.returns-clause-fed
+returns-clause-fed g c up =
     let S = g.S.Station in
     let w = ways S.opens S.receives S.asking S.life in
-    unled w _ _ _ _ (sym c.is_connected.ensures ∙ c.if-not-is_connected.true)
-
-pub returns-clause-led : goal.returns-clause-led
-returns-clause-led g c honest =
-    let S = g.S.Station in
-    let w = ways S.opens S.receives S.asking S.life in
-    led w _ _ _ _ _ _ _ _ (sym c.is_connected.ensures ∙ c.if-not-is_connected.false) (c.take_octets-over.ensures.phase) c.finish.ensures.phase
-    (c.take_octets-over.ensures.leads (c.finish.ensures.held honest)) (c.finish.ensures.hung_up honest)
+    let took = c.take_octets-over.ensures in
+    let end = c.finish.ensures in
+    ⊎_elim (λ untaken. inl (cut _ _ _ _ _ _ _ _ _ _ untaken.0 untaken.1 untaken.2 end.phase end.hung_up end.want end.stored))
+    (λ goes. inr (called w _ _ _ _ _ _ _ _ _ _ _ _ _ _ end.held goes (took.phase ∙ up) took.want
+    end.phase (λ none. (end.same none).1) end.hung_up end.want end.stored)) took.fed
