@@ -2,5 +2,8 @@
 pub mod Budgets
 pub mod Callees
 pub mod Callers
+pub mod CentreNodes
+pub mod OutstationNodes
 pub mod Requests
 pub mod Runs
+pub mod Told

@@ -1,5 +1,8 @@
 //! What a node tells.
 
+ghost use Rattle.std.specs.Prelude.{◌≡◌, []};
+ghost use Rattle.dnp_nodes.specs.Told.{missed_in, told_in};
+
 use crate::slot::{Closing, Slot};
 use dnp_appfragment::Iin;
 use dnp_schedule::TaskKind;
@@ -46,7 +49,10 @@ pub struct Reports {
 
 impl Reports {
     /// Nothing was told.
-    pub fn new(alloc: Global) -> Reports {
+    pub fn new(alloc: Global) -> Reports
+        ensures told { told_in result ≡ [] }
+        ensures missed { missed_in result ≡ 0 }
+    {
         Reports {
             list: Vec::new(alloc),
             missed: 0,
@@ -62,17 +68,24 @@ impl Reports {
     }
 
     /// What was told, in order.
-    pub fn as_slice(&self) -> &[Report] {
+    pub fn as_slice(&self) -> &[Report]
+        ensures { result.now ≡ told_in self.now }
+    {
         &self.list
     }
 
     /// How many more there were, for which there was no room or no memory.
-    pub fn missed(&self) -> u64 {
+    pub fn missed(&self) -> u64
+        ensures { result ≡ missed_in self.now }
+    {
         self.missed
     }
 
     /// What was told was taken.
-    pub fn clear(&mut self) {
+    pub fn clear(&mut self)
+        ensures told { told_in self.new ≡ [] }
+        ensures missed { missed_in self.new ≡ 0 }
+    {
         self.list.clear();
         self.missed = 0;
     }

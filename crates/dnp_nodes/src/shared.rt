@@ -1,5 +1,8 @@
 //! What the links of a node share.
 
+ghost use Rattle.std.specs.Prelude.{◌≡◌, []};
+ghost use Rattle.dnp_nodes.specs.Told.{missed_in, told_in};
+
 use crate::report::Reports;
 use dnp_streams::StepRoom;
 use std::alloc::Global;
@@ -17,7 +20,10 @@ pub struct Shared {
 
 impl Shared {
     /// Nothing was told. Memory is asked of `alloc`.
-    pub fn new(alloc: Global) -> Shared {
+    pub fn new(alloc: Global) -> Shared
+        ensures told { told_in result.reports ≡ [] }
+        ensures missed { missed_in result.reports ≡ 0 }
+    {
         Shared {
             alloc,
             room: StepRoom::new(alloc),
