@@ -3,6 +3,7 @@ pub mod Budgets
 pub mod Callees
 pub mod Callers
 pub mod CentreNodes
+pub mod ConcentratorNodes
 pub mod OutstationNodes
 pub mod Requests
 pub mod Runs

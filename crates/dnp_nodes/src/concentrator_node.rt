@@ -1,6 +1,8 @@
 //! The node of a concentrator.
 
-ghost use Rattle.std.specs.Prelude.{◌<◌};
+ghost use Rattle.std.specs.Prelude.{◌≡◌, ◌<◌};
+ghost use Rattle.dnp_concentrator.specs.Concentrator.{core_of};
+ghost use Rattle.dnp_nodes.specs.ConcentratorNodes.{concentrator_in};
 
 mod links;
 mod places;
@@ -140,7 +142,9 @@ impl<Q: Drop, B: Drop> ConcentratorNode<Q, B> {
 
 impl<Q, B> ConcentratorNode<Q, B> {
     /// Gives its concentrator, as it stands.
-    pub fn into_concentrator(self) -> Concentrator<Q, B> {
+    pub fn into_concentrator(self) -> Concentrator<Q, B>
+        ensures { result ≡ concentrator_in self }
+    {
         let ConcentratorNode {
             concentrator,
             below: _,
@@ -153,6 +157,7 @@ impl<Q, B> ConcentratorNode<Q, B> {
     /// Shows the points that a centre reads.
     pub fn points_above(&self, centre: u8) -> &PointDb
         requires { centre < CENTRES }
+        ensures { result.now ≡ (core_of centre (concentrator_in self.now)).points }
     {
         self.concentrator.points_above(centre)
     }

@@ -1,5 +1,9 @@
 //! A concentrator's node, as a loop runs it.
 
+ghost use Rattle.std.specs.Prelude.{◌≡◌, []};
+ghost use Rattle.dnp_nodes.specs.ConcentratorNodes.{above_in, below_in, concentrator_in, reports_in};
+ghost use Rattle.dnp_nodes.specs.Told.{missed_in, told_in};
+
 use crate::concentrator_node::{ConcentratorNode, number_of};
 use crate::node::Node;
 use crate::report::Report;
@@ -115,15 +119,23 @@ impl<Q: PairLanes, B: Book> Node for ConcentratorNode<Q, B> {
         }
     }
 
-    fn reports(&self) -> &[Report] {
+    fn reports(&self) -> &[Report]
+        ensures { result.now ≡ told_in (reports_in self.now) }
+    {
         self.shared.reports.as_slice()
     }
 
-    fn missed(&self) -> u64 {
+    fn missed(&self) -> u64
+        ensures { result ≡ missed_in (reports_in self.now) }
+    {
         self.shared.reports.missed()
     }
 
-    fn clear_reports(&mut self) {
+    fn clear_reports(&mut self)
+        ensures told { told_in (reports_in self.new) ≡ [] }
+        ensures missed { missed_in (reports_in self.new) ≡ 0 }
+        ensures same { (concentrator_in self.new ≡ concentrator_in self.old) × (below_in self.new ≡ below_in self.old) × (above_in self.new ≡ above_in self.old) }
+    {
         self.shared.reports.clear();
     }
 }

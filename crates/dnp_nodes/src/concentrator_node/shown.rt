@@ -1,6 +1,11 @@
 //! What a concentrator's node shows of its stores. It lends none of them: its calls alone change them.
 
-ghost use Rattle.std.specs.Prelude.{◌≡◌, ◌<◌};
+ghost use Rattle.std.specs.Prelude.{◌≡◌, ◌<◌, length, IfOk, OnOk};
+ghost use Rattle.dnp_concentrator.specs.Concentrator.{book_of, queue_of, with_other_book};
+ghost use Rattle.dnp_controls.specs.Book.{rows_of};
+ghost use Rattle.dnp_eventbuf.specs.EventBuffer.{lane_at};
+ghost use Rattle.dnp_objects.specs.Lanes.{lane_number};
+ghost use Rattle.dnp_nodes.specs.ConcentratorNodes.{concentrator_in, with_concentrator};
 
 use crate::concentrator_node::ConcentratorNode;
 use dnp_controls::{Book, BookFault, Entry};
@@ -13,6 +18,7 @@ impl<Q: PairLanes, B> ConcentratorNode<Q, B> {
     pub fn waiting(&mut self, centre: u8, lane: Lane) -> u32
         requires { centre < CENTRES }
         ensures same { self.new ≡ self.old }
+        ensures value { Q.honest (queue_of (concentrator_in self.new)) → result ≡ length (lane_at (Q.contents (queue_of (concentrator_in self.new)) centre) (lane_number lane)).rows }
     {
         self.concentrator.queue().len(centre, lane)
     }
@@ -21,6 +27,7 @@ impl<Q: PairLanes, B> ConcentratorNode<Q, B> {
     pub fn dropped(&mut self, centre: u8, lane: Lane) -> u64
         requires { centre < CENTRES }
         ensures same { self.new ≡ self.old }
+        ensures value { Q.honest (queue_of (concentrator_in self.new)) → result ≡ (lane_at (Q.contents (queue_of (concentrator_in self.new)) centre) (lane_number lane)).lost }
     {
         self.concentrator.queue().lost(centre, lane)
     }
@@ -36,7 +43,11 @@ impl<Q, B: Book> ConcentratorNode<Q, B> {
         alloc: Global,
         from: u64,
         most: usize,
-    ) -> Result<Vec<Entry>, BookFault> {
+    ) -> Result<Vec<Entry>, BookFault>
+        ensures rows { B.honest (book_of (concentrator_in self.new)) → IfOk result (λ rows. rows.items ≡ rows_of (B.contents (book_of (concentrator_in self.old))).entries from most) }
+        ensures same { B.honest (book_of (concentrator_in self.new)) → OnOk result (B.contents (book_of (concentrator_in self.new)) ≡ B.contents (book_of (concentrator_in self.old))) }
+        ensures else_same { self.new ≡ with_concentrator self.old (with_other_book (concentrator_in self.old) (book_of (concentrator_in self.new))) }
+    {
         self.concentrator.book().rows(alloc, from, most)
     }
 }
