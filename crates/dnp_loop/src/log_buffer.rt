@@ -1,0 +1,97 @@
+//! Lines for a descriptor that is not waited for, as standard error, which may be a pipe that nobody reads.
+
+ghost use Rattle.std.specs.Prelude.{◌≡◌, ◌≤◌, ◌⊎◌, ◌++◌, [], drop, length, min, take, vec_len};
+ghost use Rattle.dnp_loop.specs.declared.log_buffer.TheConstants.{MAX_LOG, PIECE};
+
+use std::alloc::Global;
+
+/// How many octets of lines wait at most.
+pub const MAX_LOG: usize = 65_536;
+
+/// How many octets are written at once: a pipe that takes octets takes so many without a wait.
+pub const PIECE: usize = 4_096;
+
+/// How many octets a short line has at most.
+const SHORT: usize = 512;
+
+/// Lines that wait to be written. One that finds no room or no memory is lost as a whole, and counted.
+#[derive(Drop)]
+pub struct LogBuffer {
+    /// What waits, in order.
+    octets: Vec<u8>,
+    /// How many lines were lost since that was taken last.
+    lost: u64,
+    ghost bounded: { vec_len octets ≤ MAX_LOG },
+}
+
+impl LogBuffer {
+    ghost use Rattle.dnp_loop.specs.LogBuffers.{IsAdded, waiting_of};
+
+    /// Makes one in which nothing waits.
+    pub fn new(alloc: Global) -> LogBuffer
+        ensures { waiting_of result ≡ [] }
+    {
+        LogBuffer {
+            octets: Vec::new(alloc),
+            lost: 0,
+        }
+    }
+
+    /// Adds a line with its end, or counts it if there is no room for it.
+    pub fn add(&mut self, line: &[u8])
+        ensures { IsAdded (waiting_of self.old) line.now (waiting_of self.new) }
+    {
+        let room = MAX_LOG - self.octets.len();
+        if line.len() <= room && self.octets.extend_from_slice(line).is_ok() {
+            return;
+        }
+        self.lost = self.lost.saturating_add(1);
+    }
+
+    /// Takes all that waits in another one, if there is room and memory for it, and how many lines were lost there.
+    pub fn take_over(&mut self, other: &mut LogBuffer)
+        ensures { let before = waiting_of self.old in let more = waiting_of other.old in
+            ((waiting_of self.new ≡ before ++ more) × (waiting_of other.new ≡ [])) ⊎ ((waiting_of self.new ≡ before) × (waiting_of other.new ≡ more)) }
+    {
+        self.lost = self.lost.saturating_add(other.take_lost());
+        let room = MAX_LOG - self.octets.len();
+        if other.octets.len() <= room && self.octets.extend_from_slice(&other.octets).is_ok() {
+            other.octets.clear();
+        }
+    }
+
+    /// Says whether lines were lost since that was taken last, and there is room to say so.
+    pub fn may_tell_lost(&self) -> bool {
+        0 < self.lost && self.octets.len() <= MAX_LOG - SHORT
+    }
+
+    /// Says whether nothing waits.
+    pub fn is_empty(&self) -> bool {
+        self.octets.is_empty()
+    }
+
+    /// Gives the octets that are to be written next.
+    pub fn piece(&self) -> &[u8]
+        ensures { let waiting = waiting_of self.now in result.now ≡ take (min (length waiting) PIECE) waiting }
+    {
+        let count = self.octets.len().min(PIECE);
+        &self.octets[..count]
+    }
+
+    /// The first octets of those that wait were written, or all if there are fewer.
+    pub fn drop_written(&mut self, count: usize)
+        ensures { waiting_of self.new ≡ drop count (waiting_of self.old) }
+    {
+        let count = count.min(self.octets.len());
+        self.octets.drain(..count);
+    }
+
+    /// Gives how many lines were lost since that was asked last.
+    pub fn take_lost(&mut self) -> u64
+        ensures { waiting_of self.new ≡ waiting_of self.old }
+    {
+        let lost = self.lost;
+        self.lost = 0;
+        lost
+    }
+}
