@@ -1,4 +1,9 @@
+pub mod CalleeTurns
+pub mod CallerTurns
 pub mod Masters
 pub mod Outstations
 pub mod Phases
 pub mod Runs
+pub mod Told
+pub mod Turns
+pub mod Wants

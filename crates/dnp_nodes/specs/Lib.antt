@@ -1,6 +1,8 @@
 -- Definitions, by which contracts promise.
 pub mod Budgets
+pub mod CalleeCalls
 pub mod Callees
+pub mod CallerCalls
 pub mod Callers
 pub mod CentreNodes
 pub mod ConcentratorNodes
@@ -8,3 +10,4 @@ pub mod OutstationNodes
 pub mod Requests
 pub mod Runs
 pub mod Told
+pub mod Turns

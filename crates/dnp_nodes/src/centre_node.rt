@@ -11,7 +11,7 @@ ghost use Rattle.dnp_streams.specs.links.Links.{HasRoom, new_link};
 ghost use Rattle.dnp_streams.specs.streams.CentreLives.{centre_lives};
 ghost use Rattle.dnp_streams.specs.streams.Centres.{centre_hung_up, centre_seen};
 ghost use Rattle.dnp_nodes.specs.Callers.{IsDue, IsKept, IsWaiting, Rests, basis, basis_of, closed, is_up, link_of, output_of, over_budget, pace_of, port_of, schedule_of, want_of, with_clock, with_want};
-ghost use Rattle.dnp_nodes.specs.CentreNodes.{CentreCalls, CentreCuts, IsHonest, centre_in, link_in, reports_in, slot_in, wanted_in, with_centre, with_link};
+ghost use Rattle.dnp_nodes.specs.CentreNodes.{CentreCalls, CentreCuts, IsHonest, Issues, centre_in, link_in, reports_in, slot_in, wanted_in, with_centre, with_link};
 ghost use Rattle.dnp_nodes.specs.Told.{missed_in, told_in};
 ghost use Rattle.dnp_nodes.specs.declared.slot.Closing.TheVariants.{Memory};
 
@@ -149,12 +149,10 @@ impl<J: JournalStore, B: Book> CentreNode<J, B> {
     ///
     /// # Errors
     /// The centre's refusal.
-    pub fn issue(
-        &mut self,
-        now: u64,
-        substation: u8,
-        command: &Command,
-    ) -> Result<u64, IssueFault> {
+    pub fn issue(&mut self, now: u64, substation: u8, command: &Command) -> Result<u64, IssueFault>
+        ensures issued { Issues J.archive B.contents J.honest B.honest B.is_stopped now substation command.now self.old self.new result }
+        ensures slot { slot_in self.new ≡ slot_in self.old }
+    {
         let issued = self.centre.issue(self.shared.alloc, substation, command);
         self.link.look_for_control();
         self.link.tick(&mut self.shared, &mut self.centre, now);

@@ -1,9 +1,11 @@
 //! The node of a concentrator.
 
-ghost use Rattle.std.specs.Prelude.{◌≡◌, ◌<◌};
+ghost use Rattle.std.specs.Prelude.{◌≡◌, ◌<◌, length, min, option_copied, option_map, slice_get};
 ghost use Rattle.dnp_concentrator.specs.Concentrator.{core_of};
-ghost use Rattle.dnp_nodes.specs.ConcentratorNodes.{concentrator_in};
+ghost use Rattle.dnp_nodes.specs.Callers.{schedule_of};
+ghost use Rattle.dnp_nodes.specs.ConcentratorNodes.{above_in, below_in, concentrator_in};
 
+mod lent;
 mod links;
 mod places;
 mod shown;
@@ -65,7 +67,9 @@ impl<Q: Drop, B: Drop> Drop for ConcentratorNode<Q, B> {
 }
 
 /// The number of a place; 255 for those after it.
-fn number_of(place: usize) -> u8 {
+fn number_of(place: usize) -> u8
+    ensures { result ≡ min place 255 }
+{
     u8::try_from(place).unwrap_or(u8::MAX)
 }
 
@@ -163,7 +167,9 @@ impl<Q, B> ConcentratorNode<Q, B> {
     }
 
     /// Gives the schedule of the link to a substation, if it has that link.
-    pub fn schedule(&self, substation: u8) -> Option<&Schedule> {
+    pub fn schedule(&self, substation: u8) -> Option<&Schedule>
+        ensures { option_copied result ≡ option_map (λ link. schedule_of link) (slice_get (below_in self.now) substation) }
+    {
         match self.below.get(usize::from(substation)) {
             Some(caller) => Some(caller.schedule()),
             None => None,
@@ -171,7 +177,11 @@ impl<Q, B> ConcentratorNode<Q, B> {
     }
 
     /// The wall clock was set: at the moment 0 it would have shown this, in milliseconds since 1970 UTC.
-    pub fn set_clock(&mut self, clock: u64) {
+    pub fn set_clock(&mut self, clock: u64)
+        ensures concentrator { concentrator_in self.new ≡ concentrator_in self.old }
+        ensures above { above_in self.new ≡ above_in self.old }
+        ensures count { length (below_in self.new) ≡ length (below_in self.old) }
+    {
         for caller in &mut self.below {
             caller.set_clock(clock);
         }

@@ -1,7 +1,8 @@
 //! A concentrator's node, as a loop runs it.
 
 ghost use Rattle.std.specs.Prelude.{◌≡◌, []};
-ghost use Rattle.dnp_nodes.specs.ConcentratorNodes.{above_in, below_in, concentrator_in, reports_in};
+ghost use Rattle.dnp_nodes.specs.ConcentratorNodes.{Closes, Connects, Receives, Sends, TellsNext, above_in, below_in, concentrator_in, output_at, reports_in};
+ghost use Rattle.dnp_nodes.specs.Turns.{GoesItsWay, stores};
 ghost use Rattle.dnp_nodes.specs.Told.{missed_in, told_in};
 
 use crate::concentrator_node::{ConcentratorNode, number_of};
@@ -12,46 +13,59 @@ use dnp_controls::Book;
 use dnp_eventbuf::{CENTRES, PairLanes};
 
 impl<Q: PairLanes, B: Book> Node for ConcentratorNode<Q, B> {
-    fn connected(&mut self, slot: Slot, now: u64) {
+    fn connected(&mut self, slot: Slot, now: u64)
+        ensures call { Connects (stores Q.honest Q.contents B.honest B.is_stopped B.contents) slot now self.old self.new }
+        ensures way { GoesItsWay (stores Q.honest Q.contents B.honest B.is_stopped B.contents) (concentrator_in self.old) (concentrator_in self.new) }
+    {
         match slot {
             Slot::Below(number) => self.connected_below(number, now),
             Slot::Above(centre) => {
                 if centre < CENTRES {
+                    self.closed_above(centre, now, Closing::Replaced);
                     self.connected_above(centre, now);
                 }
             }
         }
     }
 
-    fn received(&mut self, slot: Slot, now: u64, octets: &[u8]) {
+    fn received(&mut self, slot: Slot, now: u64, octets: &[u8])
+        ensures call { Receives (stores Q.honest Q.contents B.honest B.is_stopped B.contents) slot now octets.now self.old self.new }
+        ensures way { GoesItsWay (stores Q.honest Q.contents B.honest B.is_stopped B.contents) (concentrator_in self.old) (concentrator_in self.new) }
+    {
         match slot {
             Slot::Below(number) => {
                 self.received_below(number, now, octets);
                 self.pass_up(number, now);
             }
             Slot::Above(centre) => {
-                if centre < CENTRES && self.received_above(centre, now, octets) {
-                    self.pass_down(now);
+                if centre < CENTRES {
+                    self.take_from_above(centre, now, octets);
                 }
             }
         }
     }
 
-    fn sent(&mut self, slot: Slot, now: u64, count: usize) {
+    fn sent(&mut self, slot: Slot, now: u64, count: usize)
+        ensures call { Sends (stores Q.honest Q.contents B.honest B.is_stopped B.contents) slot now count self.old self.new }
+        ensures way { GoesItsWay (stores Q.honest Q.contents B.honest B.is_stopped B.contents) (concentrator_in self.old) (concentrator_in self.new) }
+    {
         match slot {
             Slot::Below(number) => {
                 self.sent_below(number, now, count);
                 self.pass_up(number, now);
             }
             Slot::Above(centre) => {
-                if centre < CENTRES && self.sent_above(centre, now, count) {
-                    self.pass_down(now);
+                if centre < CENTRES {
+                    self.give_to_above(centre, now, count);
                 }
             }
         }
     }
 
-    fn closed(&mut self, slot: Slot, now: u64, cause: Closing) {
+    fn closed(&mut self, slot: Slot, now: u64, cause: Closing)
+        ensures call { Closes (stores Q.honest Q.contents B.honest B.is_stopped B.contents) slot now self.old self.new }
+        ensures way { GoesItsWay (stores Q.honest Q.contents B.honest B.is_stopped B.contents) (concentrator_in self.old) (concentrator_in self.new) }
+    {
         match slot {
             Slot::Below(number) => self.closed_below(number, now, cause),
             Slot::Above(centre) => {
@@ -62,48 +76,40 @@ impl<Q: PairLanes, B: Book> Node for ConcentratorNode<Q, B> {
         }
     }
 
-    fn tick(&mut self, now: u64) {
-        for place in 0..self.below.len() {
-            if self.deadline_below(place) <= now {
-                let number = number_of(place);
-                self.tick_below(number, now);
-                self.pass_up(number, now);
-            }
+    fn tick(&mut self, now: u64)
+        ensures { GoesItsWay (stores Q.honest Q.contents B.honest B.is_stopped B.contents) (concentrator_in self.old) (concentrator_in self.new) }
+    {
+        for number in 0..self.links() {
+            self.pass_below(number, now);
         }
-        for centre in 0..CENTRES {
-            if self.deadline_above(centre) <= now {
-                self.tick_above(centre, now);
-            }
-        }
+        self.pass_above(0, now);
+        self.pass_above(1, now);
     }
 
     fn next_deadline(&self) -> u64 {
         let mut next = self.deadline_above(0).min(self.deadline_above(1));
-        for place in 0..self.below.len() {
-            next = next.min(self.deadline_below(place));
+        for number in 0..self.links() {
+            next = next.min(self.deadline_below(number));
         }
         next
     }
 
-    fn next_want(&mut self) -> Option<Wanted> {
-        for place in 0..self.below.len() {
-            if let Some(caller) = self.below.get_mut(place)
-                && let Some(want) = caller.take_want()
-            {
-                let slot = Slot::Below(number_of(place));
+    fn next_want(&mut self) -> Option<Wanted>
+        ensures next { TellsNext result self.old self.new }
+        ensures same { concentrator_in self.new ≡ concentrator_in self.old }
+    {
+        for number in 0..self.links() {
+            if let Some(want) = self.take_below(number) {
+                let slot = Slot::Below(number);
                 return Some(Wanted { slot, want });
             }
         }
-        for centre in 0..CENTRES {
-            if let Some(want) = self.above.at_mut(centre).take_want() {
-                let slot = Slot::Above(centre);
-                return Some(Wanted { slot, want });
-            }
-        }
-        None
+        self.next_want_above()
     }
 
-    fn output(&self, slot: Slot) -> &[u8] {
+    fn output(&self, slot: Slot) -> &[u8]
+        ensures { result.now ≡ output_at self.now slot }
+    {
         match slot {
             Slot::Below(number) => match self.below.get(usize::from(number)) {
                 Some(caller) => caller.output(),

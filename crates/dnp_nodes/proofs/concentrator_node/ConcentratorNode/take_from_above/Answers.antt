@@ -1,0 +1,35 @@
+use Rattle.std.proofs.Common.{refl, subst, sym}
+use Rattle.dnp_nodes.specs.ConcentratorNodes.{PassesDownIf, concentrator_in}
+use Rattle.dnp_nodes.specs.Turns.{stores}
+use Rattle.dnp_nodes.proofs.Turns.{way_feeds_above, way_then}
+use Rattle.dnp_nodes.proofs.concentrator_node.ConcentratorNode.take_from_above.Goals as goal
+
+pub returns-then-received_above-clause-call : goal.returns-then-received_above-clause-call
+returns-then-received_above-clause-call g c =
+    let v = stores g.Q.PairLanes.honest g.Q.PairLanes.contents g.B.Book.honest g.B.Book.is_stopped g.B.Book.contents in (
+      c.received_above.result,
+      c.received_above.new.self,
+      c.received_above.ensures.call,
+      subst (λ b. PassesDownIf b v c.args.now c.received_above.new.self c.pass_down.new.self) (sym c.if-received_above.true) c.pass_down.ensures.passes,
+    )
+
+pub returns-then-received_above-clause-way : goal.returns-then-received_above-clause-way
+returns-then-received_above-clause-way g c =
+    let v = stores g.Q.PairLanes.honest g.Q.PairLanes.contents g.B.Book.honest g.B.Book.is_stopped g.B.Book.contents in
+    way_then v (concentrator_in c.args.self.now) (concentrator_in c.received_above.new.self) (concentrator_in c.pass_down.new.self)
+    (way_feeds_above v c.args.centre c.args.now c.args.octets.now c.received_above.result c.args.self.now c.received_above.new.self c.received_above.ensures.beside c.received_above.ensures.call)
+    c.pass_down.ensures.way
+
+pub returns-else-received_above-clause-call : goal.returns-else-received_above-clause-call
+returns-else-received_above-clause-call g c =
+    let v = stores g.Q.PairLanes.honest g.Q.PairLanes.contents g.B.Book.honest g.B.Book.is_stopped g.B.Book.contents in (
+      c.received_above.result,
+      c.received_above.new.self,
+      c.received_above.ensures.call,
+      subst (λ b. PassesDownIf b v c.args.now c.received_above.new.self c.received_above.new.self) (sym c.if-received_above.false) refl,
+    )
+
+pub returns-else-received_above-clause-way : goal.returns-else-received_above-clause-way
+returns-else-received_above-clause-way g c =
+    let v = stores g.Q.PairLanes.honest g.Q.PairLanes.contents g.B.Book.honest g.B.Book.is_stopped g.B.Book.contents in
+    way_feeds_above v c.args.centre c.args.now c.args.octets.now c.received_above.result c.args.self.now c.received_above.new.self c.received_above.ensures.beside c.received_above.ensures.call
