@@ -301,7 +301,8 @@ def run(words, folder, kit=None):
 def scratch(room):
     """A crate with one function and its proof, as the toolchain makes it, in a repository of its own."""
     shutil.copy(TOP / "HANDLES", room)
-    status, said = run("touch crates.txt && rt new crates/tally start_lib && echo tally: >crates.txt", room)
+    # (some toolchains write build files of another kind, beside which crates.txt is refused)
+    status, said = run("touch crates.txt && rt new crates/tally start_lib && echo tally: >crates.txt && rm -f BUILD.bazel crates/tally/BUILD.bazel", room)
     if status:
         raise SystemExit(said)
     return Path(room) / "crates/tally"
@@ -325,6 +326,9 @@ def tried(command, how, text):
         if scale.QUICK and how.proves:
             return lacks(how, scratch(ROOM.name))
         status, said = run(how.words, scratch(ROOM.name))
+        # (the documents say which releases of the toolchain take names)
+        if how.proves == "ci NAME.." and status == 2 and "usage: rt new" in said:
+            return "left out: this toolchain's rt ci takes no names"
     elif isinstance(how, Here):
         status, said = run(how.words, TOP)
     else:
