@@ -1,6 +1,6 @@
 //! Lines for a descriptor that is not waited for, as standard error, which may be a pipe that nobody reads.
 
-ghost use Rattle.std.specs.Prelude.{◌≡◌, ◌≤◌, ◌⊎◌, ◌++◌, [], drop, length, min, take, vec_len};
+ghost use Rattle.std.specs.Prelude.{◌≡◌, ◌≤◌, [], IsTrue, ◌↔◌, drop, length, min, take, vec_len};
 ghost use Rattle.dnp_loop.specs.declared.log_buffer.TheConstants.{MAX_LOG, PIECE};
 
 use std::alloc::Global;
@@ -25,11 +25,13 @@ pub struct LogBuffer {
 }
 
 impl LogBuffer {
-    ghost use Rattle.dnp_loop.specs.LogBuffers.{IsAdded, waiting_of};
+    ghost use Rattle.dnp_loop.specs.LogBuffers.{
+        IsAdded, IsTakenOver, Stands, lost_of, may_tell, waiting_of,
+    };
 
     /// Makes one in which nothing waits.
     pub fn new(alloc: Global) -> LogBuffer
-        ensures { waiting_of result ≡ [] }
+        ensures { Stands result [] 0 }
     {
         LogBuffer {
             octets: Vec::new(alloc),
@@ -39,7 +41,7 @@ impl LogBuffer {
 
     /// Adds a line with its end, or counts it if there is no room for it.
     pub fn add(&mut self, line: &[u8])
-        ensures { IsAdded (waiting_of self.old) line.now (waiting_of self.new) }
+        ensures { IsAdded self.old line.now self.new }
     {
         let room = MAX_LOG - self.octets.len();
         if line.len() <= room && self.octets.extend_from_slice(line).is_ok() {
@@ -50,8 +52,7 @@ impl LogBuffer {
 
     /// Takes all that waits in another one, if there is room and memory for it, and how many lines were lost there.
     pub fn take_over(&mut self, other: &mut LogBuffer)
-        ensures { let before = waiting_of self.old in let more = waiting_of other.old in
-            ((waiting_of self.new ≡ before ++ more) × (waiting_of other.new ≡ [])) ⊎ ((waiting_of self.new ≡ before) × (waiting_of other.new ≡ more)) }
+        ensures { IsTakenOver self.old other.old self.new other.new }
     {
         self.lost = self.lost.saturating_add(other.take_lost());
         let room = MAX_LOG - self.octets.len();
@@ -61,12 +62,16 @@ impl LogBuffer {
     }
 
     /// Says whether lines were lost since that was taken last, and there is room to say so.
-    pub fn may_tell_lost(&self) -> bool {
+    pub fn may_tell_lost(&self) -> bool
+        ensures { result ≡ may_tell self.now }
+    {
         0 < self.lost && self.octets.len() <= MAX_LOG - SHORT
     }
 
     /// Says whether nothing waits.
-    pub fn is_empty(&self) -> bool {
+    pub fn is_empty(&self) -> bool
+        ensures { IsTrue result ↔ (waiting_of self.now ≡ []) }
+    {
         self.octets.is_empty()
     }
 
@@ -80,7 +85,7 @@ impl LogBuffer {
 
     /// The first octets of those that wait were written, or all if there are fewer.
     pub fn drop_written(&mut self, count: usize)
-        ensures { waiting_of self.new ≡ drop count (waiting_of self.old) }
+        ensures { Stands self.new (drop count (waiting_of self.old)) (lost_of self.old) }
     {
         let count = count.min(self.octets.len());
         self.octets.drain(..count);
@@ -88,7 +93,8 @@ impl LogBuffer {
 
     /// Gives how many lines were lost since that was asked last.
     pub fn take_lost(&mut self) -> u64
-        ensures { waiting_of self.new ≡ waiting_of self.old }
+        ensures given { result ≡ lost_of self.old }
+        ensures kept { Stands self.new (waiting_of self.old) 0 }
     {
         let lost = self.lost;
         self.lost = 0;

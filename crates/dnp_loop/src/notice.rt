@@ -41,11 +41,11 @@ pub struct Notices {
 }
 
 impl Notices {
-    ghost use Rattle.dnp_loop.specs.Notices.{told_of};
+    ghost use Rattle.dnp_loop.specs.Notices.{IsTold, Stands, missed_of, told_of};
 
     /// Nothing was told.
     pub fn new(alloc: Global) -> Notices
-        ensures { told_of result ≡ [] }
+        ensures { Stands result [] 0 }
     {
         Notices {
             list: Vec::new(alloc),
@@ -54,7 +54,9 @@ impl Notices {
     }
 
     /// Tells this, or counts it if there is no room for it.
-    pub(crate) fn tell(&mut self, notice: Notice) {
+    pub(crate) fn tell(&mut self, notice: Notice)
+        ensures { IsTold self.old notice self.new }
+    {
         if self.list.len() < MAX_NOTICES && self.list.push(notice).is_ok() {
             return;
         }
@@ -69,13 +71,15 @@ impl Notices {
     }
 
     /// Gives how many more there were, for which there was no room or no memory.
-    pub fn missed(&self) -> u64 {
+    pub fn missed(&self) -> u64
+        ensures { result ≡ missed_of self.now }
+    {
         self.missed
     }
 
     /// What was told was taken.
     pub fn clear(&mut self)
-        ensures { told_of self.new ≡ [] }
+        ensures { Stands self.new [] 0 }
     {
         self.list.clear();
         self.missed = 0;
