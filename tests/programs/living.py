@@ -1,9 +1,10 @@
 #!/usr/bin/env python3
 """A concentrator that lives: `dnp concentrate --every` over two substations, one of which goes away and is silent, and two centres, one
-of which is silent, sends half a frame, reads nothing, asks without a pause, or does not confirm: rounds go on, each centre is served
-by itself, and what the one doesn't take stands in the queue. And `dnp centre --every`, whose concentrator comes late. Prints a line
+of which is silent, sends half a frame, reads nothing, asks without a pause, does not confirm, or connects again as its confirm is
+unread: rounds go on, each centre is served by itself, and what the one doesn't take stands in the queue. And `dnp centre --every`, whose concentrator comes late. Prints a line
 'ok CASE' or 'FAILED CASE' for each case."""
 import re
+import signal
 import socket
 import sqlite3
 import subprocess
@@ -47,6 +48,11 @@ base = [0, 0, {first}, {number}, 0]
 REPLAY = "".join(f"{500 * k} change analog 0 {k} 01 now\n" for k in range(1, 6))
 # a READ of class 0, which is answered with all points, and the beginning of it
 READ = frame(0xC4, CONCENTRATOR, SECOND, bytes([0xC0, 0xC0, 1, 60, 1, 6]))
+# a READ of the events, and the CONFIRM of its answer
+EVENTS = frame(0xC4, CONCENTRATOR, SECOND, bytes([0xC0, 0xC0, 1, 60, 2, 6, 60, 3, 6, 60, 4, 6]))
+CONFIRM = frame(0xC4, CONCENTRATOR, SECOND, bytes([0xC1, 0xC0, 0]))
+# the octets of an event in an answer: the index, the flags, the value and the time
+EVENT = 13
 # The line with which a program begins its log: which build it is.
 STARTED = re.compile(r"\d{4}-\d\d-\d\dT\d\d:\d\d:\d\d\.\d{3}Z started: dnp [\d.]+ \((?:proved.*|built without proof|build unknown)\)\n")
 QUIET = {"stdin": subprocess.DEVNULL, "stdout": subprocess.DEVNULL, "stderr": subprocess.DEVNULL}
@@ -267,6 +273,58 @@ def lost_substation(living, first):
                  "" if after - before >= 3 and rows >= after - before else f"{rows} rows, {before} then {after}")
 
 
+def user_data(octets):
+    """The user data of the link frame with which these octets begin, or nothing if it isn't whole."""
+    length = octets[2] - 5 if len(octets) >= 10 else 0
+    blocks = [octets[k : k + 18] for k in range(10, 10 + length + (length + 15) // 16 * 2, 18)]
+    return b"".join(block[:-2] for block in blocks) if length and sum(map(len, blocks)) == length + 2 * len(blocks) else b""
+
+
+def first_event(stream):
+    """Asks for the events. The octets of the first one in the answer, which has one link frame, or nothing if there is none."""
+    stream.sendall(EVENTS)
+    octets = b""
+    while not user_data(octets):
+        piece = stream.recv(4096)
+        if not piece:
+            raise ValueError("the connection ended")
+        octets += piece
+    # (behind the octet of the transport function, the four of the response's header and the five of the object header)
+    return user_data(octets)[10 : 10 + EVENT]
+
+
+def replaced(room):
+    """The second centre connects again while its confirm waits in its connection, and the concentrator asks a silent substation: what
+    was confirmed doesn't come again."""
+    living = Living(room)
+    try:
+        living.substation(0)
+        living.substation(1, "silent")
+        concentrator = living.concentrate("--new", "--every", "200", "--forever")
+        confirmed = again = 0
+        for _ in range(12):
+            time.sleep(0.55)
+            old = living.connect(2)
+            event = first_event(old)
+            # (by now the concentrator waits for the silent substation)
+            time.sleep(0.1)
+            concentrator.send_signal(signal.SIGSTOP)
+            old.sendall(CONFIRM)
+            new = living.connect(2)
+            concentrator.send_signal(signal.SIGCONT)
+            came = first_event(new)
+            new.sendall(CONFIRM)
+            confirmed += bool(event)
+            again += bool(event) and event == came
+            new.shutdown(socket.SHUT_WR)
+            new.close()
+            old.close()
+        return judge("what-was-confirmed-comes-once-where-a-centre-connects-again",
+                     f"{again} of {confirmed} came again" if again or confirmed < 6 else "")
+    finally:
+        living.end()
+
+
 def stands(living, concentrator):
     """What the second centre never took stands in the queue for it."""
     concentrator.kill()
@@ -338,7 +396,7 @@ def unsolicited(room):
 
 def main():
     good = True
-    for case in (over_substations, unsolicited):
+    for case in (over_substations, unsolicited, replaced):
         with tempfile.TemporaryDirectory(prefix="living-") as room:
             try:
                 good = case(room) and good

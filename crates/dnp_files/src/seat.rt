@@ -19,6 +19,9 @@ use std::rt::Clock;
 /// How long it is waited after no connection could be had, in milliseconds.
 const AFTER_MS: u64 = 1_000;
 
+/// How long a connection is read out at most before another takes its place, in milliseconds.
+const READ_OUT_MS: u64 = 50;
+
 /// How long a write waits, in milliseconds, before what is left of it stands over to the next turn.
 const WRITE_MS: u64 = 1;
 
@@ -97,19 +100,53 @@ impl Seat {
         }
     }
 
-    /// Lets a connection that has come by this moment take the place.
+    /// Serves the centre for a turn, if it is connected, and tells how many fragments came whole. Where a store or memory fails, the exit
+    /// status is told.
+    fn serve_guest<Q: PairLanes, B: Book, R: AllocGlobal + Eprint + Terminal + Clock>(
+        &mut self,
+        rt: &R,
+        room: &mut StepRoom,
+        concentrator: &mut Concentrator<Q, B>,
+        centre: u8,
+        span: Span,
+    ) -> Result<u64, ExitCode>
+        requires { centre < CENTRES }
+    {
+        let turned = match &mut self.guest {
+            Some(guest) => guest.serve(rt, room, concentrator, centre, span),
+            None => return Ok(0),
+        };
+        match turned {
+            Turned::Stands(fragments) => Ok(fragments),
+            Turned::Ended => {
+                self.guest = None;
+                Ok(0)
+            }
+            Turned::Lost => Err(ExitCode::from(exit::FAULT)),
+        }
+    }
+
+    /// Lets a connection that has come by this moment take the place. The one before is read out first, for a turn at most: its last
+    /// confirm may wait there, and the events that it confirms would come again. Where a store or memory fails, the exit status is told.
     fn look<Q: PairLanes, B: Book, R: AllocGlobal + Eprint + Terminal + Clock>(
         &mut self,
         rt: &R,
+        room: &mut StepRoom,
         concentrator: &mut Concentrator<Q, B>,
         centre: u8,
         now: u64,
-    )
+    ) -> Result<(), ExitCode>
         requires { centre < CENTRES }
     {
         let Some(caller) = self.next_caller(rt, now) else {
-            return;
+            return Ok(());
         };
+        let until = now.saturating_add(READ_OUT_MS);
+        let span = Span {
+            wait_ms: WRITE_MS,
+            until,
+        };
+        self.serve_guest(rt, room, concentrator, centre, span)?;
         let peer = caller.peer;
         self.hang_up(rt, concentrator, centre, Ending::Taken(peer));
         tell(rt, peer, centre, News::Connected);
@@ -119,6 +156,7 @@ impl Seat {
             Ok(()) => self.guest = Some(guest),
             Err(cause) => guest.tell_end(rt, centre, Ending::Unprepared(&cause)),
         }
+        Ok(())
     }
 
     /// Serves the centre for a turn that begins at this moment, and tells whether a fragment came whole. Where a store or memory
@@ -134,7 +172,7 @@ impl Seat {
     ) -> Result<bool, ExitCode>
         requires { centre < CENTRES }
     {
-        self.look(rt, concentrator, centre, now);
+        self.look(rt, room, concentrator, centre, now)?;
         let idle_ms = self.idle.saturating_mul(1_000);
         let is_idle = match &self.guest {
             Some(guest) => guest.is_idle(now, idle_ms),
@@ -144,17 +182,6 @@ impl Seat {
             let how = Ending::Idle(self.idle);
             self.hang_up(rt, concentrator, centre, how);
         }
-        let turned = match &mut self.guest {
-            Some(guest) => guest.serve(rt, room, concentrator, centre, span),
-            None => return Ok(false),
-        };
-        match turned {
-            Turned::Stands(fragments) => Ok(fragments > 0),
-            Turned::Ended => {
-                self.guest = None;
-                Ok(false)
-            }
-            Turned::Lost => Err(ExitCode::from(exit::FAULT)),
-        }
+        Ok(self.serve_guest(rt, room, concentrator, centre, span)? > 0)
     }
 }
