@@ -26,7 +26,12 @@ pub struct LogBuffer {
 
 impl LogBuffer {
     ghost use Rattle.dnp_loop.specs.LogBuffers.{
-        IsAdded, IsTakenOver, Stands, lost_of, may_tell, waiting_of,
+      IsAdded,
+      IsTakenOver,
+      Stands,
+      lost_of,
+      may_tell,
+      waiting_of,
     };
 
     /// Makes one in which nothing waits.
