@@ -49,8 +49,9 @@ of() { echo "${1%% *}"; }
 # Words
 for wrong in "concentrate $stores --port 20100" "concentrate $stores --port2 20101" "concentrate $stores --below 20000" \
     "concentrate $stores --bind 127.0.0.1" 'centre --journal j.db --controls b.db --port 20100' 'outstation --station 0 --port 20000' \
-    'outstation --station 0 --bind 0.0.0.0'; do
-    option=$(grep -o -e '--port2\|--port\|--below\|--bind' <<<"$wrong")
+    'outstation --station 0 --bind 0.0.0.0' "concentrate $stores --rounds 2" "concentrate $stores --every 100" \
+    'centre --journal j.db --controls b.db --every 100'; do
+    option=$(grep -o -e '--port2\|--port\|--below\|--bind\|--rounds\|--every' <<<"$wrong")
     expect "not-with-a-network:$wrong" 2 '' '' $wrong --plan plan.toml --network n.toml
     grep '^error: the argument .* cannot be used with ' err | grep -F -- "'--network <FILE>'" | grep -qF -- "'$option <" &&
         echo "ok tells-not-with-a-network:$wrong" || { echo "FAILED tells-not-with-a-network:$wrong" && cat err; }

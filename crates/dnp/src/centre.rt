@@ -8,7 +8,7 @@ use crate::build::note_start;
 use crate::centre::in_network::run_in_network;
 use crate::numbers::{MAX_EVERY, number_given};
 use crate::options::{
-    defaulted, flag, network, plan, required, required_unless, subcommand, valued,
+    defaulted, flag, network, plan, required, required_unless, subcommand, valued, without_every,
 };
 use crate::plan_file::plan_given;
 use crate::store_files::files_given;
@@ -16,7 +16,8 @@ use clap::{ArgMatches, Command};
 use dnp_concentrator::{MAX_SUBSTATIONS, Plan};
 use dnp_decode::Moment;
 use dnp_files::{
-    CentreWords, PollPace, StoreFile, Target, ends_to_centre, has_output, port_here, run_centre,
+    CentreWords, Driving, PollPace, StoreFile, Target, ends_to_centre, has_output, port_here,
+    run_centre,
 };
 use dnp_lines::{SentCode, Wanted, Wrong};
 use dnp_network::CentreOf;
@@ -63,6 +64,12 @@ A POLL
   more. The concentrator may be waiting for each of them in turn.
   With --every a poll begins each MS milliseconds, or at once if the last one took longer. Each has
   a connection of its own. There are --polls polls, or with --forever no end.
+
+PERSISTENT CONNECTION
+  With --network the centre keeps its connection open, and polls by the keys of polling in [centre]
+  of the network file. It runs until a signal ends it. It connects again 1 s after a loss, and after
+  each further loss it waits twice as long, a minute at most. A control of --issue is issued once,
+  at the start. Nothing is printed on standard output. docs/network.md has more.
 
 HOSTS AND PORTS
   Each centre has a journal, a book of controls and a port of its own. Without --network the
@@ -138,11 +145,11 @@ const NUMBER: &str = "The number of the centre, 1 or 2";
 
 const ISSUE: &str = "A control to issue, as in '0 trip 3 100ms'";
 
-const EVERY: &str = "Begin a poll each so many milliseconds, 1 to 86400000";
+const EVERY: &str = "Begin a poll each so many ms, 1 to 86400000; excludes --network";
 
-const POLLS: &str = "The number of polls, 1 to 1000000; needs --every";
+const POLLS: &str = "The number, 1 to 1000000; needs --every, excludes --network";
 
-const FOREVER: &str = "Poll until a signal ends it; needs --every, excludes --polls";
+const FOREVER: &str = "Run until a signal ends it; needs --every or --network, excludes --polls";
 
 const NEW: &str = "Make the journal and the book of controls, in the first run";
 
@@ -156,9 +163,11 @@ pub(crate) fn command<'a>(alloc: Global) -> Result<Command<'a>, AllocError> {
         required_unless("port", "P", "network", PORT),
         defaulted("number", "N", "1", NUMBER),
         valued("issue", "TEXT", ISSUE),
-        valued("every", "MS", EVERY),
-        defaulted("polls", "N", "1", POLLS).needing("every"),
-        flag("forever", FOREVER).excluding("polls").needing("every"),
+        valued("every", "MS", EVERY).excluding("network"),
+        defaulted("polls", "N", "1", POLLS)
+            .excluding("network")
+            .needing("every"),
+        flag("forever", FOREVER).excluding("polls"),
         flag("new", NEW),
     ];
     subcommand(alloc, NAME, ABOUT, AFTER, &choices)
@@ -194,7 +203,12 @@ pub(crate) struct Words<'a> {
 
 impl<'a> Words<'a> {
     /// What the centre is to do, where it finds the concentrator so.
-    pub(crate) fn run_with(&self, concentrator: Target, names: Names<'a>) -> CentreWords<'a> {
+    pub(crate) fn run_with(
+        &self,
+        concentrator: Target,
+        names: Names<'a>,
+        standing: Option<Driving>,
+    ) -> CentreWords<'a> {
         CentreWords {
             journal: self.journal,
             controls: self.controls,
@@ -202,6 +216,7 @@ impl<'a> Words<'a> {
             names,
             issue: self.issue,
             pace: self.pace,
+            standing,
         }
     }
 }
@@ -244,7 +259,7 @@ fn words_given<'a, R: Eprint>(rt: &R, given: &ArgMatches<'a>) -> Option<Words<'a
 /// How many polls there are, and when they begin. Where a word is wrong, that is printed.
 fn pace_given<R: Eprint>(rt: &R, given: &ArgMatches<'_>) -> Option<PollPace> {
     if given.get_str("every").is_none() {
-        return Some(PollPace::Once);
+        return without_every(rt, given, PollPace::Once);
     }
     let every_ms = number_given(rt, given, "every", "MS", 1, MAX_EVERY)?;
     let count = number_given(rt, given, "polls", "N", 1, 1_000_000)?;
@@ -335,5 +350,5 @@ fn run_here(rt: &HostRuntime, words: &Words<'_>, port: u16, plan: Plan) -> ExitC
         place: port_here(port),
         awaited: ends_to_centre(number),
     };
-    run_centre(rt, &words.run_with(concentrator, Names::NONE), plan)
+    run_centre(rt, &words.run_with(concentrator, Names::NONE, None), plan)
 }

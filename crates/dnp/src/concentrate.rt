@@ -10,7 +10,7 @@ use crate::build::note_start;
 use crate::concentrate::in_network::run_in_network;
 use crate::numbers::{MAX_EVERY, MAX_IDLE, number_given};
 use crate::options::{
-    defaulted, flag, network, plan, required, required_unless, subcommand, valued,
+    defaulted, flag, network, plan, required, required_unless, subcommand, valued, without_every,
 };
 use crate::plan_file::plan_given;
 use crate::store_files::files_given;
@@ -18,7 +18,7 @@ use clap::{ArgMatches, Command};
 use dnp_concentrator::Plan;
 use dnp_eventbuf::CENTRES;
 use dnp_files::{
-    ConcentratorWords, RoundPace, Served, StoreFile, Substations, ends_from_centre,
+    ConcentratorWords, Drivings, RoundPace, Served, StoreFile, Substations, ends_from_centre,
     run_concentrator,
 };
 use dnp_lines::Wrong;
@@ -75,9 +75,18 @@ HOSTS AND PORTS
   Without a port for the second centre only the first is served. Events for the second wait in event
   buffers (lanes) of their own. A full buffer drops its oldest event, and counts it.
 
+PERSISTENT CONNECTIONS
+  With --network the concentrator keeps its connections open, and polls by the keys of polling in
+  the network file. It runs until a signal ends it. No station waits for another one. It connects
+  again 1 s after a loss, and after each further loss it waits twice as long, a minute at most. A
+  centre's connection ends if no complete frame of this centre comes for three times the
+  keepalive_ms of [centre]. Nothing is printed on standard output. A store or memory that fails ends
+  the program with status 3. docs/network.md has more.
+
 A ROUND
-  In a round the concentrator connects to each substation in turn. It reads all events (classes 1,
-  2 and 3) and all present values (class 0), sends the pending controls, and disconnects.
+  Without --network the concentrator works in rounds. In a round it connects to each substation in
+  turn. It reads all events (classes 1, 2 and 3) and all present values (class 0), sends the pending
+  controls, and disconnects.
   A substation gives no events in a round in these cases. The log has the reason, and the round goes
   on with the next substation.
 
@@ -109,10 +118,11 @@ ROUNDS BY THE CENTRES
   log has the reason if it fails.
 
 CONTROLS
-  The controls of both centres go into one book, and to the substation in the next round. While a
-  select of one centre is active, a select or a direct operate of the other for the same output has
-  the status 5, ALREADY_ACTIVE. A select is active until it is operated, until another request of
-  the same centre, until its connection ends, or for the plan's select_ms.
+  The controls of both centres go into one book, and to the substation in the next round, or with
+  --network at once. While a select of one centre is active, a select or a direct operate of the
+  other for the same output has the status 5, ALREADY_ACTIVE. A select is active until it is
+  operated, until another request of the same centre, until its connection ends, or for the plan's
+  select_ms.
 
 OUTPUT
   Each round has a line on standard output, 'round K rows R'. K is the number of the round, from 1.
@@ -165,8 +175,8 @@ LOG
 
     centre 2: no lane of the queue for it is full any more: 197 events were dropped
 
-  With --every each connection of a centre has a line at its beginning and at its end. The address
-  is the centre's. 'served' has the number of complete fragments.
+  With --every or --network each connection of a centre has a line at its beginning and at its end.
+  The address is the centre's. 'served' has the number of complete fragments.
 
     127.0.0.1:51234 centre 1 connected
     127.0.0.1:51234 centre 1 ended, served 3: the master closed the connection
@@ -197,11 +207,11 @@ const PORT2: &str = "The TCP port for the second centre, 1 to 65535; excludes --
 
 const BELOW: &str = "The TCP port of substation 0, with S at P + S; needed without --network";
 
-const ROUNDS: &str = "The number of rounds, 1 to 1000000";
+const ROUNDS: &str = "The number of rounds, 1 to 1000000; excludes --network";
 
-const EVERY: &str = "Begin a round each so many milliseconds, 1 to 86400000";
+const EVERY: &str = "Begin a round each so many ms, 1 to 86400000; excludes --network";
 
-const FOREVER: &str = "Do rounds until a signal ends it; needs --every, excludes --rounds";
+const FOREVER: &str = "Run until a signal ends it; needs --every or --network, excludes --rounds";
 
 const IDLE: &str = "The most seconds without a frame, 1 to 86400; needs --every";
 
@@ -220,11 +230,9 @@ pub(crate) fn command<'a>(alloc: Global) -> Result<Command<'a>, AllocError> {
         valued("port2", "P", PORT2).excluding("network"),
         bind(),
         required_unless("below", "P", "network", BELOW),
-        defaulted("rounds", "N", "1", ROUNDS),
-        valued("every", "MS", EVERY),
-        flag("forever", FOREVER)
-            .excluding("rounds")
-            .needing("every"),
+        defaulted("rounds", "N", "1", ROUNDS).excluding("network"),
+        valued("every", "MS", EVERY).excluding("network"),
+        flag("forever", FOREVER).excluding("rounds"),
         defaulted("idle", "SECONDS", "60", IDLE).needing("every"),
         flag("new", NEW),
         flag("migrate", MIGRATE).excluding("new"),
@@ -291,6 +299,7 @@ impl<'a> Words<'a> {
         second: Option<Served>,
         substations: Substations<'a>,
         names: Names<'a>,
+        standing: Option<Drivings<'a>>,
     ) -> ConcentratorWords<'a> {
         ConcentratorWords {
             queue: self.queue,
@@ -301,6 +310,7 @@ impl<'a> Words<'a> {
             names,
             pace: self.pace,
             migrates: self.migrates,
+            standing,
         }
     }
 }
@@ -358,7 +368,7 @@ fn pace_given<R: Eprint>(rt: &R, given: &ArgMatches<'_>) -> Option<RoundPace> {
     let count = number_given(rt, given, "rounds", "N", 1, 1_000_000)?;
     let idle = number_given(rt, given, "idle", "SECONDS", 1, MAX_IDLE)?;
     if given.get_str("every").is_none() {
-        return Some(RoundPace::ByCentres { rounds: count });
+        return without_every(rt, given, RoundPace::ByCentres { rounds: count });
     }
     let every_ms = number_given(rt, given, "every", "MS", 1, MAX_EVERY)?;
     let is_forever = given.get_flag("forever");
@@ -380,7 +390,7 @@ pub(crate) fn run(rt: &HostRuntime, given: &ArgMatches<'_>) -> anyhow::Result<Ex
     };
     match words.whereabouts {
         Whereabouts::Here(ports) => Ok(run_here(rt, &words, &ports, &plan)),
-        Whereabouts::Network(path) => run_in_network(rt, &words, path, &plan),
+        Whereabouts::Network(path) => run_in_network(rt, &words, path, plan),
     }
 }
 
@@ -398,7 +408,7 @@ fn run_here(rt: &HostRuntime, words: &Words<'_>, ports: &Ports, plan: &Plan) -> 
         None => None,
     };
     let substations = Substations::FromPort(ports.below);
-    let run = words.run_with(first, second, substations, Names::NONE);
+    let run = words.run_with(first, second, substations, Names::NONE, None);
     run_concentrator(rt, &run, plan)
 }
 

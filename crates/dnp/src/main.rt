@@ -12,6 +12,7 @@ mod check;
 mod check_words;
 mod concentrate;
 mod decode;
+mod driven;
 mod hosts;
 mod inputs;
 mod looking;

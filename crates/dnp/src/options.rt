@@ -1,7 +1,8 @@
 //! The options of the subcommands, and what `clap` has to know of them. A [`Command`] is owned by few functions with few ways
 //! out, since letting one go is dear to prove: a subcommand is a list of its options, which own nothing.
 
-use clap::{Arg, ArgAction, Command};
+use clap::{Arg, ArgAction, ArgMatches, Command};
+use dnp_lines::Wrong;
 use std::alloc::{AllocError, Global};
 
 /// What comes with an option.
@@ -178,4 +179,18 @@ pub(crate) fn subcommand<'a>(
         command = with_choice(alloc, command, choice)?;
     }
     Ok(command)
+}
+
+/// The pace of a program without `--every`, unless `--forever` is given, which needs it or `--network`. That is printed.
+pub(crate) fn without_every<R: Eprint, P: Drop>(
+    rt: &R,
+    given: &ArgMatches<'_>,
+    pace: P,
+) -> Option<P> {
+    if given.get_flag("forever") && given.get_str("network").is_none() {
+        let wrong = Wrong::Needs("--forever", "--every");
+        let _ = eprintln!(rt; "{wrong}");
+        return None;
+    }
+    Some(pace)
 }

@@ -5,6 +5,7 @@ ghost use Rattle.std.specs.Prelude.{◌<◌};
 use crate::lines::Line;
 use dnp_concentrator::{Cause, Plan, SubPlan};
 use dnp_eventbuf::{CENTRES, PairLanes};
+use dnp_nodes::ConcentratorNode;
 use dnp_notices::{DropLine, Dropping, Drops};
 use dnp_objects::{Kind, LANES, Lane};
 use dnp_pointdb::{Block, Point, PointPlan, Points};
@@ -36,7 +37,7 @@ impl Accounts {
     ) -> Option<Accounts> {
         let mut accounts = Vec::new(alloc);
         for substation in plan.substations.as_slice() {
-            let points = points_of(alloc, slice::from_ref(substation), false)?;
+            let points = substation_points(alloc, substation)?;
             accounts.push(Account::new(points)).ok()?;
         }
         Some(Accounts {
@@ -79,6 +80,22 @@ fn drops_of<Q: PairLanes>(queue: &mut Q, centre: u8) -> Drops
     }
 }
 
+/// What the queue of a node for a centre says of the rows that its full lanes dropped.
+pub(crate) fn drops_of_node<Q: PairLanes, B>(node: &mut ConcentratorNode<Q, B>, centre: u8) -> Drops
+    requires { centre < CENTRES }
+{
+    let mut lost = 0u64;
+    for number in 0..LANES {
+        if let Some(lane) = Lane::numbered(number) {
+            lost = lost.saturating_add(node.dropped(centre, lane));
+        }
+    }
+    Drops {
+        is_full: node.is_dropping(centre),
+        lost,
+    }
+}
+
 /// Says that rows for a centre have begun to be dropped, or that it has ended, and tells whether they are.
 fn followed<R: Eprint + Terminal + Clock>(
     rt: &R,
@@ -94,8 +111,18 @@ fn followed<R: Eprint + Terminal + Clock>(
 
 /// The concentrator, of which nothing was asked yet, with the points that it has above; nothing where there is no memory for that.
 pub(crate) fn above(alloc: Global, plan: &Plan) -> Option<Account> {
-    let points = points_of(alloc, plan.substations.as_slice(), true)?;
+    let points = points_above(alloc, plan)?;
     Some(Account::new(points))
+}
+
+/// The points that the concentrator has above; nothing where there is no memory for them.
+pub(crate) fn points_above(alloc: Global, plan: &Plan) -> Option<PointPlan> {
+    points_of(alloc, plan.substations.as_slice(), true)
+}
+
+/// The points of a substation; nothing where there is no memory for them.
+pub(crate) fn substation_points(alloc: Global, substation: &SubPlan) -> Option<PointPlan> {
+    points_of(alloc, slice::from_ref(substation), false)
 }
 
 /// Says on standard error that memory ran out, and gives the exit status of a fault.

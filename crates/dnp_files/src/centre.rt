@@ -2,6 +2,8 @@
 
 ghost use Rattle.dnp_concentrator.specs.Plan.{KeepsLimits};
 
+use crate::centre_run::run_standing_centre;
+use crate::driving::{Driving, wait_for};
 use crate::files;
 use crate::files::{Opens, StoreFile};
 use crate::lines::Line;
@@ -12,6 +14,7 @@ use crate::sites::Target;
 use dnp_concentrator::{Centre, MAX_TIMER_MS, Plan};
 use dnp_controls::Book;
 use dnp_eventbuf::JournalStore;
+use dnp_loop::StandardError;
 use dnp_objects::Command;
 use dnp_store::{ControlBook, Journal};
 use dnp_tcp::{Names, exit, say};
@@ -36,6 +39,20 @@ pub struct CentreWords<'a> {
     pub issue: Option<(u8, Command)>,
     /// How many polls there are, and when they begin.
     pub pace: PollPace,
+    /// How the concentrator is polled on a connection that stands, if it is.
+    pub standing: Option<Driving>,
+}
+
+impl<'a> CentreWords<'a> {
+    /// The polls over this plan.
+    fn polls_of(&self, plan: &'a Plan) -> Polls<'a> {
+        Polls {
+            plan,
+            concentrator: self.concentrator,
+            names: self.names,
+            pace: self.pace,
+        }
+    }
 }
 
 /// Lets a centre of this plan wait for the concentrator as long as that may be waiting for each of the substations in turn, and
@@ -55,7 +72,10 @@ fn wait_for_each(plan: &mut Plan)
 pub fn run_centre(rt: &HostRuntime, words: &CentreWords<'_>, mut plan: Plan) -> ExitCode
     requires { KeepsLimits plan }
 {
-    wait_for_each(&mut plan);
+    match words.standing {
+        Some(driving) => wait_for(&mut plan, driving.response_ms),
+        None => wait_for_each(&mut plan),
+    }
     run_in::<FileStore<File>, HostRuntime>(rt, words, &plan)
 }
 
@@ -63,7 +83,7 @@ pub fn run_centre(rt: &HostRuntime, words: &CentreWords<'_>, mut plan: Plan) -> 
 fn run_in<S: Alter + Drop, R>(rt: &R, words: &CentreWords<'_>, plan: &Plan) -> ExitCode
 where
     R: AllocGlobal + Print + Eprint + Files + Opens<Connection<S>>,
-    R: Terminal + Clock + Net<Listener = TcpListener, Stream = TcpStream>,
+    R: Terminal + Clock + StandardError + Net<Listener = TcpListener, Stream = TcpStream>,
     requires { KeepsLimits plan.now }
 {
     let making = Making::of(rt, &words.journal, &words.controls);
@@ -81,7 +101,7 @@ fn run_made<S: Alter + Drop, R>(
 ) -> ExitCode
 where
     R: AllocGlobal + Print + Eprint + Files + Opens<Connection<S>>,
-    R: Terminal + Clock + Net<Listener = TcpListener, Stream = TcpStream>,
+    R: Terminal + Clock + StandardError + Net<Listener = TcpListener, Stream = TcpStream>,
     requires { KeepsLimits plan.now }
 {
     let journal = match journal_there(rt, &words.journal) {
@@ -125,6 +145,7 @@ where
         + Eprint
         + Terminal
         + Clock
+        + StandardError
         + Net<Listener = TcpListener, Stream = TcpStream>,
     requires { KeepsLimits plan.now }
 {
@@ -154,15 +175,13 @@ where
         + Eprint
         + Terminal
         + Clock
+        + StandardError
         + Net<Listener = TcpListener, Stream = TcpStream>,
     requires { KeepsLimits plan.now }
 {
     match Centre::new(rt.alloc(), plan, journal, book) {
-        Ok(mut centre) => {
-            let status = match run_once(rt, &mut centre, words, plan, making) {
-                Ok(()) => ExitCode::from(exit::DONE),
-                Err(status) => status,
-            };
+        Ok(centre) => {
+            let (status, centre) = run_at_pace(rt, centre, words, plan, making)?;
             let (journal, book) = centre.into_stores();
             Ok((status, journal, book))
         }
@@ -173,31 +192,51 @@ where
     }
 }
 
-/// Looks whether what the stores hold is of the plan, issues the control, and asks the concentrator. Where something
-/// fails, the exit status is told.
-fn run_once<J: JournalStore, B: Book, R>(
+/// Looks whether what the stores hold is of the plan. If something fails, the exit status is told.
+fn look_at_stores<J: JournalStore, B: Book, R: AllocGlobal + Eprint + Terminal + Clock>(
     rt: &R,
     centre: &mut Centre<J, B>,
     words: &CentreWords<'_>,
     plan: &Plan,
+) -> Result<(), ExitCode> {
+    look_at_journal(rt, &words.journal, centre.journal(), plan)?;
+    look_at_book(rt, &words.controls, centre.book(), plan, true)
+}
+
+/// Looks at the stores, issues the control, and asks the concentrator, in polls or on a connection that stands. Gives the centre back with
+/// the exit status; if it can't begin on a connection that stands, the exit status alone is told.
+fn run_at_pace<J: JournalStore + Drop, B: Book + Drop, R>(
+    rt: &R,
+    mut centre: Centre<J, B>,
+    words: &CentreWords<'_>,
+    plan: &Plan,
     making: &Making<'_>,
-) -> Result<(), ExitCode>
+) -> Result<(ExitCode, Centre<J, B>), ExitCode>
 where
     R: AllocGlobal
         + Print
         + Eprint
         + Terminal
         + Clock
+        + StandardError
         + Net<Listener = TcpListener, Stream = TcpStream>,
 {
-    look_at_journal(rt, &words.journal, centre.journal(), plan)?;
-    look_at_book(rt, &words.controls, centre.book(), plan, true)?;
+    if let Err(status) = look_at_stores(rt, &mut centre, words, plan) {
+        return Ok((status, centre));
+    }
     making.begin();
-    let polls = Polls {
-        plan,
-        concentrator: words.concentrator,
-        names: words.names,
-        pace: words.pace,
+    let polls = words.polls_of(plan);
+    let issue = words.issue.as_ref();
+    let done = match &words.standing {
+        Some(driving) => match polls.issue_given(rt, &mut centre, issue) {
+            Ok(_) => return run_standing_centre(rt, centre, &polls, driving),
+            Err(status) => Err(status),
+        },
+        None => polls.run(rt, &mut centre, issue),
     };
-    polls.run(rt, centre, words.issue.as_ref())
+    let status = match done {
+        Ok(()) => ExitCode::from(exit::DONE),
+        Err(status) => status,
+    };
+    Ok((status, centre))
 }

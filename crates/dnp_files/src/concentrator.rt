@@ -3,9 +3,11 @@
 
 ghost use Rattle.dnp_concentrator.specs.Plan.{KeepsLimits};
 
+use crate::driving::Drivings;
 use crate::files::{Opens, StoreFile};
 use crate::lines::Line;
 use crate::making::Making;
+use crate::node_runs::run_standing;
 use crate::planned::{look_at_book, look_at_queue};
 use crate::rounds::{RoundPace, Rounds};
 use crate::sites::{Served, Substations};
@@ -13,6 +15,7 @@ use crate::{files, rounds};
 use dnp_concentrator::{Concentrator, Plan};
 use dnp_controls::Book;
 use dnp_eventbuf::{CENTRES, PairLanes};
+use dnp_loop::StandardError;
 use dnp_store::{ControlBook, Queue};
 use dnp_tcp::{Names, exit, say};
 use dnp_terminal::Terminal;
@@ -40,6 +43,8 @@ pub struct ConcentratorWords<'a> {
     pub pace: RoundPace,
     /// Whether a queue for one centre is brought to the form for two.
     pub migrates: bool,
+    /// How its links are driven on connections that stand, if they do.
+    pub standing: Option<Drivings<'a>>,
 }
 
 impl<'a> ConcentratorWords<'a> {
@@ -69,7 +74,7 @@ pub fn run_concentrator(rt: &HostRuntime, words: &ConcentratorWords<'_>, plan: &
 fn run_in<S: Alter + Drop, R>(rt: &R, words: &ConcentratorWords<'_>, plan: &Plan) -> ExitCode
 where
     R: AllocGlobal + Print + Eprint + Files + Opens<Connection<S>>,
-    R: Terminal + Clock + Net<Listener = TcpListener, Stream = TcpStream>,
+    R: Terminal + Clock + StandardError + Net<Listener = TcpListener, Stream = TcpStream>,
     requires { KeepsLimits plan.now }
 {
     let making = Making::of(rt, &words.queue, &words.controls);
@@ -87,7 +92,7 @@ fn run_made<S: Alter + Drop, R>(
 ) -> ExitCode
 where
     R: AllocGlobal + Print + Eprint + Files + Opens<Connection<S>>,
-    R: Terminal + Clock + Net<Listener = TcpListener, Stream = TcpStream>,
+    R: Terminal + Clock + StandardError + Net<Listener = TcpListener, Stream = TcpStream>,
     requires { KeepsLimits plan.now }
 {
     let queue = match queue_there(rt, words, plan) {
@@ -140,6 +145,7 @@ where
         + Eprint
         + Terminal
         + Clock
+        + StandardError
         + Net<Listener = TcpListener, Stream = TcpStream>,
     requires { KeepsLimits plan.now }
 {
@@ -169,15 +175,13 @@ where
         + Eprint
         + Terminal
         + Clock
+        + StandardError
         + Net<Listener = TcpListener, Stream = TcpStream>,
     requires { KeepsLimits plan.now }
 {
     match Concentrator::new(rt.alloc(), plan, queue, book) {
-        Ok(mut concentrator) => {
-            let status = match run_rounds(rt, &mut concentrator, words, plan, making) {
-                Ok(()) => ExitCode::from(exit::DONE),
-                Err(status) => status,
-            };
+        Ok(concentrator) => {
+            let (status, concentrator) = run_at_pace(rt, concentrator, words, plan, making)?;
             let (queue, book) = concentrator.into_stores();
             Ok((status, queue, book))
         }
@@ -188,26 +192,47 @@ where
     }
 }
 
-/// Looks whether what the stores hold is of the plan, listens, and does the rounds. Where that ends before the last, the
-/// exit status is told.
-fn run_rounds<Q: PairLanes, B: Book, R>(
+/// Looks whether what the stores hold is of the plan. If it isn't, the exit status is told.
+fn look_at_stores<Q: PairLanes, B: Book, R: AllocGlobal + Eprint + Terminal + Clock>(
     rt: &R,
     concentrator: &mut Concentrator<Q, B>,
     words: &ConcentratorWords<'_>,
     plan: &Plan,
+) -> Result<(), ExitCode> {
+    for centre in 0..CENTRES {
+        look_at_queue(rt, &words.queue, concentrator.queue(), centre, plan)?;
+    }
+    look_at_book(rt, &words.controls, concentrator.book(), plan, false)
+}
+
+/// Looks at the stores, and runs the concentrator in rounds or on connections that stand. Gives it back with the exit status; if it can't
+/// begin on connections that stand, the exit status alone is told.
+fn run_at_pace<Q: PairLanes + Drop, B: Book + Drop, R>(
+    rt: &R,
+    mut concentrator: Concentrator<Q, B>,
+    words: &ConcentratorWords<'_>,
+    plan: &Plan,
     making: &Making<'_>,
-) -> Result<(), ExitCode>
+) -> Result<(ExitCode, Concentrator<Q, B>), ExitCode>
 where
     R: AllocGlobal
         + Print
         + Eprint
         + Terminal
         + Clock
+        + StandardError
         + Net<Listener = TcpListener, Stream = TcpStream>,
 {
-    for centre in 0..CENTRES {
-        look_at_queue(rt, &words.queue, concentrator.queue(), centre, plan)?;
+    if let Err(status) = look_at_stores(rt, &mut concentrator, words, plan) {
+        return Ok((status, concentrator));
     }
-    look_at_book(rt, &words.controls, concentrator.book(), plan, false)?;
-    rounds::run(rt, concentrator, &words.rounds_of(plan), making)
+    let rounds = words.rounds_of(plan);
+    if let Some(drivings) = &words.standing {
+        return run_standing(rt, concentrator, &rounds, drivings, making);
+    }
+    let status = match rounds::run(rt, &mut concentrator, &rounds, making) {
+        Ok(()) => ExitCode::from(exit::DONE),
+        Err(status) => status,
+    };
+    Ok((status, concentrator))
 }

@@ -3,23 +3,33 @@
 #![tactic(auto)]
 
 mod accounts;
+mod asked;
 mod centre;
+mod centre_run;
 mod concentrator;
+mod driving;
+mod exchanged;
 mod files;
+mod followed;
 mod gate;
 mod guest;
 pub mod lines;
 mod making;
+mod node_runs;
 mod planned;
 mod polls;
 mod rounds;
 mod seat;
 mod seats;
 mod sites;
+mod tap;
 mod tones;
+mod visitor;
+mod voice;
 
 pub use centre::{CentreWords, run_centre};
 pub use concentrator::{ConcentratorWords, run_concentrator};
+pub use driving::{Driving, Drivings, wait_for_slowest};
 pub use files::StoreFile;
 pub use planned::has_output;
 pub use polls::PollPace;

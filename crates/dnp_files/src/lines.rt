@@ -26,6 +26,10 @@ pub enum Line<'a> {
     NoMap(MapFault),
     /// No connection can be had there for now.
     NoCaller(Place, &'a io::Error),
+    /// The newest connection there was refused, since the program has no descriptor left.
+    Refused(Place),
+    /// So many lines of the log were lost, since nobody has read it.
+    LinesLost(u64),
     /// Something of the file at this path.
     File(&'a str, OfFile<'a>),
 }
@@ -230,6 +234,14 @@ impl<'a> Display for Line<'a> {
             }
             Line::NoMap(fault) => write!(f, "the plan: {fault}"),
             Line::NoCaller(place, cause) => write!(f, "{place}: {cause}"),
+            Line::Refused(place) => write!(
+                f,
+                "{place}: the newest connection is refused: no descriptor is left"
+            ),
+            Line::LinesLost(1) => f.write_str("1 line of the log was lost: nobody read it"),
+            Line::LinesLost(count) => {
+                write!(f, "{count} lines of the log were lost: nobody read them")
+            }
             Line::File(path, what) => write!(f, "{path}: {what}"),
         }
     }

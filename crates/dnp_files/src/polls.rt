@@ -68,12 +68,7 @@ impl<'p> Polls<'p> {
         let Some(mut account) = above(rt.alloc(), self.plan) else {
             return Err(no_memory(rt));
         };
-        let issued = match control {
-            Some((substation, control)) => {
-                Some(issue(rt, centre, self.names, *substation, control)?)
-            }
-            None => None,
-        };
+        let issued = self.issue_given(rt, centre, control)?;
         let done = match self.pace {
             PollPace::Once => match self.ask(rt, centre, &mut account) {
                 Ok(Ended::Done(_)) => Ok(()),
@@ -91,6 +86,25 @@ impl<'p> Polls<'p> {
             say(rt, &Line::Pending(id));
         }
         done
+    }
+
+    /// Issues a control, if there is one, and gives its number in the book. If it can't be issued, that is said, and the exit status is told.
+    pub(crate) fn issue_given<J: JournalStore, B: Book, R: AllocGlobal + Eprint + Terminal + Clock>(
+        &self,
+        rt: &R,
+        centre: &mut Centre<J, B>,
+        control: Option<&(u8, Command)>,
+    ) -> Result<Option<u64>, ExitCode> {
+        match control {
+            Some((substation, control)) => Ok(Some(issue(
+                rt,
+                centre,
+                self.names,
+                *substation,
+                control,
+            )?)),
+            None => Ok(None),
+        }
     }
 
     /// Asks the concentrator so often, each time so long after the time before, in milliseconds, or at once where that took

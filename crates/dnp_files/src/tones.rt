@@ -7,12 +7,14 @@ impl Toned for Line<'_> {
     fn tone(&self) -> Tone {
         match self {
             Line::Issued(..) => Tone::Plain,
-            Line::Pending(_) | Line::File(_, OfFile::OthersToo) => Tone::Warning,
+            Line::Pending(_) | Line::LinesLost(_) | Line::File(_, OfFile::OthersToo) =>
+                Tone::Warning,
             Line::File(_, OfFile::Migrated) => Tone::Good,
             Line::NotIssued(_)
             | Line::Failed(_)
             | Line::NoMap(_)
             | Line::NoCaller(..)
+            | Line::Refused(_)
             | Line::File(..) => Tone::Fault,
         }
     }

@@ -15,9 +15,6 @@ use crate::caller::{Caller, CallerPlan};
 use crate::requests::LinkClasses;
 use crate::shared::Shared;
 use crate::slot::{Ends, Slot};
-use dnp_concentrator::addresses::{
-    CONCENTRATOR_ABOVE, MASTER_BELOW, centre_address, outstation_address,
-};
 use dnp_concentrator::{Concentrator, PerCentre};
 use dnp_eventbuf::CENTRES;
 use dnp_pointdb::PointDb;
@@ -27,6 +24,8 @@ use std::alloc::{AllocError, Global};
 /// How the link to a substation is driven.
 #[derive(Clone, Copy, Debug, PartialEq, Eq)]
 pub struct BelowPlan {
+    /// The link addresses of its ends.
+    pub ends: Ends,
     /// How often it is asked, and how long anything may take.
     pub pace: Pace,
     /// Which classes it is asked.
@@ -36,6 +35,10 @@ pub struct BelowPlan {
 /// How the links of the centres are driven.
 #[derive(Clone, Copy, Debug, PartialEq, Eq)]
 pub struct AbovePlan {
+    /// The link addresses of the ends of the first centre's link.
+    pub first: Ends,
+    /// Those of the second centre's.
+    pub second: Ends,
     /// How long no fragment may come whole, in milliseconds.
     pub idle_ms: u64,
     /// How long octets may wait of which none is taken, in milliseconds.
@@ -77,10 +80,7 @@ fn number_of(place: usize) -> u8
 fn caller(alloc: Global, number: u8, plan: &BelowPlan, at: u64, clock: u64) -> Caller {
     let plan = CallerPlan {
         slot: Slot::Below(number),
-        ends: Ends {
-            own: MASTER_BELOW,
-            peer: outstation_address(number),
-        },
+        ends: plan.ends,
         pace: plan.pace,
         classes: plan.classes,
     };
@@ -101,16 +101,11 @@ fn callers(
     Ok(below)
 }
 
-/// The link of a centre.
-fn callee(alloc: Global, centre: u8, plan: AbovePlan) -> Callee
-    requires { centre < CENTRES }
-{
+/// The link of a centre, whose ends have these link addresses.
+fn callee(alloc: Global, centre: u8, ends: Ends, plan: AbovePlan) -> Callee {
     let plan = CalleePlan {
         slot: Slot::Above(centre),
-        ends: Ends {
-            own: CONCENTRATOR_ABOVE,
-            peer: centre_address(centre),
-        },
+        ends,
         idle_ms: plan.idle_ms,
         stuck_ms: plan.stuck_ms,
     };
@@ -136,8 +131,8 @@ impl<Q: Drop, B: Drop> ConcentratorNode<Q, B> {
             concentrator,
             below,
             above: PerCentre {
-                first: callee(alloc, 0, above),
-                second: callee(alloc, 1, above),
+                first: callee(alloc, 0, above.first, above),
+                second: callee(alloc, 1, above.second, above),
             },
             shared: Shared::new(alloc),
         })

@@ -5,6 +5,7 @@ ghost use Rattle.dnp_concentrator.specs.Plan.{KeepsLimits};
 use crate::build::note_start;
 use crate::called::names_of;
 use crate::centre::{Words, say_code};
+use crate::driven::driving_of;
 use crate::hosts::{Sought, Whose, address_found, taken_by};
 use crate::network_file::{Given, all_given};
 use dnp_concentrator::{IndexMap, Plan};
@@ -79,6 +80,14 @@ pub(super) fn run_in_network(
     run_named(rt, words, concentrator, &given, plan)
 }
 
+/// The place of a centre among those that connect to the concentrator.
+fn centre_place(centre: CentreOf) -> u8 {
+    match centre {
+        CentreOf::First => 0,
+        CentreOf::Second => 1,
+    }
+}
+
 /// Runs the centre of a plan whose concentrator is there, and in whose log the stations and points have their names; tells the exit
 /// status.
 fn run_named(
@@ -96,5 +105,11 @@ fn run_named(
     let names = Names {
         all: names.as_slice(),
     };
-    Ok(run_centre(rt, &words.run_with(concentrator, names), plan))
+    let driving = driving_of(
+        &given.network.centre_polling,
+        &plan,
+        centre_place(words.centre),
+    );
+    let run = words.run_with(concentrator, names, Some(driving));
+    Ok(run_centre(rt, &run, plan))
 }

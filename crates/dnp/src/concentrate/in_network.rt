@@ -5,10 +5,11 @@ ghost use Rattle.dnp_concentrator.specs.Plan.{KeepsLimits};
 use crate::build::note_start;
 use crate::called::names_of;
 use crate::concentrate::Words;
+use crate::driven::{driving_of, drivings_of};
 use crate::hosts::{Sought, Whose, address_found, taken_by};
 use crate::network_file::{Given, all_given};
 use dnp_concentrator::Plan;
-use dnp_files::{Served, Substations, Target, run_concentrator};
+use dnp_files::{Drivings, Served, Substations, Target, run_concentrator, wait_for_slowest};
 use dnp_network::{CentreOf, Network};
 use dnp_tcp::{Names, Place, exit};
 use std::alloc::AllocError;
@@ -103,9 +104,9 @@ fn run_named(
     centres: Centres,
     targets: &[Target],
     given: &Given,
-    plan: &Plan,
+    mut plan: Plan,
 ) -> anyhow::Result<ExitCode>
-    requires { KeepsLimits plan.now }
+    requires { KeepsLimits plan }
 {
     let points = given.points.as_slice();
     let names = names_of(rt.alloc(), &given.network, points, None)?;
@@ -113,8 +114,15 @@ fn run_named(
         all: names.as_slice(),
     };
     let Centres { first, second } = centres;
-    let run = words.run_with(first, second, Substations::Listed(targets), names);
-    Ok(run_concentrator(rt, &run, plan))
+    let below = drivings_of(rt.alloc(), &given.network, &plan)?;
+    wait_for_slowest(&mut plan, below.as_slice());
+    let drivings = Drivings {
+        below: below.as_slice(),
+        above: driving_of(&given.network.centre_polling, &plan, 0),
+    };
+    let substations = Substations::Listed(targets);
+    let run = words.run_with(first, second, substations, names, Some(drivings));
+    Ok(run_concentrator(rt, &run, &plan))
 }
 
 /// Runs the concentrator of a plan whose stations are where the network in a file says, and tells the exit status.
@@ -122,11 +130,11 @@ pub(super) fn run_in_network(
     rt: &HostRuntime,
     words: &Words<'_>,
     path: &str,
-    plan: &Plan,
+    plan: Plan,
 ) -> anyhow::Result<ExitCode>
-    requires { KeepsLimits plan.now }
+    requires { KeepsLimits plan }
 {
-    let given = match all_given(rt, path, plan)? {
+    let given = match all_given(rt, path, &plan)? {
         Ok(given) => given,
         Err(status) => return Ok(status),
     };

@@ -31,6 +31,14 @@ impl<Q: PairLanes, B> ConcentratorNode<Q, B> {
     {
         self.concentrator.queue().lost(centre, lane)
     }
+
+    /// Says whether a lane has dropped events for a centre, and one is full still.
+    pub fn is_dropping(&mut self, centre: u8) -> bool
+        requires { centre < CENTRES }
+        ensures same { self.new ≡ self.old }
+    {
+        self.concentrator.queue().raised(centre)
+    }
 }
 
 impl<Q, B: Book> ConcentratorNode<Q, B> {
