@@ -60,6 +60,8 @@ pub struct Caller {
     tries: u32,
     /// Whether event rows were stored since that was asked last.
     stored: bool,
+    /// The octets of the last unsolicited response of its connection, if one came and there was memory for them.
+    unsolicited: Vec<u8>,
 }
 
 impl Caller {
@@ -82,6 +84,7 @@ impl Caller {
             since: at,
             tries: 0,
             stored: false,
+            unsolicited: Vec::new(alloc),
         }
     }
 

@@ -12,7 +12,7 @@ ghost use Rattle.dnp_streams.specs.streams.CentreLives.{centre_lives};
 ghost use Rattle.dnp_streams.specs.streams.Centres.{centre_hung_up, centre_seen};
 ghost use Rattle.dnp_nodes.specs.Callers.{IsDue, IsKept, IsWaiting, Rests, basis, basis_of, closed, is_up, link_of, output_of, over_budget, pace_of, port_of, schedule_of, want_of, with_clock, with_want};
 ghost use Rattle.dnp_nodes.specs.CentreNodes.{CentreCalls, CentreCuts, IsHonest, Issues, centre_in, link_in, reports_in, slot_in, wanted_in, with_centre, with_link};
-ghost use Rattle.dnp_nodes.specs.Told.{missed_in, told_in};
+ghost use Rattle.dnp_nodes.specs.Told.{missed_in, refused_in, told_in};
 ghost use Rattle.dnp_nodes.specs.declared.slot.Closing.TheVariants.{Memory};
 
 use crate::caller::{Caller, CallerPlan};
@@ -267,9 +267,16 @@ impl<J: JournalStore, B: Book> Node for CentreNode<J, B> {
         self.shared.reports.missed()
     }
 
+    fn refused(&self) -> &[u8]
+        ensures { result.now ≡ refused_in (reports_in self.now) }
+    {
+        self.shared.reports.refused()
+    }
+
     fn clear_reports(&mut self)
         ensures told { told_in (reports_in self.new) ≡ [] }
         ensures missed { missed_in (reports_in self.new) ≡ 0 }
+        ensures refused { refused_in (reports_in self.new) ≡ [] }
         ensures same { (centre_in self.new ≡ centre_in self.old) × (link_in self.new ≡ link_in self.old) × (slot_in self.new ≡ slot_in self.old) }
     {
         self.shared.reports.clear();

@@ -36,6 +36,9 @@ pub trait Node {
     /// Gives how many more reports there were, for which there was no room or no memory.
     fn missed(&self) -> u64;
 
+    /// Gives the octets of the fragments that were refused, one after the other, in the order in which that was told.
+    fn refused(&self) -> &[u8];
+
     /// What has happened was taken.
     fn clear_reports(&mut self);
 }

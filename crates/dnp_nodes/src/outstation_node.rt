@@ -11,7 +11,7 @@ ghost use Rattle.dnp_streams.specs.streams.Lives.{outstation_lives};
 ghost use Rattle.dnp_streams.specs.streams.Outstations.{hung_up_of, seen_of};
 ghost use Rattle.dnp_nodes.specs.Callees.{Calls, Changes, IsDue, Rests, changed_in, is_up, link_of, made_of, output_of, over_budget, plan_of, port_of, want_of, with_want};
 ghost use Rattle.dnp_nodes.specs.OutstationNodes.{IsHonest, OutstationCalls, OutstationCuts, link_in, outstation_in, outstation_ways, reports_in, slot_in, wanted_in, with_link};
-ghost use Rattle.dnp_nodes.specs.Told.{missed_in, told_in};
+ghost use Rattle.dnp_nodes.specs.Told.{missed_in, refused_in, told_in};
 ghost use Rattle.dnp_nodes.specs.declared.callee.ChangeFault.TheVariants.{NoRoom};
 ghost use Rattle.dnp_nodes.specs.declared.slot.Closing.TheVariants.{Memory};
 
@@ -244,9 +244,16 @@ impl<L: Lanes, O: Outputs> Node for OutstationNode<L, O> {
         self.shared.reports.missed()
     }
 
+    fn refused(&self) -> &[u8]
+        ensures { result.now ≡ refused_in (reports_in self.now) }
+    {
+        self.shared.reports.refused()
+    }
+
     fn clear_reports(&mut self)
         ensures told { told_in (reports_in self.new) ≡ [] }
         ensures missed { missed_in (reports_in self.new) ≡ 0 }
+        ensures refused { refused_in (reports_in self.new) ≡ [] }
         ensures same { (outstation_in self.new ≡ outstation_in self.old) × (link_in self.new ≡ link_in self.old) × (slot_in self.new ≡ slot_in self.old) }
     {
         self.shared.reports.clear();

@@ -1,7 +1,7 @@
 //! What the links of a node share.
 
 ghost use Rattle.std.specs.Prelude.{◌≡◌, []};
-ghost use Rattle.dnp_nodes.specs.Told.{missed_in, told_in};
+ghost use Rattle.dnp_nodes.specs.Told.{missed_in, refused_in, told_in};
 
 use crate::report::Reports;
 use dnp_streams::StepRoom;
@@ -23,6 +23,7 @@ impl Shared {
     pub fn new(alloc: Global) -> Shared
         ensures told { told_in result.reports ≡ [] }
         ensures missed { missed_in result.reports ≡ 0 }
+        ensures refused { refused_in result.reports ≡ [] }
     {
         Shared {
             alloc,

@@ -6,6 +6,7 @@ ghost use Rattle.dnp_nodes.specs.Callees as spec;
 
 use crate::budgets::{has_come, stuck_at, waits_from};
 use crate::callee::Callee;
+use crate::frames::frame_of;
 use crate::report::{Report, Reports};
 use crate::shared::Shared;
 use crate::slot::Closing;
@@ -82,6 +83,18 @@ impl Callee {
         self.whole_at = now;
     }
 
+    /// Looks whose frame is heard next.
+    pub(super) fn look_at_frame(&self, reports: &mut Reports) {
+        if let Some(frame) = self.link.next_frame() {
+            reports.tell_once(frame_of(self.plan.slot, self.plan.ends, frame));
+        }
+    }
+
+    /// Tells that a fragment came whole.
+    pub(super) fn tell_whole(&self, reports: &mut Reports) {
+        reports.tell(Report::Whole(self.plan.slot));
+    }
+
     /// The first octets of those that wait were taken.
     pub(super) fn drop_sent(&mut self, count: usize)
         ensures { self.new ≡ record self.old {
@@ -135,7 +148,8 @@ impl Callee {
                 }
             }
             Err(StationFault::Message) => {
-                reports.tell(Report::Refused(slot));
+                // (nothing but a fragment is refused so)
+                reports.tell_refused(slot, self.link.fragment());
                 Turn::Made
             }
             Err(StationFault::Cause(Cause::Memory)) => {

@@ -78,12 +78,14 @@ impl Callee {
         ensures want { self.new.want ≡ self.old.want }
         ensures up { self.new.is_up ≡ self.old.is_up }
     {
+        self.look_at_frame(&mut shared.reports);
         let heard = self.link.hear(&mut shared.room, station, now);
         self.link.port().has_a_history();
         a_link_shows_what_it_took();
         match heard {
             Heard::Part => Turn::Made,
             Heard::Whole(told) => {
+                self.tell_whole(&mut shared.reports);
                 self.note_whole(now);
                 self.take_told(&mut shared.reports, told)
             }

@@ -10,6 +10,7 @@ ghost use Rattle.dnp_nodes.specs.declared.slot.Want.TheVariants.{Connect};
 
 use crate::budgets::{has_come, stuck_at, waits_from};
 use crate::caller::Caller;
+use crate::frames::frame_of;
 use crate::heads::Head;
 use crate::report::{Report, Reports};
 use crate::shared::Shared;
@@ -84,6 +85,40 @@ impl Caller {
         self.schedule = self.schedule.connected(now, &self.plan.pace);
         self.want = None;
         self.waits = None;
+        self.unsolicited.clear();
+    }
+
+    /// Looks whose frame is heard next.
+    pub(super) fn look_at_frame(&self, reports: &mut Reports) {
+        if let Some(frame) = self.link.next_frame() {
+            reports.tell_once(frame_of(self.plan.slot, self.plan.ends, frame));
+        }
+    }
+
+    /// The fragment that came whole last is an unsolicited response with these octets, which are kept: it is told if they are those of the
+    /// one before.
+    fn compare(&mut self, reports: &mut Reports)
+        ensures { self.new ≡ record self.old { unsolicited = self.new.unsolicited } }
+    {
+        let fragment = self.link.fragment();
+        if self.unsolicited.as_slice() == fragment {
+            reports.tell(Report::Repeated(self.plan.slot));
+            return;
+        }
+        self.unsolicited.clear();
+        // (if there is no memory, the next one is another one)
+        let _ = self.unsolicited.extend_from_slice(fragment);
+    }
+
+    /// A fragment with this head came whole. If it is an unsolicited response, it is told whether it is the one before again.
+    pub(super) fn note_unsolicited(&mut self, reports: &mut Reports, head: Option<Head>)
+        ensures { self.new ≡ record self.old { unsolicited = self.new.unsolicited } }
+    {
+        if let Some(head) = head
+            && head.is_unsolicited()
+        {
+            self.compare(reports);
+        }
     }
 
     /// The first octets of those that wait were taken.
@@ -186,7 +221,8 @@ impl Caller {
         match told {
             Ok(told) => self.take_answer(reports, now, &told, head),
             Err(StationFault::Message) => {
-                reports.tell(Report::Refused(slot));
+                // (nothing but a fragment is refused so)
+                reports.tell_refused(slot, self.link.fragment());
                 Turn::Made
             }
             Err(StationFault::Cause(Cause::Memory)) => {
@@ -254,11 +290,12 @@ impl Caller {
         } else {
             heard.settled()
         };
-        self.tell_response(reports, &before, head.iin);
+        reports.tell(Report::Response(self.plan.slot, head, told.outcome));
+        self.tell_changes(reports, &before, head.iin);
     }
 
     /// Tells what a response has changed.
-    fn tell_response(&self, reports: &mut Reports, before: &Schedule, seen: Iin) {
+    fn tell_changes(&self, reports: &mut Reports, before: &Schedule, seen: Iin) {
         let slot = self.plan.slot;
         let had = before.seen.unwrap_or(Iin::NONE);
         if had != seen {
@@ -266,6 +303,13 @@ impl Caller {
         }
         if runs(&self.schedule) && !runs(before) {
             reports.tell(Report::Started(slot));
+        }
+    }
+
+    /// Tells the sequence number of the request that was sent last.
+    fn tell_request(&self, reports: &mut Reports) {
+        if let Some(last) = self.schedule.last {
+            reports.tell(Report::Request(self.plan.slot, last.sequence));
         }
     }
 
@@ -283,6 +327,7 @@ impl Caller {
             return Turn::Over(Closing::Unasked);
         }
         self.schedule = self.schedule.asked(now, &self.plan.pace, task);
+        self.tell_request(reports);
         reports.tell(Report::Asked(self.plan.slot, task));
         Turn::Made
     }
@@ -317,10 +362,12 @@ impl Caller {
             }
             RelayedStep::Selecting(id) => {
                 self.schedule = self.schedule.asked(now, &self.plan.pace, TaskKind::Control);
+                self.tell_request(reports);
                 reports.tell(Report::Selecting(slot, *id));
             }
             RelayedStep::Sent(id) => {
                 self.schedule = self.schedule.asked(now, &self.plan.pace, TaskKind::Control);
+                self.tell_request(reports);
                 reports.tell(Report::Operating(slot, *id));
             }
             RelayedStep::Finished(id, status) => {

@@ -62,11 +62,13 @@ impl Caller {
         ensures want { self.new.want ≡ self.old.want }
         ensures phase { is_connected self.new.schedule.phase ≡ is_connected self.old.schedule.phase }
     {
+        self.look_at_frame(&mut shared.reports);
         let heard = self.link.hear(&mut shared.room, station, now);
         match heard {
             Heard::Part => Turn::Made,
             Heard::Whole(told) => {
                 let head = head_of(self.link.fragment());
+                self.note_unsolicited(&mut shared.reports, head);
                 self.take_told(&mut shared.reports, now, told, head)
             }
         }

@@ -3,7 +3,7 @@
 ghost use Rattle.std.specs.Prelude.{◌≡◌, []};
 ghost use Rattle.dnp_nodes.specs.ConcentratorNodes.{Closes, Connects, Receives, Sends, TellsNext, above_in, below_in, concentrator_in, output_at, reports_in};
 ghost use Rattle.dnp_nodes.specs.Turns.{GoesItsWay, stores};
-ghost use Rattle.dnp_nodes.specs.Told.{missed_in, told_in};
+ghost use Rattle.dnp_nodes.specs.Told.{missed_in, refused_in, told_in};
 
 use crate::concentrator_node::{ConcentratorNode, number_of};
 use crate::node::Node;
@@ -137,9 +137,16 @@ impl<Q: PairLanes, B: Book> Node for ConcentratorNode<Q, B> {
         self.shared.reports.missed()
     }
 
+    fn refused(&self) -> &[u8]
+        ensures { result.now ≡ refused_in (reports_in self.now) }
+    {
+        self.shared.reports.refused()
+    }
+
     fn clear_reports(&mut self)
         ensures told { told_in (reports_in self.new) ≡ [] }
         ensures missed { missed_in (reports_in self.new) ≡ 0 }
+        ensures refused { refused_in (reports_in self.new) ≡ [] }
         ensures same { (concentrator_in self.new ≡ concentrator_in self.old) × (below_in self.new ≡ below_in self.old) × (above_in self.new ≡ above_in self.old) }
     {
         self.shared.reports.clear();
