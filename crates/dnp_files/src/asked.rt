@@ -1,18 +1,21 @@
-//! What is known of a station that is asked on connections that stand, and what is said of it: a line for what has changed.
+//! What is known of a station that is asked on connections that stand, and what is said of it: a line for what has changed. All of it comes
+//! from what the node tells.
 
-use crate::exchanged::{Answer, Exchanged};
-use crate::tap::Tap;
+use crate::lines::Again;
+use crate::refused::Refused;
 use crate::voice::Voice;
 use dnp_appfragment::Iin;
 use dnp_concentrator::Cause;
 use dnp_loop::Fault;
-use dnp_nodes::{Closing, Report};
+use dnp_master::Outcome;
+use dnp_nodes::{Closing, Head, Report};
 use dnp_notices::{
-    Doing, Ends, Failing, Happening, Last, Line, Notice, Peer, Place, Poll, Refusal, Standing,
-    Strange, Thing, Trouble, WATCHED, change_of, news_of, output_in,
+    Awaited, Doing, Ends, Exchange, Failing, Happening, Heard, Last, Line, Notice, Peer, Place,
+    Poll, Standing, Strange, Thing, Trouble, WATCHED, change_of, news_of, refusal_of,
 };
-use dnp_objects::Status;
+use dnp_objects::Command;
 use dnp_pointdb::PointPlan;
+use dnp_schedule::TaskKind;
 use dnp_tcp::utc;
 use dnp_terminal::Terminal;
 use std::alloc::Global;
@@ -34,7 +37,7 @@ pub(crate) struct Whom {
     pub(crate) stuck_ms: u64,
 }
 
-/// What is known of a station.
+/// What is known of a station, over all its connections.
 #[derive(Clone, Copy)]
 struct Known {
     /// Whether it answers.
@@ -47,10 +50,36 @@ struct Known {
     iin: Iin,
     /// What came last beside what is awaited, as it was said.
     strange: Option<Strange>,
-    /// When it last gave a whole answer that was taken, if it ever did.
+    /// When something of it was last taken, if anything was.
     last: Option<Last>,
     /// The moment from which on it is asked, in milliseconds.
     begun: u64,
+}
+
+/// What is known of its connection.
+#[derive(Clone, Copy)]
+struct Link {
+    /// Which response is awaited, and what came last in its place.
+    exchange: Exchange,
+    /// Whether points were read by the last request.
+    is_poll: bool,
+    /// Which frames came.
+    heard: Heard,
+    /// Why what came was refused first, if it was.
+    trouble: Option<Trouble>,
+    /// Whether an unsolicited response has come again, of which nothing more is known yet.
+    is_repeated: bool,
+}
+
+impl Link {
+    /// Nothing went over it.
+    const NEW: Link = Link {
+        exchange: Exchange::IDLE,
+        is_poll: false,
+        heard: Heard::NOTHING,
+        trouble: None,
+        is_repeated: false,
+    };
 }
 
 /// A station that is asked on connections that stand.
@@ -60,32 +89,45 @@ pub(crate) struct Asked {
     whom: Whom,
     /// Its points, by the plan.
     points: PointPlan,
-    /// What comes of it.
-    came: Tap,
-    /// What is sent to it.
-    sent: Tap,
     /// What is known of it.
     known: Known,
-    /// What is asked and answered on its connection.
-    exchanged: Exchanged,
+    /// What is known of its connection.
+    link: Link,
+    /// Why it was refused since it answered last.
+    refused: Refused,
     /// Why its connection ended, or did not come about, if that was not said yet.
     lost: Option<Closing>,
 }
 
+/// The second octet of the indications by which a station refuses what it is asked: the function, an object, a parameter, or since it is at
+/// it already.
+const REFUSING: u8 = 0x17;
+
+/// What it indicates by a response that may answer something else than a poll: those indications by which a station refuses what it is asked
+/// are as they were.
+fn indicated(known: Iin, seen: Iin) -> Iin {
+    Iin {
+        one: seen.one,
+        two: (seen.two & !REFUSING) | (known.two & REFUSING),
+    }
+}
+
+/// Whether points are read by a task.
+fn reads(task: TaskKind) -> bool {
+    matches!(
+        task,
+        TaskKind::IntegrityPoll | TaskKind::EventPoll | TaskKind::OtherPoll
+    )
+}
+
 /// Why a station did not answer, by why its connection ended; nothing if the station here ended it for a reason of its own.
-fn trouble_of(
-    cause: Closing,
-    fault: Option<Fault>,
-    exchanged: &Exchanged,
-    strange: Option<Strange>,
-) -> Option<Trouble> {
-    let (refusal, mismatch) = (exchanged.refusal(), exchanged.mismatch());
+fn trouble_of(cause: Closing, fault: Option<Fault>, link: &Link) -> Option<Trouble> {
     match (cause, fault) {
         (Closing::Unmade, Some(fault)) => Some(Trouble::Unreached(Failing::of(fault.kind))),
         (Closing::Unmade, None) => Some(Trouble::Unreached(Failing::Late)),
         (Closing::Peer, Some(fault)) => Some(Trouble::Unread(Failing::of(fault.kind))),
-        (Closing::Peer, None) => Trouble::of(refusal, mismatch, strange, false, false),
-        (Closing::Late, _) => Trouble::of(refusal, mismatch, strange, false, true),
+        (Closing::Peer, None) => trouble_on(link, false),
+        (Closing::Late, _) => trouble_on(link, true),
         (Closing::Endless, _) => Some(Trouble::Endless),
         (Closing::Stuck, _) => Some(Trouble::Unwritten(Failing::Late)),
         (
@@ -101,6 +143,17 @@ fn trouble_of(
     }
 }
 
+/// Why a station did not answer on a connection that failed in nothing.
+fn trouble_on(link: &Link, is_late: bool) -> Option<Trouble> {
+    match link.trouble {
+        Some(trouble) => Some(trouble),
+        None => {
+            let (mismatch, strange) = (link.exchange.mismatch, link.heard.strange());
+            Trouble::of(None, mismatch, strange, false, is_late)
+        }
+    }
+}
+
 /// The error of a call that failed, to be printed.
 fn error_of(cause: Closing, fault: Option<Fault>) -> Option<io::Error> {
     match (cause, fault) {
@@ -113,15 +166,9 @@ fn error_of(cause: Closing, fault: Option<Fault>) -> Option<io::Error> {
 impl Asked {
     /// A station with these points that was not asked before this moment.
     pub(crate) fn new(alloc: Global, whom: Whom, points: PointPlan, now: u64) -> Asked {
-        let back = Ends {
-            source: whom.awaited.dest,
-            dest: whom.awaited.source,
-        };
         Asked {
             whom,
             points,
-            came: Tap::new(alloc, whom.awaited, true),
-            sent: Tap::new(alloc, back, false),
             known: Known {
                 standing: Standing::There,
                 doing: Doing::Nothing,
@@ -131,31 +178,15 @@ impl Asked {
                 last: None,
                 begun: now,
             },
-            exchanged: Exchanged::NOTHING,
+            link: Link::NEW,
+            refused: Refused::new(alloc),
             lost: None,
         }
     }
 
-    /// Octets were sent to it.
-    pub(crate) fn sent(&mut self, octets: &[u8]) {
-        for number in 0..self.sent.feed(octets) {
-            if let Some(fragment) = self.sent.fragment(number) {
-                self.exchanged.sent(fragment);
-                if let Some(output) = output_in(self.whom.peer, fragment) {
-                    self.known.output = Some(output);
-                }
-            }
-        }
-    }
-
     /// Octets came of it.
-    pub(crate) fn came(&mut self, octets: &[u8]) {
-        self.exchanged.begin();
-        for number in 0..self.came.feed(octets) {
-            if let Some(fragment) = self.came.fragment(number) {
-                self.exchanged.came(&self.points, fragment);
-            }
-        }
+    pub(crate) fn came(&mut self) {
+        self.link.heard = self.link.heard.with_octets();
     }
 
     /// Says something of it, and why a call failed, if one did.
@@ -218,17 +249,7 @@ impl Asked {
         self.known.doing = self.known.doing.after(happening);
     }
 
-    /// Its control was finished with the status of this code.
-    fn finishes<R: AllocGlobal + Terminal + Clock>(&mut self, voice: &mut Voice<'_, R>, code: u8) {
-        match Status::new(code) {
-            Some(status) if self.exchanged.is_answered_with(status) => {
-                self.happens(voice, &Happening::Answered(status));
-            }
-            _ => self.happens(voice, &Happening::Unlike),
-        }
-    }
-
-    /// It indicates this, in the answer to a poll.
+    /// It indicates this.
     fn indicates<R: AllocGlobal + Terminal + Clock>(&mut self, voice: &mut Voice<'_, R>, iin: Iin) {
         for indication in WATCHED {
             if let Some(rises) = change_of(indication, self.known.iin, iin) {
@@ -238,73 +259,142 @@ impl Asked {
         self.known.iin = iin;
     }
 
-    /// What it sent was refused.
-    fn refuses<R: AllocGlobal + Terminal + Clock>(&mut self, voice: &mut Voice<'_, R>, now: u64) {
-        if let Some(refusal) = self.exchanged.refused() {
-            self.stands(voice, now, Some(Trouble::Refused(refusal)), None);
+    /// It sent a fragment with these octets that was refused. A cause that was said since it answered last is not said again.
+    fn refuses<R: AllocGlobal + Terminal + Clock>(
+        &mut self,
+        voice: &mut Voice<'_, R>,
+        now: u64,
+        octets: &[u8],
+    ) {
+        if let Some(refusal) = refusal_of(&self.points, octets) {
+            let trouble = self.refused.trouble_of(refusal, &self.known.standing);
+            if self.link.trouble.is_none() {
+                self.link.trouble = Some(trouble);
+            }
+            self.stands(voice, now, Some(trouble), None);
         }
     }
 
-    /// It has given a whole answer, which was taken.
+    /// It has answered a poll to its end.
     fn answers<R: AllocGlobal + Terminal + Clock>(
         &mut self,
         voice: &mut Voice<'_, R>,
         now: u64,
-        answer: Answer,
+        iin: Iin,
     ) {
-        self.known.last = Some(Last {
-            utc: utc(voice.rt),
-            moment: now,
-        });
-        if answer.is_poll {
-            self.stands(voice, now, None, None);
-            self.indicates(voice, answer.iin);
-            self.tell_strange(voice, false);
+        self.stands(voice, now, None, None);
+        self.refused.clear();
+        self.indicates(voice, iin);
+        self.tell_strange(voice, false);
+    }
+
+    /// Its answer to a task came out so.
+    fn ends<R: AllocGlobal + Terminal + Clock>(
+        &mut self,
+        voice: &mut Voice<'_, R>,
+        now: u64,
+        outcome: Outcome,
+    ) {
+        match outcome {
+            Outcome::Done(iin) if self.link.is_poll => self.answers(voice, now, iin),
+            Outcome::Done(_) => {}
+            Outcome::Control(status) => self.happens(voice, &Happening::Answered(status)),
+            Outcome::Unlike => self.happens(voice, &Happening::Unlike),
         }
     }
 
-    /// A connection to it was made.
-    fn begins(&mut self) {
-        self.came.begin();
-        self.sent.begin();
-        self.exchanged = Exchanged::NOTHING;
+    /// A response of it came that was not refused, and with it, perhaps, a task to its end.
+    fn responds<R: AllocGlobal + Terminal + Clock>(
+        &mut self,
+        voice: &mut Voice<'_, R>,
+        now: u64,
+        head: &Head,
+        outcome: Option<Outcome>,
+    ) {
+        self.link.exchange = self.link.exchange.came(&head.octets());
+        self.link.is_repeated = false;
+        if outcome.is_some() || head.is_unsolicited() {
+            self.known.last = Some(Last {
+                utc: utc(voice.rt),
+                moment: now,
+            });
+        }
+        if let Some(outcome) = outcome {
+            self.ends(voice, now, outcome);
+        }
+        self.indicates(voice, indicated(self.known.iin, head.iin));
     }
 
-    /// The node has told this of its link.
+    /// So many rows of it were stored.
+    fn tell_stored<R: AllocGlobal + Terminal + Clock>(
+        &mut self,
+        voice: &mut Voice<'_, R>,
+        rows: usize,
+    ) {
+        if self.link.is_repeated {
+            let peer = self.whom.peer;
+            let name = voice.names.of(Thing::Station(peer));
+            voice.say(&Again { peer, name, rows });
+        }
+    }
+
+    /// A request with this sequence number was sent to it.
+    fn awaits(&mut self, seq: u8) {
+        let is_later = false;
+        self.link.exchange = Exchange {
+            awaited: Some(Awaited { seq, is_later }),
+            mismatch: None,
+        };
+        self.link.is_poll = false;
+    }
+
+    /// A frame came with other link addresses.
+    fn meets(&mut self, ends: dnp_nodes::Ends) {
+        let came = Ends {
+            source: ends.peer,
+            dest: ends.own,
+        };
+        self.link.heard = self.link.heard.with_frame(came, self.whom.awaited);
+    }
+
+    /// The node has told this of its link. If a fragment was refused, it has these octets.
     pub(crate) fn told<R: AllocGlobal + Terminal + Clock>(
         &mut self,
         voice: &mut Voice<'_, R>,
-        report: &Report,
         now: u64,
+        report: &Report,
+        octets: &[u8],
     ) {
         match *report {
-            Report::Connected(..) => self.begins(),
-            Report::Refused(_) => self.refuses(voice, now),
-            Report::NotMade(_) => voice.fail(Cause::Memory),
-            Report::Selecting(_, id) => self.happens(voice, &Happening::SelectSent(id)),
-            Report::Operating(_, id) => {
-                self.happens(voice, &Happening::Answered(Status::SUCCESS));
-                self.happens(voice, &Happening::OperateSent(id));
+            Report::Connected(..) => self.link = Link::NEW,
+            Report::Frame(_) => {
+                let awaited = self.whom.awaited;
+                self.link.heard = self.link.heard.with_frame(awaited, awaited);
             }
-            Report::Finished(_, _, code) => self.finishes(voice, code),
+            Report::Strange(_, ends) => self.meets(ends),
+            Report::Refused(..) => self.refuses(voice, now, octets),
+            Report::Response(_, head, outcome) => self.responds(voice, now, &head, outcome),
+            Report::Repeated(_) => self.link.is_repeated = true,
+            Report::Stored(_, rows) => self.tell_stored(voice, rows),
+            Report::NotMade(_) => voice.fail(Cause::Memory),
+            Report::Request(_, seq) => self.awaits(seq),
+            Report::Asked(_, task) => self.link.is_poll = reads(task),
+            Report::Selecting(_, id) => self.happens(voice, &Happening::SelectSent(id)),
+            Report::Operating(_, id) => self.happens(voice, &Happening::OperateSent(id)),
             Report::Lost(_, cause) => self.lost = Some(cause),
-            Report::Started(_) | Report::Indications(..) | Report::Asked(..) | Report::Stored(..) =>
-                {}
+            Report::Whole(_)
+            | Report::Started(_)
+            | Report::Indications(..)
+            | Report::Finished(..) => {}
         }
     }
 
-    /// The node was told what came of it.
-    pub(crate) fn heard<R: AllocGlobal + Terminal + Clock>(
-        &mut self,
-        voice: &mut Voice<'_, R>,
-        now: u64,
-    ) {
-        if let Some(answer) = self.exchanged.answer() {
-            self.answers(voice, now, answer);
-        }
-        if let Some(iin) = self.exchanged.seen(self.known.iin) {
-            self.indicates(voice, iin);
-        }
+    /// The control there is this command, if that is known.
+    pub(crate) fn note_output(&mut self, command: Option<&Command>) {
+        self.known.output = match command {
+            Some(command) => Some(Thing::of_command(self.whom.peer, command)),
+            None => None,
+        };
     }
 
     /// Says what came beside what is awaited, if that is new; that no frame came at all is known as the connection ends.
@@ -313,7 +403,7 @@ impl Asked {
         voice: &mut Voice<'_, R>,
         ends: bool,
     ) {
-        let now = self.came.strange();
+        let now = self.link.heard.strange();
         if matches!(now, Some(Strange::Noise)) && !ends {
             return;
         }
@@ -332,7 +422,7 @@ impl Asked {
         fault: Option<Fault>,
     ) {
         self.happens(voice, &Happening::Closed);
-        let trouble = trouble_of(cause, fault, &self.exchanged, self.came.strange());
+        let trouble = trouble_of(cause, fault, &self.link);
         if trouble.is_some() {
             let error = error_of(cause, fault);
             self.stands(voice, now, trouble, error.as_ref());

@@ -3,7 +3,7 @@
 use crate::accounts::{no_memory, points_above};
 use crate::asked::{Asked, Whom};
 use crate::driving::Driving;
-use crate::followed::Followed;
+use crate::followed::{Commanding, Followed};
 use crate::node_runs::ends_of;
 use crate::polls::Polls;
 use dnp_concentrator::Centre;
@@ -12,6 +12,7 @@ use dnp_eventbuf::JournalStore;
 use dnp_loop::{Handler, LogBuffer, NodeLoop, Notices, StandardError, moment};
 use dnp_nodes::{CallerPlan, CentreNode, Slot};
 use dnp_notices::Peer;
+use dnp_objects::Command;
 use dnp_tcp::{exit, utc};
 use dnp_terminal::Terminal;
 use std::alloc::Global;
@@ -50,6 +51,16 @@ fn asked_above(
     let mut all = Vec::new(alloc);
     all.push(Asked::new(alloc, whom, points, now)).ok()?;
     Some(all)
+}
+
+impl<J: JournalStore, B: Book> Commanding for CentreNode<J, B> {
+    fn command(&mut self, alloc: Global, id: u64) -> Option<Command> {
+        let entries = self.controls(alloc, id.saturating_sub(1), 1).ok()?;
+        match entries.as_slice() {
+            [entry, ..] => Some(entry.command),
+            [] => None,
+        }
+    }
 }
 
 /// What a centre's program does between two turns: it sets the node's clock, and says what has changed.

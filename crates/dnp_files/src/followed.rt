@@ -1,4 +1,4 @@
-//! A node with what is known of its links: the octets that go over them are looked at on their way, and what has changed is said.
+//! A node with what is known of its links by what it tells: what has changed is said.
 
 use crate::asked::Asked;
 use crate::lines::Line;
@@ -6,9 +6,11 @@ use crate::visitor::{Told, Visitor};
 use crate::voice::Voice;
 use dnp_concentrator::Cause;
 use dnp_loop::{LogBuffer, Notice, Notices};
-use dnp_nodes::{Closing, Node, Report, Slot, Wanted};
+use dnp_nodes::{Closing, MAX_REPORTS, Node, Report, Slot, Wanted};
 use dnp_notices::Names;
+use dnp_objects::Command;
 use dnp_terminal::Terminal;
+use std::alloc::Global;
 use std::rt::Clock;
 
 /// A node with what is known of its links.
@@ -60,23 +62,6 @@ impl<N: Drop, R> Followed<'_, N, R> {
     }
 }
 
-/// The place that a report is of.
-fn slot_of(report: &Report) -> Slot {
-    match *report {
-        Report::Connected(slot, ..)
-        | Report::Lost(slot, _)
-        | Report::Started(slot)
-        | Report::Indications(slot, ..)
-        | Report::Refused(slot)
-        | Report::NotMade(slot)
-        | Report::Asked(slot, _)
-        | Report::Stored(slot, _)
-        | Report::Selecting(slot, _)
-        | Report::Operating(slot, _)
-        | Report::Finished(slot, ..) => slot,
-    }
-}
-
 impl Told {
     /// Nothing was told.
     const NOTHING: Told = Told {
@@ -119,71 +104,86 @@ impl Told {
     }
 }
 
-impl<N: Node, R: AllocGlobal + Terminal + Clock> Followed<'_, N, R> {
-    /// Takes what the node has told at this moment.
-    fn take_reports(&mut self, now: u64) {
+/// How many octets a fragment has that was refused.
+fn count_of(report: &Report) -> usize {
+    match *report {
+        Report::Refused(_, count) => count,
+        _ => 0,
+    }
+}
+
+/// A node whose book of controls is read.
+pub(crate) trait Commanding: Node {
+    /// The command of the control of this number, if the book has it and can be read.
+    fn command(&mut self, alloc: Global, id: u64) -> Option<Command>;
+}
+
+impl<N: Commanding, R: AllocGlobal + Terminal + Clock> Followed<'_, N, R> {
+    /// Takes a report of the node's at this moment. If a fragment was refused, its octets stand from this place on.
+    fn take_report(&mut self, now: u64, report: &Report, from: usize) {
         let mut voice = Voice {
             rt: self.rt,
             names: self.names,
             log: &mut self.log,
             failed: &mut self.failed,
         };
-        for report in self.node.reports() {
-            match slot_of(report) {
-                Slot::Below(number) => {
-                    if let Some(asked) = self.asked.get_mut(usize::from(number)) {
-                        asked.told(&mut voice, report, now);
-                    }
-                }
-                Slot::Above(centre) => {
-                    if let Some(visitor) = self.visitors.get_mut(usize::from(centre)) {
-                        visitor.told(&mut voice, report);
-                    }
-                }
-            }
-        }
-        self.node.clear_reports();
-    }
-
-    /// Octets come from the station at a place.
-    fn look_at_received(&mut self, slot: Slot, octets: &[u8]) {
-        match slot {
+        match report.slot() {
             Slot::Below(number) => {
                 if let Some(asked) = self.asked.get_mut(usize::from(number)) {
-                    asked.came(octets);
+                    let octets = self.node.refused().get(from..).unwrap_or(&[]);
+                    asked.told(
+                        &mut voice,
+                        now,
+                        report,
+                        &octets[..count_of(report).min(octets.len())],
+                    );
                 }
             }
             Slot::Above(centre) => {
                 if let Some(visitor) = self.visitors.get_mut(usize::from(centre)) {
-                    visitor.came(octets);
+                    visitor.told(&mut voice, report);
                 }
             }
         }
     }
 
-    /// The first octets of those that wait for the station at a place were taken.
-    fn look_at_sent(&mut self, slot: Slot, count: usize) {
-        if let Slot::Below(number) = slot
-            && let Some(asked) = self.asked.get_mut(usize::from(number))
-        {
-            let octets = self.node.output(slot);
-            let count = count.min(octets.len());
-            asked.sent(&octets[..count]);
+    /// Takes what the node has told at this moment.
+    fn take_reports(&mut self, now: u64) {
+        let mut from = 0usize;
+        for number in 0..MAX_REPORTS {
+            let Some(report) = self.node.reports().get(number).copied() else {
+                break;
+            };
+            if let Report::Selecting(Slot::Below(substation), id) = report {
+                self.note_output(substation, id);
+            }
+            self.take_report(now, &report, from);
+            from = from.saturating_add(count_of(&report));
+        }
+        self.node.clear_reports();
+    }
+
+    /// A control is selected at a station below: it is known for which output or setpoint.
+    fn note_output(&mut self, substation: u8, id: u64) {
+        let command = self.node.command(self.rt.alloc(), id);
+        if let Some(asked) = self.asked.get_mut(usize::from(substation)) {
+            asked.note_output(command.as_ref());
         }
     }
 
-    /// Takes the answer that has come from the station at a place.
-    fn take_answer(&mut self, slot: Slot, now: u64) {
-        if let Slot::Below(number) = slot
-            && let Some(asked) = self.asked.get_mut(usize::from(number))
-        {
-            let mut voice = Voice {
-                rt: self.rt,
-                names: self.names,
-                log: &mut self.log,
-                failed: &mut self.failed,
-            };
-            asked.heard(&mut voice, now);
+    /// Octets come from the station at a place.
+    fn note_received(&mut self, slot: Slot) {
+        match slot {
+            Slot::Below(number) => {
+                if let Some(asked) = self.asked.get_mut(usize::from(number)) {
+                    asked.came();
+                }
+            }
+            Slot::Above(centre) => {
+                if let Some(visitor) = self.visitors.get_mut(usize::from(centre)) {
+                    visitor.came();
+                }
+            }
         }
     }
 
@@ -255,21 +255,19 @@ impl<N: Node, R: AllocGlobal + Terminal + Clock> Followed<'_, N, R> {
     }
 }
 
-impl<N: Node, R: AllocGlobal + Terminal + Clock> Node for Followed<'_, N, R> {
+impl<N: Commanding, R: AllocGlobal + Terminal + Clock> Node for Followed<'_, N, R> {
     fn connected(&mut self, slot: Slot, now: u64) {
         self.node.connected(slot, now);
         self.take_reports(now);
     }
 
     fn received(&mut self, slot: Slot, now: u64, octets: &[u8]) {
-        self.look_at_received(slot, octets);
+        self.note_received(slot);
         self.node.received(slot, now, octets);
         self.take_reports(now);
-        self.take_answer(slot, now);
     }
 
     fn sent(&mut self, slot: Slot, now: u64, count: usize) {
-        self.look_at_sent(slot, count);
         self.node.sent(slot, now, count);
         self.take_reports(now);
     }
@@ -302,6 +300,10 @@ impl<N: Node, R: AllocGlobal + Terminal + Clock> Node for Followed<'_, N, R> {
 
     fn missed(&self) -> u64 {
         self.node.missed()
+    }
+
+    fn refused(&self) -> &[u8] {
+        self.node.refused()
     }
 
     fn clear_reports(&mut self) {

@@ -3,7 +3,7 @@
 
 use dnp_concentrator::{Cause, IssueFault, MapFault};
 use dnp_controls::Entry;
-use dnp_notices::{InBrackets, Place, StrangeLine};
+use dnp_notices::{InBrackets, Many, Peer, Place, StrangeLine};
 use dnp_objects::{Command, Row};
 use dnp_store::OpenFault;
 use dnp_tcp::{End, lines};
@@ -244,6 +244,29 @@ impl<'a> Display for Line<'a> {
             }
             Line::File(path, what) => write!(f, "{path}: {what}"),
         }
+    }
+}
+
+/// That an unsolicited response of a station came again, with so many rows.
+#[derive(Clone, Copy)]
+pub struct Again<'a> {
+    /// The station.
+    pub peer: Peer,
+    /// What people call it.
+    pub name: Option<&'a str>,
+    /// How many rows it has.
+    pub rows: usize,
+}
+
+impl<'a> Display for Again<'a> {
+    fn fmt<W: Write>(&self, f: &mut Formatter<W>) -> fmt::Result {
+        let named = InBrackets(self.name);
+        let rows = Many(self.rows as u64, "row is", "rows are");
+        write!(
+            f,
+            "{}{named}: an unsolicited response came again: its {rows} stored again",
+            self.peer
+        )
     }
 }
 

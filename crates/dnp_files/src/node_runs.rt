@@ -3,7 +3,7 @@
 use crate::accounts::{drops_of_node, no_memory, substation_points};
 use crate::asked::{Asked, Whom};
 use crate::driving::Drivings;
-use crate::followed::Followed;
+use crate::followed::{Commanding, Followed};
 use crate::making::Making;
 use crate::rounds::Rounds;
 use crate::sites::Served;
@@ -15,6 +15,7 @@ use dnp_eventbuf::PairLanes;
 use dnp_loop::{Handler, LogBuffer, NodeLoop, Notices, StandardError, moment};
 use dnp_nodes::{AbovePlan, BelowPlan, ConcentratorNode, Ends, Slot};
 use dnp_notices::{DropLine, Dropping, Peer};
+use dnp_objects::Command;
 use dnp_tcp::{exit, no_port, say_listening, utc};
 use dnp_terminal::Terminal;
 use std::alloc::{AllocError, Global};
@@ -100,9 +101,9 @@ fn asked_below(
 /// What is known of the centres that are served: nothing.
 fn visitors(alloc: Global, rounds: &Rounds<'_>, idle: u64) -> Result<Vec<Visitor>, AllocError> {
     let mut all = Vec::new(alloc);
-    all.push(Visitor::new(alloc, 0, rounds.first, idle))?;
+    all.push(Visitor::new(0, rounds.first, idle))?;
     if let Some(second) = rounds.second {
-        all.push(Visitor::new(alloc, 1, second, idle))?;
+        all.push(Visitor::new(1, second, idle))?;
     }
     Ok(all)
 }
@@ -147,6 +148,16 @@ fn loop_of<R: Net + AllocGlobal + Eprint + Terminal + Clock>(
         }
     }
     Ok(turns)
+}
+
+impl<Q: PairLanes, B: Book> Commanding for ConcentratorNode<Q, B> {
+    fn command(&mut self, alloc: Global, id: u64) -> Option<Command> {
+        let entries = self.controls(alloc, id.saturating_sub(1), 1).ok()?;
+        match entries.as_slice() {
+            [entry, ..] => Some(entry.command),
+            [] => None,
+        }
+    }
 }
 
 /// What a concentrator's program does between two turns: it sets the node's clock, and says what has changed.

@@ -1,6 +1,6 @@
 //! How the lines of a concentrator and of a centre are coloured at a terminal: red for what failed, yellow for what may need a look.
 
-use crate::lines::{Line, News, OfCentre, OfFile};
+use crate::lines::{Again, Line, News, OfCentre, OfFile};
 use dnp_terminal::{Tone, Toned};
 
 impl Toned for Line<'_> {
@@ -17,6 +17,12 @@ impl Toned for Line<'_> {
             | Line::Refused(_)
             | Line::File(..) => Tone::Fault,
         }
+    }
+}
+
+impl Toned for Again<'_> {
+    fn tone(&self) -> Tone {
+        Tone::Warning
     }
 }
 

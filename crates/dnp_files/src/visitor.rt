@@ -2,16 +2,14 @@
 
 use crate::lines::{Line, News, OfCentre};
 use crate::sites::Served;
-use crate::tap::Tap;
 use crate::voice::Voice;
 use dnp_concentrator::Cause;
 use dnp_loop::Fault;
 use dnp_nodes::{Closing, Report};
-use dnp_notices::{Strange, StrangeLine, news_of};
+use dnp_notices::{Ends, Heard, Strange, StrangeLine, news_of};
 use dnp_streams::ServeFault;
 use dnp_tcp::{End, Ending};
 use dnp_terminal::Terminal;
-use std::alloc::Global;
 use std::io;
 use std::net::SocketAddr;
 use std::rt::Clock;
@@ -49,8 +47,8 @@ pub(crate) struct Visitor {
     served: Served,
     /// How long no fragment may come whole, in seconds.
     idle: u64,
-    /// What comes of it.
-    came: Tap,
+    /// Which frames came on its connection.
+    heard: Heard,
     /// How many fragments came whole on its connection.
     fragments: u64,
     /// What came last beside what the station takes, as it was said.
@@ -64,12 +62,12 @@ pub(crate) struct Visitor {
 impl Visitor {
     /// The centre with this number, which has not connected. It is served there, and so many seconds may pass in which no fragment comes
     /// whole.
-    pub(crate) fn new(alloc: Global, centre: u8, served: Served, idle: u64) -> Visitor {
+    pub(crate) fn new(centre: u8, served: Served, idle: u64) -> Visitor {
         Visitor {
             centre,
             served,
             idle,
-            came: Tap::new(alloc, served.taken, false),
+            heard: Heard::NOTHING,
             fragments: 0,
             strange: None,
             peer: None,
@@ -78,17 +76,18 @@ impl Visitor {
     }
 
     /// Octets came of it.
-    pub(crate) fn came(&mut self, octets: &[u8]) {
-        for number in 0..self.came.feed(octets) {
-            if self.came.fragment(number).is_some() {
-                self.fragments = self.fragments.saturating_add(1);
-            }
-        }
+    pub(crate) fn came(&mut self) {
+        self.heard = self.heard.with_octets();
+    }
+
+    /// A frame came with these link addresses.
+    fn meets(&mut self, came: Ends) {
+        self.heard = self.heard.with_frame(came, self.served.taken);
     }
 
     /// A connection begins.
     fn begins(&mut self) {
-        self.came.begin();
+        self.heard = Heard::NOTHING;
         self.fragments = 0;
     }
 
@@ -97,7 +96,7 @@ impl Visitor {
         self.gone = Some(Gone {
             cause,
             fragments: self.fragments,
-            strange: self.came.strange(),
+            strange: self.heard.strange(),
         });
         self.begins();
     }
@@ -110,6 +109,12 @@ impl Visitor {
     ) {
         match *report {
             Report::Connected(..) => self.begins(),
+            Report::Frame(_) => self.meets(self.served.taken),
+            Report::Strange(_, ends) => self.meets(Ends {
+                source: ends.peer,
+                dest: ends.own,
+            }),
+            Report::Whole(_) => self.fragments = self.fragments.saturating_add(1),
             Report::NotMade(_) => voice.fail(Cause::Memory),
             Report::Lost(_, cause) => {
                 match cause {
@@ -207,7 +212,7 @@ impl Visitor {
             self.peer = told.accepted;
             self.note(voice, News::Connected);
         }
-        let now = self.came.strange();
+        let now = self.heard.strange();
         if !matches!(now, Some(Strange::Noise)) {
             self.tell_strange(voice, now);
         }

@@ -7,9 +7,6 @@ use mio::Poll;
 use std::io::{self, ErrorKind};
 use std::net::Net;
 
-/// How many connections are accepted at a door in a turn.
-const ENTRIES: u8 = 16;
-
 /// A descriptor that is kept to be closed where none is left, so that a connection can be accepted and refused.
 #[derive(Drop)]
 pub(crate) struct Spare {
@@ -120,30 +117,27 @@ impl Door {
         }
     }
 
-    /// The newest of the connections that came, if any did: each takes the place of the one before, which is closed.
-    pub(crate) fn newest<R: Net>(
+    /// The next of the connections that came, if one did. The others wait for the next turns: so each has a turn before another takes its
+    /// place.
+    pub(crate) fn next<R: Net>(
         &mut self,
         rt: &R,
         spare: &mut Spare,
         notices: &mut Notices,
         now: u64,
     ) -> Option<Arrival> {
-        let mut newest = None;
         spare.renew(rt);
-        for _ in 0..ENTRIES {
-            match self.attempt() {
-                Attempt::Came(arrival) => newest = Some(arrival),
-                Attempt::Again => {}
-                Attempt::Nobody => {
-                    self.watch.may_accept = false;
-                    return newest;
-                }
-                Attempt::Failed(fault) => {
-                    self.refuse(rt, spare, notices, fault, now);
-                    return newest;
-                }
+        match self.attempt() {
+            Attempt::Came(arrival) => Some(arrival),
+            Attempt::Again => None,
+            Attempt::Nobody => {
+                self.watch.may_accept = false;
+                None
+            }
+            Attempt::Failed(fault) => {
+                self.refuse(rt, spare, notices, fault, now);
+                None
             }
         }
-        newest
     }
 }

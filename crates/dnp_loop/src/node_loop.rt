@@ -125,7 +125,7 @@ impl NodeLoop {
         };
         for door in self.doors.iter_mut() {
             if door.watch.is_due(now)
-                && let Some(arrival) = door.newest(rt, &mut self.spare, &mut self.notices, now)
+                && let Some(arrival) = door.next(rt, &mut self.spare, &mut self.notices, now)
             {
                 now = seat(
                     &system,
