@@ -264,7 +264,7 @@ impl<'a> Display for Again<'a> {
         let rows = Many(self.rows as u64, "row is", "rows are");
         write!(
             f,
-            "{}{named}: an unsolicited response came again: its {rows} stored again",
+            "{}{named}: the same unsolicited response came again: {rows} stored again",
             self.peer
         )
     }
