@@ -8,6 +8,7 @@ Every event that a substation made stands in both journals: once, or at most twi
 wrong with it. Standard output stays empty. Prints a line 'ok CASE' or 'FAILED CASE' for each case."""
 import collections
 import contextlib
+import datetime
 import os
 import re
 import resource
@@ -53,7 +54,7 @@ FOREIGN = {
     "silent": r"lost, no good answer since the start: no answer in 1000 ms",
     "noise": r"lost, no good answer since the start: octets came, and no frame",
     "stranger": r"response refused: event of analog \d+, which the plan lacks",
-    "float": r"response refused: 30\.5 at octet \d+ is not in the profile",
+    "floats": r"response refused: 30\.5 at octet \d+ is not in the profile",
     "odd": r"response refused: .* at octet \d+",
     "elsewhere": r"lost, no good answer since .*: frames came from 99 to 2; this asks \d+ as 2",
     "numbered": r"lost, no good answer since .*: a response with sequence number \d+ came, where \d+ is awaited",
@@ -367,8 +368,15 @@ def kills():
             return "nothing is said of the substation that was killed"
         network.outstation(0, network.replay(0, 20, 50, first=1000, after=3000))
         fault = network.lacks(values(0, 80) | values(1, 80) | values(0, 20, 1000), often=2)
-        back = network.is_logged("concentrator", r"substation 0 \(Site 0\): back after")
-        return fault or ("" if back else "it is not said that the substation is back")
+        if fault or not network.is_logged("concentrator", r"substation 0 \(Site 0\): back after"):
+            return fault or "it is not said that the substation is back"
+        # (its polls were answered as it came back, and its events are unsolicited responses, from three seconds later on)
+        network.kill("outstation0")
+        pattern = r"(\S+) substation 0 \(Site 0\): back after [^\n]*\n(?:.*\n)*\S+ substation 0 \(Site 0\): lost, no good answer since (\S+):"
+        if not network.is_logged("concentrator", pattern):
+            return "nothing is said of the substation that was killed again"
+        back, since = (datetime.datetime.fromisoformat(it.replace("Z", "+00:00")) for it in re.search(pattern, network.log("concentrator")).groups())
+        return "" if (since - back).total_seconds() >= 2 else f"back at {back}, and no good answer since {since}"
 
 
 def foreign():
@@ -383,6 +391,8 @@ def foreign():
         for number in (1, 2):
             network.centre(number)
         unsaid = []
+        # (a cause is said once, wherever in a response it lies, as long as nothing good comes)
+        again = [number for number, kind in enumerate(FOREIGN, 1) if kind == "floats"]
         for number, (kind, pattern) in enumerate(FOREIGN.items(), 1):
             if not network.is_logged("concentrator", rf"substation {number} \(Site {number}\): (still )?{pattern}", WAIT):
                 unsaid.append(kind)
@@ -392,6 +402,10 @@ def foreign():
         for number in (1, 2):
             if not awaited(lambda number=number: network.has_all(number, values(0, 40)), WAIT):
                 return f"centre {number} lacks events of the substation that is well"
+        for number in again:
+            said = re.findall(rf"substation {number} .*: response refused: 30\.5 at octet", network.log("concentrator"))
+            if len(said) != 1:
+                return f"{len(said)} lines of one object: {network.log('concentrator')[-800:]}"
         return ""
 
 
@@ -439,6 +453,16 @@ def doors():
             return "the newer peer did not take over"
         if not network.is_logged("concentrator", rf"centre 2 ended, served 0: taken over by 127.0.0.1:{second.getsockname()[1]}"):
             return "nothing is said of the newer peer"
+        # (two come while the program stands still: each has its answer)
+        network.running["concentrator"].send_signal(signal.SIGSTOP)
+        both = [socket.create_connection(("127.0.0.1", network.doors[2])) for _ in range(2)]
+        for stream in both:
+            stream.sendall(ask)
+            stream.settimeout(WAIT)
+        network.running["concentrator"].send_signal(signal.SIGCONT)
+        for number, stream in enumerate(both):
+            if stream.recv(100) != answer:
+                return f"of two that came at once number {number} has no answer"
         before = memory(network.running["concentrator"])
         flood = socket.create_connection(("127.0.0.1", network.doors[2]))
         flood.setblocking(False)

@@ -11,7 +11,7 @@ command, N being its on-time or its value. With EVENTS 'none' it has no event, w
 'noise' it answers octets that are no frame, without an end, and with 'stranger' events of a point that is not
 planned.
 
-Other words for EVENTS have it answer a READ so: 'float' by a value that the profile lacks, 'odd' by a qualifier that no object has,
+Other words for EVENTS have it answer a READ so: 'float' by a value that the profile lacks, 'floats' by the same at another place each time, 'odd' by a qualifier that no object has,
 'classless' by an event of the analog 1, 'elsewhere' from the link address 99, 'numbered' with the next sequence number but one, 'later' without
 FIR, 'leaving' by the end of the connection; 'refusing' refuses the first two, and 'overflown' has lost events until then. Or a command: 'select-4' and 'operate-6' by that status, a
 'select-odd' and an 'operate-odd' without it, a 'select-none' and an 'operate-none' not at all.
@@ -26,6 +26,7 @@ WORDS = {3: "select", 4: "operate"}
 # what follows the function of a response to the READ of this number, by the word for EVENTS: IIN and objects
 READS = {
     "float": lambda _: b"\0\0" + struct.pack("<BBBBBBf", 30, 5, 0, 0, 0, 1, 1.5),
+    "floats": lambda number: b"\0\0" + number % 2 * struct.pack("<BBBBBBi", 30, 1, 0, 0, 0, 1, 5) + struct.pack("<BBBBBBf", 30, 5, 0, 0, 0, 1, 1.5),
     "odd": lambda _: b"\0\0" + bytes([30, 1, 0x5B, 0]),
     "classless": lambda _: b"\0\0" + struct.pack("<BBBHHBi", 32, 1, 0x28, 1, 1, 1, 5),
     "elsewhere": lambda _: b"\0\0",
