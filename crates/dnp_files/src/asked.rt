@@ -184,11 +184,6 @@ impl Asked {
         }
     }
 
-    /// Octets came of it.
-    pub(crate) fn came(&mut self) {
-        self.link.heard = self.link.heard.with_octets();
-    }
-
     /// Says something of it, and why a call failed, if one did.
     fn say<R: AllocGlobal + Terminal + Clock>(
         &self,
@@ -259,14 +254,19 @@ impl Asked {
         self.known.iin = iin;
     }
 
-    /// It sent a fragment with these octets that was refused. A cause that was said since it answered last is not said again.
+    /// It sent a fragment that was refused, the first so many of these octets; none where they are not known. A cause that was said since
+    /// it answered last is not said again.
     fn refuses<R: AllocGlobal + Terminal + Clock>(
         &mut self,
         voice: &mut Voice<'_, R>,
         now: u64,
+        count: usize,
         octets: &[u8],
     ) {
-        if let Some(refusal) = refusal_of(&self.points, octets) {
+        let octets = octets.get(..count).unwrap_or(&[]);
+        if !octets.is_empty()
+            && let Some(refusal) = refusal_of(&self.points, octets)
+        {
             let trouble = self.refused.trouble_of(refusal, &self.known.standing);
             if self.link.trouble.is_none() {
                 self.link.trouble = Some(trouble);
@@ -357,7 +357,7 @@ impl Asked {
         self.link.heard = self.link.heard.with_frame(came, self.whom.awaited);
     }
 
-    /// The node has told this of its link. If a fragment was refused, it has these octets.
+    /// The node has told this of its link. If a fragment was refused, it has the first of these octets.
     pub(crate) fn told<R: AllocGlobal + Terminal + Clock>(
         &mut self,
         voice: &mut Voice<'_, R>,
@@ -367,12 +367,13 @@ impl Asked {
     ) {
         match *report {
             Report::Connected(..) => self.link = Link::NEW,
+            Report::Octets(_) => self.link.heard = self.link.heard.with_octets(),
             Report::Frame(_) => {
                 let awaited = self.whom.awaited;
                 self.link.heard = self.link.heard.with_frame(awaited, awaited);
             }
             Report::Strange(_, ends) => self.meets(ends),
-            Report::Refused(..) => self.refuses(voice, now, octets),
+            Report::Refused(_, count) => self.refuses(voice, now, count, octets),
             Report::Response(_, head, outcome) => self.responds(voice, now, &head, outcome),
             Report::Repeated(_) => self.link.is_repeated = true,
             Report::Stored(_, rows) => self.tell_stored(voice, rows),

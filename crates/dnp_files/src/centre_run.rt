@@ -3,7 +3,7 @@
 use crate::accounts::{no_memory, points_above};
 use crate::asked::{Asked, Whom};
 use crate::driving::Driving;
-use crate::followed::{Commanding, Followed};
+use crate::links::{Commanding, Links};
 use crate::node_runs::ends_of;
 use crate::polls::Polls;
 use dnp_concentrator::Centre;
@@ -64,22 +64,30 @@ impl<J: JournalStore, B: Book> Commanding for CentreNode<J, B> {
 }
 
 /// What a centre's program does between two turns: it sets the node's clock, and says what has changed.
-#[derive(Drop)]
-struct Between;
+struct Between<'b, R> {
+    /// What is known of its link.
+    links: Links<'b, R>,
+}
 
-impl<J: JournalStore, B: Book, R: AllocGlobal + Terminal + Clock> Handler<
-    Followed<'_, CentreNode<J, B>, R>,
-> for Between {
+impl<R> Drop for Between<'_, R> {
+    /// One call for whoever lets it go.
+    fn drop(self) {
+        let Between { links: _ } = self;
+    }
+}
+
+impl<J: JournalStore, B: Book, R: AllocGlobal + Terminal + Clock> Handler<CentreNode<J, B>>
+    for Between<'_, R> {
     fn handle(
         &mut self,
-        followed: &mut Followed<'_, CentreNode<J, B>, R>,
+        node: &mut CentreNode<J, B>,
         notices: &Notices,
         log: &mut LogBuffer,
         now: u64,
     ) -> Option<u64> {
-        let clock = utc(followed.rt).saturating_sub(now);
-        followed.node.set_clock(clock);
-        if followed.settle(notices, log, now) {
+        let clock = utc(self.links.rt).saturating_sub(now);
+        node.set_clock(clock);
+        if self.links.take(node, notices, log, now) {
             Some(u64::MAX)
         } else {
             None
@@ -104,24 +112,23 @@ where
     };
     let clock = utc(rt).saturating_sub(now);
     let plan = caller_plan(polls, driving);
-    let mut followed = Followed {
-        node: CentreNode::new(rt.alloc(), centre, plan, now, clock),
+    let mut node = CentreNode::new(rt.alloc(), centre, plan, now, clock);
+    let links = Links {
         rt,
         names: polls.names,
         asked,
         visitors: Vec::new(rt.alloc()),
-        log: LogBuffer::new(rt.alloc()),
-        failed: None,
     };
-    let status = run_turns(rt, &mut followed, polls);
-    Ok((status, followed.into_node().into_centre()))
+    let status = run_turns(rt, &mut node, polls, links);
+    Ok((status, node.into_centre()))
 }
 
 /// Makes turns until the loop ends, and tells the exit status.
 fn run_turns<J: JournalStore, B: Book, R>(
     rt: &R,
-    followed: &mut Followed<'_, CentreNode<J, B>, R>,
+    node: &mut CentreNode<J, B>,
     polls: &Polls<'_>,
+    links: Links<'_, R>,
 ) -> ExitCode
 where
     R: AllocGlobal + Eprint + Terminal + Clock + Net + StandardError,
@@ -134,6 +141,6 @@ where
         return no_memory(rt);
     }
     // (a loop that ends has a failure for its reason, which is said)
-    let _ = turns.run(rt, followed, &mut Between);
+    let _ = turns.run(rt, node, &mut Between { links });
     ExitCode::from(exit::FAULT)
 }

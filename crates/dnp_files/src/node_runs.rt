@@ -3,7 +3,7 @@
 use crate::accounts::{drops_of_node, no_memory, substation_points};
 use crate::asked::{Asked, Whom};
 use crate::driving::Drivings;
-use crate::followed::{Commanding, Followed};
+use crate::links::{Commanding, Links};
 use crate::making::Making;
 use crate::rounds::Rounds;
 use crate::sites::Served;
@@ -14,7 +14,7 @@ use dnp_controls::Book;
 use dnp_eventbuf::PairLanes;
 use dnp_loop::{Handler, LogBuffer, NodeLoop, Notices, StandardError, moment};
 use dnp_nodes::{AbovePlan, BelowPlan, ConcentratorNode, Ends, Slot};
-use dnp_notices::{DropLine, Dropping, Peer};
+use dnp_notices::{DropLine, Dropping, Drops, Peer};
 use dnp_objects::Command;
 use dnp_tcp::{exit, no_port, say_listening, utc};
 use dnp_terminal::Terminal;
@@ -161,51 +161,60 @@ impl<Q: PairLanes, B: Book> Commanding for ConcentratorNode<Q, B> {
 }
 
 /// What a concentrator's program does between two turns: it sets the node's clock, and says what has changed.
-#[derive(Drop)]
-struct Between {
+struct Between<'b, R> {
+    /// What is known of its links.
+    links: Links<'b, R>,
     /// Whether rows for each centre are being dropped.
     drops: [Dropping; 2],
 }
 
-impl Between {
+impl<R> Drop for Between<'_, R> {
+    /// One call for whoever lets it go.
+    fn drop(self) {
+        let Between { links: _, drops: _ } = self;
+    }
+}
+
+impl<R: AllocGlobal + Terminal + Clock> Between<'_, R> {
     /// Says whether rows for a centre have begun to be dropped, or that has ended.
-    fn look_at<Q: PairLanes, B: Book, R: AllocGlobal + Terminal + Clock>(
-        &mut self,
-        followed: &mut Followed<'_, ConcentratorNode<Q, B>, R>,
-        centre: u8,
-    ) {
-        let drops = drops_of_node(&mut followed.node, centre);
+    fn look_at(&mut self, voice: &mut Voice<'_, R>, centre: u8, drops: Drops) {
         let Some(dropping) = self.drops.get_mut(usize::from(centre)) else {
             return;
         };
         if let Some(notice) = dropping.notice(drops) {
-            let mut voice = Voice {
-                rt: followed.rt,
-                names: followed.names,
-                log: &mut followed.log,
-                failed: &mut followed.failed,
-            };
             voice.say(&DropLine { centre, notice });
         }
         *dropping = dropping.after(drops);
     }
+
+    /// Says so of both centres.
+    fn look_at_both(&mut self, log: &mut LogBuffer, first: Drops, second: Drops) {
+        let mut voice = Voice {
+            rt: self.links.rt,
+            names: self.links.names,
+            log,
+            failed: None,
+        };
+        self.look_at(&mut voice, 0, first);
+        self.look_at(&mut voice, 1, second);
+    }
 }
 
-impl<Q: PairLanes, B: Book, R: AllocGlobal + Terminal + Clock> Handler<
-    Followed<'_, ConcentratorNode<Q, B>, R>,
-> for Between {
+impl<Q: PairLanes, B: Book, R: AllocGlobal + Terminal + Clock> Handler<ConcentratorNode<Q, B>>
+    for Between<'_, R> {
     fn handle(
         &mut self,
-        followed: &mut Followed<'_, ConcentratorNode<Q, B>, R>,
+        node: &mut ConcentratorNode<Q, B>,
         notices: &Notices,
         log: &mut LogBuffer,
         now: u64,
     ) -> Option<u64> {
-        let clock = utc(followed.rt).saturating_sub(now);
-        followed.node.set_clock(clock);
-        self.look_at(followed, 0);
-        self.look_at(followed, 1);
-        if followed.settle(notices, log, now) {
+        let clock = utc(self.links.rt).saturating_sub(now);
+        node.set_clock(clock);
+        let first = drops_of_node(node, 0);
+        let second = drops_of_node(node, 1);
+        self.look_at_both(log, first, second);
+        if self.links.take(node, notices, log, now) {
             Some(u64::MAX)
         } else {
             None
@@ -240,7 +249,7 @@ where
 /// Runs the node until the loop ends, and gives its concentrator back with the exit status.
 fn follow<Q: PairLanes + Drop, B: Book + Drop, R>(
     rt: &R,
-    node: ConcentratorNode<Q, B>,
+    mut node: ConcentratorNode<Q, B>,
     rounds: &Rounds<'_>,
     drivings: &Drivings<'_>,
     making: &Making<'_>,
@@ -255,40 +264,39 @@ where
     let Ok(visitors) = visitors(rt.alloc(), rounds, idle_ms(drivings) / 1_000) else {
         return Err(no_memory(rt));
     };
-    let mut followed = Followed {
-        node,
+    let links = Links {
         rt,
         names: rounds.names,
         asked,
         visitors,
-        log: LogBuffer::new(rt.alloc()),
-        failed: None,
     };
     let status = match loop_of(rt, rounds) {
         Ok(mut turns) => {
             making.begin();
-            run_turns(rt, &mut turns, &mut followed)
+            run_turns(rt, &mut turns, &mut node, links)
         }
         Err(status) => status,
     };
-    Ok((status, followed.into_node().into_concentrator()))
+    Ok((status, node.into_concentrator()))
 }
 
 /// Makes turns until the loop ends, and tells the exit status.
 fn run_turns<Q: PairLanes, B: Book, R>(
     rt: &R,
     turns: &mut NodeLoop,
-    followed: &mut Followed<'_, ConcentratorNode<Q, B>, R>,
+    node: &mut ConcentratorNode<Q, B>,
+    links: Links<'_, R>,
 ) -> ExitCode
 where
     R: AllocGlobal + Eprint + Terminal + Clock + Net + StandardError,
 {
-    let first = drops_of_node(&mut followed.node, 0).lost;
-    let second = drops_of_node(&mut followed.node, 1).lost;
+    let first = drops_of_node(node, 0).lost;
+    let second = drops_of_node(node, 1).lost;
     let mut between = Between {
+        links,
         drops: [Dropping::Calm(first), Dropping::Calm(second)],
     };
     // (a loop that ends has a failure for its reason, which is said)
-    let _ = turns.run(rt, followed, &mut between);
+    let _ = turns.run(rt, node, &mut between);
     ExitCode::from(exit::FAULT)
 }

@@ -75,11 +75,6 @@ impl Visitor {
         }
     }
 
-    /// Octets came of it.
-    pub(crate) fn came(&mut self) {
-        self.heard = self.heard.with_octets();
-    }
-
     /// A frame came with these link addresses.
     fn meets(&mut self, came: Ends) {
         self.heard = self.heard.with_frame(came, self.served.taken);
@@ -109,6 +104,7 @@ impl Visitor {
     ) {
         match *report {
             Report::Connected(..) => self.begins(),
+            Report::Octets(_) => self.heard = self.heard.with_octets(),
             Report::Frame(_) => self.meets(self.served.taken),
             Report::Strange(_, ends) => self.meets(Ends {
                 source: ends.peer,

@@ -1,5 +1,6 @@
 //! What a node's program says of its links: lines that wait for standard error.
 
+use crate::lines::Line;
 use dnp_concentrator::Cause;
 use dnp_decode::Moment;
 use dnp_loop::LogBuffer;
@@ -19,7 +20,7 @@ pub(crate) struct Voice<'v, R> {
     /// Where the lines wait.
     pub(crate) log: &'v mut LogBuffer,
     /// Why the program can't go on, if it can't.
-    pub(crate) failed: &'v mut Option<Cause>,
+    pub(crate) failed: Option<Cause>,
 }
 
 impl<R> Drop for Voice<'_, R> {
@@ -64,7 +65,19 @@ impl<R: AllocGlobal + Terminal + Clock> Voice<'_, R> {
     /// A store or memory has failed: the program can't go on.
     pub(crate) fn fail(&mut self, cause: Cause) {
         if self.failed.is_none() {
-            *self.failed = Some(cause);
+            self.failed = Some(cause);
         }
+    }
+
+    /// Says why the program can't go on, if it can't, and how many lines were lost, if any were. Whether it can go on.
+    pub(crate) fn end(&mut self) -> bool {
+        if let Some(cause) = self.failed {
+            self.say(&Line::Failed(cause));
+        }
+        if self.log.may_tell_lost() {
+            let lost = self.log.take_lost();
+            self.say(&Line::LinesLost(lost));
+        }
+        self.failed.is_none()
     }
 }

@@ -41,6 +41,7 @@ slot_of (report.Connected slot absent tries) = slot
 slot_of (report.Lost slot cause) = slot
 slot_of (report.Started slot) = slot
 slot_of (report.Indications slot before after) = slot
+slot_of (report.Octets slot) = slot
 slot_of (report.Frame slot) = slot
 slot_of (report.Strange slot ends) = slot
 slot_of (report.Whole slot) = slot

@@ -13,6 +13,7 @@ mod moves;
 mod steps;
 
 use crate::budgets::or_last;
+use crate::report::Report;
 use crate::shared::Shared;
 use crate::slot::{Closing, Ends, Slot, Want};
 use dnp_line::Port;
@@ -176,6 +177,7 @@ impl Callee {
         if !self.is_up {
             return;
         }
+        shared.reports.tell_once(Report::Octets(self.plan.slot));
         let over = self.take_octets(shared, station, now, octets);
         self.finish(shared, station, now, over);
     }

@@ -14,6 +14,7 @@ mod moves;
 mod steps;
 
 use crate::budgets::or_last;
+use crate::report::Report;
 use crate::requests::LinkClasses;
 use crate::shared::Shared;
 use crate::slot::{Closing, Ends, Slot, Want};
@@ -193,6 +194,7 @@ impl Caller {
         if !self.schedule.is_connected() {
             return;
         }
+        shared.reports.tell_once(Report::Octets(self.plan.slot));
         let over = self.take_octets(shared, station, now, octets);
         self.finish(shared, station, now, over);
     }

@@ -21,6 +21,8 @@ pub enum Report {
     Started(Slot),
     /// The indications of the station at the other end changed, from the first to the second.
     Indications(Slot, Iin, Iin),
+    /// Octets came. If that was told last, it is told once.
+    Octets(Slot),
     /// A frame came from the station at the other end. If more than one came in a row, that is told once.
     Frame(Slot),
     /// A frame came that has other link addresses, of another station or for another one. It is as if the station here had the first one. If
@@ -61,6 +63,7 @@ impl Report {
             | Report::Lost(slot, _)
             | Report::Started(slot)
             | Report::Indications(slot, _, _)
+            | Report::Octets(slot)
             | Report::Frame(slot)
             | Report::Strange(slot, _)
             | Report::Whole(slot)
@@ -79,7 +82,7 @@ impl Report {
 }
 
 /// How many reports are kept until they are taken.
-pub const MAX_REPORTS: usize = 1_024;
+pub const MAX_REPORTS: usize = 65_536;
 
 /// What a node has told, in order, until it is taken.
 #[derive(Drop)]
