@@ -7,13 +7,12 @@ use crate::voice::Voice;
 use dnp_appfragment::Iin;
 use dnp_concentrator::Cause;
 use dnp_loop::Fault;
-use dnp_master::Outcome;
-use dnp_nodes::{Closing, Head, Report};
+use dnp_nodes::{Answer, Closing, Head, Report};
 use dnp_notices::{
     Awaited, Doing, Ends, Exchange, Failing, Happening, Heard, Last, Line, Notice, Peer, Place,
     Poll, Standing, Strange, Thing, Trouble, WATCHED, change_of, news_of, refusal_of,
 };
-use dnp_objects::Command;
+use dnp_objects::{Command, Status};
 use dnp_pointdb::PointPlan;
 use dnp_schedule::TaskKind;
 use dnp_tcp::utc;
@@ -110,6 +109,14 @@ fn indicated(known: Iin, seen: Iin) -> Iin {
         one: seen.one,
         two: (seen.two & !REFUSING) | (known.two & REFUSING),
     }
+}
+
+/// FIR, FIN and UNS of an application control octet: a whole unsolicited response has them all.
+const WHOLE_REPORT: u8 = 0xD0;
+
+/// Whether a response with this head is a whole unsolicited one, which a master takes at any time.
+fn is_report(head: &Head) -> bool {
+    head.is_unsolicited() && head.control & WHOLE_REPORT == WHOLE_REPORT
 }
 
 /// Whether points are read by a task.
@@ -288,18 +295,22 @@ impl Asked {
         self.tell_strange(voice, false);
     }
 
-    /// Its answer to a task came out so.
+    /// What was asked came out so, by a response with these indications.
     fn ends<R: AllocGlobal + Terminal + Clock>(
         &mut self,
         voice: &mut Voice<'_, R>,
         now: u64,
-        outcome: Outcome,
+        iin: Iin,
+        answer: Answer,
     ) {
-        match outcome {
-            Outcome::Done(iin) if self.link.is_poll => self.answers(voice, now, iin),
-            Outcome::Done(_) => {}
-            Outcome::Control(status) => self.happens(voice, &Happening::Answered(status)),
-            Outcome::Unlike => self.happens(voice, &Happening::Unlike),
+        match answer {
+            Answer::Done if self.link.is_poll => self.answers(voice, now, iin),
+            Answer::Done | Answer::Nothing => {}
+            Answer::Control(code) => match Status::new(code) {
+                Some(status) => self.happens(voice, &Happening::Answered(status)),
+                None => self.happens(voice, &Happening::Unlike),
+            },
+            Answer::Unlike => self.happens(voice, &Happening::Unlike),
         }
     }
 
@@ -309,19 +320,17 @@ impl Asked {
         voice: &mut Voice<'_, R>,
         now: u64,
         head: &Head,
-        outcome: Option<Outcome>,
+        answer: Answer,
     ) {
         self.link.exchange = self.link.exchange.came(&head.octets());
         self.link.is_repeated = false;
-        if outcome.is_some() || head.is_unsolicited() {
+        if !matches!(answer, Answer::Nothing) || is_report(head) {
             self.known.last = Some(Last {
                 utc: utc(voice.rt),
                 moment: now,
             });
         }
-        if let Some(outcome) = outcome {
-            self.ends(voice, now, outcome);
-        }
+        self.ends(voice, now, head.iin, answer);
         self.indicates(voice, indicated(self.known.iin, head.iin));
     }
 
@@ -374,7 +383,7 @@ impl Asked {
             }
             Report::Strange(_, ends) => self.meets(ends),
             Report::Refused(_, count) => self.refuses(voice, now, count, octets),
-            Report::Response(_, head, outcome) => self.responds(voice, now, &head, outcome),
+            Report::Response(_, head, answer) => self.responds(voice, now, &head, answer),
             Report::Repeated(_) => self.link.is_repeated = true,
             Report::Stored(_, rows) => self.tell_stored(voice, rows),
             Report::NotMade(_) => voice.fail(Cause::Memory),

@@ -1,6 +1,10 @@
 -- Definition: what a node has told.
-use Rattle.std.specs.Prelude.{◌≡◌, ℕ, ◌+◌, ◌-◌, ◌^◌, List, [], ◌∷◌, ◌++◌, min, nat_eq, ◌&&◌, if◌then◌else◌}
+use Rattle.std.specs.Prelude.{◌≡◌, ℕ, ◌+◌, ◌-◌, ◌^◌, List, [], ◌∷◌, ◌++◌, min, nat_eq, ◌&&◌, if◌then◌else◌, Option, Some, None}
 use Rattle.dnp_linkframe.specs.declared.frame.Frame.{Frame}
+use Rattle.dnp_master.specs.declared.outcome.Outcome.{Outcome}
+use Rattle.dnp_master.specs.declared.outcome.Outcome.TheVariants as outcome
+use Rattle.dnp_nodes.specs.declared.answers.Answer.{Answer}
+use Rattle.dnp_nodes.specs.declared.answers.Answer.TheVariants as answer
 use Rattle.dnp_nodes.specs.declared.report.Report.{Report}
 use Rattle.dnp_nodes.specs.declared.report.Report.TheVariants as report
 use Rattle.dnp_nodes.specs.declared.report.Reports.{Reports}
@@ -34,6 +38,13 @@ abbrev pub frame_report : Slot → Ends → Frame → Report
 frame_report slot ends frame =
     if nat_eq frame.dest ends.own && nat_eq frame.source ends.peer then report.Frame slot
     else report.Strange slot (record { own = frame.dest; peer = frame.source })
+
+-- how a task came out, if one did; a command by the code of its status
+abbrev pub answer_of : Option Outcome → Answer
+answer_of None = answer.Nothing
+answer_of (Some (outcome.Done iin)) = answer.Done
+answer_of (Some (outcome.Control status)) = answer.Control status.code
+answer_of (Some outcome.Unlike) = answer.Unlike
 
 -- the place of a report
 abbrev pub slot_of : Report → Slot

@@ -3,6 +3,7 @@
 //! happened, and when it is to be called again. A [`Caller`] is a master's side of one link, and a [`Callee`] an outstation's.
 #![tactic(auto)]
 
+mod answers;
 mod budgets;
 mod callee;
 mod caller;
@@ -18,6 +19,7 @@ mod shared;
 mod slot;
 mod turn;
 
+pub use answers::Answer;
 pub use callee::{Callee, CalleePlan, ChangeFault};
 pub use caller::{Caller, CallerPlan};
 pub use centre_node::CentreNode;

@@ -3,10 +3,10 @@
 ghost use Rattle.std.specs.Prelude.{◌≡◌, ◌⊎◌, []};
 ghost use Rattle.dnp_nodes.specs.Told.{IsCounted, IsTold, missed_in, refused_in, slot_of, told_in};
 
+use crate::answers::Answer;
 use crate::heads::Head;
 use crate::slot::{Closing, Ends, Slot};
 use dnp_appfragment::Iin;
-use dnp_master::Outcome;
 use dnp_schedule::TaskKind;
 use std::alloc::Global;
 
@@ -34,7 +34,7 @@ pub enum Report {
     /// them.
     Refused(Slot, usize),
     /// A response came that was not refused, and with it, perhaps, a task to its end. A master passes over one that it does not await.
-    Response(Slot, Head, Option<Outcome>),
+    Response(Slot, Head, Answer),
     /// The response that is told next is an unsolicited one with the octets of the one before it on this connection.
     Repeated(Slot),
     /// Out of memory for a step, which was not made.

@@ -8,6 +8,7 @@ ghost use Rattle.dnp_streams.specs.links.Links.{after_sent, new_link};
 ghost use Rattle.dnp_nodes.specs.Callers as spec;
 ghost use Rattle.dnp_nodes.specs.declared.slot.Want.TheVariants.{Connect};
 
+use crate::answers::answer_of;
 use crate::budgets::{has_come, stuck_at, waits_from};
 use crate::caller::Caller;
 use crate::frames::frame_of;
@@ -290,7 +291,7 @@ impl Caller {
         } else {
             heard.settled()
         };
-        reports.tell(Report::Response(self.plan.slot, head, told.outcome));
+        reports.tell(Report::Response(self.plan.slot, head, answer_of(told.outcome)));
         self.tell_changes(reports, &before, head.iin);
     }
 
