@@ -1,6 +1,7 @@
 //! What is known of a station that is asked on connections that stand, and what is said of it: a line for what has changed. All of it comes
 //! from what the node tells.
 
+use crate::connection::{Connection, error_of, indicated, is_report, reads, trouble_of};
 use crate::lines::Again;
 use crate::refused::Refused;
 use crate::voice::Voice;
@@ -9,16 +10,15 @@ use dnp_concentrator::Cause;
 use dnp_loop::Fault;
 use dnp_nodes::{Answer, Closing, Head, Report};
 use dnp_notices::{
-    Awaited, Doing, Ends, Exchange, Failing, Happening, Heard, Last, Line, Notice, Peer, Place,
-    Poll, Standing, Strange, Thing, Trouble, WATCHED, change_of, news_of, refusal_of,
+    Doing, Ends, Happening, Last, Line, Notice, Peer, Place, Poll, Standing, Strange, Thing,
+    Trouble, WATCHED, change_of, news_of, refusal_of,
 };
 use dnp_objects::{Command, Status};
 use dnp_pointdb::PointPlan;
-use dnp_schedule::TaskKind;
 use dnp_tcp::utc;
 use dnp_terminal::Terminal;
 use std::alloc::Global;
-use std::io::{self, ErrorKind};
+use std::io;
 use std::rt::Clock;
 
 /// Who is asked, where, and for how long.
@@ -55,32 +55,6 @@ struct Known {
     begun: u64,
 }
 
-/// What is known of its connection.
-#[derive(Clone, Copy)]
-struct Link {
-    /// Which response is awaited, and what came last in its place.
-    exchange: Exchange,
-    /// Whether points were read by the last request.
-    is_poll: bool,
-    /// Which frames came.
-    heard: Heard,
-    /// Why what came was refused first, if it was.
-    trouble: Option<Trouble>,
-    /// Whether an unsolicited response has come again, of which nothing more is known yet.
-    is_repeated: bool,
-}
-
-impl Link {
-    /// Nothing went over it.
-    const NEW: Link = Link {
-        exchange: Exchange::IDLE,
-        is_poll: false,
-        heard: Heard::NOTHING,
-        trouble: None,
-        is_repeated: false,
-    };
-}
-
 /// A station that is asked on connections that stand.
 #[derive(Drop)]
 pub(crate) struct Asked {
@@ -91,83 +65,11 @@ pub(crate) struct Asked {
     /// What is known of it.
     known: Known,
     /// What is known of its connection.
-    link: Link,
+    link: Connection,
     /// Why it was refused since it answered last.
     refused: Refused,
     /// Why its connection ended, or did not come about, if that was not said yet.
     lost: Option<Closing>,
-}
-
-/// The second octet of the indications by which a station refuses what it is asked: the function, an object, a parameter, or since it is at
-/// it already.
-const REFUSING: u8 = 0x17;
-
-/// What it indicates by a response that may answer something else than a poll: those indications by which a station refuses what it is asked
-/// are as they were.
-fn indicated(known: Iin, seen: Iin) -> Iin {
-    Iin {
-        one: seen.one,
-        two: (seen.two & !REFUSING) | (known.two & REFUSING),
-    }
-}
-
-/// FIR, FIN and UNS of an application control octet: a whole unsolicited response has them all.
-const WHOLE_REPORT: u8 = 0xD0;
-
-/// Whether a response with this head is a whole unsolicited one, which a master takes at any time.
-fn is_report(head: &Head) -> bool {
-    head.is_unsolicited() && head.control & WHOLE_REPORT == WHOLE_REPORT
-}
-
-/// Whether points are read by a task.
-fn reads(task: TaskKind) -> bool {
-    matches!(
-        task,
-        TaskKind::IntegrityPoll | TaskKind::EventPoll | TaskKind::OtherPoll
-    )
-}
-
-/// Why a station did not answer, by why its connection ended; nothing if the station here ended it for a reason of its own.
-fn trouble_of(cause: Closing, fault: Option<Fault>, link: &Link) -> Option<Trouble> {
-    match (cause, fault) {
-        (Closing::Unmade, Some(fault)) => Some(Trouble::Unreached(Failing::of(fault.kind))),
-        (Closing::Unmade, None) => Some(Trouble::Unreached(Failing::Late)),
-        (Closing::Peer, Some(fault)) => Some(Trouble::Unread(Failing::of(fault.kind))),
-        (Closing::Peer, None) => trouble_on(link, false),
-        (Closing::Late, _) => trouble_on(link, true),
-        (Closing::Endless, _) => Some(Trouble::Endless),
-        (Closing::Stuck, _) => Some(Trouble::Unwritten(Failing::Late)),
-        (
-            Closing::Idle
-            | Closing::Station
-            | Closing::Unasked
-            | Closing::Finished
-            | Closing::Replaced
-            | Closing::Memory
-            | Closing::Store(_),
-            _,
-        ) => None,
-    }
-}
-
-/// Why a station did not answer on a connection that failed in nothing.
-fn trouble_on(link: &Link, is_late: bool) -> Option<Trouble> {
-    match link.trouble {
-        Some(trouble) => Some(trouble),
-        None => {
-            let (mismatch, strange) = (link.exchange.mismatch, link.heard.strange());
-            Trouble::of(None, mismatch, strange, false, is_late)
-        }
-    }
-}
-
-/// The error of a call that failed, to be printed.
-fn error_of(cause: Closing, fault: Option<Fault>) -> Option<io::Error> {
-    match (cause, fault) {
-        (_, Some(fault)) => Some(fault.error()),
-        (Closing::Unmade, None) => Some(io::Error::from(ErrorKind::TimedOut)),
-        (_, None) => None,
-    }
 }
 
 impl Asked {
@@ -185,7 +87,7 @@ impl Asked {
                 last: None,
                 begun: now,
             },
-            link: Link::NEW,
+            link: Connection::NEW,
             refused: Refused::new(alloc),
             lost: None,
         }
@@ -347,25 +249,6 @@ impl Asked {
         }
     }
 
-    /// A request with this sequence number was sent to it.
-    fn awaits(&mut self, seq: u8) {
-        let is_later = false;
-        self.link.exchange = Exchange {
-            awaited: Some(Awaited { seq, is_later }),
-            mismatch: None,
-        };
-        self.link.is_poll = false;
-    }
-
-    /// A frame came with other link addresses.
-    fn meets(&mut self, ends: dnp_nodes::Ends) {
-        let came = Ends {
-            source: ends.peer,
-            dest: ends.own,
-        };
-        self.link.heard = self.link.heard.with_frame(came, self.whom.awaited);
-    }
-
     /// The node has told this of its link. If a fragment was refused, it has the first of these octets.
     pub(crate) fn told<R: AllocGlobal + Terminal + Clock>(
         &mut self,
@@ -375,19 +258,19 @@ impl Asked {
         octets: &[u8],
     ) {
         match *report {
-            Report::Connected(..) => self.link = Link::NEW,
+            Report::Connected(..) => self.link = Connection::NEW,
             Report::Octets(_) => self.link.heard = self.link.heard.with_octets(),
             Report::Frame(_) => {
                 let awaited = self.whom.awaited;
                 self.link.heard = self.link.heard.with_frame(awaited, awaited);
             }
-            Report::Strange(_, ends) => self.meets(ends),
+            Report::Strange(_, ends) => self.link.meets(ends, self.whom.awaited),
             Report::Refused(_, count) => self.refuses(voice, now, count, octets),
             Report::Response(_, head, answer) => self.responds(voice, now, &head, answer),
             Report::Repeated(_) => self.link.is_repeated = true,
             Report::Stored(_, rows) => self.tell_stored(voice, rows),
             Report::NotMade(_) => voice.fail(Cause::Memory),
-            Report::Request(_, seq) => self.awaits(seq),
+            Report::Request(_, seq) => self.link.awaits(seq),
             Report::Asked(_, task) => self.link.is_poll = reads(task),
             Report::Selecting(_, id) => self.happens(voice, &Happening::SelectSent(id)),
             Report::Operating(_, id) => self.happens(voice, &Happening::OperateSent(id)),

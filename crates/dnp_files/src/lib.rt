@@ -7,6 +7,7 @@ mod asked;
 mod centre;
 mod centre_run;
 mod concentrator;
+mod connection;
 mod driving;
 mod files;
 mod gate;
