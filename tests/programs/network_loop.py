@@ -31,7 +31,7 @@ sys.path.insert(0, str(HERE.parent))
 from scale import DNP, scaled  # noqa: E402
 
 LANES = "[" + ", ".join(["4096"] * 9) + "]"
-HEAD = f"""confirm_ms = 5000
+HEAD = f"""confirm_ms = 20000
 response_ms = %d
 select_ms = 5000
 retries = 0
@@ -360,14 +360,15 @@ def kills():
         network.kill("concentrator")
         network.concentrator()
         network.centre(1)
-        fault = network.lacks(values(0, 80) | values(1, 80), often=2)
+        # (a kill may come between the store of an event and its confirm at both of its links)
+        fault = network.lacks(values(0, 80) | values(1, 80), often=3)
         if fault:
             return fault
         network.kill("outstation0")
         if not network.is_logged("concentrator", r"substation 0 \(Site 0\): lost"):
             return "nothing is said of the substation that was killed"
         network.outstation(0, network.replay(0, 20, 50, first=1000, after=3000))
-        fault = network.lacks(values(0, 80) | values(1, 80) | values(0, 20, 1000), often=2)
+        fault = network.lacks(values(0, 80) | values(1, 80) | values(0, 20, 1000), often=3)
         if fault or not network.is_logged("concentrator", r"substation 0 \(Site 0\): back after"):
             return fault or "it is not said that the substation is back"
         # (its polls were answered as it came back, and its events are unsolicited responses, from three seconds later on)
