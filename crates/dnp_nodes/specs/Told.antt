@@ -43,7 +43,7 @@ frame_report slot ends frame =
 abbrev pub answer_of : Option Outcome → Answer
 answer_of None = answer.Nothing
 answer_of (Some (outcome.Done iin)) = answer.Done
-answer_of (Some (outcome.Control status)) = answer.Control status.code
+answer_of (Some (outcome.Control status)) = answer.Control status
 answer_of (Some outcome.Unlike) = answer.Unlike
 
 -- the place of a report

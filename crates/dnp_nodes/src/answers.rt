@@ -19,8 +19,8 @@ pub enum Answer {
 }
 
 /// How a task came out, if one did.
-pub(crate) fn answer_of(outcome: Option<Outcome>) -> Answer
-    ensures { result ≡ spec.answer_of outcome }
+pub(crate) fn answer_of(outcome: &Option<Outcome>) -> Answer
+    ensures { result ≡ spec.answer_of outcome.now }
 {
     match outcome {
         None => Answer::Nothing,

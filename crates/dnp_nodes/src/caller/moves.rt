@@ -291,7 +291,7 @@ impl Caller {
         } else {
             heard.settled()
         };
-        reports.tell(Report::Response(self.plan.slot, head, answer_of(told.outcome)));
+        reports.tell(Report::Response(self.plan.slot, head, answer_of(&told.outcome)));
         self.tell_changes(reports, &before, head.iin);
     }
 
