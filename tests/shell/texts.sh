@@ -20,7 +20,7 @@ completes completes-a-command 'sim' s
 completes completes-a-limit '--limit' sim --l
 completes completes-options '--plan --station --network --port --bind --connections --forever --idle --replay --repeat --verbose --help --version' outstation ''
 completes completes-the-one-option '--own' answer --o
-completes completes-the-options-of-sim '--plan --limit --trace --chart --capture --json --plain --help --version' sim ''
+completes completes-the-options-of-sim '--plan --limit --trace --chart --capture --json --plain --hours --seed --rate --faults --picture --trace-from --network --help --version' sim ''
 completes completes-the-ports-of-both-centres '--port --port2' concentrate --port
 completes completes-no-number '' outstation --port ''
 completes completes-the-options-of-check '--plan --network --csv --json --help --version' check ''

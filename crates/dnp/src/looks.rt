@@ -50,7 +50,7 @@ pub(crate) fn misuse(given: &ArgMatches<'_>) -> Option<Misuse> {
 }
 
 /// Writes a file, if it is asked for. Where it can't be written, that is said, and the exit status is told.
-fn write_file<R: Eprint + Files>(
+pub(crate) fn write_file<R: Eprint + Files>(
     rt: &R,
     path: &str,
     made: Result<Vec<u8>, AllocError>,

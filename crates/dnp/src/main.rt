@@ -27,6 +27,7 @@ mod poll;
 mod replay;
 mod rows;
 mod sim;
+mod simulated;
 mod store_files;
 mod texts;
 mod tips;

@@ -3,6 +3,7 @@
 use crate::looking::{Clearing, Looker, tell_checking};
 use crate::looks::{misuse, write_looks};
 use crate::options::{flag, plan, subcommand, valued};
+use crate::simulated;
 use crate::texts::{Texts, finish, limit, plain, stores_given, texts_given};
 use clap::{ArgMatches, Command};
 use dnp_daemons::{Stores, sim_text_seen};
@@ -23,13 +24,13 @@ pub const NAME: &str = "sim";
 const ABOUT: &str = "Run a script on a simulated network, and report every event and command";
 
 /// What is said of the option for the trace.
-const TRACE: &str = "Write the steps of each frame, a line each; '-' is standard output";
+const TRACE: &str = "Write the steps of each frame; '-' is standard output; excludes --hours";
 
 /// What is said of the one for the chart.
-const CHART: &str = "Draw the steps of each frame as a sequence chart (SVG)";
+const CHART: &str = "Draw the steps of each frame as a sequence chart (SVG); excludes --hours";
 
 /// What is said of the one for the capture.
-const CAPTURE: &str = "Write the frames that arrive as a capture (pcap)";
+const CAPTURE: &str = "Write the frames that arrive as a capture (pcap); excludes --hours";
 
 /// What is said of the one for the form of the report.
 const JSON: &str = "Print the report as a JSON object";
@@ -169,9 +170,64 @@ DATABASES
   memory. They have the form that 'dnp concentrate' and 'dnp centre' have in files. With --plain
   they are lists; the output is the same, and comes sooner.
 
+NETWORK IN VIRTUAL TIME
+  With --hours no script is read: --limit, --trace, --chart and --capture are refused. The plan's
+  substations, the concentrator and both centres run as programs do, over simulated connections and
+  disks and in virtual time. Readings change, the centres issue a command a minute, and connections,
+  processes, clocks and disks fail. The seed decides all of it: the same words print the same. In
+  the last five minutes nothing fails or changes. That time is longer if a network file lets events
+  wait for over 30 s. For example:
+
+    dnp sim --plan examples/plan.toml --hours 1 --seed 7 --rate 0.05 --faults cut=4,kill=0
+
+  With --network the links are polled as the keys of a network file say (docs/network.md). Its
+  hosts and its file of points are not used. Each fragment of a response may take the response_ms
+  of the plan.
+
+  --hours is a decimal number from 0.1 to 100000. --rate is the changes a second at each substation,
+  with at most 6 digits behind the point, and one a minute if it is left out.
+
+  The stores of the concentrator and of the centres are SQL databases on simulated disks. With
+  --plain they are lists, which are on no disk and come sooner.
+
+  --faults has kinds with commas between them, each maybe with '=' and a rate from 0 to 1000. The
+  rate is that of an hour, and of a connection, a process or a disk. A kind that is left out has the
+  rate 1. With --plain 'stop' and 'full' are refused.
+
+    cut:      A connection breaks. Each end hears of it soon, or in a minute at most.
+    half:     The same, and a part of what was sent still comes.
+    freeze:   Nothing comes over a connection for two minutes at most.
+    refuse:   No connection is made for two minutes at most.
+    kill:     A process ends, and begins again over its stores in half a minute at most. One of two
+              substations loses its events. One of two kills waits for the next control that is
+              operated at a substation, and ends the concentrator before the answer comes.
+    clock:    The wall clock of a process steps by two hours at most.
+    delay:    Octets are on their way for three seconds at most.
+    stop:     The disk of the concentrator or of a centre stops, and what was not synced may be
+              lost. The process ends, and begins again in half a minute at most.
+    full:     The same, but the disk is full: what is written is refused, and nothing is lost.
+
+  The output has a number a line, such as 'events_made: 1440'. A line 'violation:' has the seed, the
+  moment in milliseconds, and what must not be:
+
+  - An event in a journal that no substation made, or one that has vanished and is in no count.
+  - A command that was performed twice, or that was not issued.
+  - A control that is operated without a select, or with another request in between, and a poll
+    that has the octets of the request before it.
+  - A point that shows ONLINE at the concentrator though its link is lost, or one that reads
+    otherwise there at the end.
+  - Octets of a former connection on a new one.
+  - A connection that ends, or a fragment or a control that is refused, without a fault.
+  - A store that does not open over what its disk has kept. After a restart, a control that is no
+    longer spent, or a command that is no longer in the book of its centre.
+  - Events or commands that wait at the end, or a link that isn't there.
+
+  With --trace-from the steps from that moment on come first. --json prints an object. --picture
+  writes how many events wait, and how old they are at a journal.
+
 EXIT STATUS
   0: The script ran, and the report was printed.
-  1: The plan or the script was refused.
+  1: The plan or the script was refused, or the network has a violation.
   2: The command line is wrong.
   3: The program failed:
      - The plan can't be read, or the script is over its limit.
@@ -183,11 +239,18 @@ pub(crate) fn command<'a>(alloc: Global) -> Result<Command<'a>, AllocError> {
     let choices = [
         plan(),
         limit(),
-        valued("trace", "FILE", TRACE),
-        valued("chart", "FILE", CHART),
-        valued("capture", "FILE", CAPTURE),
+        valued("trace", "FILE", TRACE).excluding("hours"),
+        valued("chart", "FILE", CHART).excluding("hours"),
+        valued("capture", "FILE", CAPTURE).excluding("hours"),
         flag("json", JSON),
         plain(),
+        simulated::hours(),
+        simulated::seed(),
+        simulated::rate(),
+        simulated::faults(),
+        simulated::picture(),
+        simulated::trace_from(),
+        simulated::polled_network(),
     ];
     subcommand(alloc, NAME, ABOUT, AFTER, &choices)
 }
@@ -197,6 +260,9 @@ pub(crate) fn run<R: AllocGlobal + Input + Print + Eprint + Terminal + Clock + F
     rt: &R,
     given: &ArgMatches<'_>,
 ) -> anyhow::Result<ExitCode> {
+    if given.get_str("hours").is_some() {
+        return simulated::run(rt, given);
+    }
     if let Some(why) = misuse(given) {
         let wrong = Wrong::Misuse(why);
         let _ = eprintln!(rt; "{wrong}");
