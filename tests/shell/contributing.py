@@ -179,6 +179,9 @@ RUNS = {
     "tests/hostile/run --only stores --all": Here("tests/hostile/run --only stores --all --stores none", "^FAILED hostile: .*/none isn't there", 1),
     "tests/hostile/run --program out/checked/dnp --unbounded": Here(
         f"tests/hostile/run 0 --only answer --program {scale.DNP} --unbounded --stores /bin/true", "^ok hostile:answer"),
+    # (it takes a build)
+    "tests/hostile/nodes": Here("tests/hostile/nodes none", "^tests/hostile/nodes: its only word is a number", 2),
+    "tests/hostile/nodes 10000000": Here("tests/hostile/nodes 10000000 none", "^tests/hostile/nodes: its only word is a number", 2),
     "tests/hostile/can_fail": Elsewhere("test", "tests/hostile/can_fail &&"),
     "tests/memory/can_fail": Elsewhere("test", "tests/memory/can_fail &&"),
     "tests/memory/run": Elsewhere("test", "&& tests/memory/run;"),
@@ -187,6 +190,10 @@ RUNS = {
     "tests/programs/connections.py 10000 100000000": Here("tests/programs/connections.py 20 2000", "^ok 2000-hostile-octets"),
     "python3 tests/programs/operates.py 10000000 2000": Here("python3 tests/programs/operates.py 640 20", "^ok operates-over-many-connections"),
     "tests/programs/replay.py 86400 60": Elsewhere("tests/programs/run", '"$here/replay.py" "$changes" 5'),
+    # (a bug takes a build of the program: that there is none of this name is said at once)
+    "tests/plants/run": Here("tests/plants/run none", "^tests/plants/run: there is no none.edit", 2),
+    "tests/plants/run kept_link": Here("tests/plants/run kept none", "^tests/plants/run: there is no kept.edit", 2),
+    "tests/plants/run --search kept_link": Here("tests/plants/run --search kept", "^tests/plants/run: there is no kept.edit", 2),
     "tests/headline/stores_fail": Elsewhere("test", "tests/headline/stores_fail &&"),
     # Mutants
     "tests/refused/run": Copy("tests/refused/run --emptied", "^2 passed, 0 failed$"),
