@@ -4,7 +4,7 @@ use crate::ledger::{Ledger, classes_of};
 use crate::violation::Violation;
 use dnp_concentrator::{IndexKind, SubPlan};
 use dnp_objects::{Kind, flags};
-use dnp_pointdb::PointDb;
+use dnp_pointdb::{PointDb, Reading};
 
 /// The points of a substation, there and above.
 #[derive(Drop)]
@@ -19,15 +19,20 @@ pub struct Shown<'a> {
     pub is_end: bool,
 }
 
+/// Says whether a point reads above as it does there. If its substation has not read it since it began again, but has kept its
+/// events, one of these may come after the present value, and then the point reads above as the event says.
+fn reads_alike(above: &Reading, there: &Reading) -> bool {
+    let is_same = above.value == there.value && above.flags == there.flags;
+    is_same || (there.flags & flags::RESTART != 0 && above.flags & flags::ONLINE != 0)
+}
+
 impl Shown<'_> {
     /// Says whether a point reads otherwise above, under this index, than it has to.
     fn is_wrong(&self, kind: Kind, index: u16, above: u16) -> bool {
         let there = self.there.reading(kind, index);
         for points in self.above {
             let is_right = match (points.reading(kind, above), there) {
-                (Some(above), Some(there)) if self.is_end => {
-                    above.value == there.value && above.flags == there.flags
-                }
+                (Some(above), Some(there)) if self.is_end => reads_alike(&above, &there),
                 (Some(above), _) => self.is_end || above.flags & flags::ONLINE == 0,
                 (None, there) => !self.is_end || there.is_none(),
             };
