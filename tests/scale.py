@@ -7,11 +7,6 @@ TOP = Path(__file__).resolve().parents[1]
 QUICK = os.environ.get("DNP_QUICK") == "1"
 
 
-def built(name):
-    """The program of a crate: the proved one, or the checked one."""
-    return str(TOP / ("out/checked" if QUICK else f"crates/{name}/out") / name)
-
-
 def scaled(whole, quick):
     """What is asked of the proved program, or what of the checked one."""
     return quick if QUICK else whole
@@ -22,5 +17,6 @@ def kilobytes(most):
     return scaled(most, 1 << 30)
 
 
-DNP = os.environ.get("DNP", built("dnp"))
-STORES = os.environ.get("STORES", built("dnp_store_files"))
+# `dnp`, proved or checked, and dnp_store_files of tests/crates, which is built without proof
+DNP = os.environ.get("DNP", str(TOP / scaled("crates/dnp/out", "out/checked") / "dnp"))
+STORES = os.environ.get("STORES", str(TOP / scaled("out/tests", "out/checked") / "dnp_store_files"))

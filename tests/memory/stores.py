@@ -1,5 +1,5 @@
 #!/usr/bin/env python3
-"""stores.py LIBRARY STEP: the stores in SQL databases in memory, each taken through all its calls (crates/dnp_store_files, with the
+"""stores.py LIBRARY STEP: the stores in SQL databases in memory, each taken through all its calls (tests/crates/dnp_store_files, with the
 word 'walk'), with one request for memory refused in each run: the first, then the one STEP behind it, and so on until there is
 none. The call that was refused is made once more, and answered Memory before: so the same lines come, whichever it was. All
 memory is given back. LIBRARY is refuse.c, compiled."""
@@ -10,7 +10,7 @@ import tempfile
 from pathlib import Path
 
 TOP = Path(__file__).resolve().parents[2]
-PROGRAM = os.environ.get("STORES", str(TOP / "crates/dnp_store_files/out/dnp_store_files"))
+PROGRAM = os.environ.get("STORES", str(TOP / "out/tests/dnp_store_files"))
 WANTED = "".join(f"{name} in memory: as it has to be\n" for name in ("queue", "queue for one centre", "journal", "book"))
 
 

@@ -1,5 +1,5 @@
 #!/usr/bin/env python3
-"""system.py LIBRARY: a script in a whole system over lists (crates/dnp_memory, with an octet on its standard input), with one
+"""system.py LIBRARY: a script in a whole system over lists (tests/crates/dnp_memory, with an octet on its standard input), with one
 request for memory refused in each run. A line that runs out of memory prints the report of what was done, and the rest runs.
 Each report has to keep the headline's definitions (tests/headline), and all memory is given back. LIBRARY is refuse.c,
 compiled."""
@@ -13,7 +13,7 @@ TOP = Path(__file__).resolve().parents[2]
 sys.path.insert(0, str(TOP / "tests/headline"))
 import holds
 
-PROGRAM = os.environ.get("MEMORY", str(TOP / "crates/dnp_memory/out/dnp_memory"))
+PROGRAM = os.environ.get("MEMORY", str(TOP / "out/tests/dnp_memory"))
 # what is printed where nothing is refused: the event, the control of each centre, and the event whose confirm was lost, which came
 # again
 WANTED = """journal 1

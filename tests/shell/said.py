@@ -16,7 +16,7 @@ CRATES = TOP / "crates"
 # Where each text is printed and compared, below tests/crates.
 TESTS = ("dnp_log_tests/src/**/*.rt.txt", "dnp_station_tests/src/daemons/said.rt.txt")
 # Crates that are no part of the program.
-APART = {"dnp_store_files", "dnp_memory", "dnp_example"}
+APART = {"dnp_example"}
 # Crates without a file of lines of their own, and why.
 NONE = {"dnp": "its lines are those of dnp_lines"}
 # Files, or folders, whose texts are what the program was asked for, and no lines.
