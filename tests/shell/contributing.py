@@ -145,6 +145,7 @@ RUNS = {
     "tools/one --libraries": Copy(f"tools/one --libraries crates {ONE}", "^ok action::Action::named$"),
     "tools/one --room ROOM --times CRATE FUNCTION..": Copy(f"tools/one --room times --times {ONE}", "^ok action::Action::named$"),
     "tools/one --room ROOM --goals CRATE FUNCTION..": Copy(f"tools/one --room goals --goals {ONE}", "^ok action::Action::named$"),
+    "tools/clauses OLD NEW CRATE FUNCTION..": Elsewhere("tests/shell/clauses.sh", "$(tools/clauses HEAD . pumps flow 2>&1)"),
     "tools/texts --help-from PROGRAM": Copy(f"tools/texts --help-from {scale.DNP} && tools/texts --check", "^ok share-dnp.1$"),
     "tools/texts": Copy("tools/texts && tools/texts --check", "^ok share-dnp.1$"),
     # (which program.sh runs)
