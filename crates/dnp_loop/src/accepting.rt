@@ -7,6 +7,9 @@ use mio::Poll;
 use std::io::{self, ErrorKind};
 use std::net::Net;
 
+/// How many connections are turned away at a door in a turn.
+const ENTRIES: u8 = 16;
+
 /// A descriptor that is kept to be closed where none is left, so that a connection can be accepted and refused.
 #[derive(Drop)]
 pub(crate) struct Spare {
@@ -127,17 +130,17 @@ impl Door {
         now: u64,
     ) -> Option<Arrival> {
         spare.renew(rt);
-        match self.attempt() {
-            Attempt::Came(arrival) => Some(arrival),
-            Attempt::Again => None,
-            Attempt::Nobody => {
-                self.watch.may_accept = false;
-                None
+        for _ in 0..ENTRIES {
+            if !self.watch.is_due(now) {
+                return None;
             }
-            Attempt::Failed(fault) => {
-                self.refuse(rt, spare, notices, fault, now);
-                None
+            match self.attempt() {
+                Attempt::Came(arrival) => return Some(arrival),
+                Attempt::Again => {}
+                Attempt::Nobody => self.watch.may_accept = false,
+                Attempt::Failed(fault) => self.refuse(rt, spare, notices, fault, now),
             }
         }
+        None
     }
 }

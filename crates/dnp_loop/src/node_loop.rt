@@ -162,7 +162,9 @@ impl NodeLoop {
             .next_deadline()
             .min(next_moment_of(&self.doors))
             .min(at);
-        let is_busy = is_busy(&self.places, node) || self.writer.is_due(&self.log);
+        let is_busy = is_busy(&self.places, node)
+            || is_any_due(&self.doors, now)
+            || self.writer.is_due(&self.log);
         wait_ms(now, next, is_busy)
     }
 
