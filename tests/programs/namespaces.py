@@ -22,7 +22,6 @@ from scale import DNP, scaled  # noqa: E402
 CASE = "programs:namespaces"
 WAIT = scaled(30, 120)
 TAG = f"dnp{os.getpid() % 100_000}"
-HUB = f"{TAG}hub"
 LANES = "[" + ", ".join(["16"] * 9) + "]"
 SUBSTATION = f"""[[substation]]
 lanes = {LANES}
@@ -85,10 +84,10 @@ def address6(number):
 
 
 class Namespaces:
-    """A namespace for each host, and one with the bridge to which all of them are connected."""
+    """A namespace for each host, by its name and its number, and one with the bridge to which all of them are connected."""
 
-    def __init__(self):
-        self.made, self.folders = [], []
+    def __init__(self, hosts=None, tag=TAG):
+        self.hosts, self.tag, self.made, self.folders = hosts or HOSTS_OF, tag, [], []
 
     def add(self, name):
         ip("netns", "add", name)
@@ -96,14 +95,15 @@ class Namespaces:
         ip("-n", name, "link", "set", "lo", "up")
 
     def build(self):
-        self.add(HUB)
-        ip("-n", HUB, "link", "add", "br0", "type", "bridge")
-        ip("-n", HUB, "link", "set", "br0", "up")
-        for host, number in HOSTS_OF.items():
-            name, inner = TAG + host, f"v{number}"
+        hub = f"{self.tag}hub"
+        self.add(hub)
+        ip("-n", hub, "link", "add", "br0", "type", "bridge")
+        ip("-n", hub, "link", "set", "br0", "up")
+        for host, number in self.hosts.items():
+            name, inner = self.tag + host, f"v{number}"
             self.add(name)
-            ip("-n", HUB, "link", "add", inner, "type", "veth", "peer", "name", "eth0", "netns", name)
-            ip("-n", HUB, "link", "set", inner, "master", "br0", "up")
+            ip("-n", hub, "link", "add", inner, "type", "veth", "peer", "name", "eth0", "netns", name)
+            ip("-n", hub, "link", "set", inner, "master", "br0", "up")
             ip("-n", name, "addr", "add", f"10.99.0.{number}/24", "dev", "eth0")
             ip("-n", name, "addr", "add", f"{address6(number)}/64", "dev", "eth0", "nodad")
             ip("-n", name, "link", "set", "eth0", "up")

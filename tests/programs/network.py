@@ -56,6 +56,12 @@ def is_listening(port):
         return any(f":{port:04X} " in line and " 0A " in line for line in table)
 
 
+def keeps_connections():
+    """Whether the programs keep their connections with a network file: then they refuse words of rounds next to it."""
+    words = [DNP, "centre", "--plan", "none", "--network", "none", "--journal", "none", "--controls", "none", "--every", "100"]
+    return subprocess.run(words, stdin=subprocess.DEVNULL, capture_output=True, check=False).returncode == 2
+
+
 class Network:
     def __init__(self, room, events):
         self.room = Path(room)

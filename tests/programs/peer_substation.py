@@ -3,16 +3,21 @@ enabled, keeps events until they are confirmed, and keeps each request with its 
 import collections
 import socket
 import struct
+import sys
 import time
+from pathlib import Path
 
 from peers import (CON, CONFIRM, DELAY, DIRECT, DISABLE, ENABLE, FIN, FIR, NEED_TIME, ONLINE, OPERATE, READ, RESPONSE, RESTART, SELECT, UNS,
                    UNSOLICITED, WRITE, Peer, now_ms, reset)
+
+sys.path.insert(0, str(Path(__file__).resolve().parents[1]))
+from scale import scaled  # noqa: E402
 
 # internal indications, of the second octet
 NO_FUNCTION, OBJECT_UNKNOWN, PARAMETER = 1, 2, 4
 SUCCESS, NO_SELECT = 0, 2
 # the events of a fragment at most, and how long a confirm is awaited, in seconds
-PAGE, CONFIRM_S = 50, 2
+PAGE, CONFIRM_S = 50, scaled(2, 20)
 Heard = collections.namedtuple("Heard", "moment function objects sequence")
 Event = collections.namedtuple("Event", "index value time")
 
@@ -65,6 +70,10 @@ class Substation(Peer):
             self.restart()
             self.open()
         self.call(fail)
+
+    def begin(self, every):
+        """An event is made each so many seconds from now on. Substations next to each other don't make theirs at one moment."""
+        self.every, self.next_at = every, time.monotonic() + every * (self.own % 16) / 16
 
     def rest(self):
         """No event is made from now on."""

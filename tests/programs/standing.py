@@ -10,8 +10,10 @@ import threading
 import time
 from pathlib import Path
 
+from counting import FILES
 from network import DNP, is_listening
 from peers import now_ms
+from relay import Relay
 from scale import scaled
 
 HOST = "127.0.0.1"
@@ -23,8 +25,8 @@ RESPONSE_MS = scaled(1000, 5000)
 POLL_MS = 2 * RESPONSE_MS
 # how often a substation has an event, in seconds
 EVERY_S = scaled(0.2, 1)
-# how old rows may be when they come, in the middle
-MEDIAN_MS = scaled(200, 2000)
+# how old rows may be when they come, in the middle; of checked programs, of which `dnp rows` is one, hardly anything is asked
+MEDIAN_MS = scaled(200, 60_000)
 # what memory a program may take; of a checked one nothing is asked
 MOST_KB = scaled(40_000, 1 << 30)
 PLACES = 1000
@@ -50,12 +52,12 @@ base = [0, 0, {{first}}, {{number}}, {{number}}]
 NETWORK = """[concentrator]
 listen = "{listen}"
 listen2 = "{listen2}"
+at = "{at}"
+at2 = "{at2}"
 [defaults]
-unsolicited = "123"
-poll_ms = {poll_ms}
+{polls}poll_ms = {poll_ms}
 [centre]
-unsolicited = "123"
-"""
+{polls}"""
 STATION = """[[substation]]
 at = "{at}"
 listen = "{listen}"
@@ -164,6 +166,9 @@ class Follower(threading.Thread):
 class Network:
     """A plan of so many substations, and the programs over it."""
 
+    # the keys of polling of each link
+    POLLS = 'unsolicited = "123"\n'
+
     def __init__(self, room, substations, ways=None):
         """`ways` are the places where the concentrator finds a substation that isn't found where it listens, by its number."""
         self.room, self.programs, self.peers, self.relays = Path(room), {}, [], []
@@ -176,6 +181,7 @@ class Network:
         self.listens = [(HOST, free_port()) for _ in range(substations)]
         self.doors = [(HOST, free_port()) for _ in range(2)]
         self.ways = [(HOST, free_port()) if number in ways else listen for number, listen in enumerate(self.listens)]
+        self.ways_above = self.doors
 
     def words_of(self, name, words):
         """The words by which a program of this name is begun."""
@@ -184,8 +190,8 @@ class Network:
     def write(self):
         plan = "".join(SUBSTATION.format(first=above(number, 0), number=number) for number in range(len(self.listens)))
         (self.room / "plan.toml").write_text(PLAN + plan, encoding="ascii")
-        listen, listen2 = map(place_text, self.doors)
-        head = NETWORK.format(listen=listen, listen2=listen2, poll_ms=POLL_MS)
+        (listen, listen2), (at, at2) = (map(place_text, places) for places in (self.doors, self.ways_above))
+        head = NETWORK.format(listen=listen, listen2=listen2, at=at, at2=at2, poll_ms=POLL_MS, polls=self.POLLS)
         each = (STATION.format(at=place_text(way), listen=place_text(listen)) for way, listen in zip(self.ways, self.listens))
         (self.room / "network.toml").write_text(head + "".join(each), encoding="ascii")
 
@@ -202,10 +208,13 @@ class Network:
         program = self.begin("concentrator", "concentrate", "--queue", "queue.db", "--controls", "below.db", *new)
         return program if self.is_open(self.doors[1]) else None
 
-    def centre(self, *words):
-        new = [] if (self.room / "journal.db").exists() else ["--new"]
-        program = self.begin("centre", "centre", "--journal", "journal.db", "--controls", "above.db", *new, *words)
-        awaited(lambda: (self.room / "above.db").exists())
+    def centre(self, *words, number=1):
+        """A centre, whose files have its number after their names as in counting.py."""
+        journal, book = (f"{name}{FILES[number]}.db" for name in ("journal", "above"))
+        new = [] if (self.room / journal).exists() else ["--new"]
+        which = ["--number", str(number), "--journal", journal, "--controls", book]
+        program = self.begin(f"centre{FILES[number]}", "centre", *which, *new, *words)
+        awaited(lambda: (self.room / book).exists())
         return program
 
     def outstation(self, number, replay):
@@ -218,12 +227,28 @@ class Network:
     def is_open(self, place):
         return awaited(lambda: is_listening(place[1]), 2 * WAIT)
 
+    def namespace(self, host):
+        """The network namespace of a host; none if all are on this machine."""
+        return None
+
     def peer(self, kind, number, **how):
         """A substation of another make."""
-        peer = kind(self.listens[number], own=10 + number, points=POINTS, **how)
+        peer = kind(self.listens[number], own=10 + number, points=POINTS, namespace=self.namespace(f"rtu{number}"), **how)
         self.peers.append(peer)
         peer.start()
         return peer
+
+    def peer_above(self, kind):
+        """The second centre, of another make, which isn't begun yet."""
+        peer = kind(self.ways_above[1], own=3, namespace=self.namespace("centre2"))
+        self.peers.append(peer)
+        return peer
+
+    def relay(self, number, delay_ms=0):
+        """A relay on the machine of a substation, where the concentrator finds it."""
+        relay = Relay(self.ways[number], self.listens[number], delay_ms / 1000, self.namespace(f"rtu{number}"))
+        self.relays.append(relay)
+        return relay
 
     def follow(self):
         follower = Follower(self.room, "journal.db")

@@ -1,45 +1,72 @@
 """A network over connections that stand whose stations have addresses of their own, each in a network namespace, with a line that takes its time
 between the concentrator and a substation. Part of standing_network.py."""
+import contextlib
 import subprocess
 import time
 
 from namespaces import TAG, Namespaces
 from peer_centre import Centre
 from peer_substation import Substation
-from relay import Relay
 from standing import EVERY_S, MEDIAN_MS, POINTS, WAIT, Network, aged, ages, awaited, each_once, judge, made_of, percentile, place_text
 
 # one way of the line to substation 0
 DELAY_MS = 50
 PORT, FAR_PORT = 20000, 20001
-FIRST, SECOND, SCADA = "10.99.0.10", "10.99.0.11", "10.99.0.9"
+SCADA = "10.99.0.9"
+# the numbers of hosts, which their addresses end in: substations have those from this one on
+CENTRES, FIRST = {"scada": 9, "centre1": 1, "centre2": 3}, 10
 
 
 class Far(Network):
-    """Substation 0 is behind a relay of its own machine, which delays what it carries. Each program is in the namespace of its host."""
+    """Each program is in the namespace of its host. A substation with a way of its own is behind a relay on its machine."""
 
     HOSTS = {"concentrator": "scada", "centre": "centre1"}
 
+    def __init__(self, room, substations, ways=None, tag=TAG):
+        self.tag = tag
+        super().__init__(room, substations, ways)
+
     def place_all(self, substations, ways):
-        self.listens = [(FIRST, PORT), (SECOND, PORT)]
-        self.ways = [(FIRST, FAR_PORT), (SECOND, PORT)]
-        self.doors = [(SCADA, 20100), (SCADA, 20101)]
+        hosts = [f"10.99.0.{FIRST + number}" for number in range(substations)]
+        self.listens = [(host, PORT) for host in hosts]
+        self.ways = [(host, FAR_PORT if number in ways else PORT) for number, host in enumerate(hosts)]
+        self.doors = self.ways_above = [(SCADA, 20100), (SCADA, 20101)]
+
+    def namespace(self, host):
+        return self.tag + host
 
     def words_of(self, name, words):
-        return ["ip", "netns", "exec", TAG + self.HOSTS[name], *words]
+        return ["ip", "netns", "exec", self.namespace(self.HOSTS[name]), *words]
 
     def is_open(self, place):
         """Whether the concentrator listens: what listens in another namespace isn't seen from here."""
         return self.says(rf"listening on {place_text(place)} ") == ""
 
 
-def stories(room):
-    network = Far(room, 2)
+@contextlib.contextmanager
+def spread(case, substations, tag=TAG):
+    """The namespaces of so many substations, or none, and that is said, where none can be made."""
+    namespaces = Namespaces({**CENTRES, **{f"rtu{number}": FIRST + number for number in range(substations)}}, tag)
     try:
-        peers = [network.peer(Substation, number, every=EVERY_S, namespace=f"{TAG}rtu{number}") for number in range(2)]
-        network.relays.append(Relay((FIRST, FAR_PORT), (FIRST, PORT), DELAY_MS / 1000, f"{TAG}rtu0"))
-        centre = Centre(network.doors[1], own=3, namespace=f"{TAG}centre2")
-        network.peers.append(centre)
+        try:
+            namespaces.build()
+        except (OSError, subprocess.CalledProcessError) as fault:
+            why = getattr(fault, "stderr", None) or str(fault)
+            print(f"left out: {case}, where no network namespace can be made: {why.strip()}", flush=True)
+            namespaces.end()
+            yield None
+        else:
+            yield namespaces
+    finally:
+        namespaces.end()
+
+
+def stories(room):
+    network = Far(room, 2, ways=[0])
+    try:
+        peers = [network.peer(Substation, number, every=EVERY_S) for number in range(2)]
+        network.relay(0, DELAY_MS)
+        centre = network.peer_above(Centre)
         begun = network.concentrate()
         centre.start()
         network.centre()
@@ -65,14 +92,5 @@ def stories(room):
 
 def far(room, _):
     """The story, where namespaces can be made."""
-    namespaces = Namespaces()
-    try:
-        try:
-            namespaces.build()
-        except (OSError, subprocess.CalledProcessError) as fault:
-            why = getattr(fault, "stderr", None) or str(fault)
-            print(f"left out: far, where no network namespace can be made: {why.strip()}", flush=True)
-            return True
-        return stories(room)
-    finally:
-        namespaces.end()
+    with spread("far", 2) as made:
+        return stories(room) if made else True
