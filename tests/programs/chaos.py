@@ -1,5 +1,5 @@
 #!/usr/bin/env python3
-"""chaos.py [SECONDS [SEED]]: two substations of `dnp outstation`, whose points change all the time, `dnp concentrate` and two of `dnp
+"""chaos.py [--network] [SECONDS [SEED]]: two substations of `dnp outstation`, whose points change all the time, `dnp concentrate` and two of `dnp
 centre`, which all live, over files and over lines that cut, drop, delay and split what goes over them. Each program is killed at
 random moments of its life, also as it begins, and begun again; the centres issue controls meanwhile. After so many seconds, 20
 where nothing is said, the lines are good, nobody is killed, and all settles. Then the headline is counted from the files: what
@@ -7,6 +7,9 @@ a substation let go stands in each centre's journal or queue, or among the count
 there that no substation had; no control was operated more often than it was issued. And each of some lies, told in a copy of the
 files, has to be seen. The seed says what happens, and the machine when, so no two runs are the same. A damaged unit passes its
 check words once in some 100,000 times: where a run of days has one event that never was, look for that.
+
+With --network the concentrator and the centres have a network file and keep their connections, and with an even seed their
+masters enable unsolicited responses. Without it they work in rounds.
 
 A substation that is killed loses what stood in its memory: it let that go to nobody. What it let go is read off its line: the
 events of each fragment of which a confirm was handed on to it. The events that the last life of each substation made are to
@@ -25,7 +28,7 @@ from pathlib import Path
 import counting
 from counting import CENTRES, FILES
 from lines import Heard, Line
-from network import DNP, free_port, is_listening
+from network import DNP, free_port, is_listening, keeps_connections
 
 SUBSTATIONS, POINTS, OUTPUTS = 2, 3, 4
 KINDS = ("binary", "counter", "analog")
@@ -37,6 +40,20 @@ retries = 1
 unsolicited = {unsolicited}
 queue = {queue}
 queue2 = {queue2}
+"""
+NETWORK = """[concentrator]
+listen = "127.0.0.1:{ports[1]}"
+listen2 = "127.0.0.1:{ports[2]}"
+at = "127.0.0.1:{centre_ports[1]}"
+at2 = "127.0.0.1:{centre_ports[2]}"
+[defaults]
+{polls}
+[centre]
+{polls}
+"""
+STATION = """[[substation]]
+at = "127.0.0.1:{at}"
+listen = "127.0.0.1:{listen}"
 """
 SUBSTATION = """[[substation]]
 lanes = {lanes}
@@ -54,6 +71,9 @@ LONG, SHORT = [4096] * 9, [25] * 9
 CHANGE, LIFE = 20, 10**7
 # how long a program may take to make its stores, and all to settle
 BEGIN, SETTLE = 120, 60
+# by which a connection is known to be lost, in milliseconds; and how much longer all may take to settle whose masters rest after a loss, twice
+# as long after each, a minute at most
+KEEPALIVE, RESTS = 1000, 70
 # how a program may end: killed, or before it did anything, as where the file of one that was killed is held a moment longer
 ENDS = {-signal.SIGKILL: "killed", 3: "could not begin"}
 
@@ -121,8 +141,9 @@ class Program:
 class Chaos:
     """A network that lives, and what befalls it."""
 
-    def __init__(self, room, seconds, seed):
+    def __init__(self, room, seconds, seed, has_network=False):
         self.room, self.seconds, self.seed, self.chance = Path(room), seconds, seed, random.Random(seed)
+        self.has_network = has_network
         self.plan(1)
         self.substation_ports, self.ports = [free_port() for _ in range(SUBSTATIONS)], {number: free_port() for number in CENTRES}
         self.below = next(port for port in iter(free_port, None) if not is_listening(port + 1))
@@ -137,10 +158,31 @@ class Chaos:
         self.chaos = False
         self.programs = [Program(f"substation{number}", self.room, lambda number=number: self.outstation(number),
                                  lambda _, port=port: is_listening(port)) for number, port in enumerate(self.substation_ports)]
-        self.concentrator = Program("concentrator", self.room, self.concentrate, lambda program: program.printed())
-        self.centres = {number: Program(f"centre{number}", self.room, lambda number=number: self.centre(number),
-                                        lambda program: program.printed()) for number in CENTRES}
+        self.concentrator = Program("concentrator", self.room, self.concentrate, self.works)
+        self.centres = {number: Program(f"centre{number}", self.room, lambda number=number: self.centre(number), self.works) for number in CENTRES}
         self.programs += [self.concentrator, *self.centres.values()]
+        # which of its lines each of these connects over, and which connections were there before its present life
+        self.ways = {self.concentrator.name: self.lines[:SUBSTATIONS]}
+        self.ways |= {centre.name: [line] for centre, line in zip(self.centres.values(), self.lines[SUBSTATIONS:])}
+        self.old = {}
+        self.network()
+
+    def network(self):
+        """Writes the network file."""
+        polls = f"keepalive_ms = {KEEPALIVE}\n" + ('unsolicited = "123"' if self.seed % 2 == 0 else "events_ms = 150")
+        head = NETWORK.format(ports=self.ports, centre_ports=self.centre_ports, polls=polls)
+        each = (STATION.format(at=self.below + number, listen=port) for number, port in enumerate(self.substation_ports))
+        (self.room / "network.toml").write_text(head + "".join(each), encoding="ascii")
+
+    def connections(self, name):
+        """Those that a program, or its life before, has on its lines."""
+        return {pair for line in self.ways[name] for pair in line.standing.copy()}
+
+    def works(self, program):
+        """Whether a program does what it is for: it has printed a line, or with a network, by which it prints none, has made a connection."""
+        if self.has_network:
+            return self.connections(program.name) - self.old.get(program.name, set())
+        return program.printed()
 
     def plan(self, pace):
         """Writes the plan, with times for programs that are so much slower than those that are built."""
@@ -166,18 +208,23 @@ class Chaos:
             events.append(above(number, (kind, index, 1, value, time_ms)))
         (self.room / f"changes{number}").write_text("".join(lines), encoding="ascii")
         self.lives[number].append((now, events))
-        return [DNP, "outstation", "--plan", "plan.toml", "--station", number, "--port", self.substation_ports[number], "--forever", "--verbose",
-                "--replay", f"changes{number}"]
+        place = ["--network", "network.toml"] if self.has_network else ["--port", self.substation_ports[number]]
+        return [DNP, "outstation", "--plan", "plan.toml", "--station", number, *place, "--forever", "--verbose", "--replay", f"changes{number}"]
 
     def concentrate(self, *words):
-        words = words or ("--every", "100", "--forever")
-        return [DNP, "concentrate", "--plan", "plan.toml", "--queue", "queue.db", "--controls", "below.db", "--port", self.ports[1], "--port2",
-                self.ports[2], "--below", self.below, *words]
+        places = ["--port", self.ports[1], "--port2", self.ports[2], "--below", self.below, *(words or ("--every", "100", "--forever"))]
+        if self.has_network and not words:
+            self.old["concentrator"] = self.connections("concentrator")
+            places = ["--network", "network.toml"]
+        return [DNP, "concentrate", "--plan", "plan.toml", "--queue", "queue.db", "--controls", "below.db", *places]
 
     def centre(self, number, *words):
-        words = words or ("--every", "150", "--forever", *self.issue())
+        place = ["--port", self.centre_ports[number], *(words or ("--every", "150", "--forever", *self.issue()))]
+        if self.has_network and not words:
+            self.old[f"centre{number}"] = self.connections(f"centre{number}")
+            place = ["--network", "network.toml", *self.issue()]
         return [DNP, "centre", "--plan", "plan.toml", "--journal", f"journal{FILES[number]}.db", "--controls", f"above{FILES[number]}.db",
-                "--number", number, "--port", self.centre_ports[number], *words]
+                "--number", number, *place]
 
     def issue(self):
         """A control to issue, in most of the lives of chaos, with an on-time of its own."""
@@ -218,19 +265,27 @@ class Chaos:
     def settle(self):
         """Waits until all is confirmed that the substations have, and each centre has polled three times without a row since: what
         was wrong. Who ends meanwhile is begun again."""
-        since, polls = time.monotonic(), None
-        while time.monotonic() < since + SETTLE * self.pace:
+        since, polls, most = time.monotonic(), None, (SETTLE + RESTS * self.has_network) * self.pace
+        while time.monotonic() < since + most:
             for program in self.programs:
                 if program.ended():
                     program.begin()
                     polls = None
             come = all(self.last(number) <= self.gone_of(number) for number in range(SUBSTATIONS))
-            if come and polls is None:
+            if come and self.has_network:
+                if not any(map(self.waits, CENTRES)):
+                    return ""
+            elif come and polls is None:
                 polls = {number: len(centre.printed()) for number, centre in self.centres.items()}
             if polls and all(centre.printed()[polls[number] :][-3:] == ["rows 0"] * 3 for number, centre in self.centres.items()):
                 return ""
             time.sleep(0.1)
-        return f"it did not settle in {SETTLE * self.pace:.0f} s: " + "; ".join(f"{program.name}: {program.text('err')[-300:]!r}" for program in self.programs)
+        return f"it did not settle in {most:.0f} s: " + "; ".join(f"{program.name}: {program.text('err')[-300:]!r}" for program in self.programs)
+
+    def waits(self, number):
+        """Whether rows of the queue wait for a centre."""
+        ran = subprocess.run([DNP, "rows", "--queue", "queue.db", "--centre", str(number)], cwd=self.room, capture_output=True, check=False)
+        return ran.returncode or ran.stdout
 
     def end_all(self):
         for program in self.programs:
@@ -337,9 +392,13 @@ def judge(name, faults, told):
 
 
 def main():
-    seconds, seed = [int(word) for word in sys.argv[1:]] + [20, 1][len(sys.argv) - 1 :]
+    has_network, numbers = "--network" in sys.argv, [int(word) for word in sys.argv[1:] if word != "--network"]
+    seconds, seed = numbers + [20, 1][len(numbers) :]
+    if has_network and not keeps_connections():
+        print("left out: chaos:network, whose connections this program doesn't keep")
+        return 0
     room = tempfile.mkdtemp(prefix="chaos-")
-    chaos, told, good, lied = Chaos(room, seconds, seed), "", True, None
+    chaos, told, good, lied = Chaos(room, seconds, seed, has_network), "", True, None
     try:
         chaos.make()
         chaos.rage()
@@ -358,7 +417,7 @@ def main():
         faults = [repr(fault)]
     finally:
         chaos.end_all()
-    good = judge(f"{seconds}-seconds-of-seed-{seed}", faults + [f"the files are in {room}"] * bool(faults), told)
+    good = judge(f"{'network-' * has_network}{seconds}-seconds-of-seed-{seed}", faults + [f"the files are in {room}"] * bool(faults), told)
     if lied:
         good = judge("can-fail", lied[1], f"{lied[0]} lies") and good
     if good:
