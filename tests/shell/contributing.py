@@ -29,7 +29,7 @@ import scale  # noqa: E402
 
 TOP = Path(__file__).resolve().parents[2]
 DOCUMENTS = ("CONTRIBUTING.md", "docs/testing.md", "docs/proof-cost.md")
-OTHERS = ("README.md", "SECURITY.md", "bench/README.md", "examples/README.md", *sorted(str(it.relative_to(TOP)) for it in TOP.glob("docs/*.md")))
+OTHERS = ("README.md", "SECURITY.md", "bench/README.md", "bench/network/README.md", "examples/README.md", *sorted(str(it.relative_to(TOP)) for it in TOP.glob("docs/*.md")))
 BEGINS = re.compile(r"(?:\./(?:dnp|build|test|bench/\S+)|(?:tests|tools|bench)/\S+|python3|bash|rt|rattle|echo)(?= |$)|(?:sudo|sqlite3|systemctl|journalctl) "
                     # (of `dnp` the words with a file or a host in them)
                     r"|dnp (?:--|[a-z]+ (?:.* )?(?:\S+\.(?:db|toml)|FILE|HOST:PORT)(?: |$))")
@@ -191,6 +191,10 @@ RUNS = {
     "tests/memory/run": Elsewhere("test", "&& tests/memory/run;"),
     "tests/programs/chaos.py": Elsewhere("tests/programs/run", '"$here/chaos.py" "$seconds" "$seed"'),
     "tests/programs/chaos.py 600 8": Elsewhere("tests/programs/run", '"$here/chaos.py" "$seconds" "$seed"'),
+    "tests/programs/chaos.py --network 600 8": Elsewhere("tests/programs/run", '"$here/chaos.py" --network "$seconds" 2'),
+    "tests/programs/standing_network.py": Elsewhere("tests/programs/run", '"$here/standing_network.py"'),
+    "tests/programs/standing_network.py --seconds 60 --strict bad": Elsewhere("tests/programs/run", '"$here/standing_network.py"'),
+    "tests/programs/once.py 600": Elsewhere("tests/programs/run", '"$here/once.py" 15'),
     "tests/programs/connections.py 10000 100000000": Here("tests/programs/connections.py 20 2000", "^ok 2000-hostile-octets"),
     "python3 tests/programs/operates.py 10000000 2000": Here("python3 tests/programs/operates.py 640 20", "^ok operates-over-many-connections"),
     "tests/programs/replay.py 86400 60": Elsewhere("tests/programs/run", '"$here/replay.py" "$changes" 5'),
@@ -218,9 +222,12 @@ RUNS = {
     "bench/stores/run [FOLDER]": Elsewhere("tests/shell/gate.sh", "measures bench/stores/run "),
     "bench/stores/run --program FILE": Elsewhere("tests/shell/gate.sh", 'bench/stores/run --program "$room/left"'),
     "bench/sockets/run": Copy("bench/sockets/run --quick", "^bench/sockets/run: dnp is not built; ./build builds it$", status=3),
+    "bench/loop/run": Copy("bench/loop/run --quick", "^bench/loop/run: dnp_bench_loop is not built; ", status=3),
+    "bench/network/run [PART..]": Copy("bench/network/run --quick", "^bench/network/run: dnp is not built; ./build builds it$", status=3),
     # (stand-ins for proofs of nine crates and more)
     "bench/crate build dnp_bench": Copy("bench/crate build dnp_bench && ls bench/build", "^libdnp_bench.a$"),
     "bench/crate build dnp_bench_outstation": Copy("bench/crate build dnp_bench_outstation && ls bench/build", "^dnp_bench_outstation$"),
+    "bench/crate build dnp_bench_loop": Copy("bench/crate build dnp_bench_loop && ls bench/build", "^dnp_bench_loop$"),
     "bench/crate over crates NAME": Copy("bench/crate build dnp_bench && rm bench/build/*.a && bench/crate over crates dnp_bench && ls bench/build",
                                          "^libdnp_bench.a$"),
     # (the machine has its former word again before anybody looks)
@@ -281,8 +288,10 @@ def copy(text, tree, linked=True):
     (tree / MUTANT).parent.mkdir(parents=True)
     for folder in ("bench/crates", "tests/crates"):
         shutil.copytree(TOP / folder, tree / folder)
-    (tree / "bench/sockets").mkdir()
-    for file in ("crates.txt", "HANDLES", "bench/crate", "bench/sockets/run", "tests/refused/run", "tests/refused/source.py", "tests/programs/poll.py"):
+    for name in ("loop", "network", "sockets"):
+        (tree / "bench" / name).mkdir()
+        shutil.copy(TOP / "bench" / name / "run", tree / "bench" / name)
+    for file in ("crates.txt", "HANDLES", "bench/crate", "tests/refused/run", "tests/refused/source.py", "tests/programs/poll.py"):
         shutil.copy(TOP / file, tree / file)
     if linked:
         (tree / "crates/dnp/src").symlink_to(TOP / "crates/dnp/src")
