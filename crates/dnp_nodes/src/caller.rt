@@ -14,6 +14,7 @@ mod moves;
 mod steps;
 
 use crate::budgets::or_last;
+use crate::kept::KeptFragment;
 use crate::report::Report;
 use crate::requests::LinkClasses;
 use crate::shared::Shared;
@@ -62,7 +63,7 @@ pub struct Caller {
     /// Whether event rows were stored since that was asked last.
     stored: bool,
     /// The octets of the last unsolicited response of its connection, if one came and there was memory for them.
-    unsolicited: Vec<u8>,
+    unsolicited: KeptFragment,
 }
 
 impl Caller {
@@ -85,7 +86,7 @@ impl Caller {
             since: at,
             tries: 0,
             stored: false,
-            unsolicited: Vec::new(alloc),
+            unsolicited: KeptFragment::new(alloc),
         }
     }
 

@@ -11,6 +11,7 @@ mod centre_node;
 mod concentrator_node;
 mod frames;
 mod heads;
+mod kept;
 mod node;
 mod outstation_node;
 mod report;

@@ -102,13 +102,12 @@ impl Caller {
         ensures { self.new ≡ record self.old { unsolicited = self.new.unsolicited } }
     {
         let fragment = self.link.fragment();
-        if self.unsolicited.as_slice() == fragment {
+        if self.unsolicited.is(fragment) {
             reports.tell(Report::Repeated(self.plan.slot));
             return;
         }
-        self.unsolicited.clear();
         // (if there is no memory, the next one is another one)
-        let _ = self.unsolicited.extend_from_slice(fragment);
+        self.unsolicited.keep(fragment);
     }
 
     /// A fragment with this head came whole. If it is an unsolicited response, it is told whether it is the one before again.
