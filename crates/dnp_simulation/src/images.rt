@@ -94,7 +94,10 @@ fn held_by<D: Kept>(alloc: Global, mut files: Files<D>, restart: Restart) -> Opt
     octets_of(alloc, &files).ok()
 }
 
-impl<D: Kept> Opened for Connection<FileStore<D>> {
+/// A connection to a database on a simulated disk.
+type DiskConnection<D> = Connection<FileStore<D>>;
+
+impl<D: Kept> Opened for DiskConnection<D> {
     fn opened(alloc: Global, image: &Image, restart: Restart) -> Result<Self, Option<Image>> {
         let Some(files) = files_of(alloc, image, restart.order) else {
             return Err(None);
