@@ -14,6 +14,8 @@ COSTS = TOP / "tools/costs"
 # looked for.
 ROOMS = CRATES / "dnp/out/side"
 KIT = Path(shutil.which("rt") or "/").resolve().parents[1]
+# Of the toolchain's programs those are copied, and not linked, that look for others beside themselves: scripts, which are small.
+SMALL = 1 << 20
 
 
 def listing(path):
@@ -115,6 +117,27 @@ def fill(room, crates, parts, copy):
         for part in parts:
             if (CRATES / it / part).is_dir():
                 shutil.copytree(CRATES / it / part, room / "crates" / it / part, copy_function=copy)
+
+
+def linked(folder, to):
+    """Makes a folder of links to what is in another."""
+    to.mkdir()
+    for path in folder.iterdir():
+        (to / path.name).symlink_to(path)
+
+
+def kit_of_links(to):
+    """Makes a folder of links to the toolchain, for `rt try`. It asks no checker there, which reads all crates for a hint on names."""
+    linked(KIT, to)
+    (to / "bin").unlink()
+    (to / "bin").mkdir()
+    for path in (KIT / "bin").iterdir():
+        if path.name == "rattle":
+            (to / "bin/rattle").symlink_to("/bin/true")
+        elif path.stat().st_size < SMALL:
+            shutil.copy(path, to / "bin")
+        else:
+            (to / "bin" / path.name).symlink_to(path)
 
 
 def room_of(crate, stands_on, room):
