@@ -30,6 +30,19 @@ runs() {
     fi
 }
 
+# many NAME FROM TO ARGS..: networks of these seeds, none of which has a violation.
+many() {
+    local name=$1 seed wrong=''
+    for seed in $(seq "$2" "$3"); do
+        "$dnp" sim --plan "$plan" --seed "$seed" "${@:4}" </dev/null >out 2>err && grep -qx 'violations: 0' out || wrong+=" $seed"
+    done
+    if [ -z "$wrong" ]; then
+        echo "ok $name"
+    else
+        printf 'FAILED %s\n    seeds with a violation:%s\n' "$name" "$wrong"
+    fi
+}
+
 # has NAME PATTERN: the last output has such a line.
 has() {
     grep -qx -- "$2" out && echo "ok $1" && return
@@ -45,6 +58,15 @@ runs the-same-words --plain --hours 0.25 --seed 10 --rate 0.05 --faults "$faults
 if cmp -s first out; then echo "ok the-same-words-print-the-same"; else echo "FAILED the-same-words-print-the-same"; fi
 python3 -c 'import sys, xml.dom.minidom; sys.exit(len(xml.dom.minidom.parse("picture.svg").getElementsByTagName("path")) != 4)' &&
     echo "ok a-picture-is-drawn" || echo "FAILED a-picture-is-drawn"
+# An event that a substation kept over a restart is sent again after its present value.
+polled=$PWD/polled.toml
+sed 's/^unsolicited = true$/unsolicited = false/' "$plan" >"$polled"
+plan=$polled runs kept-events-come-last --plain --hours 0.278 --seed 877 --rate 0.05 --faults "$faults"
+# (the proved program takes a second for each hundred)
+if [ -z "$quick" ]; then
+    many seeds-11-to-200 11 200 --plain --hours 0.278 --rate 0.05 --faults "$faults"
+    plan=$polled many polled-seeds-1-to-50 1 50 --plain --hours 0.278 --rate 0.05 --faults "$faults"
+fi
 # (a program that checks its accesses takes a minute for each network over disks)
 runs disks-11 --hours 0.1 --seed 11 --rate 0.1 --faults "$faults,stop=90,full=90"
 has a-disk-stopped 'fault_stop: [1-9][0-9]*'
