@@ -12,7 +12,7 @@ from scale import scaled
 # how often each substation has an event, in seconds, and one way of the line to each, in milliseconds
 EVERY_S, DELAY_MS = scaled(0.1, 1), 10
 # by how much the 99th percentile may move, and how much more where nobody asks for a strict judgement: a row is seen late if a machine is busy
-PART, GRACE_MS = 1.2, scaled(25, 60_000)
+PART, GRACE_MS = 1.2, scaled(100, 60_000)
 # how long a master may rest before it looks whether a lost substation is back, in seconds
 REST_S = 70
 # what the log says of each bad substation
@@ -20,7 +20,8 @@ CAUSES = {
     "floats": r"response refused: 30\.5 at octet \d+ is not in the profile",
     "too-many": rf"response refused: event of analog {POINTS}, which the plan lacks",
     "endless": r"(?:still )?lost, .*: the answer has no end",
-    "dripping": r"(?:still )?lost, .*: no answer in \d+ ms",
+    # (in a second its octets are no frame yet)
+    "dripping": r"(?:still )?lost, .*: (?:no answer in \d+ ms|octets came, and no frame)",
     "deaf": r".*the same unsolicited response.*",
     "restarting": r"(?:still )?lost, .*: (?:the connection ended before the answer|the stream could not be read: .*)",
 }
