@@ -10,7 +10,7 @@ from standing import POINTS, processor_s
 
 # the most that the 99th percentile may be, in milliseconds, if a sync takes at most one, and in syncs otherwise
 MOST_MS = MOST_SYNCS = 50
-WAIT = 20
+WAIT, REST_S = 20, 0.05
 
 
 def judged(late, sync):
@@ -24,6 +24,7 @@ class Run:
 
     def __init__(self, room, kind, rate, seconds):
         self.network, self.rate, self.seconds = kind(room, SUBSTATIONS), rate, seconds
+        self.syncs, self.begun, self.lasted = [], None, None
         self.sources = [Helper("source.py", port, number, POINTS) for number, (_, port) in enumerate(self.network.listens)]
         places = zip(self.network.ways_above, self.network.doors)
         self.witnesses = {number: Helper("witness.py", way, door) for number, ((_, way), (_, door)) in zip(CENTRES, places)}
@@ -41,17 +42,21 @@ class Run:
 
     def shares(self, before):
         """What each program took of a core, in percent."""
-        return {name: (processor_s(program) - before[name]) / self.seconds * 100 for name, program in self.network.programs.items()}
+        seconds = time.monotonic() - self.begun
+        return {name: (processor_s(program) - before[name]) / seconds * 100 for name, program in self.network.programs.items()}
 
     def measure(self):
         """Has events made for a while: what the programs took meanwhile."""
         before = {name: processor_s(program) for name, program in self.network.programs.items()}
         for source in self.sources:
             source.tell(f"go {1000 * SUBSTATIONS / self.rate}")
-        time.sleep(self.seconds)
+        self.begun = time.monotonic()
+        # (the sync that the programs have while all of them sync)
+        self.syncs = sync_ms(self.network.room, int(self.seconds / REST_S), REST_S)
         shares = self.shares(before)
         for source in self.sources:
             source.tell("rest")
+        self.lasted = time.monotonic() - self.begun
         awaited(lambda: not any(state["left"] for state in self.states()), WAIT, 0.5)
         time.sleep(2)
         return shares
@@ -92,7 +97,8 @@ def row(name, folder, kind, rate, seconds):
             faults += [f"centre {number} lacks {len(made.keys() - rows.keys())} events"] * bool(made.keys() - rows.keys())
             faults += [f"centre {number} has {rows.total() - len(rows)} rows again"] * (rows.total() != len(rows))
         sync = percentile(syncs, 0.5)
-        print(f"{name}, files in {folder}: {len(made) / seconds:.0f} events a second; a sync takes {middle_and_99th(syncs, '{:.3f}')} ms")
+        alone, meanwhile = (middle_and_99th(each, "{:.3f}") for each in (syncs, run.syncs))
+        print(f"{name}, files in {folder}: {len(made) / run.lasted:.0f} events a second; a sync takes {alone} ms, and meanwhile {meanwhile} ms")
         for number, ages in took.items():
             promised = judged(percentile(ages, 0.99), sync) if ages and kind is Measured else ""
             print(f"    centre {number}: median and 99th percentile {middle_and_99th(ages)} ms{promised}")

@@ -63,8 +63,8 @@ class Polled(Measured):
     POLLS = BY_POLLS
 
 
-def sync_ms(folder, times=200):
-    """How long the sync of a written block took, each in milliseconds."""
+def sync_ms(folder, times=200, rest_s=0):
+    """How long the sync of a written block took, each in milliseconds, with a rest after each."""
     took = []
     with tempfile.NamedTemporaryFile(dir=folder) as file:
         for number in range(times):
@@ -72,6 +72,7 @@ def sync_ms(folder, times=200):
             begun = time.perf_counter()
             os.fdatasync(file.fileno())
             took.append((time.perf_counter() - begun) * 1000)
+            time.sleep(rest_s)
     return took
 
 
