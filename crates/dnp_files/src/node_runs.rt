@@ -247,10 +247,10 @@ where
 }
 
 /// Runs the node until the loop ends, and gives its concentrator back with the exit status.
-fn follow<Q: PairLanes + Drop, B: Book + Drop, R>(
-    rt: &R,
+fn follow<'r, Q: PairLanes + Drop, B: Book + Drop, R>(
+    rt: &'r R,
     mut node: ConcentratorNode<Q, B>,
-    rounds: &Rounds<'_>,
+    rounds: &Rounds<'r>,
     drivings: &Drivings<'_>,
     making: &Making<'_>,
 ) -> Result<(ExitCode, Concentrator<Q, B>), ExitCode>
