@@ -98,12 +98,12 @@ where
 }
 
 /// Runs the concentrator of a plan whose stations are there, and in whose log they and the points have their names; tells the exit status.
-fn run_named(
+fn run_named<'r>(
     rt: &HostRuntime,
-    words: &Words<'_>,
+    words: &Words<'r>,
     centres: Centres,
-    targets: &[Target],
-    given: &Given,
+    targets: &'r [Target],
+    given: &'r Given,
     mut plan: Plan,
 ) -> anyhow::Result<ExitCode>
     requires { KeepsLimits plan }
