@@ -9,7 +9,9 @@ use crate::driven::{driving_of, drivings_of};
 use crate::hosts::{Sought, Whose, address_found, taken_by};
 use crate::network_file::{Given, all_given};
 use dnp_concentrator::Plan;
-use dnp_files::{Drivings, Served, Substations, Target, run_concentrator, wait_for_slowest};
+use dnp_files::{
+    Driving, Drivings, Served, Substations, Target, run_concentrator, wait_for_slowest,
+};
 use dnp_network::{CentreOf, Network};
 use dnp_tcp::{Names, Place, exit};
 use std::alloc::AllocError;
@@ -98,15 +100,16 @@ where
 }
 
 /// Runs the concentrator of a plan whose stations are there, and in whose log they and the points have their names; tells the exit status.
-fn run_named<'r>(
+fn run_named(
     rt: &HostRuntime,
-    words: &Words<'r>,
+    words: &Words<'_>,
     centres: Centres,
-    targets: &'r [Target],
-    given: &'r Given,
-    mut plan: Plan,
+    targets: &[Target],
+    given: &Given,
+    plan: &Plan,
+    below: &[Driving],
 ) -> anyhow::Result<ExitCode>
-    requires { KeepsLimits plan }
+    requires { KeepsLimits plan.now }
 {
     let points = given.points.as_slice();
     let names = names_of(rt.alloc(), &given.network, points, None)?;
@@ -114,15 +117,16 @@ fn run_named<'r>(
         all: names.as_slice(),
     };
     let Centres { first, second } = centres;
-    let below = drivings_of(rt.alloc(), &given.network, &plan)?;
-    wait_for_slowest(&mut plan, below.as_slice());
-    let drivings = Drivings {
-        below: below.as_slice(),
-        above: driving_of(&given.network.centre_polling, &plan, 0),
-    };
-    let substations = Substations::Listed(targets);
-    let run = words.run_with(first, second, substations, names, Some(drivings));
-    Ok(run_concentrator(rt, &run, &plan))
+    let above = driving_of(&given.network.centre_polling, plan, 0);
+    let drivings = Drivings { below, above };
+    let run = words.run_with(
+        first,
+        second,
+        Substations::Listed(targets),
+        names,
+        Some(drivings),
+    );
+    Ok(run_concentrator(rt, &run, plan))
 }
 
 /// Runs the concentrator of a plan whose stations are where the network in a file says, and tells the exit status.
@@ -130,7 +134,7 @@ pub(super) fn run_in_network(
     rt: &HostRuntime,
     words: &Words<'_>,
     path: &str,
-    plan: Plan,
+    mut plan: Plan,
 ) -> anyhow::Result<ExitCode>
     requires { KeepsLimits plan }
 {
@@ -147,5 +151,15 @@ pub(super) fn run_in_network(
         Ok(targets) => targets,
         Err(status) => return Ok(status),
     };
-    run_named(rt, words, centres, targets.as_slice(), &given, plan)
+    let below = drivings_of(rt.alloc(), &given.network, &plan)?;
+    wait_for_slowest(&mut plan, below.as_slice());
+    run_named(
+        rt,
+        words,
+        centres,
+        targets.as_slice(),
+        &given,
+        &plan,
+        below.as_slice(),
+    )
 }
