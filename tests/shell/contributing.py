@@ -135,7 +135,7 @@ RUNS = {
     "rt fmt": Scratch("sed -i 's/^    x$/  x/' src/lib.rt && rt fmt && cat src/lib.rt", "^    x$"),
     # (a function without a contract is what it finds at once)
     "rt plant": Scratch(f"printf %s '{WEAK}' >>src/lib.rt && rt plant --only weak --jobs 1", rf"^no-ensures .* weak\(\)\n{LINES}plants crate=tally .* no-ensures=1 ", "plant"),
-    "rt try": Elsewhere("tests/quick", 'rt try -- time "$TMPDIR/queue.db"'),
+    "rt try": Elsewhere("tests/crates/build", 'kit/bin/rt", "try", "--steps", "1"'),
     "rt try --test": Scratch(f"printf %s '{TEST}' >>src/lib.rt && rt try --test", "^test result: ok. 1 passed; 0 failed"),
     # One crate
     "tools/one": Copy(f"tools/one {ONE}", "^ok action::Action::named$"),
@@ -145,6 +145,7 @@ RUNS = {
     "tools/one --libraries": Copy(f"tools/one --libraries crates {ONE}", "^ok action::Action::named$"),
     "tools/one --room ROOM --times CRATE FUNCTION..": Copy(f"tools/one --room times --times {ONE}", "^ok action::Action::named$"),
     "tools/one --room ROOM --goals CRATE FUNCTION..": Copy(f"tools/one --room goals --goals {ONE}", "^ok action::Action::named$"),
+    "tools/clauses": Elsewhere("tests/shell/clauses.sh", "$(tools/clauses HEAD . pumps flow 2>&1)"),
     "tools/clauses OLD NEW CRATE FUNCTION..": Elsewhere("tests/shell/clauses.sh", "$(tools/clauses HEAD . pumps flow 2>&1)"),
     "tools/texts --help-from PROGRAM": Copy(f"tools/texts --help-from {scale.DNP} && tools/texts --check", "^ok share-dnp.1$"),
     "tools/texts": Copy("tools/texts && tools/texts --check", "^ok share-dnp.1$"),
@@ -192,7 +193,7 @@ RUNS = {
     "tests/programs/chaos.py": Elsewhere("tests/programs/run", '"$here/chaos.py" "$seconds" "$seed"'),
     "tests/programs/chaos.py 600 8": Elsewhere("tests/programs/run", '"$here/chaos.py" "$seconds" "$seed"'),
     "tests/programs/chaos.py --network 600 8": Elsewhere("tests/programs/run", '"$here/chaos.py" --network "$seconds" 2'),
-    "tests/programs/standing_network.py": Elsewhere("tests/programs/run", '"$here/standing_network.py"'),
+    "tests/programs/network_loop.py": Elsewhere("tests/programs/run", '"$here/network_loop.py"'),
     "tests/programs/standing_network.py --seconds 60 --strict bad": Elsewhere("tests/programs/run", '"$here/standing_network.py"'),
     "tests/programs/once.py 600": Elsewhere("tests/programs/run", '"$here/once.py" 15'),
     "tests/programs/connections.py 10000 100000000": Here("tests/programs/connections.py 20 2000", "^ok 2000-hostile-octets"),
