@@ -17,7 +17,7 @@ from scale import scaled  # noqa: E402
 NO_FUNCTION, OBJECT_UNKNOWN, PARAMETER = 1, 2, 4
 SUCCESS, NO_SELECT = 0, 2
 # the events of a fragment at most, and how long a confirm is awaited, in seconds
-PAGE, CONFIRM_S = 50, scaled(2, 20)
+PAGE, CONFIRM_S = 50, scaled(5, 20)
 Heard = collections.namedtuple("Heard", "moment function objects sequence")
 Event = collections.namedtuple("Event", "index value time")
 
