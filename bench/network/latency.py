@@ -5,7 +5,7 @@ import tempfile
 import time
 from pathlib import Path
 
-from measured import (CENTRES, HOST, SUBSTATIONS, Helper, Measured, Polled, above, awaited, is_listening, middle_and_99th, percentile, stored, sync_ms)
+from measured import (CENTRES, HOST, SUBSTATIONS, Helper, Measured, Polled, above, awaited, is_listening, middle_and_99th, percentile, stored, sync_ms, waited_s)
 from standing import POINTS, processor_s
 
 # the most that the 99th percentile may be, in milliseconds, if a sync takes at most one, and in syncs otherwise
@@ -40,14 +40,18 @@ class Run:
         are_there = all(not self.network.says(f"centre {number} connected", seconds=WAIT) for number in CENTRES)
         return are_there and awaited(lambda: all(state["is_asked"] for state in self.states()), WAIT, 0.5)
 
+    def spent(self):
+        """What each program took of a core until now, and how long it waited for one, in seconds."""
+        return {name: (processor_s(program), waited_s(program)) for name, program in self.network.programs.items()}
+
     def shares(self, before):
-        """What each program took of a core, in percent."""
-        seconds = time.monotonic() - self.begun
-        return {name: (processor_s(program) - before[name]) / seconds * 100 for name, program in self.network.programs.items()}
+        """The same since then, in percent."""
+        seconds, now = time.monotonic() - self.begun, self.spent()
+        return {name: [(now[name][k] - before[name][k]) / seconds * 100 for k in (0, 1)] for name in now}
 
     def measure(self):
         """Has events made for a while: what the programs took meanwhile."""
-        before = {name: processor_s(program) for name, program in self.network.programs.items()}
+        before = self.spent()
         for source in self.sources:
             source.tell(f"go {1000 * SUBSTATIONS / self.rate}")
         self.begun = time.monotonic()
@@ -102,7 +106,8 @@ def row(name, folder, kind, rate, seconds):
         for number, ages in took.items():
             promised = judged(percentile(ages, 0.99), sync) if ages and kind is Measured else ""
             print(f"    centre {number}: median and 99th percentile {middle_and_99th(ages)} ms{promised}")
-        print(f"    processor: {', '.join(f'{program} {share:.0f} %' for program, share in shares.items())}")
+        each = ", ".join(f"{program} {took:.0f} % ({waited:.0f} %)" for program, (took, waited) in shares.items())
+        print(f"    share of a core, and of the time in which it waited for one: {each}")
         for fault in [*faults, *wrong]:
             print(f"    {fault}")
         print(end="", flush=True)

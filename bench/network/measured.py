@@ -76,6 +76,11 @@ def sync_ms(folder, times=200, rest_s=0):
     return took
 
 
+def waited_s(program):
+    """How many seconds a program waited for a core that others had."""
+    return int(Path(f"/proc/{program.pid}/schedstat").read_text(encoding="ascii").split()[1]) / 1e9
+
+
 def middle_and_99th(numbers, form="{:.1f}"):
     """The median and the 99th percentile in words."""
     return " and ".join(form.format(percentile(numbers, part)) for part in (0.5, 0.99)) if numbers else "none"
@@ -87,4 +92,4 @@ def stored(room, number):
 
 
 __all__ = ["CENTRES", "FILES", "HOST", "Helper", "Measured", "Network", "Polled", "SUBSTATIONS", "above", "awaited", "free_port", "is_listening",
-           "middle_and_99th", "percentile", "stored", "sync_ms"]
+           "middle_and_99th", "percentile", "stored", "sync_ms", "waited_s"]
