@@ -11,9 +11,7 @@ import time
 from pathlib import Path
 
 sys.path.insert(0, str(Path(__file__).resolve().parents[2] / "tests/programs"))
-from lines import Frames, events_of  # noqa: E402
-
-CON, NUMBER, CONFIRM, LAST, FIRST = 0x20, 0x1F, 0, 0x80, 0x40
+from relay import Talk  # noqa: E402
 
 
 class Connection:
@@ -43,16 +41,12 @@ class Connection:
 
     def confirmed(self):
         """Each event, with the moment of the confirm of its fragment."""
-        ways, fragment, awaits = {True: Frames(), False: Frames()}, b"", {}
+        talk = Talk()
         for moment, is_of_centre, octets in self.came:
-            for user in ways[is_of_centre].fed(octets):
-                if is_of_centre:
-                    if len(user) >= 3 and user[2] == CONFIRM:
-                        yield from ((event[1], event[3], moment) for event in awaits.pop(user[1] & NUMBER, []))
-                    continue
-                fragment = user[1:] if user[0] & FIRST else fragment + user[1:]
-                if user[0] & LAST and len(fragment) >= 4 and fragment[0] & CON:
-                    awaits[fragment[0] & NUMBER] = events_of(fragment)
+            if not is_of_centre:
+                talk.said(octets)
+                continue
+            yield from ((index, value, moment) for _, index, _, value, _ in talk.told(octets))
 
 
 def main():

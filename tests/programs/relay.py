@@ -6,9 +6,13 @@ import socket
 import threading
 import time
 
-from peers import enter, reset
+from lines import Frames, events_of
+from peers import CON, CONFIRM, enter, now_ms, reset
 
 Piece = collections.namedtuple("Piece", "at end octets")
+Row = collections.namedtuple("Row", "came index value time")
+# the first and the last segment of a fragment, and a fragment's number with UNS
+FIRST, LAST, NUMBER = 0x40, 0x80, 0x1F
 
 
 class Relay(threading.Thread):
@@ -107,3 +111,46 @@ class Relay(threading.Thread):
     def end(self):
         self.is_over = True
         self.join(5)
+
+
+class Talk:
+    """What goes over one connection between a centre and a concentrator."""
+
+    def __init__(self):
+        self.down, self.up, self.fragment, self.awaits = Frames(), Frames(), b"", {}
+
+    def said(self, octets):
+        """What came from the concentrator."""
+        for user in self.up.fed(octets):
+            self.fragment = user[1:] if user[0] & FIRST else self.fragment + user[1:]
+            if user[0] & LAST and len(self.fragment) >= 4 and self.fragment[0] & CON:
+                self.awaits[self.fragment[0] & NUMBER] = events_of(self.fragment)
+
+    def told(self, octets):
+        """What came from the centre: the events that it confirms."""
+        for user in self.down.fed(octets):
+            if len(user) >= 3 and user[2] == CONFIRM:
+                yield from self.awaits.pop(user[1] & NUMBER, [])
+
+
+class Witness(Relay):
+    """A relay between a centre and the concentrator, which keeps each event with the moment at which the centre confirmed it. A centre confirms
+    a fragment once its rows are committed and synced."""
+
+    def __init__(self, *place, **how):
+        self.talks, self.rows = {}, []
+        super().__init__(*place, **how)
+
+    def carry(self, piece):
+        other = self.others.get(piece.end)
+        super().carry(piece)
+        if not other or not piece.octets:
+            return
+        is_of_centre = piece.end.getsockname()[1] == self.place[1] if piece.end.fileno() >= 0 else False
+        near = piece.end if is_of_centre else other
+        talk = self.talks.setdefault(near, Talk())
+        if not is_of_centre:
+            talk.said(piece.octets)
+            return
+        came = now_ms()
+        self.rows += [Row(came, index, value, stamp) for _, index, _, value, stamp in talk.told(piece.octets)]

@@ -13,7 +13,7 @@ from pathlib import Path
 from counting import FILES
 from network import DNP, is_listening
 from peers import now_ms
-from relay import Relay
+from relay import Relay, Witness
 from scale import scaled
 
 HOST = "127.0.0.1"
@@ -169,11 +169,14 @@ class Network:
     # the keys of polling of each link
     POLLS = 'unsolicited = "123"\n'
 
-    def __init__(self, room, substations, ways=None):
-        """`ways` are the places where the concentrator finds a substation that isn't found where it listens, by its number."""
+    def __init__(self, room, substations, ways=None, has_witness=False):
+        """`ways` are the places where the concentrator finds a substation that isn't found where it listens, by its number. A witness is between
+        the first centre and the concentrator."""
         self.room, self.programs, self.peers, self.relays = Path(room), {}, [], []
         self.room.mkdir(exist_ok=True)
         self.place_all(substations, ways or ())
+        if has_witness:
+            self.ways_above = [self.place_of_witness(), self.doors[1]]
         self.write()
 
     def place_all(self, substations, ways):
@@ -182,6 +185,15 @@ class Network:
         self.doors = [(HOST, free_port()) for _ in range(2)]
         self.ways = [(HOST, free_port()) if number in ways else listen for number, listen in enumerate(self.listens)]
         self.ways_above = self.doors
+
+    def place_of_witness(self):
+        return HOST, free_port()
+
+    def witness(self):
+        """Begins the witness."""
+        witness = Witness(self.ways_above[0], self.doors[0], namespace=self.namespace("scada"))
+        self.relays.append(witness)
+        return witness
 
     def words_of(self, name, words):
         """The words by which a program of this name is begun."""

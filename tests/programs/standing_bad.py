@@ -2,12 +2,14 @@
 import re
 import time
 
+import counting
 import standing_far
 from bad_peers import BAD
 from peer_centre import Centre
 from peer_substation import Substation
-from standing import MEDIAN_MS, POINTS, WAIT, Network, above, aged, ages, awaited, each_once, judge, made_of, percentile
+from relay import Row
 from scale import scaled
+from standing import MEDIAN_MS, POINTS, WAIT, Network, above, aged, ages, awaited, each_once, judge, made_of, percentile
 
 # how often each substation has an event, in seconds, and one way of the line to each, in milliseconds
 EVERY_S, DELAY_MS = scaled(0.1, 1), 10
@@ -36,14 +38,14 @@ class Beside:
             network.relay(number, DELAY_MS)
         self.good = [network.peer(Substation, number, every=EVERY_S) for number in range(count)]
         self.begun = network.concentrate()
+        self.witness, self.centre = network.witness(), network.peer_above(Centre)
         network.centre()
-        self.follower, self.centre = network.follow(), network.peer_above(Centre)
         self.centre.start()
         self.numbers = dict(enumerate(BAD, count))
         self.end_of_good = above(count, 0)
 
     def both(self):
-        return {"centre 1": self.follower.rows, "centre 2": self.centre.rows}
+        return {"centre 1": self.witness.rows, "centre 2": self.centre.rows}
 
     def rows(self, since=None):
         """What came of good substations to each centre, behind so many rows."""
@@ -110,8 +112,15 @@ class Beside:
         lines = [f"substation {number}: {line}" for number in range(len(self.good)) for line in self.network.lines_of(number)]
         faults = [line for line in lines if "lost" in line or "refused" in line]
         wrong = [wrong for peer in [self.centre, *self.good] for wrong in peer.wrong[:2]]
-        return judge("bad-ones-lose-no-event-of-good-ones", *(each_once(name, rows, made) for name, rows in self.rows().items()), *faults[:3],
-                     *wrong[:3], told=f"{len(made)} events")
+        rows = {**self.rows(), "the journal": self.journal()}
+        return judge("bad-ones-lose-no-event-of-good-ones", *(each_once(name, there, made) for name, there in rows.items()), *faults[:3], *wrong[:3],
+                     told=f"{len(made)} events")
+
+    def journal(self):
+        """What the first centre's journal has of good substations, once its program has ended."""
+        self.network.kill("centre")
+        found = counting.rows(self.network.room / "journal.db", "SELECT point, value, time FROM journal")
+        return [Row(None, *row) for row in found if row[0] < self.end_of_good]
 
 
 def bad(room, words):
@@ -120,7 +129,7 @@ def bad(room, words):
     tag = f"{standing_far.TAG}b"
     with standing_far.spread("bad with addresses of their own", count, tag) as made:
         ways = range(count)
-        network = standing_far.Far(room, count, ways, tag) if made else Network(room, count, ways)
+        network = standing_far.Far(room, count, ways, True, tag) if made else Network(room, count, ways, True)
         try:
             beside = Beside(network, words.good, words.strict)
             good = beside.compared(seconds)

@@ -22,15 +22,18 @@ class Far(Network):
 
     HOSTS = {"concentrator": "scada", "centre": "centre1"}
 
-    def __init__(self, room, substations, ways=None, tag=TAG):
+    def __init__(self, room, substations, ways=None, has_witness=False, tag=TAG):
         self.tag = tag
-        super().__init__(room, substations, ways)
+        super().__init__(room, substations, ways, has_witness)
 
     def place_all(self, substations, ways):
         hosts = [f"10.99.0.{FIRST + number}" for number in range(substations)]
         self.listens = [(host, PORT) for host in hosts]
         self.ways = [(host, FAR_PORT if number in ways else PORT) for number, host in enumerate(hosts)]
         self.doors = self.ways_above = [(SCADA, 20100), (SCADA, 20101)]
+
+    def place_of_witness(self):
+        return SCADA, 20102
 
     def namespace(self, host):
         return self.tag + host
