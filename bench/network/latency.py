@@ -5,7 +5,8 @@ import tempfile
 import time
 from pathlib import Path
 
-from measured import (CENTRES, HOST, SUBSTATIONS, Helper, Measured, Polled, above, awaited, is_listening, middle_and_99th, percentile, stored, sync_ms, waited_s)
+from measured import (CENTRES, HOST, SUBSTATIONS, Helper, Measured, Polled, above, awaited, is_listening, middle_and_99th, percentile, stolen, stored, sync_ms,
+                      waited_s)
 from standing import POINTS, processor_s
 
 # the most that the 99th percentile may be, in milliseconds, if a sync takes at most one, and in syncs otherwise
@@ -24,7 +25,7 @@ class Run:
 
     def __init__(self, room, kind, rate, seconds):
         self.network, self.rate, self.seconds = kind(room, SUBSTATIONS), rate, seconds
-        self.syncs, self.begun, self.lasted = [], None, None
+        self.syncs, self.begun, self.lasted, self.stolen = [], None, None, 0
         self.sources = [Helper("source.py", port, number, POINTS) for number, (_, port) in enumerate(self.network.listens)]
         places = zip(self.network.ways_above, self.network.doors)
         self.witnesses = {number: Helper("witness.py", way, door) for number, ((_, way), (_, door)) in zip(CENTRES, places)}
@@ -54,10 +55,11 @@ class Run:
         before = self.spent()
         for source in self.sources:
             source.tell(f"go {1000 * SUBSTATIONS / self.rate}")
-        self.begun = time.monotonic()
+        self.begun, (before_all, before_stolen) = time.monotonic(), stolen()
         # (the sync that the programs have while all of them sync)
         self.syncs = sync_ms(self.network.room, int(self.seconds / REST_S), REST_S)
-        shares = self.shares(before)
+        shares, (now_all, now_stolen) = self.shares(before), stolen()
+        self.stolen = (now_stolen - before_stolen) / (now_all - before_all) * 100
         for source in self.sources:
             source.tell("rest")
         self.lasted = time.monotonic() - self.begun
@@ -107,7 +109,7 @@ def row(name, folder, kind, rate, seconds):
             promised = judged(percentile(ages, 0.99), sync) if ages and kind is Measured else ""
             print(f"    centre {number}: median and 99th percentile {middle_and_99th(ages)} ms{promised}")
         each = ", ".join(f"{program} {took:.0f} % ({waited:.0f} %)" for program, (took, waited) in shares.items())
-        print(f"    share of a core, and of the time in which it waited for one: {each}")
+        print(f"    share of a core, and of the time in which it waited for one: {each}; the machine lacked {run.stolen:.0f} % of its cores")
         for fault in [*faults, *wrong]:
             print(f"    {fault}")
         print(end="", flush=True)

@@ -81,6 +81,12 @@ def waited_s(program):
     return int(Path(f"/proc/{program.pid}/schedstat").read_text(encoding="ascii").split()[1]) / 1e9
 
 
+def stolen():
+    """The time of all cores until now, and what of it a virtual machine did not have, in ticks."""
+    ticks = [int(word) for word in Path("/proc/stat").read_text(encoding="ascii").split("\n")[0].split()[1:9]]
+    return sum(ticks), ticks[7]
+
+
 def middle_and_99th(numbers, form="{:.1f}"):
     """The median and the 99th percentile in words."""
     return " and ".join(form.format(percentile(numbers, part)) for part in (0.5, 0.99)) if numbers else "none"
@@ -92,4 +98,4 @@ def stored(room, number):
 
 
 __all__ = ["CENTRES", "FILES", "HOST", "Helper", "Measured", "Network", "Polled", "SUBSTATIONS", "above", "awaited", "free_port", "is_listening",
-           "middle_and_99th", "percentile", "stored", "sync_ms", "waited_s"]
+           "middle_and_99th", "percentile", "stolen", "stored", "sync_ms", "waited_s"]
