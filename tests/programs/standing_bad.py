@@ -13,8 +13,8 @@ from standing import MEDIAN_MS, POINTS, WAIT, Network, above, aged, ages, awaite
 
 # how often each substation has an event, in seconds, and one way of the line to each, in milliseconds
 EVERY_S, DELAY_MS = scaled(0.1, 1), 10
-# by how much the 99th percentile may move, and how much more where nobody asks for a strict judgement: a row is seen late if a machine is busy
-PART, GRACE_MS = 1.2, scaled(100, 60_000)
+# by how much the 99th percentile may move
+PART = 1.2
 # how long a master may rest before it looks whether a lost substation is back, in seconds
 REST_S = 70
 # what the log says of each bad substation
@@ -94,13 +94,14 @@ class Beside:
         return judge("bad-ones-hold-up-no-good-one", *faults, told=told) and good
 
     def older(self, name, before, after):
-        """By what the rows at a centre are too old."""
+        """By what the rows at a centre are too old, where ages are judged: a busy machine sees rows late."""
         if not before or not after:
             return [f"{name}: no rows"]
+        if not self.is_strict:
+            return []
         medians = [percentile(ages(rows), 0.5) for rows in (before, after)]
         first, then = (percentile(ages(rows), 0.99) for rows in (before, after))
-        most = first * PART + GRACE_MS * (not self.is_strict)
-        return [f"{name}: median {max(medians)} ms"] * (max(medians) > MEDIAN_MS) + [f"{name}: from {first} to {then} ms"] * (then > most)
+        return [f"{name}: median {max(medians)} ms"] * (max(medians) > MEDIAN_MS) + [f"{name}: from {first} to {then} ms"] * (then > first * PART)
 
     def counted(self):
         """No event of a good substation is lost or comes twice, and the log says of none that it is lost or refused."""

@@ -6,7 +6,8 @@ relay that cuts, freezes and refuses, and a second centre of another make. The c
 
 - few: each event once, its age, a restart, the time, a control, a substation that comes late, quality, a freeze, kills, and the doors;
 - bad: so many good substations for so many seconds, and then six that do what none may do, too, each in a network namespace of its own behind a
-  line that takes its time, or all on this machine where no namespace can be made; strict: the 99th percentile may move by a fifth and no more;
+  line that takes its time, or all on this machine where no namespace can be made; strict: ages are judged, and the 99th percentile may
+  move by a fifth;
 - idle: what programs take that have nothing to do;
 - far: each station in a network namespace of its own, with a line that takes its time; left out where no namespace can be made;
 - long: sixteen substations for so many seconds, with kills and cuts at random moments. It isn't among those that are run without a name.
