@@ -1,4 +1,5 @@
 -- Definitions, by which contracts promise.
+pub mod Disagreements
 pub mod Endpoints
 pub mod Keys
 pub mod Links

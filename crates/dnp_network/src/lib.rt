@@ -3,6 +3,7 @@
 //! tells what people call a point.
 #![tactic(auto)]
 
+mod disagreement;
 mod endpoint;
 mod head;
 mod keys;
@@ -22,6 +23,7 @@ mod sites;
 mod twice;
 mod words;
 
+pub use disagreement::Disagreement;
 pub use endpoint::{Endpoint, EndpointFault, Host, endpoint_in};
 pub use kind::{PointCounts, PointKind, count_of};
 pub use links::{CentreOf, LinkEnds, address_of};
