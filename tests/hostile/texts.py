@@ -129,7 +129,7 @@ def network_of(r, plan):
     lines = r.choice(([], ['name = "Net"'], ["[concentrator]"], ["[concentrator]", 'listen2 = "[::]:20101"', "centre = 5"]))
     for number in range(len(plan.substations)):
         keys = [f'at = "{r.choice((f"10.0.0.{number}", f"[2001:db8::{number}]", f"sub-{number}.example"))}:{r.randint(1, 65535)}"', f'name = "S{number}"',
-                f"address = {r.randint(100, 65519)}", *r.choice(([], ["master = 2"], ['listen = "0.0.0.0:20000"']))]
+                f"address = {r.randint(100, 65519)}", *r.choice(([], ["master = 2"], ['listen = "0.0.0.0:20000"'], ['unsolicited = "31"']))]
         lines += ["[[substation]]", *r.sample(keys, len(keys))]
     return "\n".join(lines) + "\n"
 
@@ -141,9 +141,18 @@ def is_formed(printed, form):
     if not form:
         return re.search(r"(?m)^substation kind +index above class +deadband  name$", printed) is not None
     try:
-        return set(json.loads(printed)) == {"name", "concentrator", "substations", "points"}
+        return set(json.loads(printed)) == {"name", "concentrator", "substations", "disagree", "points"}
     except ValueError:
         return False
+
+
+def is_agreed(run, form, network, plan):
+    """Whether what `dnp check` says of links on which plan and network disagree is where it belongs, and of as many as these two have."""
+    said = json.loads(run.out)["disagree"] if form == ["--json"] else re.findall(r"(?m)^disagree: .*\n", run.err if form else run.out)
+    if run.err != ("".join(said) if form == ["--csv"] else ""):
+        return False
+    # (each link has one, or none, where the network says nothing of it)
+    return b"unsolicited" in network or len(said) in ((len(plan.substations) + 1, len(plan.substations) + 2) if plan.is_unsolicited else (0,))
 
 
 def checked(r, room, network, points, plan):
@@ -154,7 +163,7 @@ def checked(r, room, network, points, plan):
     form = r.choice((["--csv"], ["--json"], []))
     run = ran("check", "--plan", "plan.toml", "--network", "network.toml", *form, room=room).ends(DONE, REFUSED, FAULT)
     run.given |= {"plan": plan.text().encode(), "network": network, "points": points}
-    if run.status == DONE and (run.err or not is_formed(run.out, form)) or run.status != DONE and run.out:
+    if run.status == DONE and not (is_formed(run.out, form) and is_agreed(run, form, network, plan)) or run.status != DONE and run.out:
         raise run.broken("what is printed doesn't fit how it ends")
     if run.status == FAULT and not (b"points" in network and re.search(r": (No such file|Is a directory|Not a directory|Permission denied|File name too long|"
                                                                        r"invalid)", run.err, re.I)):

@@ -51,7 +51,7 @@ expect a-plan-alone 0 'substation kind     index above class   deadband  name
 0          setpoint     0     0     -          -  -
 1          binary       0   102     3          -  -' '' check --plan plan.toml
 says says-nothing-of-a-plan-that-fits ''
-expect a-plan-alone-as-json 0 '{"name":null,"concentrator":null,"substations":null,"points":[{"substation":0,"kind":"binary","index":0,"above":100,"class":1,"deadband":null,"name":null,"unit":null,"scale":null,"zero":null,"one":null},{"substation":0,"kind":"binary","index":1,"above":101,"class":0,"deadband":null,"name":null,"unit":null,"scale":null,"zero":null,"one":null},{"substation":0,"kind":"counter","index":0,"above":0,"class":2,"deadband":null,"name":null,"unit":null,"scale":null,"zero":null,"one":null},{"substation":0,"kind":"analog","index":0,"above":7,"class":3,"deadband":5,"name":null,"unit":null,"scale":null,"zero":null,"one":null},{"substation":0,"kind":"output","index":0,"above":200,"class":null,"deadband":null,"name":null,"unit":null,"scale":null,"zero":null,"one":null},{"substation":0,"kind":"setpoint","index":0,"above":0,"class":null,"deadband":null,"name":null,"unit":null,"scale":null,"zero":null,"one":null},{"substation":1,"kind":"binary","index":0,"above":102,"class":3,"deadband":null,"name":null,"unit":null,"scale":null,"zero":null,"one":null}]}' '' check --plan plan.toml --json
+expect a-plan-alone-as-json 0 '{"name":null,"concentrator":null,"substations":null,"disagree":null,"points":[{"substation":0,"kind":"binary","index":0,"above":100,"class":1,"deadband":null,"name":null,"unit":null,"scale":null,"zero":null,"one":null},{"substation":0,"kind":"binary","index":1,"above":101,"class":0,"deadband":null,"name":null,"unit":null,"scale":null,"zero":null,"one":null},{"substation":0,"kind":"counter","index":0,"above":0,"class":2,"deadband":null,"name":null,"unit":null,"scale":null,"zero":null,"one":null},{"substation":0,"kind":"analog","index":0,"above":7,"class":3,"deadband":5,"name":null,"unit":null,"scale":null,"zero":null,"one":null},{"substation":0,"kind":"output","index":0,"above":200,"class":null,"deadband":null,"name":null,"unit":null,"scale":null,"zero":null,"one":null},{"substation":0,"kind":"setpoint","index":0,"above":0,"class":null,"deadband":null,"name":null,"unit":null,"scale":null,"zero":null,"one":null},{"substation":1,"kind":"binary","index":0,"above":102,"class":3,"deadband":null,"name":null,"unit":null,"scale":null,"zero":null,"one":null}]}' '' check --plan plan.toml --json
 
 # All keys, and none but those that are needed
 mkdir -p folder
@@ -95,6 +95,7 @@ assert got["concentrator"] == {"at": "scada:20100", "listen": "0.0.0.0:20100", "
 assert got["substations"] == [
     {"substation": 0, "name": 'A "quoted" one, here', "at": "10.0.0.1:20000", "listen": "0.0.0.0:20000", "address": 0, "master": 65519},
     {"substation": 1, "name": None, "at": "sub-1.grid_2.example:65535", "listen": "sub-1.grid_2.example:65535", "address": 11, "master": 2}]
+assert got["disagree"] == []
 assert len(got["points"]) == 7
 assert got["points"][3] == {"substation": 0, "kind": "analog", "index": 0, "above": 7, "class": 3, "deadband": 5, "name": "Voltage",
                             "unit": "kV", "scale": "-0.01", "zero": None, "one": None}
@@ -116,6 +117,60 @@ substation kind     index above class   deadband  name
 network '[concentrator]' 'listen2 = "127.0.0.1:20101"' "$sub" "$one" "$sub" "$two"
 "$dnp" check --plan plan.toml --network n.toml >out 2>err
 grep -q '^concentrator2  127.0.0.1:20101          127.0.0.1:20101                9     3  -$' out && echo ok usual-second-centre || echo FAILED usual-second-centre
+
+# Unsolicited responses: what the plan says of its outstations, and the network of their masters, link by link
+sed 's/^unsolicited = false$/unsolicited = true/' plan.toml >on.toml
+# disagrees NAME PLAN WANTED LINES..: plan and network disagree by the wanted lines, and neither is refused. A table ends with these lines;
+# beside CSV they are on standard error, and in JSON they are strings of a list.
+disagrees() {
+    local name=$1 plan=$2 wanted=$3 got=0
+    shift 3
+    network "$@"
+    "$dnp" check --plan "$plan" --network n.toml >all 2>err || got=$?
+    grep '^disagree: ' all >out
+    judge "disagrees-$name" 0 "$wanted" "$got"
+    says "says-nothing-beside:$name" ''
+    "$dnp" check --plan "$plan" --network n.toml --csv >all 2>err || got=$?
+    grep disagree all >out
+    judge "has-records-alone-$name" 0 '' "$got"
+    says "says-beside-records:$name" "$wanted"
+    "$dnp" check --plan "$plan" --network n.toml --json >all 2>err || got=$?
+    python3 -c 'import json; [print("disagree:", it) for it in json.load(open("all", encoding="utf-8"))["disagree"]]' >out
+    judge "disagrees-as-json-$name" 0 "$wanted" "$got"
+    says "says-nothing-beside-json:$name" ''
+}
+unsent='its master enables classes, but it sends no event unsolicited'
+unasked='its master enables no class, so it sends no event unsolicited'
+off='unsolicited = false in the plan, unsolicited'
+on='unsolicited = true in the plan, unsolicited = "" in the network file'
+polled='events come by the event poll, every'
+network "$sub" "$one" 'unsolicited = "1"' 'events_ms = 100' "$sub" "$two"
+expect disagrees-behind-the-table 0 "station        at                       listens at               address  peer  name
+concentrator   127.0.0.1:20100          127.0.0.1:20100                9     1  -
+substation 0   10.0.0.1:20000           10.0.0.1:20000                10     2  -
+substation 1   10.0.0.2:20000           10.0.0.2:20000                11     2  -
+
+substation kind     index above class   deadband  name
+0          binary       0   100     1          -  -
+0          binary       1   101     0          -  -
+0          counter      0     0     2          -  -
+0          analog       0     7     3          5  -
+0          output       0   200     -          -  -
+0          setpoint     0     0     -          -  -
+1          binary       0   102     3          -  -
+
+disagree: substation 0: $off = \"1\" in the network file: $unsent; $polled 100 ms" '' check --plan plan.toml --network n.toml
+disagrees neither-sends-nor-enables plan.toml '' "$sub" "$one" 'events_ms = "never"' "$sub" "$two"
+disagrees sends-and-enables on.toml '' '[defaults]' 'unsolicited = "1"' '[centre]' 'unsolicited = "32"' "$sub" "$one" "$sub" "$two" 'unsolicited = "3"'
+disagrees enables-in-vain plan.toml "disagree: concentrator towards centre 1: $off = \"2\" in the network file: $unsent; $polled 500 ms
+disagree: concentrator towards centre 2: $off = \"2\" in the network file: $unsent; $polled 500 ms
+disagree: substation 0 (A \"quoted\" one): $off = \"13\" in the network file: $unsent; events_ms is \"never\", so events wait for 30000 ms of silence or for an integrity poll" \
+    '[concentrator]' 'listen2 = "127.0.0.1:20101"' '[defaults]' 'unsolicited = "31"' '[centre]' 'unsolicited = "2"' 'events_ms = 500' \
+    "$sub" "$one" 'name = "A \"quoted\" one"' "$sub" "$two" 'unsolicited = ""'
+disagrees enables-none on.toml "disagree: concentrator towards centre 1: $on: $unasked; $polled 2000 ms
+disagree: substation 0: $on: $unasked; events_ms is \"never\", so events wait for 5000 ms of silence or for an integrity poll
+disagree: substation 1 (B\\n): $on: $unasked; $polled 2000 ms" \
+    "$sub" "$one" 'events_ms = "never"' 'keepalive_ms = 5000' "$sub" "$two" 'name = "B\n"'
 
 # refuses NAME REASON LINES..: the network is refused, and standard error says why
 refuses() {

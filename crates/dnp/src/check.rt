@@ -3,11 +3,13 @@
 ghost use Rattle.dnp_concentrator.specs.Plan.{KeepsLimits};
 
 mod csv;
+mod disagreed;
 mod json;
 mod system;
 mod table;
 
 use crate::check::csv::write_csv;
+use crate::check::disagreed::say_disagreed;
 use crate::check::json::write_json;
 use crate::check::system::System;
 use crate::check::table::write_table;
@@ -49,17 +51,21 @@ OUTPUT
   concentrator is the centre.
   Then each point has a line: its substation, kind, index at the substation, index above, class,
   deadband, and name with the unit. '-' means none.
+  At last there is a line 'disagree: ..' for each link that has unsolicited responses in one file
+  only. The plan has those that its outstation sends, and the network file those that its master
+  enables. The line says how events come then.
   With --csv there are CSV records (RFC 4180) after this header:
     station,name,at,listen,address,peer,kind,index,above,class,deadband,point,unit,scale,zero,one
   The records of the stations come first, and have no kind. The station is the number of a
-  substation, 'concentrator', or 'concentrator2' for the link to the second centre.
-  With --json there is one object with \"name\", \"concentrator\", \"substations\" and \"points\"; null
-  means none.
+  substation, 'concentrator', or 'concentrator2' for the link to the second centre. Standard error
+  has the lines 'disagree: ..'.
+  With --json there is one object with \"name\", \"concentrator\", \"substations\", \"disagree\" and
+  \"points\"; null means none.
   A refused plan prints 'refused plan N', as with 'dnp sim'. Standard error then has the file, the
   line if it is known, the key, the wrong value, and the form of a right one.
 
 EXIT STATUS
-  0: The files are right and agree.
+  0: No file is refused.
   1: A file is refused.
   2: The command line is wrong.
   3: The program failed: a file can't be read, out of memory, or the output was lost.";
@@ -163,10 +169,13 @@ fn print_system<R: AllocGlobal + Print + Eprint>(
     match form {
         Form::Table(screen) => write_table(&mut printed, rt.alloc(), system, screen)?,
         Form::Csv => write_csv(&mut printed, system)?,
-        Form::Json => write_json(&mut printed, system)?,
+        Form::Json => write_json(&mut printed, rt.alloc(), system)?,
     }
     if let Err(cause) = io::writer(rt).write_all(printed.as_slice()) {
         return Ok(unwritten(rt, &cause));
+    }
+    if let Form::Csv = form {
+        say_disagreed(rt, system);
     }
     Ok(ExitCode::from(exit::DONE))
 }

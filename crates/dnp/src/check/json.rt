@@ -2,6 +2,7 @@
 
 use crate::check::system::{PointRow, Station, System, Who, station_at, stations_of};
 use dnp_network::{Head, JsonText, Network, PointKind, PointName, Words};
+use std::alloc::Global;
 use std::io;
 use std::io::Write;
 
@@ -63,10 +64,34 @@ fn write_substations<W: Write>(out: &mut W, network: &Network) -> io::Result<()>
     Ok(())
 }
 
-/// Writes the network: its name, the concentrator and the substations, or `null` for each where nothing is known of it.
-fn write_network<W: Write>(out: &mut W, network: Option<&Network>) -> io::Result<()> {
-    let Some(network) = network else {
-        return out.write_all(b"\"name\":null,\"concentrator\":null,\"substations\":null");
+/// Writes what doesn't fit on each link on which the plan and the network file don't.
+fn write_disagreed<W: Write>(
+    out: &mut W,
+    alloc: Global,
+    system: &System<'_>,
+    network: &Network,
+) -> io::Result<()> {
+    let mut is_first = true;
+    for place in 0..stations_of(network) {
+        if let Some(disagreed) = system.disagreed(place) {
+            if !is_first {
+                out.write_all(b",")?;
+            }
+            is_first = false;
+            let text = format!(in alloc; "{disagreed}")?;
+            write!(out, "{}", JsonText(text.as_str()))?;
+        }
+    }
+    Ok(())
+}
+
+/// Writes the network: its name, the concentrator, the substations, and what doesn't fit the plan, or `null` for each where nothing is
+/// known of it.
+fn write_network<W: Write>(out: &mut W, alloc: Global, system: &System<'_>) -> io::Result<()> {
+    let Some(network) = system.network else {
+        return out.write_all(
+            b"\"name\":null,\"concentrator\":null,\"substations\":null,\"disagree\":null",
+        );
     };
     out.write_all(b"\"name\":")?;
     write_name(out, network.name.as_ref())?;
@@ -74,6 +99,8 @@ fn write_network<W: Write>(out: &mut W, network: Option<&Network>) -> io::Result
     write_head(out, &network.concentrator)?;
     out.write_all(b",\"substations\":[")?;
     write_substations(out, network)?;
+    out.write_all(b"],\"disagree\":[")?;
+    write_disagreed(out, alloc, system, network)?;
     out.write_all(b"]")
 }
 
@@ -142,9 +169,13 @@ fn write_kind<W: Write>(
 }
 
 /// Writes the system as one object in a line.
-pub(crate) fn write_json<W: Write>(out: &mut W, system: &System<'_>) -> io::Result<()> {
+pub(crate) fn write_json<W: Write>(
+    out: &mut W,
+    alloc: Global,
+    system: &System<'_>,
+) -> io::Result<()> {
     out.write_all(b"{")?;
-    write_network(out, system.network)?;
+    write_network(out, alloc, system)?;
     out.write_all(b",\"points\":[")?;
     let mut is_first = true;
     for substation in 0..system.plan.substations.as_slice().len() {

@@ -2,7 +2,9 @@
 
 use crate::network_file::index_kind;
 use dnp_concentrator::Plan;
-use dnp_network::{Endpoint, Network, PointId, PointKind, PointName, Site, Words, name_of_point};
+use dnp_network::{
+    Endpoint, Network, PointId, PointKind, PointName, Polling, Site, Words, name_of_point,
+};
 
 /// A plan, and where its stations are and what people call its points, as far as that is given.
 #[derive(Clone, Copy)]
@@ -30,6 +32,8 @@ pub(crate) struct Station<'a> {
     pub address: u16,
     /// That of its master or its centre.
     pub peer: u16,
+    /// How its master or its centre polls it.
+    pub polling: &'a Polling,
 }
 
 /// Who a station is.
@@ -52,6 +56,7 @@ fn substation(site: &Site, number: usize) -> Station<'_> {
         listen: site.listen(),
         address: site.address,
         peer: site.master,
+        polling: &site.polling,
     }
 }
 
@@ -67,6 +72,7 @@ pub(crate) fn station_at(network: &Network, place: usize) -> Option<Station<'_>>
             listen: &head.listen,
             address: head.address,
             peer: head.centre,
+            polling: &network.centre_polling,
         }),
         1 => match (&head.listen2, head.at2()) {
             (Some(listen), Some(at)) => Some(Station {
@@ -76,6 +82,7 @@ pub(crate) fn station_at(network: &Network, place: usize) -> Option<Station<'_>>
                 listen,
                 address: head.address,
                 peer: head.centre2,
+                polling: &network.centre_polling,
             }),
             _ => None,
         },

@@ -111,7 +111,26 @@ fn write_kind<W: Write>(
     Ok(())
 }
 
-/// Writes the system as a table: the stations, if it is known where they are, and the points.
+/// Writes an empty line, and a line for each link on which the plan and the network file don't fit, if there is such a link.
+fn write_disagreed<W: Write>(
+    out: &mut W,
+    system: &System<'_>,
+    network: &Network,
+) -> io::Result<()> {
+    let mut is_first = true;
+    for place in 0..stations_of(network) {
+        if let Some(disagreed) = system.disagreed(place) {
+            if is_first {
+                writeln!(out)?;
+            }
+            is_first = false;
+            writeln!(out, "disagree: {disagreed}")?;
+        }
+    }
+    Ok(())
+}
+
+/// Writes the system as a table: the stations, if it is known where they are, the points, and what doesn't fit.
 pub(crate) fn write_table<W: Write>(
     out: &mut W,
     alloc: Global,
@@ -131,5 +150,8 @@ pub(crate) fn write_table<W: Write>(
             write_kind(out, alloc, system, substation, kind)?;
         }
     }
-    Ok(())
+    match system.network {
+        Some(network) => write_disagreed(out, system, network),
+        None => Ok(()),
+    }
 }
