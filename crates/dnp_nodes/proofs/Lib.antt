@@ -1,5 +1,7 @@
 pub mod CalleeTurns
 pub mod CallerTurns
+pub mod Deadlines
+pub mod Dropping
 pub mod Masters
 pub mod Outstations
 pub mod Phases

@@ -41,6 +41,12 @@ above_in n = n.above
 abbrev pub reports_in : {Q B : Type 0} → ConcentratorNode Q B → Reports
 reports_in n = n.shared.reports
 
+-- it has this concentrator, and these links
+pub record Shows {Q B : Type 0} (concentrator : Concentrator Q B) (below : List Caller) (above : PerCentre Callee) (n : ConcentratorNode Q B) : Type 0 where
+  pub same : concentrator_in n ≡ concentrator
+  pub links : below_in n ≡ below
+  pub centres : above_in n ≡ above
+
 -- its concentrator became another
 abbrev pub with_concentrator : {Q B : Type 0} → ConcentratorNode Q B → Concentrator Q B → ConcentratorNode Q B
 with_concentrator n concentrator = record n { concentrator = concentrator }
@@ -218,6 +224,12 @@ IsDueBelow v number n moment = IsDueBy (slice_get (below_in n) number) (below_li
 
 abbrev pub IsDueAbove : {Q B : Type 0} → Stores Q B → ℕ → ConcentratorNode Q B → ℕ → Type 0
 IsDueAbove v centre n moment = callees.IsDue (at centre (above_in n)) (above_lives.deadline (seen_above v n.concentrator centre)) moment
+
+-- The links of the centres, and the first `count` of those to substations, are not due before this moment.
+pub record AreDueFrom {Q B : Type 0} (v : Stores Q B) (n : ConcentratorNode Q B) (count moment : ℕ) : Type 0 where
+  pub first : (due : ℕ) × IsDueAbove v 0 n due × moment ≤ due
+  pub second : (due : ℕ) × IsDueAbove v 1 n due × moment ≤ due
+  pub below : (number : ℕ) → number < count → (due : ℕ) × IsDueBelow v number n due × moment ≤ due
 
 -- that is done, or nothing
 abbrev pub DoesIf : {Q B : Type 0} → Bool → (ConcentratorNode Q B → ConcentratorNode Q B → Type 0) → ConcentratorNode Q B → ConcentratorNode Q B → Type 0

@@ -6,6 +6,7 @@ pub mod CallerCalls
 pub mod Callers
 pub mod CentreNodes
 pub mod ConcentratorNodes
+pub mod Dropping
 pub mod Heads
 pub mod OutstationNodes
 pub mod Requests

@@ -1,6 +1,6 @@
 //! The node of a concentrator.
 
-ghost use Rattle.std.specs.Prelude.{◌≡◌, ◌<◌, length, min, option_copied, option_map, slice_get};
+ghost use Rattle.std.specs.Prelude.{◌≡◌, ◌<◌, IfOk, length, min, option_copied, option_map, slice_get};
 ghost use Rattle.dnp_concentrator.specs.Concentrator.{core_of};
 ghost use Rattle.dnp_nodes.specs.Callers.{schedule_of};
 ghost use Rattle.dnp_nodes.specs.ConcentratorNodes.{above_in, below_in, concentrator_in};
@@ -12,11 +12,12 @@ mod shown;
 
 use crate::callee::{Callee, CalleePlan};
 use crate::caller::{Caller, CallerPlan};
+use crate::drops::Drops;
 use crate::requests::LinkClasses;
 use crate::shared::Shared;
 use crate::slot::{Ends, Slot};
 use dnp_concentrator::{Concentrator, PerCentre};
-use dnp_eventbuf::CENTRES;
+use dnp_eventbuf::{CENTRES, PairLanes};
 use dnp_pointdb::PointDb;
 use dnp_schedule::{Pace, Schedule};
 use std::alloc::{AllocError, Global};
@@ -53,6 +54,8 @@ pub struct ConcentratorNode<Q, B> {
     below: Vec<Caller>,
     /// The links of the centres.
     above: PerCentre<Callee>,
+    /// What the queue drops for each centre.
+    drops: PerCentre<Drops>,
     /// What the links use.
     shared: Shared,
 }
@@ -64,6 +67,7 @@ impl<Q: Drop, B: Drop> Drop for ConcentratorNode<Q, B> {
             concentrator: _,
             below: _,
             above: _,
+            drops: _,
             shared: _,
         } = self;
     }
@@ -112,7 +116,7 @@ fn callee(alloc: Global, centre: u8, ends: Ends, plan: AbovePlan) -> Callee {
     Callee::new(alloc, plan)
 }
 
-impl<Q: Drop, B: Drop> ConcentratorNode<Q, B> {
+impl<Q: PairLanes + Drop, B: Drop> ConcentratorNode<Q, B> {
     /// The node of this concentrator, without connections. It has a link below for each of these plans, by the numbers of substations,
     /// which wants to be connected at this moment. At the moment 0 the wall clock shows `clock`, in milliseconds since 1970 UTC.
     ///
@@ -120,13 +124,19 @@ impl<Q: Drop, B: Drop> ConcentratorNode<Q, B> {
     /// Out of memory for the links below. Then the concentrator is dropped.
     pub fn new(
         alloc: Global,
-        concentrator: Concentrator<Q, B>,
+        mut concentrator: Concentrator<Q, B>,
         below: &[BelowPlan],
         above: AbovePlan,
         at: u64,
         clock: u64,
-    ) -> Result<Self, AllocError> {
+    ) -> Result<Self, AllocError>
+        ensures concentrator { IfOk result (λ node. concentrator_in node ≡ concentrator) }
+    {
         let below = callers(alloc, below, at, clock)?;
+        let drops = PerCentre {
+            first: Drops::new(concentrator.queue(), 0),
+            second: Drops::new(concentrator.queue(), 1),
+        };
         Ok(ConcentratorNode {
             concentrator,
             below,
@@ -134,6 +144,7 @@ impl<Q: Drop, B: Drop> ConcentratorNode<Q, B> {
                 first: callee(alloc, 0, above.first, above),
                 second: callee(alloc, 1, above.second, above),
             },
+            drops,
             shared: Shared::new(alloc),
         })
     }
@@ -148,6 +159,7 @@ impl<Q, B> ConcentratorNode<Q, B> {
             concentrator,
             below: _,
             above: _,
+            drops: _,
             shared: _,
         } = self;
         concentrator

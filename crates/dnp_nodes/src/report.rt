@@ -7,6 +7,7 @@ use crate::answers::Answer;
 use crate::heads::Head;
 use crate::slot::{Closing, Ends, Slot};
 use dnp_appfragment::Iin;
+use dnp_objects::Lane;
 use dnp_schedule::TaskKind;
 use std::alloc::Global;
 
@@ -45,6 +46,10 @@ pub enum Report {
     Asked(Slot, TaskKind),
     /// So many event rows were stored.
     Stored(Slot, usize),
+    /// For this centre the lane has begun to drop events. So many are dropped by now.
+    DropsBegun(Slot, Lane, u64),
+    /// That has ended, since no lane is full any more. So many were dropped.
+    DropsEnded(Slot, Lane, u64),
     /// The control of this number is selected.
     Selecting(Slot, u64),
     /// The control of this number was spent, and is operated.
@@ -74,6 +79,8 @@ impl Report {
             | Report::Request(slot, _)
             | Report::Asked(slot, _)
             | Report::Stored(slot, _)
+            | Report::DropsBegun(slot, _, _)
+            | Report::DropsEnded(slot, _, _)
             | Report::Selecting(slot, _)
             | Report::Operating(slot, _)
             | Report::Finished(slot, _, _) => slot,

@@ -5,7 +5,7 @@ ghost use Rattle.dnp_streams.specs.streams.BelowLives.{below_lives};
 ghost use Rattle.dnp_nodes.specs.Callees as callees;
 ghost use Rattle.dnp_nodes.specs.Callers as callers;
 ghost use Rattle.dnp_concentrator.specs.PerCentre.{at};
-ghost use Rattle.dnp_nodes.specs.ConcentratorNodes.{AtAbove, AtBelow, ClosesAbove, ClosesBelow, FeedsAbove, FeedsBelow, HandsAbove, HandsBelow, IfDueAbove, IfDueBelow, IsBeside, IsDueAbove, IsDueBelow, IsDueNow, IsForgotten, OpensAbove, OpensBelow, PassesDown, PassesUp, TellsBelow, TellsNextAbove, ThenDown, TicksAbove, TicksBelow, above_in, below_in, concentrator_in, stored_at, wanted_by};
+ghost use Rattle.dnp_nodes.specs.ConcentratorNodes.{AtAbove, AtBelow, ClosesAbove, ClosesBelow, FeedsAbove, FeedsBelow, HandsAbove, HandsBelow, IfDueAbove, IfDueBelow, IsBeside, IsDueAbove, IsDueBelow, IsDueNow, IsForgotten, OpensAbove, OpensBelow, PassesDown, PassesUp, Shows, TellsBelow, TellsNextAbove, ThenDown, TicksAbove, TicksBelow, above_in, below_in, concentrator_in, stored_at, wanted_by};
 ghost use Rattle.dnp_nodes.specs.Turns.{GoesItsWay, IsHonest, seen_below, stores};
 
 use crate::concentrator_node::{ConcentratorNode, lent, number_of};
@@ -97,8 +97,17 @@ impl<Q: PairLanes, B: Book> ConcentratorNode<Q, B> {
         callee.connected(&mut self.shared, &mut station, now);
     }
 
+    /// Tells in which lanes events are dropped for a centre, if that has changed.
+    fn look_at_drops(&mut self, centre: u8)
+        requires { centre < CENTRES }
+        ensures { Shows (concentrator_in self.old) (below_in self.old) (above_in self.old) self.new }
+    {
+        let drops = self.drops.at_mut(centre);
+        drops.look(&mut self.shared.reports, self.concentrator.queue(), centre);
+    }
+
     /// Octets came from a centre. Whether they may operate an output.
-    pub(super) fn received_above(&mut self, centre: u8, now: u64, octets: &[u8]) -> bool
+    fn feed_above(&mut self, centre: u8, now: u64, octets: &[u8]) -> bool
         requires { centre < CENTRES }
         ensures call { FeedsAbove (stores Q.honest Q.contents B.honest B.is_stopped B.contents) centre now octets.now result self.old self.new }
         ensures beside { IsBeside (stores Q.honest Q.contents B.honest B.is_stopped B.contents) centre self.old self.new }
@@ -109,8 +118,19 @@ impl<Q: PairLanes, B: Book> ConcentratorNode<Q, B> {
         callee.take_operated()
     }
 
+    /// Octets came from a centre, and what the queue drops for it is told. Whether they may operate an output.
+    pub(super) fn received_above(&mut self, centre: u8, now: u64, octets: &[u8]) -> bool
+        requires { centre < CENTRES }
+        ensures call { FeedsAbove (stores Q.honest Q.contents B.honest B.is_stopped B.contents) centre now octets.now result self.old self.new }
+        ensures beside { IsBeside (stores Q.honest Q.contents B.honest B.is_stopped B.contents) centre self.old self.new }
+    {
+        let operated = self.feed_above(centre, now, octets);
+        self.look_at_drops(centre);
+        operated
+    }
+
     /// Octets to a centre were taken. Whether octets of it that waited may operate an output.
-    pub(super) fn sent_above(&mut self, centre: u8, now: u64, count: usize) -> bool
+    fn hand_above(&mut self, centre: u8, now: u64, count: usize) -> bool
         requires { centre < CENTRES }
         ensures call { HandsAbove (stores Q.honest Q.contents B.honest B.is_stopped B.contents) centre now count result self.old self.new }
         ensures beside { IsBeside (stores Q.honest Q.contents B.honest B.is_stopped B.contents) centre self.old self.new }
@@ -119,6 +139,17 @@ impl<Q: PairLanes, B: Book> ConcentratorNode<Q, B> {
         let callee = self.above.at_mut(centre);
         callee.sent(&mut self.shared, &mut station, now, count);
         callee.take_operated()
+    }
+
+    /// Octets to a centre were taken, and what the queue drops for it is told. Whether octets of it that waited may operate an output.
+    pub(super) fn sent_above(&mut self, centre: u8, now: u64, count: usize) -> bool
+        requires { centre < CENTRES }
+        ensures call { HandsAbove (stores Q.honest Q.contents B.honest B.is_stopped B.contents) centre now count result self.old self.new }
+        ensures beside { IsBeside (stores Q.honest Q.contents B.honest B.is_stopped B.contents) centre self.old self.new }
+    {
+        let operated = self.hand_above(centre, now, count);
+        self.look_at_drops(centre);
+        operated
     }
 
     /// The connection of a centre ended.
@@ -133,7 +164,7 @@ impl<Q: PairLanes, B: Book> ConcentratorNode<Q, B> {
     }
 
     /// Time has passed for the link of a centre, or rows came for it.
-    pub(super) fn tick_above(&mut self, centre: u8, now: u64)
+    fn call_above(&mut self, centre: u8, now: u64)
         requires { centre < CENTRES }
         ensures call { TicksAbove (stores Q.honest Q.contents B.honest B.is_stopped B.contents) centre now self.old self.new }
         ensures beside { IsBeside (stores Q.honest Q.contents B.honest B.is_stopped B.contents) centre self.old self.new }
@@ -141,6 +172,16 @@ impl<Q: PairLanes, B: Book> ConcentratorNode<Q, B> {
         let mut station = Above::new(&mut self.concentrator, centre);
         let callee = self.above.at_mut(centre);
         callee.tick(&mut self.shared, &mut station, now);
+    }
+
+    /// Time has passed for the link of a centre, or rows came for it, and what the queue drops for it is told.
+    pub(super) fn tick_above(&mut self, centre: u8, now: u64)
+        requires { centre < CENTRES }
+        ensures call { TicksAbove (stores Q.honest Q.contents B.honest B.is_stopped B.contents) centre now self.old self.new }
+        ensures beside { IsBeside (stores Q.honest Q.contents B.honest B.is_stopped B.contents) centre self.old self.new }
+    {
+        self.call_above(centre, now);
+        self.look_at_drops(centre);
     }
 
     /// Whether event rows of a substation were stored since that was asked last.

@@ -1,7 +1,7 @@
 //! A concentrator's node, as a loop runs it.
 
-ghost use Rattle.std.specs.Prelude.{◌≡◌, []};
-ghost use Rattle.dnp_nodes.specs.ConcentratorNodes.{Closes, Connects, Receives, Sends, TellsNext, above_in, below_in, concentrator_in, output_at, reports_in};
+ghost use Rattle.std.specs.Prelude.{◌≡◌, [], length, min};
+ghost use Rattle.dnp_nodes.specs.ConcentratorNodes.{AreDueFrom, Closes, Connects, Receives, Sends, TellsNext, above_in, below_in, concentrator_in, output_at, reports_in};
 ghost use Rattle.dnp_nodes.specs.Turns.{GoesItsWay, stores};
 ghost use Rattle.dnp_nodes.specs.Told.{missed_in, refused_in, told_in};
 
@@ -86,7 +86,9 @@ impl<Q: PairLanes, B: Book> Node for ConcentratorNode<Q, B> {
         self.pass_above(1, now);
     }
 
-    fn next_deadline(&self) -> u64 {
+    fn next_deadline(&self) -> u64
+        ensures { AreDueFrom (stores Q.honest Q.contents B.honest B.is_stopped B.contents) self.now (min (length (below_in self.now)) 255) result }
+    {
         let mut next = self.deadline_above(0).min(self.deadline_above(1));
         for number in 0..self.links() {
             next = next.min(self.deadline_below(number));

@@ -1,0 +1,18 @@
+use Rattle.dnp_nodes.specs.Turns.{above_ways, stores}
+use Rattle.dnp_nodes.specs.CalleeCalls as callee
+use Rattle.dnp_nodes.specs.ConcentratorNodes.{IsAsked}
+use Rattle.dnp_nodes.proofs.Dropping.{still_beside, still_called}
+use Rattle.dnp_streams.specs.streams.Concentrators.{above_hung_up}
+use Rattle.dnp_nodes.proofs.concentrator_node.ConcentratorNode.received_above.Goals as goal
+
+pub returns-clause-call : goal.returns-clause-call
+returns-clause-call g c =
+    let v = stores g.Q.PairLanes.honest g.Q.PairLanes.contents g.B.Book.honest g.B.Book.is_stopped g.B.Book.contents in
+    still_called v c.args.centre
+    (λ honest before s after s'. IsAsked (λ next. callee.IsFed above_ways above_hung_up honest c.args.now c.args.octets.now before s next s') c.feed_above-operated.result after)
+    c.args.self.now c.feed_above-operated.new.self c.look_at_drops.new.self c.feed_above-operated.ensures.call c.look_at_drops.ensures
+
+pub returns-clause-beside : goal.returns-clause-beside
+returns-clause-beside g c =
+    let v = stores g.Q.PairLanes.honest g.Q.PairLanes.contents g.B.Book.honest g.B.Book.is_stopped g.B.Book.contents in
+    still_beside v c.args.centre c.args.self.now c.feed_above-operated.new.self c.look_at_drops.new.self c.feed_above-operated.ensures.beside c.look_at_drops.ensures
