@@ -1,5 +1,5 @@
 -- Definition: lines that wait to be written, and those that were lost.
-use Rattle.std.specs.Prelude.{◌≡◌, ◌⊎◌, ℕ, List, ◌++◌, ◌+◌, ◌-◌, ◌^◌, min, length, [], Bool, nat_lt, nat_le, ◌&&◌}
+use Rattle.std.specs.Prelude.{◌≡◌, ◌⊎◌, ℕ, List, ◌++◌, ◌+◌, ◌-◌, ◌^◌, min, length, Bool, nat_lt, nat_le, ◌&&◌}
 use Rattle.dnp_loop.specs.declared.log_buffer.LogBuffer.{LogBuffer}
 use Rattle.dnp_loop.specs.declared.log_buffer.TheConstants.{MAX_LOG, SHORT}
 
@@ -22,12 +22,6 @@ Stands log waiting lost = (waiting_of log ≡ waiting) × (lost_of log ≡ lost)
 abbrev pub IsAdded : LogBuffer → List ℕ → LogBuffer → Type 0
 IsAdded old line new =
     Stands new (waiting_of old ++ line) (lost_of old) ⊎ Stands new (waiting_of old) (with_more (lost_of old) 1)
-
--- what waits there is taken as a whole or stays; what was lost there counts here
-abbrev pub IsTakenOver : LogBuffer → LogBuffer → LogBuffer → LogBuffer → Type 0
-IsTakenOver old there new there_after =
-    (Stands new (waiting_of old ++ waiting_of there) (with_more (lost_of old) (lost_of there)) × Stands there_after [] 0)
-    ⊎ (Stands new (waiting_of old) (with_more (lost_of old) (lost_of there)) × Stands there_after (waiting_of there) 0)
 
 -- some were lost, and a short line has room
 abbrev pub may_tell : LogBuffer → Bool

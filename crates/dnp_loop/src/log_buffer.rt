@@ -27,7 +27,6 @@ pub struct LogBuffer {
 impl LogBuffer {
     ghost use Rattle.dnp_loop.specs.LogBuffers.{
       IsAdded,
-      IsTakenOver,
       Stands,
       lost_of,
       may_tell,
@@ -53,17 +52,6 @@ impl LogBuffer {
             return;
         }
         self.lost = self.lost.saturating_add(1);
-    }
-
-    /// Takes all that waits in another one, if there is room and memory for it, and how many lines were lost there.
-    pub fn take_over(&mut self, other: &mut LogBuffer)
-        ensures { IsTakenOver self.old other.old self.new other.new }
-    {
-        self.lost = self.lost.saturating_add(other.take_lost());
-        let room = MAX_LOG - self.octets.len();
-        if other.octets.len() <= room && self.octets.extend_from_slice(&other.octets).is_ok() {
-            other.octets.clear();
-        }
     }
 
     /// Says whether lines were lost since that was taken last, and there is room to say so.

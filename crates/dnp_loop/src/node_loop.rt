@@ -33,7 +33,7 @@ pub struct NodeLoop {
     places: Vec<Place>,
     /// Where others connect.
     doors: Vec<Door>,
-    /// The descriptor for want of others.
+    /// A descriptor that is given up if there is no other, so that a connection can be refused.
     spare: Spare,
     /// What is told.
     notices: Notices,
