@@ -30,13 +30,18 @@ HERE = Path(__file__).resolve().parent
 sys.path.insert(0, str(HERE.parent))
 from scale import DNP, scaled  # noqa: E402
 
-LANES = "[" + ", ".join(["4096"] * 9) + "]"
+def lanes(size):
+    """The nine lanes of a plan, each of this size."""
+    return "[" + ", ".join([str(size)] * 9) + "]"
+
+
+LANES = lanes(4096)
 HEAD = f"""confirm_ms = 20000
 response_ms = %d
 select_ms = 5000
 retries = 0
 unsolicited = %s
-queue = {LANES}
+queue = %s
 queue2 = {LANES}
 """
 SUBSTATION = f"""[[substation]]
@@ -179,13 +184,13 @@ class Relay(threading.Thread):
 class Network:
     """A network of so many substations over localhost, each in its own process; `relayed` ones behind a relay."""
 
-    def __init__(self, count, relayed=(), response_ms=5000, unsolicited=True, more=""):
+    def __init__(self, count, relayed=(), response_ms=5000, unsolicited=True, more="", queue=4096):
         self.room = Path(tempfile.mkdtemp(prefix="network-loop-"))
         self.running = {}
         self.ports = [free_port() for _ in range(count)]
         self.relays = {number: Relay(self.ports[number]) for number in relayed}
         self.doors = {1: free_port(), 2: free_port()}
-        plan = HEAD % (response_ms, "true" if unsolicited else "false")
+        plan = HEAD % (response_ms, "true" if unsolicited else "false", lanes(queue))
         plan += "".join(SUBSTATION % (100 + number, 200 + number) for number in range(count))
         (self.room / "plan.toml").write_text(plan, encoding="ascii")
         text = f'name = "Loop"\n[concentrator]\nlisten = "127.0.0.1:{self.doors[1]}"\nlisten2 = "127.0.0.1:{self.doors[2]}"\n'
@@ -510,6 +515,27 @@ def descriptors():
         return ""
 
 
+def full():
+    """A lane is full for a centre that is away: that its drops begin is said, and how many they were once it takes events again."""
+    with Network(1, queue=20) as network:
+        network.outstation(0, network.replay(0, 60, 20, after=1500))
+        network.concentrator()
+        network.centre(2)
+        if not awaited(lambda: network.has_all(2, values(0, 60)), WAIT):
+            return "the centre that is there lacks events"
+        if not network.is_logged("concentrator", r"centre 1: a lane of the queue for it is full, and drops its oldest events: \d+ events? so far"):
+            return "it is not said that a lane is full"
+        if "events were dropped" in network.log("concentrator"):
+            return "it is said that no lane is full while the centre is away"
+        network.centre(1)
+        if not network.is_logged("concentrator", r"centre 1: no lane of the queue for it is full any more: 40 events were dropped"):
+            return "it is not said how many events were dropped"
+        if not awaited(lambda: network.has_all(1, values(0, 20, first=41)), WAIT):
+            return "the centre that was away lacks the newest events"
+        said = len(re.findall(r"is full", network.log("concentrator")))
+        return "" if said == 2 and len(network.journal(1)) == 20 else f"{said} lines are said of full lanes, and {len(network.journal(1))} events came"
+
+
 def words():
     """Words that a network refuses, by name, and one that it takes."""
     with Network(1) as network:
@@ -524,7 +550,7 @@ def words():
         return ""
 
 
-CASES = {"plain": plain, "cuts": cuts, "kills": kills, "foreign": foreign, "doors": doors, "descriptors": descriptors, "words": words}
+CASES = {"plain": plain, "cuts": cuts, "kills": kills, "foreign": foreign, "doors": doors, "descriptors": descriptors, "full": full, "words": words}
 
 
 def main():
