@@ -2,7 +2,7 @@
 
 use crate::disk::{Failing, Order};
 use crate::restarts::Restart;
-use sqlite::{Connection, FileStore, Files, Options};
+use sqlite::{Alter, Connection, FileStore, Files, Options};
 use sqlite_disk::{Crash, Disk, Memory};
 use std::alloc::{AllocError, Global};
 
@@ -32,12 +32,16 @@ impl Image {
     }
 }
 
-/// A connection to a database on a simulated disk. Behind a trait, so that what opens stores over it is proved for connections of
-/// any type, and only this file's functions prove how the parts of a file's store are dropped.
-pub trait Opened: Drop + Sized {
+/// What a database on a simulated disk is stored in. Behind a trait, so that what opens databases over it is proved for stores of any
+/// type, and only this file's functions prove how the parts of a file's store are dropped.
+pub trait DiskStore: Alter + Drop + Sized {
     /// Connects to the database over files with these octets. Where it does not open, gives what the files hold then, if there is
     /// memory for it.
-    fn opened(alloc: Global, image: &Image, restart: Restart) -> Result<Self, Option<Image>>;
+    fn opened(
+        alloc: Global,
+        image: &Image,
+        restart: Restart,
+    ) -> Result<Connection<Self>, Option<Image>>;
 
     /// Gives what the files hold as the process ends, if there is memory for it.
     fn left(self, alloc: Global, restart: Restart) -> Option<Image>;
@@ -94,11 +98,12 @@ fn held_by<D: Kept>(alloc: Global, mut files: Files<D>, restart: Restart) -> Opt
     octets_of(alloc, &files).ok()
 }
 
-/// A connection to a database on a simulated disk.
-type DiskConnection<D> = Connection<FileStore<D>>;
-
-impl<D: Kept> Opened for DiskConnection<D> {
-    fn opened(alloc: Global, image: &Image, restart: Restart) -> Result<Self, Option<Image>> {
+impl<D: Kept> DiskStore for FileStore<D> {
+    fn opened(
+        alloc: Global,
+        image: &Image,
+        restart: Restart,
+    ) -> Result<Connection<Self>, Option<Image>> {
         let Some(files) = files_of(alloc, image, restart.order) else {
             return Err(None);
         };
@@ -116,6 +121,6 @@ impl<D: Kept> Opened for DiskConnection<D> {
     }
 
     fn left(self, alloc: Global, restart: Restart) -> Option<Image> {
-        held_by(alloc, self.into_store().close(), restart)
+        held_by(alloc, self.close(), restart)
     }
 }

@@ -1,10 +1,10 @@
 //! A run of a network over its stores.
 
-use crate::images::{File, Opened};
+use crate::images::{DiskStore, File};
 use crate::network::Network;
 use crate::nodes::Nodes;
 use crate::polled::{Layout, Pollings};
-use crate::programs::Below;
+use crate::programs::{Below, Gathers, Keeps, Measures};
 use crate::report::Outcome;
 use crate::settings::Settings;
 use crate::stations::Stations;
@@ -14,14 +14,15 @@ use dnp_controls::{Book, PlainBook};
 use dnp_eventbuf::{JournalStore, PairLanes, PlainJournal, PlainPair};
 use dnp_nodes::{CentreNode, ConcentratorNode};
 use dnp_store::{ControlBook, Journal, Queue};
-use sqlite::{Alter, Connection, FileStore};
+use sqlite::FileStore;
 use std::alloc::{AllocError, Global};
 
-/// The nodes of a network over stores of these types.
-type NodesOver<Q, J, B> = Stations<Below, ConcentratorNode<Q, B>, CentreNode<J, B>>;
-
 /// The nodes of a network over lists.
-pub type PlainNodes = NodesOver<PlainPair, PlainJournal, PlainBook>;
+pub type PlainNodes = Stations<
+    Below,
+    ConcentratorNode<PlainPair, PlainBook>,
+    CentreNode<PlainJournal, PlainBook>,
+>;
 
 /// Runs a network over these nodes, which have just begun, and gives what came of it.
 ///
@@ -37,26 +38,32 @@ pub fn simulate_over<N: Nodes>(
     network.run(nodes)
 }
 
-/// Runs a network over stores of these types.
+/// Runs a network of such nodes.
+fn run_nodes<S: Measures, M: Gathers, T: Keeps>(
+    alloc: Global,
+    layout: Layout,
+    settings: Settings,
+) -> Result<Outcome, AllocError> {
+    let mut nodes = Stations::<S, M, T>::new(alloc);
+    nodes.begin(alloc, &layout)?;
+    simulate_over(alloc, layout, settings, &mut nodes)
+}
+
+/// Runs a network over stores of these types. It makes a single call, since each one shows that the nodes over such stores are nodes.
 fn run_over<Q: PairLanes + Store, J: JournalStore + Store, B: Book + Store>(
     alloc: Global,
     layout: Layout,
     settings: Settings,
 ) -> Result<Outcome, AllocError> {
-    let mut nodes = NodesOver::<Q, J, B>::new(alloc);
-    nodes.begin(alloc, &layout)?;
-    simulate_over(alloc, layout, settings, &mut nodes)
+    run_nodes::<Below, ConcentratorNode<Q, B>, CentreNode<J, B>>(alloc, layout, settings)
 }
 
 /// Runs a network over databases in stores of this kind. Generic, so that which disks these are on is of matter to its caller alone.
-fn run_on_disks<S: Alter + Drop>(
+fn run_on_disks<S: DiskStore>(
     alloc: Global,
     layout: Layout,
     settings: Settings,
-) -> Result<Outcome, AllocError>
-where
-    Connection<S>: Opened,
-{
+) -> Result<Outcome, AllocError> {
     run_over::<Queue<S>, Journal<S>, ControlBook<S>>(alloc, layout, settings)
 }
 

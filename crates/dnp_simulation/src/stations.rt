@@ -70,7 +70,7 @@ fn take<N: Node>(node: Option<&mut N>, taken: &mut Taken) -> Result<(), AllocErr
     Ok(())
 }
 
-impl<S: Measures, M: Gathers, T: Keeps> Stations<S, M, T> {
+impl<S, M, T> Stations<S, M, T> {
     /// Makes a list of no nodes.
     pub fn new(alloc: Global) -> Self {
         Stations {
@@ -79,7 +79,9 @@ impl<S: Measures, M: Gathers, T: Keeps> Stations<S, M, T> {
             top: Vec::new(alloc),
         }
     }
+}
 
+impl<S: Measures, M: Gathers, T: Keeps> Stations<S, M, T> {
     /// Adds the nodes of a plan over new stores. Out of memory, or the plan doesn't keep its limits.
     pub fn begin(&mut self, alloc: Global, layout: &Layout) -> Result<(), AllocError> {
         for place in 0..layout.plan.substations.as_slice().len() {

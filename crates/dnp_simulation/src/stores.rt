@@ -1,7 +1,7 @@
 //! The stores of a network's concentrator and centres: lists, or databases on simulated disks.
 
 use crate::disk::Order;
-use crate::images::{Image, Opened};
+use crate::images::{DiskStore, Image};
 use crate::restarts::{Beginning, Restart};
 use dnp_concentrator::Plan;
 use dnp_controls::PlainBook;
@@ -71,45 +71,42 @@ trait Stored<C>: Sized {
 
     /// Opens the one that the database holds.
     fn open(alloc: Global, conn: C) -> Result<Self, (OpenFault, C)>;
-
-    /// Gives the connection to its database.
-    fn into_connection(self) -> C;
 }
 
 /// Makes a store over new files. `None` if there is no memory for it, or the plan doesn't keep its limits.
-fn created<C: Opened, T: Stored<C>>(alloc: Global, plan: &Plan) -> Option<T> {
-    match C::opened(alloc, &Image::empty(alloc), Restart::whole(0)) {
+fn created<S: DiskStore, T: Stored<Connection<S>>>(alloc: Global, plan: &Plan) -> Option<T> {
+    match S::opened(alloc, &Image::empty(alloc), Restart::whole(0)) {
         Ok(conn) => T::create(alloc, conn, plan).ok(),
         Err(_) => None,
     }
 }
 
 /// Opens the store in files with these octets. Where it does not open, gives what the files hold then, if there is memory for it.
-fn opened<C: Opened, T: Stored<C>>(
+fn opened<S: DiskStore, T: Stored<Connection<S>>>(
     alloc: Global,
     image: &Image,
     restart: Restart,
 ) -> Result<T, Option<Image>> {
-    match C::opened(alloc, image, restart) {
+    match S::opened(alloc, image, restart) {
         Ok(conn) => match T::open(alloc, conn) {
             Ok(store) => Ok(store),
-            Err((_, conn)) => Err(conn.left(alloc, restart)),
+            Err((_, conn)) => Err(conn.into_store().left(alloc, restart)),
         },
         Err(left) => Err(left),
     }
 }
 
 /// Opens the store in files with these octets over a disk that does not fail. Where it does not open, a new one stands for it.
-fn opened_soundly<C: Opened, T: Stored<C>>(
+fn opened_soundly<S: DiskStore, T: Stored<Connection<S>>>(
     alloc: Global,
     plan: &Plan,
     image: &Image,
     restart: Restart,
     how: Beginning,
 ) -> Option<Begun<T>> {
-    match opened::<C, T>(alloc, image, restart.over(Order::NONE)) {
+    match opened::<S, T>(alloc, image, restart.over(Order::NONE)) {
         Ok(store) => Some(Begun { store, how }),
-        Err(_) => match created::<C, T>(alloc, plan) {
+        Err(_) => match created::<S, T>(alloc, plan) {
             Some(store) => Some(Begun {
                 store,
                 how: Beginning::Spoilt,
@@ -119,24 +116,24 @@ fn opened_soundly<C: Opened, T: Stored<C>>(
     }
 }
 
-/// A store begins again over what is left of its files. `None` if there is no memory for it.
-fn again<C: Opened, T: Stored<C>>(
+/// A store begins again over what its connection's files hold. `None` if there is no memory for it.
+fn again<S: DiskStore, T: Stored<Connection<S>>>(
     alloc: Global,
     plan: &Plan,
-    store: T,
+    conn: Connection<S>,
     restart: Restart,
 ) -> Option<Begun<T>> {
-    let image = store.into_connection().left(alloc, restart.first())?;
+    let image = conn.into_store().left(alloc, restart.first())?;
     if !restart.order.fails() {
-        return opened_soundly::<C, T>(alloc, plan, &image, restart, Beginning::Opened);
+        return opened_soundly::<S, T>(alloc, plan, &image, restart, Beginning::Opened);
     }
-    match opened::<C, T>(alloc, &image, restart) {
+    match opened::<S, T>(alloc, &image, restart) {
         Ok(store) => Some(Begun {
             store,
             how: Beginning::Opened,
         }),
         Err(Some(image)) => {
-            opened_soundly::<C, T>(alloc, plan, &image, restart, Beginning::Failed)
+            opened_soundly::<S, T>(alloc, plan, &image, restart, Beginning::Failed)
         }
         Err(None) => None,
     }
@@ -157,10 +154,6 @@ impl<S: Alter> Stored<Connection<S>> for Queue<S> {
     fn open(alloc: Global, conn: Connection<S>) -> Result<Self, (OpenFault, Connection<S>)> {
         Queue::open(alloc, conn)
     }
-
-    fn into_connection(self) -> Connection<S> {
-        self.into_connection()
-    }
 }
 
 impl<S: Alter> Stored<Connection<S>> for Journal<S> {
@@ -174,10 +167,6 @@ impl<S: Alter> Stored<Connection<S>> for Journal<S> {
 
     fn open(alloc: Global, conn: Connection<S>) -> Result<Self, (OpenFault, Connection<S>)> {
         Journal::open(alloc, conn)
-    }
-
-    fn into_connection(self) -> Connection<S> {
-        self.into_connection()
     }
 }
 
@@ -193,47 +182,34 @@ impl<S: Alter> Stored<Connection<S>> for ControlBook<S> {
     fn open(alloc: Global, conn: Connection<S>) -> Result<Self, (OpenFault, Connection<S>)> {
         ControlBook::open(alloc, conn)
     }
-
-    fn into_connection(self) -> Connection<S> {
-        self.into_connection()
-    }
 }
 
-impl<S: Alter + Drop> Store for Queue<S>
-where
-    Connection<S>: Opened,
-{
+impl<S: DiskStore> Store for Queue<S> {
     fn created(alloc: Global, plan: &Plan) -> Option<Self> {
-        created::<Connection<S>, Self>(alloc, plan)
+        created::<S, Self>(alloc, plan)
     }
 
     fn again(self, alloc: Global, plan: &Plan, restart: Restart) -> Option<Begun<Self>> {
-        again::<Connection<S>, Self>(alloc, plan, self, restart)
+        again::<S, Self>(alloc, plan, self.into_connection(), restart)
     }
 }
 
-impl<S: Alter + Drop> Store for Journal<S>
-where
-    Connection<S>: Opened,
-{
+impl<S: DiskStore> Store for Journal<S> {
     fn created(alloc: Global, plan: &Plan) -> Option<Self> {
-        created::<Connection<S>, Self>(alloc, plan)
+        created::<S, Self>(alloc, plan)
     }
 
     fn again(self, alloc: Global, plan: &Plan, restart: Restart) -> Option<Begun<Self>> {
-        again::<Connection<S>, Self>(alloc, plan, self, restart)
+        again::<S, Self>(alloc, plan, self.into_connection(), restart)
     }
 }
 
-impl<S: Alter + Drop> Store for ControlBook<S>
-where
-    Connection<S>: Opened,
-{
+impl<S: DiskStore> Store for ControlBook<S> {
     fn created(alloc: Global, plan: &Plan) -> Option<Self> {
-        created::<Connection<S>, Self>(alloc, plan)
+        created::<S, Self>(alloc, plan)
     }
 
     fn again(self, alloc: Global, plan: &Plan, restart: Restart) -> Option<Begun<Self>> {
-        again::<Connection<S>, Self>(alloc, plan, self, restart)
+        again::<S, Self>(alloc, plan, self.into_connection(), restart)
     }
 }
