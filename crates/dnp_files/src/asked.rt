@@ -2,8 +2,10 @@
 //! from what the node tells.
 
 use crate::connection::{Connection, error_of, indicated, is_report, reads, trouble_of};
+use crate::driving::Driving;
 use crate::lines::Again;
 use crate::refused::Refused;
+use crate::sites::Target;
 use crate::voice::Voice;
 use dnp_appfragment::Iin;
 use dnp_concentrator::Cause;
@@ -34,6 +36,19 @@ pub(crate) struct Whom {
     pub(crate) response_ms: u64,
     /// How long octets that are sent may wait of which none is taken, in milliseconds.
     pub(crate) stuck_ms: u64,
+}
+
+impl Whom {
+    /// A station at this place, whose link is driven so.
+    pub(crate) fn at(peer: Peer, target: Target, response_ms: u64, driving: &Driving) -> Whom {
+        Whom {
+            peer,
+            place: target.place,
+            awaited: target.awaited,
+            response_ms,
+            stuck_ms: driving.pace.poll_ms,
+        }
+    }
 }
 
 /// What is known of a station, over all its connections.

@@ -1,9 +1,9 @@
 //! A centre on a connection that stands, over one loop. Its node decides what is asked when.
 
 use crate::accounts::{no_memory, points_above};
-use crate::asked::{Asked, Whom};
+use crate::asked::Whom;
 use crate::driving::Driving;
-use crate::links::{Commanding, Links};
+use crate::links::{Commanding, Links, command_in};
 use crate::node_runs::ends_of;
 use crate::polls::Polls;
 use dnp_concentrator::Centre;
@@ -33,51 +33,28 @@ fn caller_plan(polls: &Polls<'_>, driving: &Driving) -> CallerPlan {
     }
 }
 
-/// What is known of the concentrator: nothing.
-fn asked_above(
-    alloc: Global,
+/// Nothing is known of the concentrator yet. Nothing is told if there is no memory for it.
+fn ask_above<R: AllocGlobal>(
+    links: &mut Links<'_, R>,
     polls: &Polls<'_>,
     driving: &Driving,
     now: u64,
-) -> Option<Vec<Asked>> {
-    let whom = Whom {
-        peer: Peer::Concentrator,
-        place: polls.concentrator.place,
-        awaited: polls.concentrator.awaited,
-        response_ms: polls.plan.times.response_ms,
-        stuck_ms: driving.pace.poll_ms,
-    };
-    let points = points_above(alloc, polls.plan)?;
-    let mut all = Vec::new(alloc);
-    all.push(Asked::new(alloc, whom, points, now)).ok()?;
-    Some(all)
+) -> Option<()> {
+    let response_ms = polls.plan.times.response_ms;
+    let whom = Whom::at(Peer::Concentrator, polls.concentrator, response_ms, driving);
+    let points = points_above(links.rt.alloc(), polls.plan)?;
+    links.ask(whom, points, now)
 }
 
 impl<J: JournalStore, B: Book> Commanding for CentreNode<J, B> {
     fn command(&mut self, alloc: Global, id: u64) -> Option<Command> {
-        let entries = self.controls(alloc, id.saturating_sub(1), 1).ok()?;
-        match entries.as_slice() {
-            [entry, ..] => Some(entry.command),
-            [] => None,
-        }
-    }
-}
-
-/// What a centre's program does between two turns: it sets the node's clock, and says what has changed.
-struct Between<'b, R> {
-    /// What is known of its link.
-    links: Links<'b, R>,
-}
-
-impl<R> Drop for Between<'_, R> {
-    /// One call for whoever lets it go.
-    fn drop(self) {
-        let Between { links: _ } = self;
+        command_in(self.controls(alloc, id.saturating_sub(1), 1))
     }
 }
 
 impl<J: JournalStore, B: Book, R: AllocGlobal + Terminal + Clock> Handler<CentreNode<J, B>>
-    for Between<'_, R> {
+    for Links<'_, R> {
+    /// Between two turns the node's clock is set, and what has changed is said.
     fn handle(
         &mut self,
         node: &mut CentreNode<J, B>,
@@ -85,13 +62,8 @@ impl<J: JournalStore, B: Book, R: AllocGlobal + Terminal + Clock> Handler<Centre
         log: &mut LogBuffer,
         now: u64,
     ) -> Option<u64> {
-        let clock = utc(self.links.rt).saturating_sub(now);
-        node.set_clock(clock);
-        if self.links.take(node, notices, log, now) {
-            Some(u64::MAX)
-        } else {
-            None
-        }
+        node.set_clock(utc(self.rt).saturating_sub(now));
+        self.take(node, notices, log, now)
     }
 }
 
@@ -107,28 +79,23 @@ where
     R: AllocGlobal + Eprint + Terminal + Clock + Net + StandardError,
 {
     let now = moment(rt, 0);
-    let Some(asked) = asked_above(rt.alloc(), polls, driving, now) else {
+    let mut links = Links::new(rt, polls.names);
+    if ask_above(&mut links, polls, driving, now).is_none() {
         return Err(no_memory(rt));
-    };
+    }
     let clock = utc(rt).saturating_sub(now);
     let plan = caller_plan(polls, driving);
     let mut node = CentreNode::new(rt.alloc(), centre, plan, now, clock);
-    let links = Links {
-        rt,
-        names: polls.names,
-        asked,
-        visitors: Vec::new(rt.alloc()),
-    };
-    let status = run_turns(rt, &mut node, polls, links);
+    let status = run_loop(rt, &mut node, &mut links, polls);
     Ok((status, node.into_centre()))
 }
 
-/// Makes turns until the loop ends, and tells the exit status.
-fn run_turns<J: JournalStore, B: Book, R>(
+/// Makes the loop, and its turns until it ends. The exit status is told.
+fn run_loop<J: JournalStore, B: Book, R>(
     rt: &R,
     node: &mut CentreNode<J, B>,
+    links: &mut Links<'_, R>,
     polls: &Polls<'_>,
-    links: Links<'_, R>,
 ) -> ExitCode
 where
     R: AllocGlobal + Eprint + Terminal + Clock + Net + StandardError,
@@ -141,6 +108,6 @@ where
         return no_memory(rt);
     }
     // (a loop that ends has a failure for its reason, which is said)
-    let _ = turns.run(rt, node, &mut Between { links });
+    let _ = turns.run(rt, node, links);
     ExitCode::from(exit::FAULT)
 }

@@ -1,13 +1,15 @@
 //! What is known of the links of a node by what it tells: what has changed is said.
 
-use crate::asked::Asked;
-use crate::lines::Line;
+use crate::asked::{Asked, Whom};
+use crate::sites::Served;
 use crate::visitor::{Told, Visitor};
 use crate::voice::Voice;
+use dnp_controls::{BookFault, Entry};
 use dnp_loop::{LogBuffer, Notice, Notices};
 use dnp_nodes::{MAX_REPORTS, Node, Report, Slot};
 use dnp_notices::Names;
 use dnp_objects::Command;
+use dnp_pointdb::PointPlan;
 use dnp_terminal::Terminal;
 use std::alloc::Global;
 use std::rt::Clock;
@@ -40,6 +42,15 @@ impl<R> Drop for Links<'_, R> {
 pub(crate) trait Commanding: Node {
     /// The command of the control of this number, if the book has it and can be read.
     fn command(&mut self, alloc: Global, id: u64) -> Option<Command>;
+}
+
+/// The command of the first of these controls, if there is one and they could be read.
+pub(crate) fn command_in(read: Result<Vec<Entry>, BookFault>) -> Option<Command> {
+    let entries = read.ok()?;
+    match entries.as_slice() {
+        [entry, ..] => Some(entry.command),
+        [] => None,
+    }
 }
 
 /// How many octets a fragment has that was refused.
@@ -97,6 +108,31 @@ impl Told {
     }
 }
 
+impl<'l, R: AllocGlobal> Links<'l, R> {
+    /// A node without links.
+    pub(crate) fn new(rt: &'l R, names: Names<'l>) -> Links<'l, R> {
+        Links {
+            rt,
+            names,
+            asked: Vec::new(rt.alloc()),
+            visitors: Vec::new(rt.alloc()),
+        }
+    }
+
+    /// The next station below has these points, and was not asked before this moment. Nothing is told if there is no memory for it.
+    pub(crate) fn ask(&mut self, whom: Whom, points: PointPlan, now: u64) -> Option<()> {
+        let asked = Asked::new(self.rt.alloc(), whom, points, now);
+        self.asked.push(asked).ok()
+    }
+
+    /// The next centre is served there, and so many seconds may pass in which no fragment comes whole. Nothing is told if there is no
+    /// memory for it.
+    pub(crate) fn serve(&mut self, served: Served, idle: u64) -> Option<()> {
+        let centre = number_of(self.visitors.len());
+        self.visitors.push(Visitor::new(centre, served, idle)).ok()
+    }
+}
+
 impl<R: AllocGlobal + Terminal + Clock> Links<'_, R> {
     /// Takes a report of this moment. If a fragment was refused, it has the first of these octets.
     fn take_report(&mut self, voice: &mut Voice<'_, R>, now: u64, report: &Report, octets: &[u8]) {
@@ -151,14 +187,15 @@ impl<R: AllocGlobal + Terminal + Clock> Links<'_, R> {
         }
     }
 
-    /// Takes what the node and the loop have told in a turn, and says what has changed. Whether the program can go on.
+    /// Takes what the node and the loop have told in a turn, and says what has changed. If the program can go on, it gives the moment at
+    /// which that is to be done again, beside those of turns: none.
     pub(crate) fn take<N: Commanding>(
         &mut self,
         node: &mut N,
         notices: &Notices,
         log: &mut LogBuffer,
         now: u64,
-    ) -> bool {
+    ) -> Option<u64> {
         let mut voice = Voice {
             rt: self.rt,
             names: self.names,
@@ -167,6 +204,6 @@ impl<R: AllocGlobal + Terminal + Clock> Links<'_, R> {
         };
         self.take_reports(&mut voice, node, now);
         self.settle(&mut voice, notices, now);
-        voice.end()
+        if voice.end() { Some(u64::MAX) } else { None }
     }
 }

@@ -1,13 +1,12 @@
 //! A concentrator on connections that stand, over one loop. Its node decides what is asked when.
 
 use crate::accounts::{drops_of_node, no_memory, substation_points};
-use crate::asked::{Asked, Whom};
+use crate::asked::Whom;
 use crate::driving::Drivings;
-use crate::links::{Commanding, Links};
+use crate::links::{Commanding, Links, command_in};
 use crate::making::Making;
 use crate::rounds::Rounds;
 use crate::sites::Served;
-use crate::visitor::Visitor;
 use crate::voice::Voice;
 use dnp_concentrator::Concentrator;
 use dnp_controls::Book;
@@ -39,13 +38,27 @@ fn idle_ms(drivings: &Drivings<'_>) -> u64 {
     drivings.above.pace.keepalive_ms.saturating_mul(IDLE_POLLS)
 }
 
-/// How the links to the substations are driven.
-fn below_plans(
-    alloc: Global,
+/// What the links of a concentrator begin with.
+struct Beginning<'b, R> {
+    /// How those to the substations are driven.
+    below: Vec<BelowPlan>,
+    /// What is known of all of them.
+    links: Links<'b, R>,
+}
+
+impl<R> Drop for Beginning<'_, R> {
+    /// One call for whoever lets it go.
+    fn drop(self) {
+        let Beginning { below: _, links: _ } = self;
+    }
+}
+
+/// Adds how the links to the substations are driven.
+fn add_plans(
+    plans: &mut Vec<BelowPlan>,
     rounds: &Rounds<'_>,
     drivings: &Drivings<'_>,
-) -> Result<Vec<BelowPlan>, AllocError> {
-    let mut plans = Vec::new(alloc);
+) -> Result<(), AllocError> {
     for (number, driving) in drivings.below.iter().enumerate() {
         let number = u8::try_from(number).unwrap_or(u8::MAX);
         if let Some(target) = rounds.substations.target(number) {
@@ -56,7 +69,7 @@ fn below_plans(
             })?;
         }
     }
-    Ok(plans)
+    Ok(())
 }
 
 /// How the links of the centres are driven.
@@ -73,39 +86,45 @@ fn above_plan(rounds: &Rounds<'_>, drivings: &Drivings<'_>) -> AbovePlan {
     }
 }
 
-/// What is known of the substations: nothing.
-fn asked_below(
-    alloc: Global,
+/// Nothing is known of the substations yet. Nothing is told if there is no memory for them.
+fn ask_below<R: AllocGlobal>(
+    links: &mut Links<'_, R>,
     rounds: &Rounds<'_>,
     drivings: &Drivings<'_>,
     now: u64,
-) -> Option<Vec<Asked>> {
-    let mut all = Vec::new(alloc);
+) -> Option<()> {
+    let response_ms = rounds.plan.times.response_ms;
     for (number, substation) in rounds.plan.substations.as_slice().iter().enumerate() {
         let number = u8::try_from(number).unwrap_or(u8::MAX);
         let target = rounds.substations.target(number)?;
         let driving = drivings.below.get(usize::from(number))?;
-        let whom = Whom {
-            peer: Peer::Substation(number),
-            place: target.place,
-            awaited: target.awaited,
-            response_ms: rounds.plan.times.response_ms,
-            stuck_ms: driving.pace.poll_ms,
-        };
-        let points = substation_points(alloc, substation)?;
-        all.push(Asked::new(alloc, whom, points, now)).ok()?;
+        let whom = Whom::at(Peer::Substation(number), target, response_ms, driving);
+        let points = substation_points(links.rt.alloc(), substation)?;
+        links.ask(whom, points, now)?;
     }
-    Some(all)
+    Some(())
 }
 
-/// What is known of the centres that are served: nothing.
-fn visitors(alloc: Global, rounds: &Rounds<'_>, idle: u64) -> Result<Vec<Visitor>, AllocError> {
-    let mut all = Vec::new(alloc);
-    all.push(Visitor::new(0, rounds.first, idle))?;
-    if let Some(second) = rounds.second {
-        all.push(Visitor::new(1, second, idle))?;
+impl<'b, R: AllocGlobal> Beginning<'b, R> {
+    /// A concentrator without links.
+    fn new(rt: &'b R, rounds: &Rounds<'b>) -> Beginning<'b, R> {
+        Beginning {
+            below: Vec::new(rt.alloc()),
+            links: Links::new(rt, rounds.names),
+        }
     }
-    Ok(all)
+
+    /// Adds the links, of which nothing is known yet. Nothing is told if there is no memory for them.
+    fn add_links(&mut self, rounds: &Rounds<'_>, drivings: &Drivings<'_>, now: u64) -> Option<()> {
+        add_plans(&mut self.below, rounds, drivings).ok()?;
+        ask_below(&mut self.links, rounds, drivings, now)?;
+        let idle = idle_ms(drivings) / 1_000;
+        self.links.serve(rounds.first, idle)?;
+        match rounds.second {
+            Some(second) => self.links.serve(second, idle),
+            None => Some(()),
+        }
+    }
 }
 
 /// Listens where a centre is served, and says so. If the place can't be had, that is said, and the exit status is told.
@@ -125,17 +144,15 @@ fn listen<R: Net + Eprint + Terminal + Clock>(
     }
 }
 
-/// The loop, with a place for each substation and each centre that is served.
-fn loop_of<R: Net + AllocGlobal + Eprint + Terminal + Clock>(
+/// Gives the loop a place for each substation and each centre that is served.
+fn add_places<R: Net + AllocGlobal + Eprint + Terminal + Clock>(
     rt: &R,
+    turns: &mut NodeLoop,
     rounds: &Rounds<'_>,
-) -> Result<NodeLoop, ExitCode> {
-    let Ok(mut turns) = NodeLoop::new(rt) else {
-        return Err(no_memory(rt));
-    };
-    listen(rt, &mut turns, 0, rounds.first)?;
+) -> Result<(), ExitCode> {
+    listen(rt, turns, 0, rounds.first)?;
     if let Some(second) = rounds.second {
-        listen(rt, &mut turns, 1, second)?;
+        listen(rt, turns, 1, second)?;
     }
     for number in 0..rounds.plan.substations.as_slice().len() {
         let number = u8::try_from(number).unwrap_or(u8::MAX);
@@ -147,35 +164,31 @@ fn loop_of<R: Net + AllocGlobal + Eprint + Terminal + Clock>(
             return Err(no_memory(rt));
         }
     }
-    Ok(turns)
+    Ok(())
 }
 
 impl<Q: PairLanes, B: Book> Commanding for ConcentratorNode<Q, B> {
     fn command(&mut self, alloc: Global, id: u64) -> Option<Command> {
-        let entries = self.controls(alloc, id.saturating_sub(1), 1).ok()?;
-        match entries.as_slice() {
-            [entry, ..] => Some(entry.command),
-            [] => None,
-        }
+        command_in(self.controls(alloc, id.saturating_sub(1), 1))
     }
 }
 
 /// What a concentrator's program does between two turns: it sets the node's clock, and says what has changed.
-struct Between<'b, R> {
+struct Between<'b, 'l, R> {
     /// What is known of its links.
-    links: Links<'b, R>,
+    links: &'b mut Links<'l, R>,
     /// Whether rows for each centre are being dropped.
     drops: [Dropping; 2],
 }
 
-impl<R> Drop for Between<'_, R> {
+impl<R> Drop for Between<'_, '_, R> {
     /// One call for whoever lets it go.
     fn drop(self) {
         let Between { links: _, drops: _ } = self;
     }
 }
 
-impl<R: AllocGlobal + Terminal + Clock> Between<'_, R> {
+impl<R: AllocGlobal + Terminal + Clock> Between<'_, '_, R> {
     /// Says whether rows for a centre have begun to be dropped, or that has ended.
     fn look_at(&mut self, voice: &mut Voice<'_, R>, centre: u8, drops: Drops) {
         let Some(dropping) = self.drops.get_mut(usize::from(centre)) else {
@@ -201,7 +214,7 @@ impl<R: AllocGlobal + Terminal + Clock> Between<'_, R> {
 }
 
 impl<Q: PairLanes, B: Book, R: AllocGlobal + Terminal + Clock> Handler<ConcentratorNode<Q, B>>
-    for Between<'_, R> {
+    for Between<'_, '_, R> {
     fn handle(
         &mut self,
         node: &mut ConcentratorNode<Q, B>,
@@ -214,11 +227,7 @@ impl<Q: PairLanes, B: Book, R: AllocGlobal + Terminal + Clock> Handler<Concentra
         let first = drops_of_node(node, 0);
         let second = drops_of_node(node, 1);
         self.look_at_both(log, first, second);
-        if self.links.take(node, notices, log, now) {
-            Some(u64::MAX)
-        } else {
-            None
-        }
+        self.links.take(node, notices, log, now)
     }
 }
 
@@ -235,67 +244,43 @@ where
     R: AllocGlobal + Eprint + Terminal + Clock + Net + StandardError,
 {
     let now = moment(rt, 0);
-    let Ok(below) = below_plans(rt.alloc(), rounds, drivings) else {
+    let mut begun = Beginning::new(rt, rounds);
+    if begun.add_links(rounds, drivings, now).is_none() {
         return Err(no_memory(rt));
-    };
+    }
     let clock = utc(rt).saturating_sub(now);
     let above = above_plan(rounds, drivings);
-    match ConcentratorNode::new(rt.alloc(), concentrator, &below, above, now, clock) {
-        Ok(node) => follow(rt, node, rounds, drivings, making),
+    match ConcentratorNode::new(rt.alloc(), concentrator, &begun.below, above, now, clock) {
+        Ok(mut node) => {
+            let status = run_loop(rt, &mut node, &mut begun.links, rounds, making);
+            Ok((status, node.into_concentrator()))
+        }
         Err(_) => Err(no_memory(rt)),
     }
 }
 
-/// Runs the node until the loop ends, and gives its concentrator back with the exit status.
-fn follow<'r, Q: PairLanes + Drop, B: Book + Drop, R>(
-    rt: &'r R,
-    mut node: ConcentratorNode<Q, B>,
-    rounds: &Rounds<'r>,
-    drivings: &Drivings<'_>,
-    making: &Making<'_>,
-) -> Result<(ExitCode, Concentrator<Q, B>), ExitCode>
-where
-    R: AllocGlobal + Eprint + Terminal + Clock + Net + StandardError,
-{
-    let now = moment(rt, 0);
-    let Some(asked) = asked_below(rt.alloc(), rounds, drivings, now) else {
-        return Err(no_memory(rt));
-    };
-    let Ok(visitors) = visitors(rt.alloc(), rounds, idle_ms(drivings) / 1_000) else {
-        return Err(no_memory(rt));
-    };
-    let links = Links {
-        rt,
-        names: rounds.names,
-        asked,
-        visitors,
-    };
-    let status = match loop_of(rt, rounds) {
-        Ok(mut turns) => {
-            making.begin();
-            run_turns(rt, &mut turns, &mut node, links)
-        }
-        Err(status) => status,
-    };
-    Ok((status, node.into_concentrator()))
-}
-
-/// Makes turns until the loop ends, and tells the exit status.
-fn run_turns<Q: PairLanes, B: Book, R>(
+/// Makes the loop, and its turns until it ends. The exit status is told.
+fn run_loop<Q: PairLanes, B: Book, R>(
     rt: &R,
-    turns: &mut NodeLoop,
     node: &mut ConcentratorNode<Q, B>,
-    links: Links<'_, R>,
+    links: &mut Links<'_, R>,
+    rounds: &Rounds<'_>,
+    making: &Making<'_>,
 ) -> ExitCode
 where
     R: AllocGlobal + Eprint + Terminal + Clock + Net + StandardError,
 {
+    let Ok(mut turns) = NodeLoop::new(rt) else {
+        return no_memory(rt);
+    };
+    if let Err(status) = add_places(rt, &mut turns, rounds) {
+        return status;
+    }
+    making.begin();
     let first = drops_of_node(node, 0).lost;
     let second = drops_of_node(node, 1).lost;
-    let mut between = Between {
-        links,
-        drops: [Dropping::Calm(first), Dropping::Calm(second)],
-    };
+    let drops = [Dropping::Calm(first), Dropping::Calm(second)];
+    let mut between = Between { links, drops };
     // (a loop that ends has a failure for its reason, which is said)
     let _ = turns.run(rt, node, &mut between);
     ExitCode::from(exit::FAULT)
