@@ -293,6 +293,8 @@ impl Asked {
             Report::Whole(_)
             | Report::Started(_)
             | Report::Indications(..)
+            | Report::DropsBegun(..)
+            | Report::DropsEnded(..)
             | Report::Finished(..) => {}
         }
     }

@@ -12,7 +12,7 @@ use dnp_concentrator::Concentrator;
 use dnp_controls::Book;
 use dnp_eventbuf::PairLanes;
 use dnp_loop::{Handler, LogBuffer, NodeLoop, Notices, StandardError, moment};
-use dnp_nodes::{AbovePlan, BelowPlan, ConcentratorNode, Ends, Slot};
+use dnp_nodes::{AbovePlan, BelowPlan, ConcentratorNode, Ends, Node, Report, Slot};
 use dnp_notices::{DropLine, Dropping, Drops, Peer};
 use dnp_objects::Command;
 use dnp_tcp::{exit, no_port, say_listening, utc};
@@ -213,6 +213,16 @@ impl<R: AllocGlobal + Terminal + Clock> Between<'_, '_, R> {
     }
 }
 
+/// Whether a lane has begun to drop events, or that has ended.
+fn tells_drops(reports: &[Report]) -> bool {
+    for report in reports {
+        if matches!(report, Report::DropsBegun(..) | Report::DropsEnded(..)) {
+            return true;
+        }
+    }
+    false
+}
+
 impl<Q: PairLanes, B: Book, R: AllocGlobal + Terminal + Clock> Handler<ConcentratorNode<Q, B>>
     for Between<'_, '_, R> {
     fn handle(
@@ -224,9 +234,11 @@ impl<Q: PairLanes, B: Book, R: AllocGlobal + Terminal + Clock> Handler<Concentra
     ) -> Option<u64> {
         let clock = utc(self.links.rt).saturating_sub(now);
         node.set_clock(clock);
-        let first = drops_of_node(node, 0);
-        let second = drops_of_node(node, 1);
-        self.look_at_both(log, first, second);
+        if tells_drops(node.reports()) || node.missed() > 0 {
+            let first = drops_of_node(node, 0);
+            let second = drops_of_node(node, 1);
+            self.look_at_both(log, first, second);
+        }
         self.links.take(node, notices, log, now)
     }
 }
