@@ -91,20 +91,20 @@ def last_name(tokens):
 
 
 class Crate:
-    """The functions of a crate, in the order of its files."""
+    """The functions of a crate, in the order of its files; with the homes of types where some of its files alone are there."""
 
-    def __init__(self, folder):
+    def __init__(self, folder, homes=None):
         self.folder = Path(folder)
         self.name = self.folder.name
         self.files = sorted(self.folder.glob("src/**/*.rt"))
         self.tokens = dict(zip(self.files, tokens_of(self.files)))
-        self.homes = self.types()
+        self.homes = self.types() if homes is None else homes
         self.functions = [it for path in self.files for it in self.in_file(path)]
 
-    def texts(self):
-        """Each function's name and its text, and each file's text without its functions."""
+    def texts(self, files=None):
+        """Each function's name and its text, and each file's text without its functions; of these files where some are named."""
         functions, others = {}, {}
-        for path in self.files:
+        for path in (it for it in self.files if files is None or str(it.relative_to(self.folder)) in files):
             text, at, other = path.read_bytes(), 0, b""
             for it in (it for it in self.functions if self.folder / it.file == path):
                 functions[it.name] = text[it.start:it.end]
