@@ -18,16 +18,16 @@ TESTS = ("dnp_log_tests/src/**/*.rt.txt", "dnp_station_tests/src/daemons/said.rt
 # Crates that are no part of the program.
 APART = {"dnp_example"}
 # Crates without a file of lines of their own, and why.
-NONE = {"dnp": "its lines are those of dnp_lines"}
+NONE = {"dnp": "its lines are those of dnp_lines", "dnp_inputs": "likewise"}
 # Files, or folders, whose texts are what the program was asked for, and no lines.
 DATA = {
     "dnp/src/check/": "a system as a table, as CSV and as JSON",
-    "dnp/src/rows/named.rt": "rows of a store, with names",
     "dnp_captures/src/beyond.rt": "decoded octets",
     "dnp_captures/src/printing.rt": "decoded octets",
     "dnp_captures/src/standard.rt": "decoded octets",
     "dnp_decode/src/json.rt": "decoded octets",
     "dnp_decode/src/shown.rt": "decoded octets",
+    "dnp_inputs/src/named.rt": "rows of a store, with names",
     "dnp_objects/src/words.rt": "rows and commands, as their contract has them",
     "dnp_poll/src/shown_json.rt": "rows that were asked for, as JSON",
     "dnp_poll/src/shown_table.rt": "rows that were asked for, as a table",

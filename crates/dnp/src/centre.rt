@@ -10,7 +10,6 @@ use crate::numbers::{MAX_EVERY, number_given};
 use crate::options::{
     defaulted, flag, network, plan, required, required_unless, subcommand, valued, without_every,
 };
-use crate::plan_file::plan_given;
 use crate::store_files::files_given;
 use clap::{ArgMatches, Command};
 use dnp_concentrator::{MAX_SUBSTATIONS, Plan};
@@ -19,6 +18,7 @@ use dnp_files::{
     CentreWords, Driving, PollPace, StoreFile, Target, ends_to_centre, has_output, port_here,
     run_centre,
 };
+use dnp_inputs::plan_file::plan_given;
 use dnp_lines::{SentCode, Wanted, Wrong};
 use dnp_network::CentreOf;
 use dnp_objects::Command as Control;

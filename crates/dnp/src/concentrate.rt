@@ -12,7 +12,6 @@ use crate::numbers::{MAX_EVERY, MAX_IDLE, number_given};
 use crate::options::{
     defaulted, flag, network, plan, required, required_unless, subcommand, valued, without_every,
 };
-use crate::plan_file::plan_given;
 use crate::store_files::files_given;
 use clap::{ArgMatches, Command};
 use dnp_concentrator::Plan;
@@ -21,6 +20,7 @@ use dnp_files::{
     ConcentratorWords, Drivings, RoundPace, Served, StoreFile, Substations, ends_from_centre,
     run_concentrator,
 };
+use dnp_inputs::plan_file::plan_given;
 use dnp_lines::Wrong;
 use dnp_tcp::{Names, Place, exit};
 use std::alloc::{AllocError, Global};

@@ -1,14 +1,13 @@
 //! `dnp decode`: octets as lines for people.
 
 use crate::check_words::first_wrong;
-use crate::inputs::octets_of;
 use crate::options::{flag, subcommand, valued};
-use crate::tips::say_meant;
 use clap::{ArgMatches, Command};
 use dnp_captures::{
     CaptureFault, Decoded, Form, Item, What, decode_capture, items_of_text, octets_of_text,
     place_octets, print_decoded, push_refused,
 };
+use dnp_inputs::{octets_of, say_meant};
 use dnp_lines::{AtLine, AtOctet, Meant, Of, Own, Refused, Wrong};
 use dnp_tcp::{Noted, exit, unwritten};
 use dnp_terminal::Terminal;

@@ -1,16 +1,12 @@
 //! What `dnp sim` writes to look at: a trace, a chart and a capture of a script's run.
 
-ghost use Rattle.dnp_concentrator.specs.Plan.{KeepsLimits};
-
-use crate::texts::Texts;
-use crate::watched::watch;
 use clap::ArgMatches;
-use dnp_concentrator::Plan;
-use dnp_daemons::{read_plan, read_script};
+use dnp_inputs::Texts;
 use dnp_lines::Misuse;
 use dnp_tcp::{lost, unwritten};
 use dnp_trace::{Log, capture_octets, chart_text, trace_text};
-use std::alloc::{AllocError, Global};
+use dnp_watched::seen;
+use std::alloc::AllocError;
 use std::io::Write;
 use std::process::ExitCode;
 use std::rt::Files;
@@ -18,10 +14,6 @@ use std::{fs, io};
 
 /// What stands for standard output.
 const STANDARD: &str = "-";
-
-/// A text is no plan, or no script for it.
-#[derive(Clone, Copy)]
-struct Refused;
 
 /// Whether two of the options name one file.
 fn is_one(file: &str, other: &str) -> bool {
@@ -112,27 +104,9 @@ pub(crate) fn write_looks<R: AllocGlobal + Print + Eprint + Files>(
         return Ok(None);
     }
     // What is refused here, also where it is out of memory, is said by the run that is reported.
-    match seen(rt.alloc(), texts) {
+    match seen(rt.alloc(), texts.plan.as_str(), texts.script.as_str()) {
         Ok(Some(log)) => write_all(rt, &log, given),
         Ok(None) => Err(AllocError.into()),
         Err(_) => Ok(None),
-    }
-}
-
-/// What units do in the script's run; none where memory ran out in it.
-fn seen(alloc: Global, texts: &Texts) -> Result<Option<Log>, Refused> {
-    match read_plan(alloc, texts.plan.as_str()) {
-        Ok(plan) => seen_on(alloc, &plan, texts.script.as_str()),
-        Err(_) => Err(Refused),
-    }
-}
-
-/// What units do in the run of a script on the plan; none where memory ran out in it.
-fn seen_on(alloc: Global, plan: &Plan, text: &str) -> Result<Option<Log>, Refused>
-    requires { KeepsLimits plan.now }
-{
-    match read_script(alloc, text, plan) {
-        Ok(script) => Ok(watch(alloc, plan, script.as_slice(), text)),
-        Err(_) => Err(Refused),
     }
 }

@@ -1,10 +1,11 @@
 //! `dnp loopback`: a whole system of a plan, run by a script, whose units go over TCP to the program itself.
 
 use crate::options::{plan, subcommand};
-use crate::texts::{Texts, finish, limit, plain, stores_given, texts_given};
+use crate::texts::{finish, limit, plain, stores_given, texts_given};
 use crate::wire::Wire;
 use clap::{ArgMatches, Command};
 use dnp_daemons::{Stores, loop_text};
+use dnp_inputs::Texts;
 use dnp_lines::WIRE;
 use dnp_tcp::{Noted, lost};
 use std::alloc::{AllocError, Global};

@@ -2,20 +2,19 @@
 
 use crate::addresses::{bind, bind_given};
 use crate::build::note_start;
-use crate::hosts::{Sought, Whose, address_found, taken_by};
-use crate::network_file::all_given;
 use crate::numbers::{MAX_IDLE, number_given};
 use crate::options::{
     defaulted, flag, network, plan, required, required_unless, subcommand, valued,
 };
-use crate::plan_file::{plan_text, refused};
-use crate::replay::replay_given;
 use clap::{ArgMatches, Command};
 use dnp_concentrator::MAX_SUBSTATIONS;
 use dnp_daemons::{
     Living, MASTER_BELOW, PlanTextFault, outstation_address, planned_outstation, read_plan,
 };
-use dnp_lines::{Wanted, Wrong};
+use dnp_inputs::network_file::all_given;
+use dnp_inputs::plan_file::{plan_text, refused};
+use dnp_inputs::{Sought, address_found, replay_given, taken_by};
+use dnp_lines::{Wanted, Whose, Wrong};
 use dnp_network::Network;
 use dnp_tcp::{Ends, Listening, Place, Replay, exit, live_on_connections};
 use dnp_terminal::Terminal;

@@ -1,16 +1,15 @@
 //! `dnp rows`: the rows of a store's file, beside the program that writes it.
 
 mod files;
-mod named;
 mod words;
 
-use crate::network_file::all_given;
 use crate::options::{defaulted, flag, network, subcommand, valued};
-use crate::plan_file::plan_given;
 use crate::rows::files::Opened;
-use crate::rows::named::{COLUMNS, PointTexts};
 use crate::rows::words::{Words, words_given};
 use clap::{ArgMatches, Command};
+use dnp_inputs::network_file::all_given;
+use dnp_inputs::plan_file::plan_given;
+use dnp_inputs::{COLUMNS, PointTexts};
 use dnp_lines::Line;
 use dnp_rows::{
     Form, Nameless, Naming, PrintFault, ReadFault, Source, Store, Stored, head_names, print_over,

@@ -3,12 +3,12 @@
 ghost use Rattle.dnp_concentrator.specs.Plan.{KeepsLimits};
 
 use crate::looks::write_file;
-use crate::network_file::network_given;
 use crate::numbers::number_given;
 use crate::options::{Choice, valued};
-use crate::plan_file::plan_given;
 use clap::ArgMatches;
 use dnp_concentrator::Plan;
+use dnp_inputs::network_file::network_given;
+use dnp_inputs::plan_file::plan_given;
 use dnp_lines::{Misuse, Wanted, Wrong};
 use dnp_master::Classes;
 use dnp_network::{ClassSet, Network, Polling};

@@ -3,14 +3,13 @@
 ghost use Rattle.dnp_concentrator.specs.Plan.{KeepsLimits};
 
 use crate::build::note_start;
-use crate::called::names_of;
 use crate::centre::{Words, say_code};
 use crate::driven::driving_of;
-use crate::hosts::{Sought, Whose, address_found, taken_by};
-use crate::network_file::{Given, all_given};
 use dnp_concentrator::{IndexMap, Plan};
 use dnp_files::{Target, run_centre};
-use dnp_lines::Wrong;
+use dnp_inputs::network_file::{Given, all_given};
+use dnp_inputs::{Sought, address_found, names_of, taken_by};
+use dnp_lines::{Whose, Wrong};
 use dnp_network::{CentreOf, Network};
 use dnp_tcp::{Names, Place, exit};
 use std::net::{Net, TcpListener, TcpStream};

@@ -3,15 +3,15 @@
 ghost use Rattle.dnp_concentrator.specs.Plan.{KeepsLimits};
 
 use crate::build::note_start;
-use crate::called::names_of;
 use crate::concentrate::Words;
 use crate::driven::{driving_of, drivings_of};
-use crate::hosts::{Sought, Whose, address_found, taken_by};
-use crate::network_file::{Given, all_given};
 use dnp_concentrator::Plan;
 use dnp_files::{
     Driving, Drivings, Served, Substations, Target, run_concentrator, wait_for_slowest,
 };
+use dnp_inputs::network_file::{Given, all_given};
+use dnp_inputs::{Sought, address_found, names_of, taken_by};
+use dnp_lines::Whose;
 use dnp_network::{CentreOf, Network};
 use dnp_tcp::{Names, Place, exit};
 use std::alloc::AllocError;

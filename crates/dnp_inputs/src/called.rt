@@ -57,7 +57,7 @@ fn stations_called<'a>(alloc: Global, sites: &'a [Site]) -> Result<Vec<Name<'a>>
 
 /// What people call the substations of a network and their points, by the indices of the substations, and, where the index map of a
 /// centre is given, by those above too.
-pub(crate) fn names_of<'a>(
+pub fn names_of<'a>(
     alloc: Global,
     network: &'a Network,
     points: &'a [PointName],

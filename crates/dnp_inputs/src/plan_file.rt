@@ -4,7 +4,7 @@ ghost use Rattle.std.specs.Prelude.{IfOk};
 ghost use Rattle.dnp_concentrator.specs.Plan.{KeepsLimits};
 
 use crate::inputs::octets_of;
-use crate::tips::say_meant;
+use crate::meant::say_meant;
 use crate::toml_faults::TomlFault;
 use dnp_concentrator::Plan;
 use dnp_daemons::{PlanTextFault, plan_fault, read_plan};
@@ -18,15 +18,12 @@ use std::{fs, str};
 const MAX_PLAN: u64 = 16 * 1_024 * 1_024;
 
 /// Reads the plan from its file. Where it can't be read, why is said on standard error, and the exit status is told.
-pub(crate) fn plan_text<R: AllocGlobal + Eprint + Files>(
-    rt: &R,
-    path: &str,
-) -> Result<Vec<u8>, ExitCode> {
+pub fn plan_text<R: AllocGlobal + Eprint + Files>(rt: &R, path: &str) -> Result<Vec<u8>, ExitCode> {
     octets_of(rt, path, fs::open(rt, path), MAX_PLAN)
 }
 
 /// The plan in its file. Where it can't be read or is refused, that is said, and the exit status is told.
-pub(crate) fn plan_given<R: AllocGlobal + Print + Eprint + Files>(
+pub fn plan_given<R: AllocGlobal + Print + Eprint + Files>(
     rt: &R,
     path: &str,
 ) -> Result<Plan, ExitCode>
@@ -44,7 +41,7 @@ pub(crate) fn plan_given<R: AllocGlobal + Print + Eprint + Files>(
 
 /// Prints that the plan is refused, says on standard error at which place of its text and why, or that memory ran out, and
 /// gives the exit status.
-pub(crate) fn refused<R: AllocGlobal + Print + Eprint>(
+pub fn refused<R: AllocGlobal + Print + Eprint>(
     rt: &R,
     path: &str,
     octets: &[u8],

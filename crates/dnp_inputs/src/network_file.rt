@@ -3,7 +3,7 @@
 ghost use Rattle.dnp_concentrator.specs.Plan.{KeepsLimits};
 
 use crate::inputs::octets_of;
-use crate::tips::say_meant;
+use crate::meant::say_meant;
 use crate::toml_faults::TomlFault;
 use dnp_concentrator::{IndexKind, Plan};
 use dnp_lines::{Line, Meant, NETWORK, NotToml, Of};
@@ -24,7 +24,7 @@ const MAX_NETWORK: u64 = 1_024 * 1_024;
 const MAX_POINTS_TEXT: u64 = 16 * 1_024 * 1_024;
 
 /// The kind of the indices of points of a kind.
-pub(crate) fn index_kind(kind: PointKind) -> IndexKind {
+pub fn index_kind(kind: PointKind) -> IndexKind {
     match kind {
         PointKind::Binary => IndexKind::Binary,
         PointKind::Counter => IndexKind::Counter,
@@ -92,7 +92,7 @@ fn refused<R: AllocGlobal + Eprint>(
 }
 
 /// The network in its file. Where it can't be read or is refused, that is said, and the exit status is told.
-pub(crate) fn network_given<R: AllocGlobal + Eprint + Files>(
+pub fn network_given<R: AllocGlobal + Eprint + Files>(
     rt: &R,
     path: &str,
     plan: &Plan,
@@ -115,7 +115,7 @@ pub(crate) fn network_given<R: AllocGlobal + Eprint + Files>(
 
 /// What a network's file says, and the file with the names of its points.
 #[derive(Drop)]
-pub(crate) struct Given {
+pub struct Given {
     /// Where the stations are.
     pub network: Network,
     /// What people call their points.
@@ -124,7 +124,7 @@ pub(crate) struct Given {
 
 /// The network of a plan in its file, and the names of its points. Where a file can't be read or is refused, that is said, and the exit
 /// status is told.
-pub(crate) fn all_given<R: AllocGlobal + Eprint + Files>(
+pub fn all_given<R: AllocGlobal + Eprint + Files>(
     rt: &R,
     path: &str,
     plan: &Plan,
@@ -156,7 +156,7 @@ fn beside<R: AllocGlobal>(rt: &R, path: &str, named: &str) -> Result<String, All
 
 /// The names of the points, where the network has a file of them. Where it can't be read or is refused, that is said, and
 /// the exit status is told.
-pub(crate) fn points_given<R: AllocGlobal + Eprint + Files>(
+pub fn points_given<R: AllocGlobal + Eprint + Files>(
     rt: &R,
     path: &str,
     plan: &Plan,

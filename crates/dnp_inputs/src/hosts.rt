@@ -3,8 +3,7 @@
 ghost use Rattle.std.specs.Prelude.{◌≡◌};
 
 use dnp_decode::Moment;
-pub(crate) use dnp_lines::Whose;
-use dnp_lines::{Found, LookedUp};
+use dnp_lines::{Found, LookedUp, Whose};
 use dnp_network::{Endpoint, Host, LinkEnds, address_of};
 use dnp_tcp::{Ends, exit, moment, utc};
 use std::io;
@@ -14,7 +13,7 @@ use std::rt::Clock;
 
 /// A host and port of a network's file.
 #[derive(Clone, Copy)]
-pub(crate) struct Sought<'a> {
+pub struct Sought<'a> {
     /// The path of the file.
     pub path: &'a str,
     /// Whose they are.
@@ -41,7 +40,7 @@ fn tell<R: Eprint + Clock>(rt: &R, sought: &Sought<'_>, found: Found<'_>, since:
 }
 
 /// The link addresses of the frames that a station takes which sees its link so.
-pub(crate) fn taken_by(link: LinkEnds) -> Ends
+pub fn taken_by(link: LinkEnds) -> Ends
     ensures source { result.source ≡ link.other }
     ensures dest { result.dest ≡ link.own }
 {
@@ -53,7 +52,7 @@ pub(crate) fn taken_by(link: LinkEnds) -> Ends
 
 /// The address of a host and port: of a name that is looked up the first one. Each name that is looked up is said on standard error, with how
 /// long that took; where one has no address, or can't be looked up, the exit status of a fault is told.
-pub(crate) fn address_found<R>(rt: &R, sought: &Sought<'_>) -> Result<SocketAddr, ExitCode>
+pub fn address_found<R>(rt: &R, sought: &Sought<'_>) -> Result<SocketAddr, ExitCode>
 where
     R: Eprint + Clock + Net<Listener = TcpListener, Stream = TcpStream>,
 {

@@ -8,7 +8,7 @@ use std::process::ExitCode;
 
 /// The octets of an input, of which there may be so many. Where there are more, or it can't be read, why is said on standard
 /// error, and the exit status is told.
-pub(crate) fn octets_of<R: AllocGlobal + Eprint, S: Read + Drop>(
+pub fn octets_of<R: AllocGlobal + Eprint, S: Read + Drop>(
     rt: &R,
     name: &str,
     input: io::Result<S>,

@@ -164,7 +164,7 @@ fn add_all(
 
 /// The changes that a replay asks for, from now on, in order, once or again and again. Where the file can't be read or a
 /// line is refused, that is said, and the exit status is told.
-pub(crate) fn replay_given<R: AllocGlobal + Print + Eprint + Files + Clock>(
+pub fn replay_given<R: AllocGlobal + Print + Eprint + Files + Clock>(
     rt: &R,
     path: &str,
     repeats: bool,

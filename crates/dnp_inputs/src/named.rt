@@ -16,7 +16,7 @@ use std::io::Write;
 
 /// What stands behind the rows of each point of a plan.
 #[derive(Drop)]
-pub(crate) struct PointTexts {
+pub struct PointTexts {
     /// Which index above is of which substation.
     map: IndexMap,
     /// Whose book the controls are of.
@@ -43,7 +43,7 @@ struct Called<'a> {
 }
 
 /// The columns that are behind those of a row, in the head of CSV.
-pub(crate) const COLUMNS: &[u8] = b",substation,station,point";
+pub const COLUMNS: &[u8] = b",substation,station,point";
 
 /// What stands behind a row of a point that the plan lacks.
 fn absent(form: Form) -> &'static [u8] {
@@ -125,7 +125,7 @@ fn station_name(network: &Network, substation: usize) -> Option<&Words> {
 
 impl PointTexts {
     /// What stands behind the rows of a plan's points, by their names, in lines of this form; the controls are of a book of this one.
-    pub(crate) fn of(
+    pub fn of(
         alloc: Global,
         plan: &Plan,
         given: &Given,
