@@ -39,9 +39,8 @@ fn thing_above(map: &IndexMap, point: PointId) -> Option<Thing> {
     Some(thing_at(Peer::Concentrator, point.kind, index))
 }
 
-/// What people call the substations.
-fn stations_called<'a>(alloc: Global, sites: &'a [Site]) -> Result<Vec<Name<'a>>, AllocError> {
-    let mut all = Vec::new(alloc);
+/// Puts what people call the substations behind other names.
+fn put_stations<'a>(sites: &'a [Site], all: &mut Vec<Name<'a>>) -> Result<(), AllocError> {
     for (number, site) in sites.iter().enumerate() {
         if let Some(name) = &site.name
             && let Some(peer) = substation(number)
@@ -52,18 +51,16 @@ fn stations_called<'a>(alloc: Global, sites: &'a [Site]) -> Result<Vec<Name<'a>>
             }])?;
         }
     }
-    Ok(all)
+    Ok(())
 }
 
-/// What people call the substations of a network and their points, by the indices of the substations, and, where the index map of a
-/// centre is given, by those above too.
-pub fn names_of<'a>(
-    alloc: Global,
-    network: &'a Network,
+/// Puts what people call the points behind other names, by the indices of the substations, and, where the index map of a centre is
+/// given, by those above too.
+fn put_points<'a>(
     points: &'a [PointName],
     map: Option<&IndexMap>,
-) -> Result<Vec<Name<'a>>, AllocError> {
-    let mut all = stations_called(alloc, network.substations.as_slice())?;
+    all: &mut Vec<Name<'a>>,
+) -> Result<(), AllocError> {
     for point in points {
         let above = match map {
             Some(map) => thing_above(map, point.point),
@@ -78,5 +75,31 @@ pub fn names_of<'a>(
             }
         }
     }
-    Ok(all)
+    Ok(())
+}
+
+/// Puts what people call the substations of a network and their points, as [`names_of`].
+fn put_names<'a>(
+    network: &'a Network,
+    points: &'a [PointName],
+    map: Option<&IndexMap>,
+    all: &mut Vec<Name<'a>>,
+) -> Result<(), AllocError> {
+    put_stations(network.substations.as_slice(), all)?;
+    put_points(points, map, all)
+}
+
+/// What people call the substations of a network and their points, by the indices of the substations, and, where the index map of a
+/// centre is given, by those above too.
+pub fn names_of<'a>(
+    alloc: Global,
+    network: &'a Network,
+    points: &'a [PointName],
+    map: Option<&IndexMap>,
+) -> Result<Vec<Name<'a>>, AllocError> {
+    let mut all = Vec::new(alloc);
+    match put_names(network, points, map, &mut all) {
+        Ok(()) => Ok(all),
+        Err(fault) => Err(fault),
+    }
 }

@@ -142,13 +142,21 @@ impl PointTexts {
             firsts: Vec::new(alloc),
             absent: absent(form),
         };
+        match all.fill(plan, given, form) {
+            Ok(()) => Ok(all),
+            Err(fault) => Err(fault),
+        }
+    }
+
+    /// Puts what stands behind the rows of all points of a plan.
+    fn fill(&mut self, plan: &Plan, given: &Given, form: Form) -> anyhow::Result<()> {
         for (substation, points) in plan.substations.as_slice().iter().enumerate() {
             for kind in PointKind::ALL {
                 let count = points.spans().of(index_kind(kind)).count;
-                all.add(given, form, substation, kind, count)?;
+                self.add(given, form, substation, kind, count)?;
             }
         }
-        Ok(all)
+        Ok(())
     }
 
     /// Puts what stands behind the rows of the points of a kind that a substation has, so many of them.

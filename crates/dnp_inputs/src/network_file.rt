@@ -34,9 +34,8 @@ pub fn index_kind(kind: PointKind) -> IndexKind {
     }
 }
 
-/// How many points each substation of the plan has.
-fn counts_of(alloc: Global, plan: &Plan) -> Result<Vec<PointCounts>, AllocError> {
-    let mut all = Vec::new(alloc);
+/// Puts how many points each substation of the plan has behind others.
+fn put_counts(plan: &Plan, all: &mut Vec<PointCounts>) -> Result<(), AllocError> {
     for substation in plan.substations.as_slice() {
         let spans = substation.spans();
         let counts = PointCounts {
@@ -48,7 +47,16 @@ fn counts_of(alloc: Global, plan: &Plan) -> Result<Vec<PointCounts>, AllocError>
         };
         all.extend_from_slice(&[counts])?;
     }
-    Ok(all)
+    Ok(())
+}
+
+/// How many points each substation of the plan has.
+fn counts_of(alloc: Global, plan: &Plan) -> Result<Vec<PointCounts>, AllocError> {
+    let mut all = Vec::new(alloc);
+    match put_counts(plan, &mut all) {
+        Ok(()) => Ok(all),
+        Err(fault) => Err(fault),
+    }
 }
 
 /// The octets of a file. Where it can't be read, that is said, and the exit status is told.
