@@ -384,13 +384,19 @@ pub(crate) fn run(rt: &HostRuntime, given: &ArgMatches<'_>) -> anyhow::Result<Ex
     let Some(words) = words_given(rt, given) else {
         return Ok(ExitCode::from(exit::USAGE));
     };
-    let plan = match plan_given(rt, words.plan) {
-        Ok(plan) => plan,
-        Err(status) => return Ok(status),
-    };
+    match plan_given(rt, words.plan) {
+        Ok(mut plan) => run_there(rt, &words, &mut plan),
+        Err(status) => Ok(status),
+    }
+}
+
+/// Runs the concentrator of a plan whose stations are where the words say, and tells the exit status.
+fn run_there(rt: &HostRuntime, words: &Words<'_>, plan: &mut Plan) -> anyhow::Result<ExitCode>
+    requires { KeepsLimits plan.old }
+{
     match words.whereabouts {
-        Whereabouts::Here(ports) => Ok(run_here(rt, &words, &ports, &plan)),
-        Whereabouts::Network(path) => run_in_network(rt, &words, path, plan),
+        Whereabouts::Here(ports) => Ok(run_here(rt, words, &ports, plan)),
+        Whereabouts::Network(path) => run_in_network(rt, words, path, plan),
     }
 }
 

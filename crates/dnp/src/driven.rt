@@ -46,6 +46,19 @@ pub(crate) fn driving_of(polling: &Polling, plan: &Plan, place: u8) -> Driving {
     }
 }
 
+/// Puts how the links to the substations of a network are driven behind others, by their numbers.
+fn put_drivings(
+    network: &Network,
+    plan: &Plan,
+    drivings: &mut Vec<Driving>,
+) -> Result<(), AllocError> {
+    for (number, site) in network.substations.as_slice().iter().enumerate() {
+        let place = u8::try_from(number).unwrap_or(u8::MAX);
+        drivings.push(driving_of(&site.polling, plan, place))?;
+    }
+    Ok(())
+}
+
 /// How the links to the substations of a network are driven, by their numbers.
 pub(crate) fn drivings_of(
     alloc: Global,
@@ -53,9 +66,8 @@ pub(crate) fn drivings_of(
     plan: &Plan,
 ) -> Result<Vec<Driving>, AllocError> {
     let mut drivings = Vec::new(alloc);
-    for (number, site) in network.substations.as_slice().iter().enumerate() {
-        let place = u8::try_from(number).unwrap_or(u8::MAX);
-        drivings.push(driving_of(&site.polling, plan, place))?;
+    match put_drivings(network, plan, &mut drivings) {
+        Ok(()) => Ok(drivings),
+        Err(fault) => Err(fault),
     }
-    Ok(drivings)
 }

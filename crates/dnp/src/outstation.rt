@@ -11,7 +11,7 @@ use dnp_concentrator::MAX_SUBSTATIONS;
 use dnp_daemons::{
     Living, MASTER_BELOW, PlanTextFault, outstation_address, planned_outstation, read_plan,
 };
-use dnp_inputs::network_file::all_given;
+use dnp_inputs::network_file::{Given, all_given};
 use dnp_inputs::plan_file::{plan_text, refused};
 use dnp_inputs::{Sought, address_found, replay_given, taken_by};
 use dnp_lines::{Wanted, Whose, Wrong};
@@ -276,21 +276,30 @@ where
         return Ok(refused(rt, words.plan, octets, PlanTextFault::Syntax));
     };
     match planned_outstation(rt.alloc(), text, words.number) {
-        Ok(Some(mut station)) => match words.whereabouts {
-            Whereabouts::Here(_) => serve(rt, words, &mut station, None),
-            Whereabouts::Network(path) => serve_in_network(rt, words, &mut station, path, text),
-        },
+        Ok(Some(mut station)) => serve_there(rt, words, &mut station, text),
         Ok(None) => Ok(no_station(rt, given.get_str("station").unwrap_or(""))),
         Err(fault) => Ok(refused(rt, words.plan, octets, fault)),
     }
 }
 
-/// Serves the station where the network in a file says, for a plan with this text; tells the exit status.
-fn serve_in_network<S, R>(
+/// What the network in a file says for a plan with this text. Where one of them is refused, that is said, and the exit status is told.
+fn given_for<R: AllocGlobal + Print + Eprint + Files>(
+    rt: &R,
+    words: &Words<'_>,
+    path: &str,
+    text: &str,
+) -> Result<Result<Given, ExitCode>, AllocError> {
+    match read_plan(rt.alloc(), text) {
+        Ok(plan) => all_given(rt, path, &plan),
+        Err(fault) => Ok(Err(refused(rt, words.plan, text.as_bytes(), fault))),
+    }
+}
+
+/// Serves the station where the words say, for a plan with this text; tells the exit status.
+fn serve_there<S, R>(
     rt: &R,
     words: &Words<'_>,
     station: &mut S,
-    path: &str,
     text: &str,
 ) -> anyhow::Result<ExitCode>
 where
@@ -298,11 +307,10 @@ where
     R: AllocGlobal + Print + Eprint + Terminal + Files + Clock,
     R: Net<Listener = TcpListener, Stream = TcpStream>,
 {
-    let plan = match read_plan(rt.alloc(), text) {
-        Ok(plan) => plan,
-        Err(fault) => return Ok(refused(rt, words.plan, text.as_bytes(), fault)),
+    let Whereabouts::Network(path) = words.whereabouts else {
+        return serve(rt, words, station, None);
     };
-    match all_given(rt, path, &plan)? {
+    match given_for(rt, words, path, text)? {
         Ok(given) => serve(rt, words, station, Some(&given.network)),
         Err(status) => Ok(status),
     }

@@ -212,6 +212,28 @@ fn put_pollings(plan: &Plan, network: &Network, pollings: &mut Pollings) -> Resu
     Ok(())
 }
 
+/// Takes over how the links are polled by the given words. Where the network's file can't be read or is refused, that is said, and the
+/// exit status is told.
+fn put_given<R: AllocGlobal + Eprint + Files>(
+    rt: &R,
+    given: &ArgMatches<'_>,
+    plan: &Plan,
+    pollings: &mut Pollings,
+) -> Result<Option<ExitCode>, AllocError>
+    requires { KeepsLimits plan.now }
+{
+    let Some(path) = given.get_str("network") else {
+        return Ok(None);
+    };
+    match network_given(rt, path, plan)? {
+        Ok(network) => match put_pollings(plan, &network, pollings) {
+            Ok(()) => Ok(None),
+            Err(fault) => Err(fault),
+        },
+        Err(status) => Ok(Some(status)),
+    }
+}
+
 /// How the links are polled by the given words. Where the network's file can't be read or is refused, that is said, and the exit
 /// status is told.
 fn pollings_given<R: AllocGlobal + Eprint + Files>(
@@ -222,14 +244,10 @@ fn pollings_given<R: AllocGlobal + Eprint + Files>(
     requires { KeepsLimits plan.now }
 {
     let mut pollings = Pollings::none(rt.alloc());
-    let Some(path) = given.get_str("network") else {
-        return Ok(Ok(pollings));
-    };
-    match network_given(rt, path, plan)? {
-        Ok(network) => put_pollings(plan, &network, &mut pollings)?,
-        Err(status) => return Ok(Err(status)),
+    match put_given(rt, given, plan, &mut pollings)? {
+        Some(status) => Ok(Err(status)),
+        None => Ok(Ok(pollings)),
     }
-    Ok(Ok(pollings))
 }
 
 /// Runs a network by the given words, and tells the exit status.

@@ -63,20 +63,28 @@ pub(super) fn run_in_network(
 ) -> anyhow::Result<ExitCode>
     requires { KeepsLimits plan }
 {
-    let given = match all_given(rt, path, &plan)? {
-        Ok(given) => given,
-        Err(status) => return Ok(status),
-    };
-    if given.network.concentrator.found_at(words.centre).is_none() {
-        return Ok(no_centre(rt, path));
+    match all_given(rt, path, &plan)? {
+        Ok(given) => match find_concentrator(rt, words, path, &given.network) {
+            Ok(concentrator) => run_named(rt, words, concentrator, &given, plan),
+            Err(status) => Ok(status),
+        },
+        Err(status) => Ok(status),
+    }
+}
+
+/// Where the centre that is begun so finds the concentrator of a network, as [`concentrator_found`].
+fn find_concentrator(
+    rt: &HostRuntime,
+    words: &Words<'_>,
+    path: &str,
+    network: &Network,
+) -> Result<Target, ExitCode> {
+    if network.concentrator.found_at(words.centre).is_none() {
+        return Err(no_centre(rt, path));
     }
     note_start(rt);
     say_code(rt, words.issue);
-    let concentrator = match concentrator_found(rt, path, &given.network, words.centre) {
-        Ok(concentrator) => concentrator,
-        Err(status) => return Ok(status),
-    };
-    run_named(rt, words, concentrator, &given, plan)
+    concentrator_found(rt, path, network, words.centre)
 }
 
 /// The place of a centre among those that connect to the concentrator.

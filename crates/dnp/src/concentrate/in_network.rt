@@ -50,16 +50,17 @@ where
     }))
 }
 
-/// Where the substations of a network are asked. Where a name can't be looked up, that is said, and the exit status is told.
-fn targets_found<R>(
+/// Puts where the substations of a network are asked behind others. Where a name can't be looked up, that is said, and the exit status is
+/// told.
+fn put_targets<R>(
     rt: &R,
     path: &str,
     network: &Network,
-) -> Result<Result<Vec<Target>, ExitCode>, AllocError>
+    targets: &mut Vec<Target>,
+) -> Result<Result<(), ExitCode>, AllocError>
 where
-    R: AllocGlobal + Eprint + Clock + Net<Listener = TcpListener, Stream = TcpStream>,
+    R: Eprint + Clock + Net<Listener = TcpListener, Stream = TcpStream>,
 {
-    let mut targets = Vec::new(rt.alloc());
     for (number, site) in network.substations.as_slice().iter().enumerate() {
         let sought = Sought {
             path,
@@ -75,7 +76,23 @@ where
             Err(status) => return Ok(Err(status)),
         }
     }
-    Ok(Ok(targets))
+    Ok(Ok(()))
+}
+
+/// Where the substations of a network are asked. Where a name can't be looked up, that is said, and the exit status is told.
+fn targets_found<R>(
+    rt: &R,
+    path: &str,
+    network: &Network,
+) -> Result<Result<Vec<Target>, ExitCode>, AllocError>
+where
+    R: AllocGlobal + Eprint + Clock + Net<Listener = TcpListener, Stream = TcpStream>,
+{
+    let mut targets = Vec::new(rt.alloc());
+    match put_targets(rt, path, network, &mut targets)? {
+        Ok(()) => Ok(Ok(targets)),
+        Err(status) => Ok(Err(status)),
+    }
 }
 
 /// Where a concentrator serves its centres.
@@ -129,37 +146,54 @@ fn run_named(
     Ok(run_concentrator(rt, &run, plan))
 }
 
-/// Runs the concentrator of a plan whose stations are where the network in a file says, and tells the exit status.
-pub(super) fn run_in_network(
+/// Runs the concentrator of a plan whose stations are there, as a network says, and tells the exit status.
+fn run_driven(
+    rt: &HostRuntime,
+    words: &Words<'_>,
+    centres: Centres,
+    targets: &[Target],
+    given: &Given,
+    plan: &mut Plan,
+) -> anyhow::Result<ExitCode>
+    requires { KeepsLimits plan.old }
+{
+    let below = drivings_of(rt.alloc(), &given.network, plan)?;
+    wait_for_slowest(plan, below.as_slice());
+    run_named(rt, words, centres, targets, given, plan, below.as_slice())
+}
+
+/// Runs the concentrator of a plan whose stations are where this network says, and tells the exit status.
+fn run_found(
     rt: &HostRuntime,
     words: &Words<'_>,
     path: &str,
-    mut plan: Plan,
+    given: &Given,
+    plan: &mut Plan,
 ) -> anyhow::Result<ExitCode>
-    requires { KeepsLimits plan }
+    requires { KeepsLimits plan.old }
 {
-    let given = match all_given(rt, path, &plan)? {
-        Ok(given) => given,
-        Err(status) => return Ok(status),
-    };
     note_start(rt);
     let centres = match centres_found(rt, path, &given.network) {
         Ok(centres) => centres,
         Err(status) => return Ok(status),
     };
-    let targets = match targets_found(rt, path, &given.network)? {
-        Ok(targets) => targets,
-        Err(status) => return Ok(status),
-    };
-    let below = drivings_of(rt.alloc(), &given.network, &plan)?;
-    wait_for_slowest(&mut plan, below.as_slice());
-    run_named(
-        rt,
-        words,
-        centres,
-        targets.as_slice(),
-        &given,
-        &plan,
-        below.as_slice(),
-    )
+    match targets_found(rt, path, &given.network)? {
+        Ok(targets) => run_driven(rt, words, centres, targets.as_slice(), given, plan),
+        Err(status) => Ok(status),
+    }
+}
+
+/// Runs the concentrator of a plan whose stations are where the network in a file says, and tells the exit status.
+pub(super) fn run_in_network(
+    rt: &HostRuntime,
+    words: &Words<'_>,
+    path: &str,
+    plan: &mut Plan,
+) -> anyhow::Result<ExitCode>
+    requires { KeepsLimits plan.old }
+{
+    match all_given(rt, path, plan)? {
+        Ok(given) => run_found(rt, words, path, &given, plan),
+        Err(status) => Ok(status),
+    }
 }

@@ -419,9 +419,8 @@ fn all_given<'a, R: Eprint + Terminal>(
     })
 }
 
-/// The tasks of a round, in order.
-pub(crate) fn tasks_of(alloc: Global, words: &Words<'_>) -> Result<Vec<Task>, AllocError> {
-    let mut tasks = Vec::new(alloc);
+/// Puts the tasks of a round behind others, in order.
+fn put_tasks(words: &Words<'_>, tasks: &mut Vec<Task>) -> Result<(), AllocError> {
     if words.clear_restart {
         tasks.push(Task::ClearRestart)?;
     }
@@ -440,5 +439,14 @@ pub(crate) fn tasks_of(alloc: Global, words: &Words<'_>) -> Result<Vec<Task>, Al
             tasks.push(Task::Operate(command))?;
         }
     }
-    Ok(tasks)
+    Ok(())
+}
+
+/// The tasks of a round, in order.
+pub(crate) fn tasks_of(alloc: Global, words: &Words<'_>) -> Result<Vec<Task>, AllocError> {
+    let mut tasks = Vec::new(alloc);
+    match put_tasks(words, &mut tasks) {
+        Ok(()) => Ok(tasks),
+        Err(fault) => Err(fault),
+    }
 }
